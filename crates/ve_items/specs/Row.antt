@@ -1,0 +1,8 @@
+-- What a list of items is seen as.
+use Rattle.std.specs.Prelude.{ℕ, List}
+use Rattle.model_items.specs.declared.item.Item.{Item}
+
+pub record Row : Type 0 where
+  pub items : List Item
+  -- how many more fit without memory
+  pub spare : ℕ
