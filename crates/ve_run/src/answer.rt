@@ -1,0 +1,49 @@
+// One line and its reply.
+ghost use Rattle.std.specs.Prelude.{◌≡◌, ◌≤◌, ◌⊎◌, OnOk, OnErr, IsErrOf};
+ghost use Rattle.std.specs.Io.KnownBytes.{Appends};
+ghost use Rattle.ve_base.specs.Outside.{HasCause, Rose};
+ghost use Rattle.ve_run.specs.Output.{AppendsFront, reply_line};
+
+use crate::Machine;
+use crate::stop::Stop;
+use std::alloc::Global;
+use std::sync::ledger::Ledger;
+use ve_base::{Bytes, Failed, Sink, Steps};
+
+/// Writes a whole piece. At an `Err` a front of it was written.
+pub fn write_all<K: Sink>(sink: &mut K, piece: &[u8]) -> Result<(), Failed>
+    ensures ok { OnOk result (Appends (K.held sink.old) (K.held sink.new) piece.now) }
+    ensures err { OnErr result (AppendsFront (K.held sink.old) (K.held sink.new) piece.now) }
+    ensures cause { HasCause (K.faults sink.old) (K.faults sink.new) result }
+{
+    let mut rest = piece;
+    while !rest.is_empty() {
+        let taken = sink.write(rest)?;
+        rest = &rest[taken..];
+    }
+    Ok(())
+}
+
+/// Answers a line, and writes the reply.
+pub fn answer<K: Sink, M: Machine, L: Ledger>(
+    alloc: Global,
+    line: &[u8],
+    sink: &mut K,
+    world: &mut M,
+    steps: &mut Steps<L>,
+) -> Result<(), Stop>
+    ensures written { OnOk result (Appends (K.held sink.old) (K.held sink.new) (reply_line (M.reply world.old line.now))) }
+    ensures state { OnOk result (world.new ≡ M.next world.old line.now) }
+    ensures err { OnErr result (AppendsFront (K.held sink.old) (K.held sink.new) (reply_line (M.reply world.old line.now))) }
+    ensures not_input { IsErrOf result Stop.ReadFault ⊎ IsErrOf result Stop.InputTooLong → ⊥ }
+    ensures later { K.faults sink.old ≤ K.faults sink.new }
+    ensures rose { IsErrOf result Stop.WriteFault → Rose (K.faults sink.old) (K.faults sink.new) }
+    ensures state_at_fault { IsErrOf result Stop.WriteFault → world.new ≡ M.next world.old line.now }
+{
+    let reply = world.step(line, steps)?;
+    let mut spelled = Bytes::new(alloc);
+    reply.spell(alloc, &mut spelled)?;
+    spelled.push(b"\n")?;
+    write_all(sink, spelled.as_slice())?;
+    Ok(())
+}
