@@ -1,7 +1,9 @@
-//! The flat list of a page: characters, openings and closings.
+//! The flat list of a page: characters, openings and closings, one item each.
 #![tactic(auto)]
 
+mod items;
 mod linear;
 
+pub use items::Items;
 pub use linear::Linear;
 pub use model_items::Item;

@@ -1,12 +1,15 @@
 // The list of a page, and how many items fit without memory.
-ghost use Rattle.std.specs.Prelude.{◌≡◌, ◌≤◌, ◌<◌, ◌+◌, ◌-◌, [], OnOk, OnErr, IsOk, IfOk, length, slice_range, slice_index_or, take, drop, ◌++◌};
+ghost use Rattle.std.specs.Prelude.{◌≡◌, ◌≤◌, ◌<◌, ◌+◌, ◌-◌, ◌↔◌, [], Some, OnOk, OnErr, IsOk, IfOk, IsTrue, length, slice_get, slice_range};
 ghost use Rattle.ve_items.specs.Substitution.{spliced, moved_back};
 
+use crate::Items;
 use model_items::Item;
 use std::alloc::Global;
 use std::marker::Model;
 use ve_base::Memory;
 
+/// The items of a page in their order, seen as their list and a number, `spare`: that many items
+/// go into a splice without memory being taken. Places and lengths count items.
 #[derive(Drop)]
 pub struct Linear {
     list: Vec<Item>,
@@ -33,6 +36,7 @@ fn exchange(list: &mut [Item], at: usize, removed: usize, len: usize)
 }
 
 impl Linear {
+    /// The empty list. It takes no memory.
     pub fn new(alloc: Global) -> Linear
         ensures { result.items ≡ [] }
     {
@@ -41,39 +45,49 @@ impl Linear {
         }
     }
 
+    /// The number of items.
     pub fn len(&self) -> usize
         ensures { result ≡ length self.now.items }
     {
         self.list.len()
     }
 
-    /// One item.
+    /// Whether it has no item.
+    pub fn is_empty(&self) -> bool
+        ensures { IsTrue result ↔ (self.now.items ≡ []) }
+    {
+        self.list.is_empty()
+    }
+
+    /// The item at a place.
     pub fn get(&self, at: usize) -> Item
         requires { at < length self.now.items }
-        ensures { result ≡ slice_index_or self.now.items at result }
+        ensures { slice_get self.now.items at ≡ Some result }
     {
         self.list[at]
     }
 
-    /// Lends them all.
-    pub fn as_slice(&self) -> &[Item]
-        ensures { result.now ≡ self.now.items }
-    {
-        self.list.as_slice()
-    }
-
-    /// A copy of a range.
-    pub fn slice(&self, alloc: Global, from: usize, to: usize) -> Result<Vec<Item>, Memory>
+    /// A copy of the items from one place up to another.
+    pub fn slice(&self, alloc: Global, from: usize, to: usize) -> Result<Items, Memory>
         requires order { from ≤ to }
         requires within { to ≤ length self.now.items }
-        ensures { IfOk result (λ copy. copy.items ≡ slice_range self.now.items from to) }
+        ensures { IfOk result (λ copy. copy ≡ slice_range self.now.items from to) }
     {
-        let mut copy = Vec::new(alloc);
-        copy.extend_from_slice(&self.list[from..to])?;
+        let mut copy = Items::new(alloc);
+        copy.extend(&self.list[from..to])?;
         Ok(copy)
     }
 
-    /// Makes room for so many items more.
+    /// A list of equal items.
+    pub fn copy(&self, alloc: Global) -> Result<Linear, Memory>
+        ensures { IfOk result (λ copy. copy.items ≡ self.now.items) }
+    {
+        Ok(Linear {
+            list: Vec::from_slice(alloc, self.list.as_slice())?,
+        })
+    }
+
+    /// Takes the memory that a splice of so many items may need. An `Err` changes nothing.
     pub fn reserve(&mut self, more: usize) -> Result<(), Memory>
         ensures items { self.new.items ≡ self.old.items }
         ensures ok { OnOk result (more ≤ self.new.spare) }
@@ -83,7 +97,8 @@ impl Linear {
         Ok(())
     }
 
-    /// Puts items in the place of a range. It succeeds where they fit.
+    /// Puts items in the place of the `removed` items from `at` on. It succeeds where `spare` has
+    /// room for them. An `Err` changes nothing.
     pub fn splice(&mut self, at: usize, removed: usize, items: &[Item]) -> Result<(), Memory>
         requires { at + removed ≤ length self.old.items }
         ensures ok { OnOk result (self.new.items ≡ spliced self.old.items at removed items.now) }
