@@ -1,0 +1,47 @@
+-- Forests, and the one text of each.
+use Rattle.std.specs.Prelude.{◌≡◌, ℕ, zero, suc, Bool, true, false, ◌&&◌, not, List, [], ◌++◌, IsTrue}
+use Rattle.model_spelling.specs.Grammar.{Attr, Chars, Comment, token_text, start_text, end_text, is_void, is_raw, is_text, is_verbatim, is_start, comment_close}
+
+-- A forest is empty, or a first node and the forest after it. An element has its start tag, and then the text in it, or its children.
+pub data Forest : Type 0 where
+  Nothing : Forest
+  Text : List ℕ → Forest → Forest
+  Remark : List ℕ → Forest → Forest
+  Void : List ℕ → List Attr → Bool → Forest → Forest
+  RawElement : List ℕ → List Attr → List ℕ → Forest → Forest
+  Element : List ℕ → List Attr → Forest → Forest → Forest
+
+-- the one text of a forest
+abbrev pub spelling : Forest → List ℕ
+spelling Nothing = []
+spelling (Text text rest) = token_text (Chars text) ++ spelling rest
+spelling (Remark text rest) = token_text (Comment text) ++ spelling rest
+spelling (Void name attrs slash rest) = start_text name attrs slash ++ spelling rest
+spelling (RawElement name attrs text rest) = start_text name attrs false ++ text ++ end_text name ++ spelling rest
+spelling (Element name attrs children rest) = start_text name attrs false ++ spelling children ++ end_text name ++ spelling rest
+
+abbrev pub starts_with_text : Forest → Bool
+starts_with_text (Text text rest) = true
+starts_with_text Nothing = false
+starts_with_text (Remark text rest) = false
+starts_with_text (Void name attrs slash rest) = false
+starts_with_text (RawElement name attrs text rest) = false
+starts_with_text (Element name attrs children rest) = false
+
+-- What may be spelled, inside of so many open elements that room more may open.
+abbrev pub is_forest : ℕ → Forest → Bool
+is_forest room Nothing = true
+is_forest room (Text text rest) = is_text text && not (starts_with_text rest) && is_forest room rest
+is_forest room (Remark text rest) = is_verbatim comment_close text && is_forest room rest
+is_forest zero (Void name attrs slash rest) = false
+is_forest (suc room) (Void name attrs slash rest) = is_void name && is_start name attrs slash && is_forest (suc room) rest
+is_forest zero (RawElement name attrs text rest) = false
+is_forest (suc room) (RawElement name attrs text rest) = is_raw name && is_start name attrs false && is_verbatim (end_text name) text && is_forest (suc room) rest
+is_forest zero (Element name attrs children rest) = false
+is_forest (suc room) (Element name attrs children rest) =
+    not (is_void name) && not (is_raw name) && is_start name attrs false && is_forest room children && is_forest (suc room) rest
+
+-- The forest F spells the text.
+pub record Spells (text : List ℕ) (f : Forest) : Type 0 where
+  pub allowed : IsTrue (is_forest 200 f)
+  pub text_is : text ≡ spelling f

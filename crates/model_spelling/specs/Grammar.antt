@@ -1,0 +1,130 @@
+-- What a text is made of, and how each part is spelled. A text is a list of bytes: every delimiter is ASCII.
+use Rattle.std.specs.Prelude.{ℕ, Bool, true, false, ◌&&◌, ◌||◌, not, List, [], ◌∷◌, ◌++◌, length, if◌then◌else◌, ◌==◌, nat_eq, nat_le, codes, bytes_eq}
+use Rattle.std.specs.List.{flat_map, list_any, list_all, starts_with}
+use Rattle.std.specs.Char.{is_ascii_alphabetic, is_ascii_alphanumeric}
+
+-- ---- bytes and names
+
+-- U+0000 and U+000D stand in no token
+unfoldable pub is_barred : ℕ → Bool
+is_barred b = b == 0 || b == 13
+
+unfoldable pub is_letter : ℕ → Bool
+is_letter b = is_ascii_alphabetic b
+
+-- a letter, a digit, `-`, `_`, `.` or `:`
+abbrev pub is_name_byte : ℕ → Bool
+is_name_byte b = is_ascii_alphanumeric b || b == 45 || b == 95 || b == 46 || b == 58
+
+-- the text begins with this front
+unfoldable pub begins_with : List ℕ → List ℕ → Bool
+begins_with front text = starts_with nat_eq text front
+
+unfoldable pub is_same_name : List ℕ → List ℕ → Bool
+is_same_name a b = bytes_eq a b
+
+abbrev pub is_one_of : List (List ℕ) → List ℕ → Bool
+is_one_of names name = list_any (λ n. is_same_name n name) names
+
+abbrev pub void_names : List (List ℕ)
+void_names = codes "area" ∷ codes "base" ∷ codes "basefont" ∷ codes "bgsound" ∷ codes "br" ∷ codes "col" ∷ codes "embed" ∷ codes "frame" ∷ codes "hr" ∷ codes "img" ∷ codes "input" ∷ codes "keygen" ∷ codes "link" ∷ codes "meta" ∷ codes "param" ∷ codes "source" ∷ codes "track" ∷ codes "wbr" ∷ []
+
+abbrev pub raw_names : List (List ℕ)
+raw_names = codes "style" ∷ codes "script" ∷ codes "xmp" ∷ codes "iframe" ∷ codes "noembed" ∷ codes "noframes" ∷ []
+
+-- these have no end tag
+unfoldable pub is_void : List ℕ → Bool
+is_void name = is_one_of void_names name
+
+-- in these nothing is decoded
+unfoldable pub is_raw : List ℕ → Bool
+is_raw name = is_one_of raw_names name
+
+unfoldable pub is_plaintext : List ℕ → Bool
+is_plaintext name = is_same_name (codes "plaintext") name
+
+abbrev pub references : List (List ℕ)
+references = codes "&amp;" ∷ codes "&lt;" ∷ codes "&gt;" ∷ codes "&nbsp;" ∷ codes "&quot;" ∷ codes "&apos;" ∷ []
+
+unfoldable pub starts_reference : List ℕ → Bool
+starts_reference text = list_any (λ r. begins_with r text) references
+
+-- ---- tokens
+
+-- an attribute as it is spelled: its quote is `"` or `'`
+pub record Attr : Type 0 where
+  pub name : List ℕ
+  pub value : List ℕ
+  pub quote : ℕ
+
+-- slash is the `/` of a void element
+pub data Token : Type 0 where
+  Start : List ℕ → List Attr → Bool → Token
+  End : List ℕ → Token
+  Chars : List ℕ → Token
+  Raw : List ℕ → Token
+  Comment : List ℕ → Token
+
+abbrev pub attr_text : Attr → List ℕ
+attr_text a = 32 ∷ a.name ++ 61 ∷ a.quote ∷ a.value ++ a.quote ∷ []
+
+abbrev pub start_text : List ℕ → List Attr → Bool → List ℕ
+start_text name attrs slash = 60 ∷ name ++ flat_map attr_text attrs ++ (if slash then codes "/>" else codes ">")
+
+abbrev pub end_text : List ℕ → List ℕ
+end_text name = 60 ∷ 47 ∷ name ++ 62 ∷ []
+
+abbrev pub comment_open : List ℕ
+comment_open = codes "<!--"
+
+abbrev pub comment_close : List ℕ
+comment_close = codes "-->"
+
+-- the one text of a token
+abbrev pub token_text : Token → List ℕ
+token_text (Start name attrs slash) = start_text name attrs slash
+token_text (End name) = end_text name
+token_text (Chars text) = text
+token_text (Raw text) = text
+token_text (Comment text) = comment_open ++ text ++ comment_close
+
+-- ---- what has a spelling
+
+-- Characters without stop, where `&` stands only at the start of a reference.
+abbrev pub is_run : ℕ → List ℕ → Bool
+is_run stop [] = true
+is_run stop (b ∷ bs) = not (b == stop) && not (is_barred b) && (not (b == 38) || starts_reference (b ∷ bs)) && is_run stop bs
+
+-- Characters before the first place of close.
+abbrev pub is_verbatim : List ℕ → List ℕ → Bool
+is_verbatim close [] = true
+is_verbatim close (b ∷ bs) = not (is_barred b) && not (begins_with close (b ∷ bs ++ close)) && is_verbatim close bs
+
+abbrev pub is_attr_name : List ℕ → Bool
+is_attr_name [] = false
+is_attr_name (b ∷ bs) = list_all is_name_byte (b ∷ bs)
+
+abbrev pub is_tag_name : List ℕ → Bool
+is_tag_name [] = false
+is_tag_name (b ∷ bs) = is_letter b && list_all is_name_byte bs && not (is_plaintext (b ∷ bs))
+
+abbrev pub is_attr : Attr → Bool
+is_attr a = is_attr_name a.name && (a.quote == 34 || a.quote == 39) && is_run a.quote a.value
+
+-- the names of the attributes, none twice
+abbrev pub has_name : List ℕ → List Attr → Bool
+has_name name attrs = list_any (λ a. is_same_name a.name name) attrs
+
+abbrev pub are_distinct : List Attr → Bool
+are_distinct [] = true
+are_distinct (a ∷ attrs) = not (has_name a.name attrs) && are_distinct attrs
+
+abbrev pub are_attrs : List Attr → Bool
+are_attrs attrs = list_all is_attr attrs && are_distinct attrs && nat_le (length attrs) 256
+
+abbrev pub is_start : List ℕ → List Attr → Bool → Bool
+is_start name attrs slash = is_tag_name name && are_attrs attrs && (not slash || is_void name)
+
+abbrev pub is_text : List ℕ → Bool
+is_text [] = false
+is_text (b ∷ bs) = is_run 60 (b ∷ bs)

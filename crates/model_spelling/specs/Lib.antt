@@ -1,0 +1,13 @@
+pub mod Grammar
+pub mod Forest
+pub mod Rows
+pub mod Reading
+pub mod Tokens
+pub mod Faults
+pub mod Parsed
+pub mod Page
+pub mod Written
+pub mod Canonical
+pub mod Standing
+pub mod Utf8
+pub mod Laws

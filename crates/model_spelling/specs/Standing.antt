@@ -1,0 +1,71 @@
+-- Which faults stand however the text goes on.
+use Rattle.std.specs.Prelude.{◌≡◌, ℕ, Bool, true, false, ◌&&◌, not, List, [], ◌∷◌, ◌++◌, length, drop, map, Some, nat_lt, codes}
+use Rattle.std.specs.Char.{to_ascii_lowercase}
+use Rattle.model_spelling.specs.declared.scan_fault.ScanFault.{ScanFault}
+use Rattle.model_spelling.specs.declared.scan_fault.ScanWhat.{ScanWhat}
+use Rattle.model_spelling.specs.declared.scan_fault.ScanWhat.TheVariants.{BadTag, BadAttribute, DuplicateAttribute, TooManyAttributes, BadReference, BadChar, UnclosedTag, UnclosedComment, UnclosedRaw, Doctype, NoBody}
+use Rattle.model_spelling.specs.Grammar.{begins_with, references}
+use Rattle.model_spelling.specs.Reading.{longest_front}
+use Rattle.model_spelling.specs.Faults.{ForestFault, Scan, Mismatched, Unclosed, Stray, TooDeep, fault_of}
+
+-- the text is `<!` and then a front of `doctype`, in any case of its letters, or all of it
+abbrev pub is_doctype_front : List ℕ → Bool
+is_doctype_front text = begins_with (60 ∷ 33 ∷ []) text && begins_with (map to_ascii_lowercase (drop 2 text)) (codes "doctype")
+
+-- the text goes on behind the longest front of a reference that it begins with
+abbrev pub passes_reference : List ℕ → Bool
+passes_reference text = nat_lt (longest_front references text) (length text)
+
+-- Where the text from the fault's byte on is this, the fault isn't one of the text's end.
+abbrev pub stands_by : ScanWhat → List ℕ → Bool
+stands_by BadTag text = not (is_doctype_front text)
+stands_by BadAttribute text = true
+stands_by DuplicateAttribute text = true
+stands_by TooManyAttributes text = true
+stands_by BadReference text = passes_reference text
+stands_by BadChar text = true
+stands_by UnclosedTag text = false
+stands_by UnclosedComment text = false
+stands_by UnclosedRaw text = false
+stands_by Doctype text = true
+stands_by NoBody text = true
+
+abbrev pub stands : List ℕ → ScanFault → Bool
+stands text f = stands_by f.what (drop f.at text)
+
+abbrev pub forest_stands : List ℕ → ForestFault → Bool
+forest_stands text (Scan f) = stands text f
+forest_stands text (Mismatched at) = true
+forest_stands text (Unclosed at) = false
+forest_stands text (Stray at) = true
+forest_stands text (TooDeep at) = true
+
+-- A fault that isn't one of the text's end stands, with the same byte, however the text goes on.
+abbrev pub FaultStands : Type 0
+FaultStands = (text more : List ℕ) (f : ForestFault) → fault_of text ≡ Some f → forest_stands text f ≡ true → fault_of (text ++ more) ≡ Some f
+
+-- ---- what is unclosed can be made another fault, or none
+
+abbrev pub is_open : ScanWhat → Bool
+is_open BadTag = false
+is_open BadAttribute = false
+is_open DuplicateAttribute = false
+is_open TooManyAttributes = false
+is_open BadReference = false
+is_open BadChar = false
+is_open UnclosedTag = true
+is_open UnclosedComment = true
+is_open UnclosedRaw = true
+is_open Doctype = false
+is_open NoBody = false
+
+abbrev pub is_unclosed : ForestFault → Bool
+is_unclosed (Scan f) = is_open f.what
+is_unclosed (Mismatched at) = false
+is_unclosed (Unclosed at) = true
+is_unclosed (Stray at) = false
+is_unclosed (TooDeep at) = false
+
+-- A fault of the unclosed kinds doesn't stand: with U+0000 behind the text it is another one.
+abbrev pub UnclosedGoes : Type 0
+UnclosedGoes = (text : List ℕ) (f : ForestFault) → is_unclosed f ≡ true → fault_of (text ++ (0 ∷ [])) ≡ Some f → ⊥
