@@ -1,3 +1,7 @@
+mod StandingExamples
+mod ForestExamples
+mod PageExamples
+mod FaultExamples
 pub mod AttrReading
 pub mod TokenRuns
 pub mod ForestLaws

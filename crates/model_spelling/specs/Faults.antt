@@ -4,6 +4,7 @@ use Rattle.model_spelling.specs.declared.scan_fault.ScanFault.{ScanFault}
 use Rattle.model_spelling.specs.Grammar.{is_same_name, Token, Start, End, Chars, Raw, Comment, is_void}
 use Rattle.model_spelling.specs.Tokens.{Placed, tokens_of}
 
+-- A fault of a token, an end tag that isn't the innermost open element's, an element that is open at the end, an end tag where nothing is open or of a void name, or an element within 200 open ones. Each has the byte of its `<`.
 pub data ForestFault : Type 0 where
   Scan : ScanFault → ForestFault
   Mismatched : ℕ → ForestFault
@@ -16,6 +17,7 @@ pub record Open : Type 0 where
   pub name : List ℕ
   pub at : ℕ
 
+-- at the end the innermost open element is unclosed
 abbrev pub fault_at_end : List Open → Option ScanFault → Option ForestFault
 fault_at_end opened (Some f) = Some (Scan f)
 fault_at_end [] None = None

@@ -2,7 +2,7 @@
 use Rattle.std.specs.Prelude.{◌≡◌, ℕ, zero, suc, Bool, true, false, ◌&&◌, not, List, [], ◌++◌, IsTrue}
 use Rattle.model_spelling.specs.Grammar.{Attr, Chars, Comment, token_text, start_text, end_text, is_void, is_raw, is_text, is_verbatim, is_start, comment_close}
 
--- A forest is empty, or a first node and the forest after it. An element has its start tag, and then the text in it, or its children.
+-- A forest is empty, or a first node and the forest of its siblings behind it. A node is a text, a comment (`Remark`), a void element with its attributes and its `/`, a raw element with its text, or an element with its children. Texts and values are as they are spelled.
 pub data Forest : Type 0 where
   Nothing : Forest
   Text : List ℕ → Forest → Forest
@@ -28,7 +28,7 @@ starts_with_text (Void name attrs slash rest) = false
 starts_with_text (RawElement name attrs text rest) = false
 starts_with_text (Element name attrs children rest) = false
 
--- What may be spelled, inside of so many open elements that room more may open.
+-- What may be spelled where room more elements may be open, one inside the other. Void and raw elements count like others. No two texts are neighbours.
 abbrev pub is_forest : ℕ → Forest → Bool
 is_forest room Nothing = true
 is_forest room (Text text rest) = is_text text && not (starts_with_text rest) && is_forest room rest
@@ -41,7 +41,7 @@ is_forest zero (Element name attrs children rest) = false
 is_forest (suc room) (Element name attrs children rest) =
     not (is_void name) && not (is_raw name) && is_start name attrs false && is_forest room children && is_forest (suc room) rest
 
--- The forest F spells the text.
+-- The forest spells the text. At most 200 elements are open at any place.
 pub record Spells (text : List ℕ) (f : Forest) : Type 0 where
   pub allowed : IsTrue (is_forest 200 f)
   pub text_is : text ≡ spelling f

@@ -1,4 +1,5 @@
 -- What a text is made of, and how each part is spelled. A text is a list of bytes: every delimiter is ASCII.
+-- The spelling is that of WHATWG HTML, "Serializing HTML fragments", with these spellings beside it, which are this project's own: a value in single quotes; raw `<`, `>` and U+00A0 in values, and raw `>` and U+00A0 in texts; `&quot;` and `&apos;` in texts, and `&apos;` in values; `/>` on a void element. Names have their case.
 use Rattle.std.specs.Prelude.{ℕ, Bool, true, false, ◌&&◌, ◌||◌, not, List, [], ◌∷◌, ◌++◌, length, if◌then◌else◌, ◌==◌, nat_eq, nat_le, codes, bytes_eq}
 use Rattle.std.specs.List.{flat_map, list_any, list_all, starts_with}
 use Rattle.std.specs.Char.{is_ascii_alphabetic, is_ascii_alphanumeric}
@@ -16,7 +17,7 @@ is_letter b = is_ascii_alphabetic b
 abbrev pub is_name_byte : ℕ → Bool
 is_name_byte b = is_ascii_alphanumeric b || b == 45 || b == 95 || b == 46 || b == 58
 
--- the text begins with this front
+-- whether the text begins with this front
 unfoldable pub begins_with : List ℕ → List ℕ → Bool
 begins_with front text = starts_with nat_eq text front
 
@@ -32,17 +33,18 @@ void_names = codes "area" ∷ codes "base" ∷ codes "basefont" ∷ codes "bgsou
 abbrev pub raw_names : List (List ℕ)
 raw_names = codes "style" ∷ codes "script" ∷ codes "xmp" ∷ codes "iframe" ∷ codes "noembed" ∷ codes "noframes" ∷ []
 
--- these have no end tag
+-- void elements have no content and no end tag
 unfoldable pub is_void : List ℕ → Bool
 is_void name = is_one_of void_names name
 
--- in these nothing is decoded
+-- the content of a raw element is its text up to its end tag, and nothing in it is decoded
 unfoldable pub is_raw : List ℕ → Bool
 is_raw name = is_one_of raw_names name
 
 unfoldable pub is_plaintext : List ℕ → Bool
 is_plaintext name = is_same_name (codes "plaintext") name
 
+-- the references that a text or a value may hold
 abbrev pub references : List (List ℕ)
 references = codes "&amp;" ∷ codes "&lt;" ∷ codes "&gt;" ∷ codes "&nbsp;" ∷ codes "&quot;" ∷ codes "&apos;" ∷ []
 
@@ -57,7 +59,7 @@ pub record Attr : Type 0 where
   pub value : List ℕ
   pub quote : ℕ
 
--- slash is the `/` of a void element
+-- A start tag with its name, its attributes and whether a void element's `/` stands; an end tag; characters; the text of a raw element; a comment.
 pub data Token : Type 0 where
   Start : List ℕ → List Attr → Bool → Token
   End : List ℕ → Token
@@ -65,6 +67,7 @@ pub data Token : Type 0 where
   Raw : List ℕ → Token
   Comment : List ℕ → Token
 
+-- a space, the name, and the value in its quotes
 abbrev pub attr_text : Attr → List ℕ
 attr_text a = 32 ∷ a.name ++ 61 ∷ a.quote ∷ a.value ++ a.quote ∷ []
 
@@ -90,20 +93,22 @@ token_text (Comment text) = comment_open ++ text ++ comment_close
 
 -- ---- what has a spelling
 
--- Characters without stop, where `&` stands only at the start of a reference.
+-- Characters without the byte stop, where `&` stands only at the start of a reference. A text stops at `<`, a value at its quote.
 abbrev pub is_run : ℕ → List ℕ → Bool
 is_run stop [] = true
 is_run stop (b ∷ bs) = not (b == stop) && not (is_barred b) && (not (b == 38) || starts_reference (b ∷ bs)) && is_run stop bs
 
--- Characters before the first place of close.
+-- Characters before the first place of close: no place in them begins with it, when it follows them.
 abbrev pub is_verbatim : List ℕ → List ℕ → Bool
 is_verbatim close [] = true
 is_verbatim close (b ∷ bs) = not (is_barred b) && not (begins_with close (b ∷ bs ++ close)) && is_verbatim close bs
 
+-- one or more bytes of names
 abbrev pub is_attr_name : List ℕ → Bool
 is_attr_name [] = false
 is_attr_name (b ∷ bs) = list_all is_name_byte (b ∷ bs)
 
+-- a letter and then bytes of names; `plaintext` is no name, since its element would have no end
 abbrev pub is_tag_name : List ℕ → Bool
 is_tag_name [] = false
 is_tag_name (b ∷ bs) = is_letter b && list_all is_name_byte bs && not (is_plaintext (b ∷ bs))
@@ -111,10 +116,11 @@ is_tag_name (b ∷ bs) = is_letter b && list_all is_name_byte bs && not (is_plai
 abbrev pub is_attr : Attr → Bool
 is_attr a = is_attr_name a.name && (a.quote == 34 || a.quote == 39) && is_run a.quote a.value
 
--- the names of the attributes, none twice
+-- whether an attribute has that name
 abbrev pub has_name : List ℕ → List Attr → Bool
 has_name name attrs = list_any (λ a. is_same_name a.name name) attrs
 
+-- no name stands twice
 abbrev pub are_distinct : List Attr → Bool
 are_distinct [] = true
 are_distinct (a ∷ attrs) = not (has_name a.name attrs) && are_distinct attrs
@@ -122,9 +128,11 @@ are_distinct (a ∷ attrs) = not (has_name a.name attrs) && are_distinct attrs
 abbrev pub are_attrs : List Attr → Bool
 are_attrs attrs = list_all is_attr attrs && are_distinct attrs && nat_le (length attrs) 256
 
+-- a start tag; only a void element has a `/`
 abbrev pub is_start : List ℕ → List Attr → Bool → Bool
 is_start name attrs slash = is_tag_name name && are_attrs attrs && (not slash || is_void name)
 
+-- one or more characters
 abbrev pub is_text : List ℕ → Bool
 is_text [] = false
 is_text (b ∷ bs) = is_run 60 (b ∷ bs)

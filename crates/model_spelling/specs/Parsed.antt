@@ -34,7 +34,7 @@ abbrev pub ending : List Placed → Ending
 ending [] = record { raw = []; here = Nothing; outer = [] }
 ending (t ∷ ts) = with_token t.token (ending ts)
 
--- the forest of a text without a fault
+-- The forest of a text without a fault. The laws say that it is the only one that spells the text.
 abbrev pub forest_of : List ℕ → Option Forest
 forest_of text = elim (fault_of text) [
   | Some f ↦ None

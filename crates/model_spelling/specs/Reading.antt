@@ -1,4 +1,5 @@
--- Reading a text from left to right: the next token, or the first fault.
+-- Reading a text from left to right: the next token, or the first fault. The first character that no spelling allows at its place decides which fault it is; where that character is U+0000 or U+000D the fault is its own.
+-- That this reading is the grammar's is said by the laws: what is read is spelled so, what is spelled so is read, and a fault stands however the text goes on.
 -- at is the number of the first byte of the list that is read. What is found ends before the byte whose number is answered.
 use Rattle.std.specs.Prelude.{ℕ, zero, suc, ◌+◌, ◌-◌, max, Bool, true, false, ◌&&◌, ◌||◌, not, List, [], ◌∷◌, ◌++◌, take, drop, map, Option, Some, None, Result, Ok, Err, if◌then◌else◌, ◌==◌, nat_eq, slice_index, codes}
 use Rattle.std.specs.List.{prefix_len, common_prefix_len}

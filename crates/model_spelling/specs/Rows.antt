@@ -3,7 +3,7 @@ use Rattle.std.specs.Prelude.{ℕ, ◌+◌, false, List, [], ◌∷◌, ◌++◌
 use Rattle.model_spelling.specs.Grammar.{Token, Start, Chars, Raw, Comment, token_text, start_text, end_text}
 use Rattle.model_spelling.specs.Forest.{Forest, Nothing, Text, Remark, Void, RawElement, Element, spelling}
 
--- A node's first token, its bytes, the bytes of its content, and the number past its last inner node.
+-- A node's first token; the bytes of the whole node, from the first to the one after the last; those of its content; and the number past its subtree.
 pub record Row : Type 0 where
   pub token : Token
   pub from : ℕ
@@ -12,6 +12,7 @@ pub record Row : Type 0 where
   pub inner_to : ℕ
   pub next : ℕ
 
+-- how many nodes a forest has; the text of a raw element is one where it isn't empty
 abbrev pub count : Forest → ℕ
 count Nothing = 0
 count (Text text rest) = 1 + count rest

@@ -6,7 +6,7 @@ use Rattle.model_spelling.specs.Reading.{Mode, Between, Step, mode_after, token_
 
 -- ---- what stands between two tokens
 
--- what a token between two others may be
+-- What a token may be that doesn't stand behind a raw element's start tag.
 abbrev pub is_token : Token → Bool
 is_token (Start name attrs slash) = is_start name attrs slash
 is_token (End name) = is_tag_name name
@@ -69,7 +69,7 @@ tokens_from (suc count) mode at text =
 abbrev pub tokens_of : List ℕ → Tokens
 tokens_of text = tokens_from (length text + 1) Between 0 text
 
--- From here these tokens come, and then last, a fault or the end.
+-- Reading from here gives these tokens, and then last, a fault or the end.
 abbrev pub Runs : Mode → ℕ → List ℕ → List Placed → Option ScanFault → Type 0
 Runs mode at text [] None = token_at mode at text ≡ Ok None
 Runs mode at text [] (Some f) = token_at mode at text ≡ Err f

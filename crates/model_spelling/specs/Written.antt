@@ -1,4 +1,4 @@
--- What references stand for, and the canonical spelling.
+-- What references stand for, and the canonical spelling of texts, values and tags (WHATWG HTML, "Serializing HTML fragments", but that `<` and `>` are written as references in values too).
 use Rattle.std.specs.Prelude.{ℕ, zero, suc, ◌-◌, Bool, true, false, ◌&&◌, List, [], ◌∷◌, ◌++◌, length, map, if◌then◌else◌, ◌==◌, codes}
 use Rattle.model_spelling.specs.Grammar.{begins_with, Attr, start_text}
 
@@ -20,7 +20,7 @@ decoded_from zero (b ∷ bs) = let m = front_of meanings b bs in m.1 ++ decoded_
 abbrev pub decoded : List ℕ → List ℕ
 decoded spelled = decoded_from 0 spelled
 
--- a byte but 160 after 194, which is dealt with at the 194; in a value `"` is written as a reference too
+-- The spelling of one byte. U+00A0 is the bytes 194 and 160, and is dealt with below; in a value `"` is written as a reference too.
 abbrev pub escaped_byte : Bool → ℕ → List ℕ
 escaped_byte in_value b =
     if b == 38 then codes "&amp;"
