@@ -1,8 +1,10 @@
 //! What a script's lines ask, and how replies are spelled.
 #![tactic(auto)]
 
-mod command;
+mod commands;
+mod line;
 mod reply;
 
-pub use command::{Command, command_of};
-pub use reply::{Refusal, Reply};
+pub use commands::Command;
+pub use line::{LineFault, command};
+pub use reply::{Refusal, Reply, reply_text};

@@ -3,8 +3,8 @@ use Rattle.std.proofs.lemmas.Str.{is_utf8-from_IsUtf8, IsUtf8-from_is_utf8}
 use Rattle.std.specs.Str.{IsUtf8, is_utf8}
 use Rattle.serde_json.specs.Data.{Data}
 use Rattle.serde_json.specs.Read.{read}
-use Rattle.ve_json.specs.Asked.{read_line}
-use Rattle.ve_json.proofs.command.read_line.Goals as goal
+use Rattle.ve_json.specs.Line.{read_line}
+use Rattle.ve_json.proofs.line.read_line.Goals as goal
 
 read_some : (line : List ℕ) (d : Data) → IsUtf8 line → read line ≡ Some d → Some d ≡ read_line line
 read_some line d utf8 e = sym e ∙ ap (λ b. if b then read line else None) (sym (is_utf8-from_IsUtf8 line utf8))
