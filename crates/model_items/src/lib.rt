@@ -1,6 +1,66 @@
-//! The values that a page's items are made of, and what they mean.
+//! What the items of a page's flat list mean: their values, which lists are lawful, and the tree that a lawful list spells. Definitions and laws;
+//! each public function here does nothing, and its contract is a law that is proved.
 #![tactic(auto)]
 
+ghost use Rattle.model_items.specs.Same.{Means, item_same, value_same};
+ghost use Rattle.model_items.specs.Plain.{PlainTellsApart};
+ghost use Rattle.model_items.specs.Law.{VerdictIsFirstOffence, LawReadsNoValues, VerdictReadsNoValues, PieceFails, PieceFits, PieceDiffers, StateDecided};
+ghost use Rattle.model_items.specs.Tree.{TreeSpells, TreeHasWholeRuns, TreeIsOnly, TreeReadsNoValues};
+
 mod item;
+mod law_fault;
+mod offset_class;
+mod plain_item;
 
 pub use item::Item;
+pub use law_fault::LawFault;
+pub use offset_class::OffsetClass;
+pub use plain_item::PlainItem;
+
+/// The tests of equality that the definitions compute with are true exactly of equal values and equal items.
+#[tactic(auto, using(crate::proofs::SameLemmas::values_are_tested, crate::proofs::SameLemmas::items_are_tested))]
+pub fn equality_is_tested()
+    ensures values { Means value_same }
+    ensures items { Means item_same }
+{}
+
+/// Two items that cite one list of distinct values, each value of its sort and not empty, are equal where what they cite is.
+#[tactic(auto, using(crate::proofs::PlainLemmas::plain_tells_apart))]
+pub fn plain_tells_apart()
+    ensures { PlainTellsApart }
+{}
+
+/// The verdict over a list names the first item that is not allowed, or the list's end.
+pub fn verdict_is_first()
+    ensures { VerdictIsFirstOffence }
+{}
+
+/// Whether a list is lawful, and which tree it spells, does not depend on the values that its items cite.
+pub fn values_are_not_read()
+    ensures law { LawReadsNoValues }
+    ensures verdict { VerdictReadsNoValues }
+    ensures tree { TreeReadsNoValues }
+{}
+
+/// What a changed piece of a lawful list tells of the whole: where the piece fails from the state before it, the list fails there; where it ends
+/// in the state in which the old piece ends, the list stays lawful; else the first offence lies behind the piece.
+#[tactic(auto, using(crate::proofs::LawLemmas::piece_fails, crate::proofs::LawLemmas::piece_fits, crate::proofs::LawLemmas::piece_differs))]
+pub fn piece_decides()
+    ensures fails { PieceFails }
+    ensures fits { PieceFits }
+    ensures differs { PieceDiffers }
+{}
+
+/// What follows a place decides the state there: the closings name the open kinds, and whether the internal list still comes names the flag.
+#[tactic(auto, using(crate::proofs::LawLemmas::state_decided))]
+pub fn state_is_decided()
+    ensures { StateDecided }
+{}
+
+/// The tree of a lawful list, written out, is the list, and no other forest of whole runs is.
+#[tactic(auto, using(crate::proofs::TreeLemmas::tree_spells, crate::proofs::OnlyLemmas::tree_has_whole_runs, crate::proofs::OnlyLemmas::tree_is_only))]
+pub fn tree_spells()
+    ensures spells { TreeSpells }
+    ensures whole { TreeHasWholeRuns }
+    ensures only { TreeIsOnly }
+{}

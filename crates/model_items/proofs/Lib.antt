@@ -1,0 +1,10 @@
+pub mod SameLemmas
+pub mod PlainLemmas
+pub mod LawLemmas
+pub mod VerdictLemmas
+pub mod TreeLemmas
+pub mod OnlyLemmas
+mod SameExamples
+mod PlainExamples
+mod LawExamples
+mod TreeExamples
