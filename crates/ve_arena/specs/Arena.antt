@@ -1,0 +1,48 @@
+-- An arena as a finite map: the slots give the node under each number, or nothing. What one write changes.
+use Rattle.std.specs.Prelude.{◌≡◌, ◌≢◌, ℕ, List, Option, None, IsSome, slice_index_or, option_map}
+use Rattle.ve_arena.specs.declared.node.NodeId.{NodeId}
+use Rattle.ve_arena.specs.declared.node.NodeWhat.{NodeWhat}
+use Rattle.ve_arena.specs.declared.node.ArenaNode.{ArenaNode}
+
+-- what stands in the slot of a number; nothing past the last slot
+abbrev pub slot_at : List (Option ArenaNode) → ℕ → Option ArenaNode
+slot_at slots n = slice_index_or slots n None
+
+-- the node under a number
+abbrev pub node_under : List (Option ArenaNode) → NodeId → Option ArenaNode
+node_under slots n = slot_at slots n.0
+
+-- there is a node under the number
+abbrev pub IsLive : List (Option ArenaNode) → NodeId → Type 0
+IsLive slots n = IsSome (node_under slots n)
+
+-- the number now has this slot, and every other number has what it had
+pub record Puts (old new : List (Option ArenaNode)) (n : NodeId) (slot : Option ArenaNode) : Type 0 where
+  pub here : slot_at new n.0 ≡ slot
+  pub others : (q : ℕ) → q ≢ n.0 → slot_at new q ≡ slot_at old q
+
+-- the node under the number is changed so, and every other number has what it had
+abbrev pub Changes : List (Option ArenaNode) → List (Option ArenaNode) → NodeId → (ArenaNode → ArenaNode) → Type 0
+Changes old new n change = Puts old new n (option_map change (node_under old n))
+
+-- a node that was just made
+abbrev pub new_node : NodeWhat → ArenaNode
+new_node what = record { what = what; parent = None; first = None; last = None; before = None; after = None; len = 0 }
+
+abbrev pub with_parent : Option NodeId → ArenaNode → ArenaNode
+with_parent to node = record node { parent = to }
+
+abbrev pub with_first : Option NodeId → ArenaNode → ArenaNode
+with_first to node = record node { first = to }
+
+abbrev pub with_last : Option NodeId → ArenaNode → ArenaNode
+with_last to node = record node { last = to }
+
+abbrev pub with_before : Option NodeId → ArenaNode → ArenaNode
+with_before to node = record node { before = to }
+
+abbrev pub with_after : Option NodeId → ArenaNode → ArenaNode
+with_after to node = record node { after = to }
+
+abbrev pub with_len : ℕ → ArenaNode → ArenaNode
+with_len len node = record node { len = len }

@@ -1,0 +1,30 @@
+// A node of the arena: what it is, and its links.
+use ve_kinds::Kind;
+
+/// A node's number. It is given out again only after its node was freed.
+#[derive(Clone, Copy, Debug, PartialEq, Eq)]
+pub struct NodeId(pub usize);
+
+/// What a node stands for in the flat list.
+#[derive(Clone, Copy, Debug, PartialEq, Eq)]
+pub enum NodeWhat {
+    /// An opening and its closing, with all that stands between.
+    Node(Kind),
+    /// A run of characters.
+    Run,
+}
+
+/// A node with its links, after the tree nodes of VisualEditor's `ve.dm`.
+#[derive(Clone, Copy, Debug, PartialEq, Eq)]
+pub struct ArenaNode {
+    pub what: NodeWhat,
+    pub parent: Option<NodeId>,
+    /// Its first and its last child.
+    pub first: Option<NodeId>,
+    pub last: Option<NodeId>,
+    /// The siblings next to it.
+    pub before: Option<NodeId>,
+    pub after: Option<NodeId>,
+    /// How many items it takes in the flat list.
+    pub len: usize,
+}
