@@ -1,0 +1,32 @@
+-- The front of a list, one item longer.
+use Rattle.std.proofs.Common.{◌≡◌, ℕ, ◌+◌, ◌-◌, ◌<◌, ◌≤◌, List, [], ◌∷◌, ◌++◌, Bool, Option, Some, nat_le, length, take, find, if◌then◌else◌, ap, ◌∙◌, append-nil, ◌&&◌, arith}
+use Rattle.std.proofs.lemmas.Option.{slice_get_within, get_or_from_slice_get}
+use Rattle.std.proofs.lemmas.List.{take_more, reverse-append}
+use Rattle.std.proofs.lemmas.Grind.{flat_map-append}
+use Rattle.std.specs.List.{slice_get}
+use Rattle.model_items.specs.declared.item.Item.{Item}
+use Rattle.ve_session.specs.Written.{html_of, written}
+use Rattle.ve_session.specs.World.{is_bracket, last_bracket, opens_paragraph, is_content}
+
+pub take-one : {A : Type 0} (xs : List A) (n : ℕ) (x : A) → slice_get xs n ≡ Some x → take (n + 1) xs ≡ take n xs ++ x ∷ []
+take-one xs n x h = take_more xs n x (slice_get_within xs n x h) ∙ ap (λ y. take n xs ++ y ∷ []) (get_or_from_slice_get xs n x x h)
+
+pub html_of-take : (items : List Item) (n : ℕ) (item : Item) → slice_get items n ≡ Some item → html_of (take (n + 1) items) ≡ html_of (take n items) ++ written item
+html_of-take items n item h = ap html_of (take-one items n item h) ∙ flat_map-append written (take n items) (item ∷ []) ∙ ap (λ s. html_of (take n items) ++ s) (append-nil (written item))
+
+one_less : (n : ℕ) → 0 < n → n ≡ n - 1 + 1
+one_less n h = omega arith
+
+pub last_bracket-take : (items : List Item) (n : ℕ) (item : Item) → 0 < n → slice_get items (n - 1) ≡ Some item
+    → last_bracket (take n items) ≡ (if is_bracket item then Some item else last_bracket (take (n - 1) items))
+last_bracket-take items n item some h =
+    ap (λ m. last_bracket (take m items)) (one_less n some)
+    ∙ ap last_bracket (take-one items (n - 1) item h)
+    ∙ ap (find is_bracket) (reverse-append (take (n - 1) items) (item ∷ []))
+
+within : (items : List Item) (at : ℕ) (b : Bool) → at ≤ length items → (nat_le at (length items) && b) ≡ b
+within items at b h = grind arith
+
+-- An offset is content by the last bracket before it.
+pub is_content-by : (items : List Item) (at : ℕ) (o : Option Item) → at ≤ length items → last_bracket (take at items) ≡ o → is_content items at ≡ opens_paragraph o
+is_content-by items at o h e = within items at (opens_paragraph (last_bracket (take at items))) h ∙ ap opens_paragraph e

@@ -1,0 +1,5 @@
+pub mod Plain
+pub mod Reader
+pub mod Written
+pub mod World
+pub use Rattle.ve_items.specs.Row

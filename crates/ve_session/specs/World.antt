@@ -1,0 +1,95 @@
+-- What a world answers to a line, and the world after it.
+use Rattle.std.specs.Prelude.{ℕ, ◌+◌, ◌&&◌, List, length, take, reverse, find, Bool, true, false, nat_le, if◌then◌else◌, Option, Some, None, Result, Ok, Err}
+use Rattle.ve_kinds.specs.declared.kind.Kind.{Kind}
+use Rattle.ve_kinds.specs.declared.kind.Kind.TheVariants.{P}
+use Rattle.model_items.specs.declared.item.Item.{Item}
+use Rattle.model_items.specs.declared.item.Item.TheVariants.{Char, Opening, Closing}
+use Rattle.ve_items.specs.Substitution.{spliced}
+use Rattle.ve_json.specs.declared.commands.Command.{Command}
+use Rattle.ve_json.specs.declared.commands.Command.TheVariants.{OpenPage, Text, Html}
+use Rattle.ve_json.specs.declared.line.LineFault.{LineFault}
+use Rattle.ve_json.specs.declared.line.LineFault.TheVariants as fault
+use Rattle.ve_json.specs.declared.reply.Refusal.{Refusal}
+use Rattle.ve_json.specs.declared.reply.Refusal.TheVariants.{BadJson, NotYet, NotOpen}
+use Rattle.ve_json.specs.declared.reply.Reply.{Reply}
+use Rattle.ve_json.specs.declared.reply.Reply.TheVariants.{Length, Page, No}
+use Rattle.ve_json.specs.Line.{command}
+use Rattle.ve_session.specs.Plain.{characters}
+use Rattle.ve_session.specs.Reader.{page_items}
+use Rattle.ve_session.specs.Written.{html_of}
+
+-- the items of the page that is open, and whether the world is spent, so that it answers nothing more
+pub record State : Type 0 where
+  pub page : Option (List Item)
+  pub is_spent : Bool
+
+-- a world that ran out of memory
+abbrev pub spent : State
+spent = record { page = None; is_spent = true }
+
+-- how many items a page may have after a text was put into it
+abbrev pub max_items : ℕ
+max_items = 4194304
+
+abbrev pub is_bracket : Item → Bool
+is_bracket (Char ch marks) = false
+is_bracket (Opening kind head marks pre origin generated) = true
+is_bracket (Closing kind pre) = true
+
+abbrev pub is_paragraph : Kind → Bool
+is_paragraph P = true
+is_paragraph _ = false
+
+abbrev pub opens_paragraph : Option Item → Bool
+opens_paragraph None = false
+opens_paragraph (Some (Char ch marks)) = false
+opens_paragraph (Some (Opening kind head marks pre origin generated)) = is_paragraph kind
+opens_paragraph (Some (Closing kind pre)) = false
+
+-- the last opening or closing
+abbrev pub last_bracket : List Item → Option Item
+last_bracket items = find is_bracket (reverse items)
+
+-- The offset stands among the characters of a paragraph: the last bracket before it opens one.
+abbrev pub is_content : List Item → ℕ → Bool
+is_content items at = nat_le at (length items) && opens_paragraph (last_bracket (take at items))
+
+-- A text has its place there.
+abbrev pub can_insert : List Item → ℕ → List ℕ → Bool
+can_insert items at text = is_content items at && nat_le (length items + length text) max_items
+
+abbrev pub opened : Option (List Item) → Option (List Item) → Reply × Option (List Item)
+opened page None = (No NotYet, page)
+opened page (Some items) = (Length (length items), Some items)
+
+abbrev pub inserted : List Item → ℕ → List ℕ → Reply × Option (List Item)
+inserted items at text =
+    if can_insert items at text
+    then (Length (length (spliced items at 0 (characters text))), Some (spliced items at 0 (characters text)))
+    else (No NotYet, Some items)
+
+-- the reply to a command, and the page after it
+abbrev pub answered : Option (List Item) → Command → Reply × Option (List Item)
+answered page (OpenPage html) = opened page (page_items html)
+answered None (Text at text) = (No NotOpen, None)
+answered (Some items) (Text at text) = inserted items at text
+answered None Html = (No NotOpen, None)
+answered (Some items) Html = (Page (html_of items), Some items)
+
+-- A line without a command changes nothing.
+abbrev pub refusal_of : LineFault → Refusal
+refusal_of fault.BadJson = BadJson
+refusal_of fault.NotYet = NotYet
+refusal_of fault.Memory = NotYet
+
+abbrev pub stepped : Option (List Item) → Result Command LineFault → Reply × Option (List Item)
+stepped page (Err fault) = (No (refusal_of fault), page)
+stepped page (Ok command) = answered page command
+
+-- the reply to a line
+abbrev pub reply : State → List ℕ → Reply
+reply state line = (stepped state.page (command line)).0
+
+-- the world after it
+abbrev pub next : State → List ℕ → State
+next state line = record state { page = (stepped state.page (command line)).1 }

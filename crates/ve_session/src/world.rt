@@ -1,0 +1,173 @@
+// The page that is open, and the commands on it.
+ghost use Rattle.std.specs.Prelude.{◌≡◌, ◌≤◌, ◌<◌, ◌+◌, ◌++◌, ◌&&◌, if◌then◌else◌, IfOk, OnOk, OnErr, IsErr, true, false, option_map, length, take, Some, None, Ok};
+ghost use Rattle.ve_items.specs.Substitution.{spliced};
+ghost use Rattle.ve_json.specs.declared.reply.Reply.TheVariants as reply_to;
+ghost use Rattle.ve_json.specs.declared.reply.Refusal.{Refusal};
+ghost use Rattle.ve_session.specs.Plain.{characters};
+ghost use Rattle.ve_session.specs.World.{State, answered, stepped, reply, next, spent, can_insert, is_content, is_paragraph};
+
+use crate::page::{characters, html_of, read_page};
+use std::alloc::Global;
+use std::marker::Model;
+use std::sync::ledger::Ledger;
+use ve_base::{Memory, Steps, Text};
+use ve_items::{Item, Linear};
+use ve_json::{Command, LineFault, Refusal, Reply, command};
+use ve_kinds::Kind;
+use ve_run::Machine;
+
+/// The most items of a page after a text was put into it.
+const MAX_ITEMS: usize = 4_194_304;
+
+/// The page that is open, if one is. After it ran out of memory a world is spent.
+#[derive(Drop)]
+pub struct World {
+    alloc: Global,
+    page: Option<Linear>,
+    is_spent: bool,
+}
+
+impl Model for World {
+    ghost use Rattle.std.specs.Prelude.{option_map};
+    ghost use Rattle.ve_session.specs.World.{State};
+
+    ghost Value = { State };
+
+    ghost view = { λ w. record { page = option_map (λ list. list.items) w.page; is_spent = w.is_spent } };
+}
+
+fn is_paragraph(kind: Kind) -> bool
+    ensures { result ≡ is_paragraph kind }
+{
+    kind == Kind::P
+}
+
+/// Whether the offset stands among the characters of a paragraph. It looks back to the nearest bracket only.
+fn is_content(list: &Linear, at: usize) -> bool
+    ensures { result ≡ is_content list.now.items at }
+{
+    if at > list.len() {
+        return false;
+    }
+    let mut before = at;
+    while before > 0 {
+        match list.get(before - 1) {
+            Item::Char { .. } => before -= 1,
+            Item::Opening { kind, .. } => return is_paragraph(kind),
+            Item::Closing { .. } => return false,
+        }
+    }
+    false
+}
+
+/// Puts a text into a list, where it has its place there.
+fn insert(alloc: Global, list: &mut Linear, at: usize, text: &Text) -> Result<bool, Memory>
+    ensures answer { IfOk result (λ done. done ≡ can_insert list.old.items at text.now) }
+    ensures items { IfOk result (λ done. list.new.items ≡ (if done then spliced list.old.items at 0 (characters text.now) else list.old.items)) }
+{
+    if !is_content(list, at) {
+        return Ok(false);
+    }
+    let items = characters(alloc, text)?;
+    let letters = items.as_slice();
+    if letters.len() > MAX_ITEMS || list.len() > MAX_ITEMS - letters.len() {
+        return Ok(false);
+    }
+    list.reserve(letters.len())?;
+    list.splice(at, 0, letters)?;
+    Ok(true)
+}
+
+impl World {
+    /// A world without a page. It takes no memory.
+    pub fn new(alloc: Global) -> World
+        ensures { result ≡ record { page = None; is_spent = false } }
+    {
+        World {
+            alloc,
+            page: None,
+            is_spent: false,
+        }
+    }
+
+    /// Answers a command.
+    fn answer(&mut self, command: Command) -> Result<Reply, Memory>
+        ensures reply { IfOk result (λ reply. reply ≡ (answered self.old.page command).0) }
+        ensures state { OnOk result (self.new ≡ record self.old { page = (answered self.old.page command).1 }) }
+    {
+        match command {
+            Command::OpenPage { page } => match read_page(self.alloc, &page)? {
+                Some(list) => {
+                    let length = list.len();
+                    self.page = Some(list);
+                    Ok(Reply::Length(length))
+                }
+                None => Ok(Reply::No(Refusal::NotYet)),
+            },
+            Command::Text { at, text } => match &mut self.page {
+                Some(list) => {
+                    if insert(self.alloc, list, at, &text)? {
+                        Ok(Reply::Length(list.len()))
+                    } else {
+                        Ok(Reply::No(Refusal::NotYet))
+                    }
+                }
+                None => Ok(Reply::No(Refusal::NotOpen)),
+            },
+            Command::Html => match &self.page {
+                Some(list) => Ok(Reply::Page(html_of(self.alloc, list)?)),
+                None => Ok(Reply::No(Refusal::NotOpen)),
+            },
+        }
+    }
+
+    /// Answers a line, where the world isn't spent.
+    fn answer_line(&mut self, line: &[u8]) -> Result<Reply, Memory>
+        ensures reply { IfOk result (λ answer. answer ≡ reply self.old line.now) }
+        ensures state { OnOk result (self.new ≡ next self.old line.now) }
+        ensures stays_spent { self.old.is_spent ≡ true → IsErr result }
+    {
+        if self.is_spent {
+            return Err(Memory);
+        }
+        match command(self.alloc, line) {
+            Ok(command) => self.answer(command),
+            Err(LineFault::BadJson) => Ok(Reply::No(Refusal::BadJson)),
+            Err(LineFault::NotYet) => Ok(Reply::No(Refusal::NotYet)),
+            Err(LineFault::Memory) => Err(Memory),
+        }
+    }
+
+    /// Answers one line of a script. A refusal leaves the world as it was.
+    ///
+    /// After `Memory` the world is spent: it has no page, and every later step answers `Memory`.
+    pub fn step<L: Ledger>(&mut self, line: &[u8], steps: &mut Steps<L>) -> Result<Reply, Memory>
+        ensures reply { IfOk result (λ answer. answer ≡ reply self.old line.now) }
+        ensures state { OnOk result (self.new ≡ next self.old line.now) }
+        ensures refused { (refusal : Refusal) → result ≡ Ok (reply_to.No refusal) → self.new ≡ self.old }
+        ensures spent { OnErr result (self.new ≡ spent) }
+        ensures stays_spent { self.old.is_spent ≡ true → IsErr result }
+        ensures counted { steps.new ≡ steps.old }
+    {
+        let answer = self.answer_line(line);
+        if answer.is_err() {
+            self.page = None;
+            self.is_spent = true;
+        }
+        answer
+    }
+}
+
+impl Machine for World {
+    ghost use Rattle.ve_session.specs.World.{reply, next};
+
+    ghost reply = { reply };
+
+    ghost next = { next };
+
+    ghost cost = { λ _ _. 0 };
+
+    fn step<L: Ledger>(&mut self, line: &[u8], steps: &mut Steps<L>) -> Result<Reply, Memory> {
+        World::step(self, line, steps)
+    }
+}
