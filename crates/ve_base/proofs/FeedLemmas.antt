@@ -1,5 +1,5 @@
 -- A piece of what is left, and what is left after it.
-use Rattle.std.proofs.Common.{◌≡◌, ◌+◌, ◌<◌, ◌≤◌, ℕ, List, [], ◌++◌, length, take, drop, min, sym, ap, ◌∙◌, arith, take-append-drop, length-drop}
+use Rattle.std.proofs.Common.{◌≡◌, ◌+◌, ◌<◌, ℕ, List, [], ◌++◌, length, take, drop, min, sym, ap, ◌∙◌, arith, take-append-drop, length-drop}
 use Rattle.std.proofs.lemmas.List.{drop-drop, drop_all, drop_min}
 use Rattle.ve_base.specs.Feed.{Feed, after_piece, counted, next_cut}
 

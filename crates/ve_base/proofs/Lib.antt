@@ -1,2 +1,3 @@
+mod Examples
 pub mod FeedLemmas
 pub mod NamesLemmas

@@ -27,19 +27,19 @@ piece_size feed room = min (length feed.left) (next_cut feed.cuts room)
 -- after a call that gave a piece into so much room
 abbrev pub after_piece : Feed → ℕ → Feed
 after_piece feed room = record {
-    left = drop (piece_size feed room) feed.left;
-    cuts = drop 1 feed.cuts;
-    fails = feed.fails;
-    calls = counted feed.calls;
-    faults = feed.faults;
+  left = drop (piece_size feed room) feed.left;
+  cuts = drop 1 feed.cuts;
+  fails = feed.fails;
+  calls = counted feed.calls;
+  faults = feed.faults;
 }
 
 -- after a call that failed
 abbrev pub after_fault : Feed → Feed
 after_fault feed = record {
-    left = feed.left;
-    cuts = feed.cuts;
-    fails = feed.fails;
-    calls = counted feed.calls;
-    faults = counted feed.faults;
+  left = feed.left;
+  cuts = feed.cuts;
+  fails = feed.fails;
+  calls = counted feed.calls;
+  faults = counted feed.faults;
 }

@@ -1,5 +1,5 @@
 -- A sink that takes bytes into a room of fixed size.
-use Rattle.std.specs.Prelude.{◌≡◌, ◌<◌, ◌⊎◌, ℕ, ◌-◌, List, ◌++◌, Contains, length, take, min}
+use Rattle.std.specs.Prelude.{◌≡◌, ◌<◌, ◌⊎◌, ℕ, ◌-◌, List, ◌++◌, Contains, length, take}
 use Rattle.ve_base.specs.Feed.{counted}
 
 pub record Fill : Type 0 where
@@ -24,20 +24,20 @@ FailsAt fill piece = Contains fill.fails fill.calls ⊎ IsFullFor fill.free piec
 -- what fits of a piece was taken
 abbrev pub after_write : Fill → List ℕ → Fill
 after_write fill piece = record {
-    held = fill.held ++ take fill.free piece;
-    free = fill.free - length piece;
-    fails = fill.fails;
-    calls = counted fill.calls;
-    faults = fill.faults;
+  held = fill.held ++ take fill.free piece;
+  free = fill.free - length piece;
+  fails = fill.fails;
+  calls = counted fill.calls;
+  faults = fill.faults;
 }
 
 abbrev pub after_failed_write : Fill → Fill
 after_failed_write fill = record {
-    held = fill.held;
-    free = fill.free;
-    fails = fill.fails;
-    calls = counted fill.calls;
-    faults = counted fill.faults;
+  held = fill.held;
+  free = fill.free;
+  fails = fill.fails;
+  calls = counted fill.calls;
+  faults = counted fill.faults;
 }
 
 -- the same without listed calls, and so without their count

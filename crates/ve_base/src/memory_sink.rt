@@ -158,8 +158,8 @@ impl<'a> Sink for NeverSink<'a> {
             self.faults = self.faults.saturating_add(1);
             return Err(Failed);
         }
-        let taken = put(self.room, self.len, piece);
-        self.len += taken;
-        Ok(taken)
+        let written = put(self.room, self.len, piece);
+        self.len += written;
+        Ok(written)
     }
 }

@@ -1,7 +1,6 @@
-use Rattle.std.proofs.Common.{◌≡◌, ◌+◌, ◌<◌, ◌≤◌, List, ℕ, take, rules, length, drop, min, sym, ap, subst, ◌∙◌, arith}
-use Rattle.std.proofs.lemmas.List.{drop-drop}
+use Rattle.std.proofs.Common.{◌≡◌, ◌<◌, ◌≤◌, List, ℕ, take, rules, length, drop, min, sym, ap, subst, ◌∙◌}
 use Rattle.ve_base.proofs.FeedLemmas.{consumed, given_none, after_piece_by_counts}
-use Rattle.ve_base.specs.Feed.{Feed, after_piece, counted, next_cut}
+use Rattle.ve_base.specs.Feed.{after_piece, next_cut}
 use Rattle.ve_base.proofs.memory_source.MemSourceSource.read.Goals as goal
 
 pub returns-clause-bytes : goal.returns-clause-bytes
