@@ -2,7 +2,8 @@
 ghost use Rattle.std.specs.Prelude.{◌≡◌, ◌≤◌, ◌⊎◌, OnOk, OnErr, IsErrOf};
 ghost use Rattle.std.specs.Io.KnownBytes.{Appends};
 ghost use Rattle.ve_base.specs.Outside.{HasCause, Rose};
-ghost use Rattle.ve_run.specs.Output.{AppendsFront, reply_line};
+ghost use Rattle.ve_run.specs.Output.{meaning, reply_line};
+ghost use Rattle.ve_run.specs.Run.{scene, AppendsFront, Stepped};
 
 use crate::Machine;
 use crate::stop::Stop;
@@ -24,7 +25,7 @@ pub fn write_all<K: Sink>(sink: &mut K, piece: &[u8]) -> Result<(), Failed>
     Ok(())
 }
 
-/// Answers a line, and writes the reply.
+/// Steps the machine with a line, and writes its reply.
 pub fn answer<K: Sink, M: Machine, L: Ledger>(
     alloc: Global,
     line: &[u8],
@@ -32,13 +33,17 @@ pub fn answer<K: Sink, M: Machine, L: Ledger>(
     world: &mut M,
     steps: &mut Steps<L>,
 ) -> Result<(), Stop>
+    ensures stepped { OnOk result (Stepped (meaning M.reply M.next M.cost)
+        (scene world.old steps.old (K.held sink.old)) (scene world.new steps.new (K.held sink.new)) line.now) }
     ensures written { OnOk result (Appends (K.held sink.old) (K.held sink.new) (reply_line (M.reply world.old line.now))) }
-    ensures state { OnOk result (world.new ≡ M.next world.old line.now) }
-    ensures err { OnErr result (AppendsFront (K.held sink.old) (K.held sink.new) (reply_line (M.reply world.old line.now))) }
-    ensures not_input { IsErrOf result Stop.ReadFault ⊎ IsErrOf result Stop.InputTooLong → ⊥ }
-    ensures later { K.faults sink.old ≤ K.faults sink.new }
+    ensures stepped_at_fault { IsErrOf result Stop.WriteFault → Stepped (meaning M.reply M.next M.cost)
+        (scene world.old steps.old (K.held sink.old)) (scene world.new steps.new (K.held sink.new)) line.now }
+    ensures front { IsErrOf result Stop.WriteFault → AppendsFront (K.held sink.old) (K.held sink.new) (reply_line (M.reply world.old line.now)) }
     ensures rose { IsErrOf result Stop.WriteFault → Rose (K.faults sink.old) (K.faults sink.new) }
-    ensures state_at_fault { IsErrOf result Stop.WriteFault → world.new ≡ M.next world.old line.now }
+    ensures starved { IsErrOf result Stop.Memory → K.held sink.new ≡ K.held sink.old }
+    ensures sink_alone { IsErrOf result Stop.ReadFault ⊎ IsErrOf result Stop.InputTooLong → ⊥ }
+    ensures later { K.faults sink.old ≤ K.faults sink.new }
+    ensures counted { steps.old ≤ steps.new }
 {
     let reply = world.step(line, steps)?;
     let mut spelled = Bytes::new(alloc);

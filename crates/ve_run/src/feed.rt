@@ -1,8 +1,10 @@
 // A piece of the script: the lines that end in it, and the rest.
-ghost use Rattle.std.specs.Prelude.{◌≡◌, ◌≤◌, ◌++◌, ◌⊎◌, OnOk, OnErr, IsErrOf};
+ghost use Rattle.std.specs.Prelude.{◌≡◌, ◌≤◌, ◌++◌, ◌∷◌, [], ◌⊎◌, OnOk, IsErrOf, MatchOption};
+ghost use Rattle.std.specs.Io.KnownBytes.{Appends};
 ghost use Rattle.ve_base.specs.Outside.{Rose};
-ghost use Rattle.ve_run.specs.Lines.{IsLine};
-ghost use Rattle.ve_run.specs.Output.{Answered, Halted};
+ghost use Rattle.ve_run.specs.Lines.{IsLine, newline};
+ghost use Rattle.ve_run.specs.Output.{meaning, reply_line};
+ghost use Rattle.ve_run.specs.Run.{scene, AppendsFront, Stepped, Answered, BrokeOff, GaveUp};
 
 use crate::Machine;
 use crate::answer::answer;
@@ -11,29 +13,76 @@ use std::alloc::Global;
 use std::sync::ledger::Ledger;
 use ve_base::{Bytes, Sink, Steps};
 
-/// Answers each line that a newline ends, and keeps the rest.
-pub fn feed<K: Sink, M: Machine, L: Ledger>(
+/// What ends a line.
+const NEWLINE: u8 = b'\n';
+
+/// The bytes before the first newline, and those after it.
+fn split_line(piece: &[u8]) -> Option<(&[u8], &[u8])>
+    ensures { MatchOption result (IsLine piece.now)
+        (λ parts. IsLine parts.0.now × (piece.now ≡ parts.0.now ++ newline ∷ parts.1.now)) }
+{
+    for (at, byte) in piece.iter().enumerate() {
+        if *byte == NEWLINE {
+            return Some((&piece[..at], &piece[at + 1..]));
+        }
+    }
+    None
+}
+
+/// Answers the line that was kept so far and ends with these bytes, and keeps nothing.
+fn end_line<K: Sink, M: Machine, L: Ledger>(
     alloc: Global,
-    piece: &[u8],
-    rest: &mut Bytes,
+    kept: &mut Bytes,
+    end: &[u8],
     sink: &mut K,
     world: &mut M,
     steps: &mut Steps<L>,
 ) -> Result<(), Stop>
-    requires { IsLine rest.old }
-    ensures ok { OnOk result (Answered M.reply M.next world.old world.new (K.held sink.old) (K.held sink.new) (rest.old ++ piece.now) rest.new) }
-    ensures err { OnErr result (Halted M.reply M.next world.old world.new (K.held sink.old) (K.held sink.new) (rest.old ++ piece.now) (IsErrOf result Stop.WriteFault)) }
-    ensures not_input { IsErrOf result Stop.ReadFault ⊎ IsErrOf result Stop.InputTooLong → ⊥ }
-    ensures later { K.faults sink.old ≤ K.faults sink.new }
+    ensures stepped { OnOk result (Stepped (meaning M.reply M.next M.cost)
+        (scene world.old steps.old (K.held sink.old)) (scene world.new steps.new (K.held sink.new)) (kept.old ++ end.now)) }
+    ensures written { OnOk result (Appends (K.held sink.old) (K.held sink.new) (reply_line (M.reply world.old (kept.old ++ end.now)))) }
+    ensures nothing { OnOk result (kept.new ≡ []) }
+    ensures stepped_at_fault { IsErrOf result Stop.WriteFault → Stepped (meaning M.reply M.next M.cost)
+        (scene world.old steps.old (K.held sink.old)) (scene world.new steps.new (K.held sink.new)) (kept.old ++ end.now) }
+    ensures front { IsErrOf result Stop.WriteFault → AppendsFront (K.held sink.old) (K.held sink.new) (reply_line (M.reply world.old (kept.old ++ end.now))) }
     ensures rose { IsErrOf result Stop.WriteFault → Rose (K.faults sink.old) (K.faults sink.new) }
+    ensures starved { IsErrOf result Stop.Memory → K.held sink.new ≡ K.held sink.old }
+    ensures sink_alone { IsErrOf result Stop.ReadFault ⊎ IsErrOf result Stop.InputTooLong → ⊥ }
+    ensures later { K.faults sink.old ≤ K.faults sink.new }
+    ensures counted { steps.old ≤ steps.new }
 {
-    for byte in piece {
-        if *byte == b'\n' {
-            answer(alloc, rest.as_slice(), sink, world, steps)?;
-            rest.clear();
-        } else {
-            rest.push_byte(*byte)?;
-        }
+    kept.push(end)?;
+    answer(alloc, kept.as_slice(), sink, world, steps)?;
+    kept.clear();
+    Ok(())
+}
+
+/// Answers each line that a newline ends, and keeps the rest.
+pub fn feed<K: Sink, M: Machine, L: Ledger>(
+    alloc: Global,
+    piece: &[u8],
+    kept: &mut Bytes,
+    sink: &mut K,
+    world: &mut M,
+    steps: &mut Steps<L>,
+) -> Result<(), Stop>
+    requires { IsLine kept.old }
+    ensures ok { OnOk result (Answered (meaning M.reply M.next M.cost)
+        (scene world.old steps.old (K.held sink.old)) (scene world.new steps.new (K.held sink.new)) (kept.old ++ piece.now) kept.new) }
+    ensures broke_off { IsErrOf result Stop.WriteFault → BrokeOff (meaning M.reply M.next M.cost)
+        (scene world.old steps.old (K.held sink.old)) (scene world.new steps.new (K.held sink.new)) (kept.old ++ piece.now) ⊥ }
+    ensures rose { IsErrOf result Stop.WriteFault → Rose (K.faults sink.old) (K.faults sink.new) }
+    ensures starved { IsErrOf result Stop.Memory → GaveUp (meaning M.reply M.next M.cost)
+        (scene world.old steps.old (K.held sink.old)) (scene world.new steps.new (K.held sink.new)) (kept.old ++ piece.now) }
+    ensures sink_alone { IsErrOf result Stop.ReadFault ⊎ IsErrOf result Stop.InputTooLong → ⊥ }
+    ensures later { K.faults sink.old ≤ K.faults sink.new }
+    ensures counted { steps.old ≤ steps.new }
+{
+    let mut left = piece;
+    'lines: while let Some((end, more)) = split_line(left) {
+        end_line(alloc, kept, end, sink, world, steps)?;
+        left = more;
     }
+    kept.push(left)?;
     Ok(())
 }

@@ -6,6 +6,7 @@ use std::sync::ledger::Ledger;
 use ve_base::{Memory, Steps};
 use ve_json::Reply;
 
+/// Answers lines, one after another. What it means is fixed by its state and the line alone.
 pub trait Machine {
     /// The reply to a line.
     ghost reply: { Self → List ℕ → Reply };
@@ -16,7 +17,7 @@ pub trait Machine {
     /// How many steps it takes at most.
     ghost cost: { Self → List ℕ → ℕ };
 
-    /// Answers a line. After an `Err` nothing is known of the state.
+    /// Answers a line, which is given without its newline. After an `Err` nothing is known of the state.
     fn step<L: Ledger>(&mut self, line: &[u8], steps: &mut Steps<L>) -> Result<Reply, Memory>
         ensures reply { IfOk result (λ answer. answer ≡ reply self.old line.now) }
         ensures state { OnOk result (self.new ≡ next self.old line.now) }

@@ -1,9 +1,9 @@
 // A whole script, from a source to a sink.
-ghost use Rattle.std.specs.Prelude.{◌≡◌, ◌≤◌, ◌++◌, ℕ, List, length, OnOk, OnErr, IfOk, IsErrOf, ◌<◌, [], ◌∷◌};
-ghost use Rattle.std.specs.Io.KnownBytes.{ReadConsumes};
+ghost use Rattle.std.specs.Prelude.{◌≡◌, ◌≤◌, ◌<◌, [], ◌∷◌, ℕ, List, length, OnOk, IfOk, IsErrOf};
+ghost use Rattle.std.specs.Io.KnownBytes.{ReadConsumes, IsAtEnd};
 ghost use Rattle.ve_base.specs.Outside.{Rose, HasCause};
-ghost use Rattle.ve_run.specs.Lines.{IsLine};
-ghost use Rattle.ve_run.specs.Output.{Answered, Halted, Ran, Stopped, Broke, max_script};
+ghost use Rattle.ve_run.specs.Output.{meaning};
+ghost use Rattle.ve_run.specs.Run.{scene, Answered, Took, Ran, Stopped, Broke, Starved};
 
 use crate::Machine;
 use crate::answer::answer;
@@ -34,23 +34,34 @@ fn read_at_most<S: Source>(source: &mut S, buffer: &mut [u8], most: usize) -> Re
     }
 }
 
-/// Reads lines, and answers each before the next.
-pub fn run_script<S: Source, K: Sink, M: Machine, L: Ledger>(
+/// Reads to the end, answers each line that a newline ends, and keeps what follows the last of them.
+fn read_lines<S: Source, K: Sink, M: Machine, L: Ledger>(
     alloc: Global,
     source: &mut S,
+    kept: &mut Bytes,
     sink: &mut K,
     world: &mut M,
     steps: &mut Steps<L>,
 ) -> Result<(), Stop>
-    ensures ok { OnOk result (Ran M.reply M.next world.old world.new (S.left source.old) (S.left source.new) (K.held sink.old) (K.held sink.new)) }
-    ensures read_fault { IsErrOf result Stop.ReadFault → Rose (S.faults source.old) (S.faults source.new)
-        × ((script : List ℕ) × (length script ≤ max_script) × Stopped M.reply M.next world.old world.new (S.left source.old) (S.left source.new) (K.held sink.old) (K.held sink.new) script []) }
-    ensures too_long { IsErrOf result Stop.InputTooLong →
-        (script : List ℕ) × (extra : ℕ) × (length script ≡ max_script) × Stopped M.reply M.next world.old world.new (S.left source.old) (S.left source.new) (K.held sink.old) (K.held sink.new) script (extra ∷ []) }
-    ensures broke { OnErr result (Broke M.reply M.next world.old world.new (S.left source.old) (S.left source.new) (K.held sink.old) (K.held sink.new) (IsErrOf result Stop.WriteFault)) }
-    ensures write_fault { IsErrOf result Stop.WriteFault → Rose (K.faults sink.old) (K.faults sink.new) }
+    requires { kept.old ≡ [] }
+    ensures answered { OnOk result ((script : List ℕ) × Took (S.left source.old) (S.left source.new) script []
+        × Answered (meaning M.reply M.next M.cost)
+            (scene world.old steps.old (K.held sink.old)) (scene world.new steps.new (K.held sink.new)) script kept.new) }
+    ensures end { OnOk result (IsAtEnd (S.left source.new)) }
+    ensures read_fault { IsErrOf result Stop.ReadFault → Stopped (meaning M.reply M.next M.cost) (S.left source.old) (S.left source.new)
+        (scene world.old steps.old (K.held sink.old)) (scene world.new steps.new (K.held sink.new)) [] }
+    ensures read_cause { IsErrOf result Stop.ReadFault → Rose (S.faults source.old) (S.faults source.new) }
+    ensures too_long { IsErrOf result Stop.InputTooLong → (extra : ℕ) × Stopped (meaning M.reply M.next M.cost) (S.left source.old) (S.left source.new)
+        (scene world.old steps.old (K.held sink.old)) (scene world.new steps.new (K.held sink.new)) (extra ∷ []) }
+    ensures write_fault { IsErrOf result Stop.WriteFault → Broke (meaning M.reply M.next M.cost) (S.left source.old) (S.left source.new)
+        (scene world.old steps.old (K.held sink.old)) (scene world.new steps.new (K.held sink.new)) }
+    ensures write_cause { IsErrOf result Stop.WriteFault → Rose (K.faults sink.old) (K.faults sink.new) }
+    ensures starved { IsErrOf result Stop.Memory → Starved (meaning M.reply M.next M.cost) (S.left source.old) (S.left source.new)
+        (scene world.old steps.old (K.held sink.old)) (scene world.new steps.new (K.held sink.new)) }
+    ensures source_later { S.faults source.old ≤ S.faults source.new }
+    ensures sink_later { K.faults sink.old ≤ K.faults sink.new }
+    ensures counted { steps.old ≤ steps.new }
 {
-    let mut rest = Bytes::new(alloc);
     let mut taken = 0;
     let mut buffer = [0u8; ROOM];
     'script: loop {
@@ -62,13 +73,42 @@ pub fn run_script<S: Source, K: Sink, M: Machine, L: Ledger>(
             break;
         }
         if given > space {
-            feed(alloc, &buffer[..space], &mut rest, sink, world, steps)?;
+            feed(alloc, &buffer[..space], kept, sink, world, steps)?;
             return Err(Stop::InputTooLong);
         }
-        feed(alloc, &buffer[..given], &mut rest, sink, world, steps)?;
+        feed(alloc, &buffer[..given], kept, sink, world, steps)?;
         taken += given;
     }
-    let line = rest.as_slice();
+    Ok(())
+}
+
+/// Reads lines, and answers each before the next; at the end a rest that isn't empty is a line too.
+pub fn run_script<S: Source, K: Sink, M: Machine, L: Ledger>(
+    alloc: Global,
+    source: &mut S,
+    sink: &mut K,
+    world: &mut M,
+    steps: &mut Steps<L>,
+) -> Result<(), Stop>
+    ensures ok { OnOk result (Ran (meaning M.reply M.next M.cost) (S.left source.old) (S.left source.new)
+        (scene world.old steps.old (K.held sink.old)) (scene world.new steps.new (K.held sink.new))) }
+    ensures read_fault { IsErrOf result Stop.ReadFault → Stopped (meaning M.reply M.next M.cost) (S.left source.old) (S.left source.new)
+        (scene world.old steps.old (K.held sink.old)) (scene world.new steps.new (K.held sink.new)) [] }
+    ensures read_cause { IsErrOf result Stop.ReadFault → Rose (S.faults source.old) (S.faults source.new) }
+    ensures too_long { IsErrOf result Stop.InputTooLong → (extra : ℕ) × Stopped (meaning M.reply M.next M.cost) (S.left source.old) (S.left source.new)
+        (scene world.old steps.old (K.held sink.old)) (scene world.new steps.new (K.held sink.new)) (extra ∷ []) }
+    ensures write_fault { IsErrOf result Stop.WriteFault → Broke (meaning M.reply M.next M.cost) (S.left source.old) (S.left source.new)
+        (scene world.old steps.old (K.held sink.old)) (scene world.new steps.new (K.held sink.new)) }
+    ensures write_cause { IsErrOf result Stop.WriteFault → Rose (K.faults sink.old) (K.faults sink.new) }
+    ensures starved { IsErrOf result Stop.Memory → Starved (meaning M.reply M.next M.cost) (S.left source.old) (S.left source.new)
+        (scene world.old steps.old (K.held sink.old)) (scene world.new steps.new (K.held sink.new)) }
+    ensures source_later { S.faults source.old ≤ S.faults source.new }
+    ensures sink_later { K.faults sink.old ≤ K.faults sink.new }
+    ensures counted { steps.old ≤ steps.new }
+{
+    let mut kept = Bytes::new(alloc);
+    read_lines(alloc, source, &mut kept, sink, world, steps)?;
+    let line = kept.as_slice();
     if !line.is_empty() {
         answer(alloc, line, sink, world, steps)?;
     }

@@ -1,45 +1,21 @@
 // The top call.
-ghost use Rattle.std.specs.Prelude.{◌≡◌, ◌≤◌, ◌++◌, ◌⊎◌, ◌↔◌, ◌∷◌, [], Some, ℕ, List, length, codes, IsTrue, IfSome, IsSomeAnd};
+ghost use Rattle.std.specs.Prelude.{◌≡◌, ◌≤◌, ◌<◌, ◌⊎◌, ◌↔◌, ◌∷◌, [], Some, ℕ, length, IsTrue, IfSome, IsSomeAnd};
 ghost use Rattle.std.specs.Io.KnownBytes.{Appends};
 ghost use Rattle.ve_base.specs.Outside.{Rose};
 ghost use Rattle.ve_run.specs.Lines.{lines_of};
-ghost use Rattle.ve_run.specs.Output.{Ran, Stopped, Broke, AppendsFront, output, state_after, max_script, usage_line, IsRun};
+ghost use Rattle.ve_run.specs.Output.{meaning, output, state_after};
+ghost use Rattle.ve_run.specs.Run.{scene, max_script, AppendsFront, Ran, Stopped, Broke, Starved, WroteFront};
+ghost use Rattle.ve_run.specs.Status.{IsRun, usage_line};
 
 use crate::Machine;
+use crate::Status;
 use crate::answer::write_all;
 use crate::script::run_script;
-use crate::stop::Stop;
 use std::alloc::Global;
 use std::sync::ledger::Ledger;
 use ve_base::{Sink, Source, Steps, Text};
 
-const USAGE: &[u8] = b"usage: vemodel run\n";
-
-/// How a run ended.
-#[derive(Clone, Copy, Debug, PartialEq, Eq)]
-pub enum Status {
-    Done,
-    Usage,
-    ReadFault,
-    WriteFault,
-    InputTooLong,
-    Memory,
-}
-
-impl Stop {
-    fn status(self) -> Status
-        ensures { result ≡ status_of self }
-    {
-        match self {
-            Stop::Memory => Status::Memory,
-            Stop::ReadFault => Status::ReadFault,
-            Stop::WriteFault => Status::WriteFault,
-            Stop::InputTooLong => Status::InputTooLong,
-        }
-    }
-}
-
-ghost use Rattle.ve_run.specs.Status.{status_of};
+const USAGE: &[u8] = b"usage: vemodel run | make | soak [--start N] [--edits N]\n";
 
 /// Whether the words are the one word `run`.
 fn is_run(words: &[Text]) -> bool
@@ -49,6 +25,9 @@ fn is_run(words: &[Text]) -> bool
 }
 
 /// Reads lines, steps the machine with each, and writes each reply before the next step.
+///
+/// The words are those after the program's name. With the one word `run` at most 2^26 + 1 bytes are taken from the
+/// source, and each reply is written as one piece with its newline. With other words the usage line is written.
 pub fn run<S: Source, K: Sink, M: Machine, L: Ledger>(
     alloc: Global,
     words: &[Text],
@@ -59,25 +38,48 @@ pub fn run<S: Source, K: Sink, M: Machine, L: Ledger>(
 ) -> Status
     // Whatever bytes the source has left, the machine's replies to their lines are written, and nothing else.
     ensures headline { result ≡ Status.Done → IfSome (S.left source.old) (λ script.
-        Appends (K.held sink.old) (K.held sink.new) (output M.reply M.next world.old script)
+        Appends (K.held sink.old) (K.held sink.new) (output (meaning M.reply M.next M.cost) world.old script)
         × (S.left source.new ≡ Some [])
-        × (world.new ≡ state_after M.next world.old (lines_of script))) }
+        × (world.new ≡ state_after (meaning M.reply M.next M.cost) world.old (lines_of script))) }
     // The same where the source doesn't tell its bytes: some bytes were taken, and it is at its end.
     ensures done { result ≡ Status.Done → IsRun words.now
-        × Ran M.reply M.next world.old world.new (S.left source.old) (S.left source.new) (K.held sink.old) (K.held sink.new) }
-    ensures usage { result ≡ Status.Usage → (IsRun words.now → ⊥)
-        × Appends (K.held sink.old) (K.held sink.new) usage_line × (world.new ≡ world.old) }
-    ensures read_fault { result ≡ Status.ReadFault → Rose (S.faults source.old) (S.faults source.new)
-        × ((script : List ℕ) × (length script ≤ max_script) × Stopped M.reply M.next world.old world.new (S.left source.old) (S.left source.new) (K.held sink.old) (K.held sink.new) script []) }
-    ensures too_long { result ≡ Status.InputTooLong →
-        (script : List ℕ) × (extra : ℕ) × (length script ≡ max_script) × Stopped M.reply M.next world.old world.new (S.left source.old) (S.left source.new) (K.held sink.old) (K.held sink.new) script (extra ∷ []) }
+        × Ran (meaning M.reply M.next M.cost) (S.left source.old) (S.left source.new)
+            (scene world.old steps.old (K.held sink.old)) (scene world.new steps.new (K.held sink.new)) }
+
+    // The machine stands after the lines that were answered: all that had ended when the source failed.
+    ensures read_fault { result ≡ Status.ReadFault → IsRun words.now
+        × Rose (S.faults source.old) (S.faults source.new)
+        × Stopped (meaning M.reply M.next M.cost) (S.left source.old) (S.left source.new)
+            (scene world.old steps.old (K.held sink.old)) (scene world.new steps.new (K.held sink.new)) [] }
+    // The same, where 2^26 bytes and one more were taken: all lines that end within the first 2^26.
+    ensures too_long { result ≡ Status.InputTooLong → IsRun words.now
+        × ((extra : ℕ) × Stopped (meaning M.reply M.next M.cost) (S.left source.old) (S.left source.new)
+            (scene world.old steps.old (K.held sink.old)) (scene world.new steps.new (K.held sink.new)) (extra ∷ [])) }
+    // The machine stands after the lines whose replies were written and the one whose reply was not, or not whole.
     ensures write_fault { result ≡ Status.WriteFault → Rose (K.faults sink.old) (K.faults sink.new)
-        × (IsRun words.now → Broke M.reply M.next world.old world.new (S.left source.old) (S.left source.new) (K.held sink.old) (K.held sink.new) (Unit {0})) }
-    ensures memory { result ≡ Status.Memory →
-        Broke M.reply M.next world.old world.new (S.left source.old) (S.left source.new) (K.held sink.old) (K.held sink.new) ⊥ }
+        × (IsRun words.now → Broke (meaning M.reply M.next M.cost) (S.left source.old) (S.left source.new)
+            (scene world.old steps.old (K.held sink.old)) (scene world.new steps.new (K.held sink.new))) }
+    ensures memory { result ≡ Status.Memory → IsRun words.now
+        × Starved (meaning M.reply M.next M.cost) (S.left source.old) (S.left source.new)
+            (scene world.old steps.old (K.held sink.old)) (scene world.new steps.new (K.held sink.new)) }
+    // At every status what was written is a front of the output of the bytes taken.
+    ensures front { IsRun words.now → WroteFront (meaning M.reply M.next M.cost) (S.left source.old) (S.left source.new)
+        (scene world.old steps.old (K.held sink.old)) (scene world.new steps.new (K.held sink.new)) }
+
+    ensures usage { result ≡ Status.Usage → (IsRun words.now → ⊥) × Appends (K.held sink.old) (K.held sink.new) usage_line }
+    ensures other_words { (IsRun words.now → ⊥) → (result ≡ Status.Usage) ⊎ (result ≡ Status.WriteFault) }
+    ensures untouched { (IsRun words.now → ⊥) → (source.new ≡ source.old) × (world.new ≡ world.old) × (steps.new ≡ steps.old)
+        × AppendsFront (K.held sink.old) (K.held sink.new) usage_line }
+    ensures no_help { result ≡ Status.Help → ⊥ }
+
     // It doesn't give up by itself.
     ensures complete { IsRun words.now → (Rose (S.faults source.old) (S.faults source.new) → ⊥) → (Rose (K.faults sink.old) (K.faults sink.new) → ⊥)
         → IsSomeAnd (S.left source.old) (λ script. length script ≤ max_script) → (result ≡ Status.Done) ⊎ (result ≡ Status.Memory) }
+    ensures complete_past_limit { IsRun words.now → (Rose (S.faults source.old) (S.faults source.new) → ⊥) → (Rose (K.faults sink.old) (K.faults sink.new) → ⊥)
+        → IsSomeAnd (S.left source.old) (λ script. max_script < length script) → (result ≡ Status.InputTooLong) ⊎ (result ≡ Status.Memory) }
+    ensures source_later { S.faults source.old ≤ S.faults source.new }
+    ensures sink_later { K.faults sink.old ≤ K.faults sink.new }
+    ensures counted { steps.old ≤ steps.new }
 {
     if !is_run(words) {
         return match write_all(sink, USAGE) {

@@ -1,62 +1,68 @@
-use Rattle.std.proofs.Common.{◌≡◌, ◌+◌, ◌<◌, ◌++◌, ◌∷◌, [], ℕ, List, arith, length, take, drop, get_or, refl, sym, ap, ◌∙◌, subst, append_assoc, take-append-drop}
-use Rattle.std.proofs.lemmas.List.{take_more, drop_more}
+use Rattle.std.proofs.Common.{◌≡◌, ◌++◌, ◌∷◌, [], ℕ, List, arith, refl, sym, ap, ◌∙◌, subst, append_assoc, append-nil}
 use Rattle.std.proofs.lemmas.Result.{err_from_is_err_and}
-use Rattle.std.specs.Io.KnownBytes.{Appends}
-use Rattle.ve_run.specs.Output.{Answered, AppendsFront, reply_line}
-use Rattle.ve_run.proofs.Answers.{on_err, Answered-byte, Answered-line, Halted-quiet, Halted-line}
+use Rattle.ve_run.specs.Lines.{newline}
+use Rattle.ve_run.specs.Output.{meaning}
+use Rattle.ve_run.specs.Run.{scene, Answered}
+use Rattle.ve_run.proofs.Runs.{Answered-nothing, Answered-line, Answered-bytes, BrokeOff-line, GaveUp-now}
 use Rattle.ve_run.proofs.feed.feed.Goals as goal
-use Rattle.ve_run.proofs.feed.feed.Goals.{then-byte-eq10+in_ok-answer, else-byte-eq10+in_ok-push_byte}
 
--- what is to come after i bytes of the piece
-split_at : (before piece : List ℕ) (i b : ℕ) → i < length piece → get_or piece i 0 ≡ b → before ++ piece ≡ (before ++ take i piece) ++ (b ∷ drop (i + 1) piece)
-split_at before piece i b l e =
-    ap (λ s. before ++ s) (sym (take-append-drop i piece) ∙ ap (λ s. take i piece ++ s) (drop_more piece i 0 l ∙ ap (λ x. x ∷ drop (i + 1) piece) e))
-    ∙ sym (append_assoc before (take i piece) (b ∷ drop (i + 1) piece))
+-- a line further
+parts_after : (piece fed end more : List ℕ) → piece ≡ fed ++ (end ++ newline ∷ more) → piece ≡ (fed ++ (end ++ newline ∷ [])) ++ more
+parts_after piece fed end more e =
+    e ∙ ap (λ s. fed ++ s) (sym (append_assoc end (newline ∷ []) more)) ∙ sym (append_assoc fed (end ++ newline ∷ []) more)
 
-one_more : (before piece : List ℕ) (i b : ℕ) → i < length piece → get_or piece i 0 ≡ b → (before ++ take i piece) ++ b ∷ [] ≡ before ++ take (i + 1) piece
-one_more before piece i b l e =
-    append_assoc before (take i piece) (b ∷ []) ∙ ap (λ s. before ++ s) (ap (λ x. take i piece ++ x ∷ []) (sym e) ∙ sym (take_more piece i 0 l))
+-- what is fed so far, and what is left
+all_of : (kept piece fed left : List ℕ) → piece ≡ fed ++ left → kept ++ piece ≡ (kept ++ fed) ++ left
+all_of kept piece fed left e = ap (λ s. kept ++ s) e ∙ sym (append_assoc kept fed left)
 
-pub returns-in_err-answer-clause-err : goal.returns-in_err-answer-clause-err
-returns-in_err-answer-clause-err g c =
+pub lines-init : goal.lines-init
+lines-init g c = record {
+  fed = [];
+  parts = refl;
+  answered = subst (λ s. Answered (meaning g.M.Machine.reply g.M.Machine.next g.M.Machine.cost) (scene c.args.world.now c.args.steps.now (g.K.Sink.held c.args.sink.now)) (scene c.args.world.now c.args.steps.now (g.K.Sink.held c.args.sink.now)) s c.args.kept.now)
+      (sym (append-nil c.args.kept.now)) (Answered-nothing _ _ c.args.kept.now c.requires);
+  later = omega arith;
+  counted = omega arith;
+}
+
+pub lines-preserved : goal.lines-preserved
+lines-preserved g c =
+    let inv = c.lines.invariant in
+    let kept = c.args.kept.now in
+    let (is_line, split) = c.in-Some.ensures in
+    let end = c.in-Some.end.now in
+    record {
+      fed = inv.fed ++ (end ++ newline ∷ []);
+      parts = parts_after c.args.piece.now inv.fed end c.in-Some.more.now (inv.parts ∙ ap (λ s. inv.fed ++ s) split);
+      answered = rw c.in_ok-end_line.ensures.nothing (subst (λ s. Answered (meaning g.M.Machine.reply g.M.Machine.next g.M.Machine.cost) (scene c.args.world.now c.args.steps.now (g.K.Sink.held c.args.sink.now)) (scene c.end_line.new.world c.end_line.new.steps (g.K.Sink.held c.end_line.new.sink)) s [])
+          (append_assoc kept inv.fed (end ++ newline ∷ []))
+          (Answered-line _ _ _ _ (kept ++ inv.fed) c.lines.kept end inv.answered is_line c.in_ok-end_line.ensures.stepped c.in_ok-end_line.ensures.written));
+      later = omega (arith, inv.later, c.end_line.ensures.later);
+      counted = omega (arith, inv.counted, c.end_line.ensures.counted);
+    }
+
+pub returns-in_err-end_line-clause-broke_off : goal.returns-in_err-end_line-clause-broke_off
+returns-in_err-end_line-clause-broke_off g c fault =
     let p = err_from_is_err_and c.from_residual.result c.from_residual.ensures.1 in
-    let i = c.loop-byte.byte-index in
-    let inside : i < length c.args.piece.now = omega arith in
-    on_err c.from_residual.result (Halted-line g.M.Machine.reply g.M.Machine.next _ _ _ _ _ _ _ _ (drop (i + 1) c.args.piece.now) _ _ c.loop-byte.invariant.answered
-    (split_at c.args.rest.now c.args.piece.now i 10 inside c.if-byte-eq10.true)
-    (subst (λ line. AppendsFront (g.K.Sink.held c.loop-byte.sink) (g.K.Sink.held c.answer.new.sink) (reply_line (g.M.Machine.reply c.loop-byte.world line))) c.as_slice.ensures c.in_err-answer.ensures.err)
-    (λ fault. c.answer.ensures.state_at_fault (cc (p.1, p.2, c.in_err-answer.was, fault)) ∙ ap (g.M.Machine.next c.loop-byte.world) c.as_slice.ensures))
+    let inv = c.lines.invariant in
+    let (is_line, split) = c.in-Some.ensures in
+    BrokeOff-line _ _ _ _ (c.args.kept.now ++ inv.fed) c.lines.kept c.in-Some.end.now c.in-Some.more.now _ _ inv.answered
+    (all_of c.args.kept.now c.args.piece.now inv.fed (c.in-Some.end.now ++ newline ∷ c.in-Some.more.now) (inv.parts ∙ ap (λ s. inv.fed ++ s) split))
+    is_line
+    (c.end_line.ensures.stepped_at_fault (cc (p.1, p.2, c.in_err-end_line.was, fault)))
+    (c.end_line.ensures.front (cc (p.1, p.2, c.in_err-end_line.was, fault)))
 
-pub returns-in_err-push_byte-clause-err : goal.returns-in_err-push_byte-clause-err
-returns-in_err-push_byte-clause-err g c =
-    let p = err_from_is_err_and c.from_residual-in_err-push_byte.result c.from_residual-in_err-push_byte.ensures.1 in
-    let i = c.loop-byte.byte-index in
-    on_err c.from_residual-in_err-push_byte.result (Halted-quiet g.M.Machine.reply g.M.Machine.next _ _ _ _ _ _ _ (drop i c.args.piece.now) _ _ c.loop-byte.invariant.answered
-    (ap (λ s. c.args.rest.now ++ s) (sym (take-append-drop i c.args.piece.now)) ∙ sym (append_assoc c.args.rest.now (take i c.args.piece.now) (drop i c.args.piece.now)))
-    (λ fault. cc (p.1, p.2, fault)))
+pub returns-in_err-end_line-clause-starved : goal.returns-in_err-end_line-clause-starved
+returns-in_err-end_line-clause-starved g c want =
+    let p = err_from_is_err_and c.from_residual.result c.from_residual.ensures.1 in
+    let inv = c.lines.invariant in
+    GaveUp-now _ _ _ _ (c.args.kept.now ++ inv.fed) c.lines.kept c.lines.left.now _ inv.answered
+    (all_of c.args.kept.now c.args.piece.now inv.fed c.lines.left.now inv.parts)
+    (c.end_line.ensures.starved (cc (p.1, p.2, c.in_err-end_line.was, want)))
 
-pub loop-byte-preserved : goal.loop-byte-preserved
-loop-byte-preserved g c =
-    let reply = g.M.Machine.reply in
-    let next = g.M.Machine.next in
-    let i = c.loop-byte.byte-index in
-    let piece = c.args.piece.now in
-    let before = c.args.rest.now in
-    let inside : i < length piece = omega arith in
-    let at_start = g.K.Sink.held c.args.sink.now in
-    let so_far = c.loop-byte.invariant.answered in
-    elim c.if-byte-eq10.branch [
-      | then-byte-eq10+in_ok-answer w ↦ record {
-        answered = rw (w.rest-is, w.clear.ensures, w.world-is, w.sink-is)
-            (subst (λ script. Answered reply next c.args.world.now w.answer.new.world at_start (g.K.Sink.held w.answer.new.sink) script []) (one_more before piece i 10 inside w.if-byte-eq10.true)
-            (Answered-line reply next _ _ _ _ _ _ _ _ so_far (w.in_ok-answer.ensures.state ∙ ap (next c.loop-byte.world) w.as_slice.ensures)
-            (subst (λ line. Appends (g.K.Sink.held c.loop-byte.sink) (g.K.Sink.held w.answer.new.sink) (reply_line (reply c.loop-byte.world line))) w.as_slice.ensures w.in_ok-answer.ensures.written)));
-        later = rw w.sink-is (omega (arith, c.loop-byte.invariant.later, w.answer.ensures.later));
-      }
-      | else-byte-eq10+in_ok-push_byte w ↦ record {
-        answered = rw (w.rest-is, w.in_ok-push_byte.ensures.ok, w.world-is, w.sink-is)
-            (subst (λ script. Answered reply next c.args.world.now c.loop-byte.world at_start (g.K.Sink.held c.loop-byte.sink) script (c.loop-byte.rest ++ get_or piece i 0 ∷ [])) (one_more before piece i (get_or piece i 0) inside refl)
-            (Answered-byte reply next _ _ _ _ _ _ (get_or piece i 0) so_far w.if-byte-eq10.false));
-        later = rw w.sink-is c.loop-byte.invariant.later;
-      }
-    ]
+pub returns-clause-ok : goal.returns-clause-ok
+returns-clause-ok g c =
+    let inv = c.lines.invariant in
+    rw c.in_ok-push.ensures.ok (subst (λ s. Answered (meaning g.M.Machine.reply g.M.Machine.next g.M.Machine.cost) (scene c.args.world.now c.args.steps.now (g.K.Sink.held c.args.sink.now)) (scene c.lines.world c.lines.steps (g.K.Sink.held c.lines.sink)) s (c.lines.kept ++ c.lines.left.now))
+    (sym (all_of c.args.kept.now c.args.piece.now inv.fed c.lines.left.now inv.parts))
+    (Answered-bytes _ _ _ (c.args.kept.now ++ inv.fed) c.lines.kept c.lines.left.now inv.answered c.in_default.ensures))

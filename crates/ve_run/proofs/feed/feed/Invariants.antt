@@ -1,10 +1,18 @@
-use Rattle.std.proofs.Common.{◌≤◌, ◌++◌, take}
-use Rattle.ve_run.specs.Output.{Answered}
+use Rattle.std.proofs.Common.{◌≡◌, ◌≤◌, ◌++◌, ℕ, List, length}
+use Rattle.ve_run.specs.Output.{meaning}
+use Rattle.ve_run.specs.Run.{scene, Answered}
 use Rattle.ve_run.proofs.feed.feed.Given as goal
 
--- the lines so far are answered
-abbrev pub invariant-loop-byte : goal.invariant-loop-byte
-invariant-loop-byte g l = record {
-  answered : Answered g.M.Machine.reply g.M.Machine.next l.initial.world l.world (g.K.Sink.held l.initial.sink) (g.K.Sink.held l.sink) (l.initial.rest ++ take l.byte-index l.piece) l.rest;
+-- the lines that ended so far are answered
+abbrev pub invariant-lines : goal.invariant-lines
+invariant-lines g l = record {
+  fed : List ℕ;
+  parts : l.piece ≡ fed ++ l.left;
+  answered : Answered (meaning g.M.Machine.reply g.M.Machine.next g.M.Machine.cost)
+      (scene l.initial.world l.initial.steps (g.K.Sink.held l.initial.sink)) (scene l.world l.steps (g.K.Sink.held l.sink)) (l.initial.kept ++ fed) l.kept;
   later : g.K.Sink.faults l.initial.sink ≤ g.K.Sink.faults l.sink;
+  counted : l.initial.steps ≤ l.steps;
 }
+
+abbrev pub decreases-lines : goal.decreases-lines
+decreases-lines g l = length l.left

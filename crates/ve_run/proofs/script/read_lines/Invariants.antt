@@ -1,7 +1,8 @@
 use Rattle.std.proofs.Common.{◌≡◌, ◌≤◌, ◌-◌, ℕ, List, length}
 use Rattle.std.specs.Io.KnownBytes.{Consumes}
-use Rattle.ve_run.specs.Output.{Answered, max_script}
-use Rattle.ve_run.proofs.script.run_script.Given as goal
+use Rattle.ve_run.specs.Output.{meaning}
+use Rattle.ve_run.specs.Run.{scene, max_script, Answered}
+use Rattle.ve_run.proofs.script.read_lines.Given as goal
 
 -- the lines that have come are answered
 abbrev pub invariant-script : goal.invariant-script
@@ -10,9 +11,11 @@ invariant-script g l = record {
   count : length script ≡ l.taken;
   short : l.taken ≤ max_script;
   consumed : Consumes (g.S.Source.left l.initial.source) (g.S.Source.left l.source) script;
-  answered : Answered g.M.Machine.reply g.M.Machine.next l.initial.world l.world (g.K.Sink.held l.initial.sink) (g.K.Sink.held l.sink) script l.rest;
+  answered : Answered (meaning g.M.Machine.reply g.M.Machine.next g.M.Machine.cost)
+      (scene l.initial.world l.initial.steps (g.K.Sink.held l.initial.sink)) (scene l.world l.steps (g.K.Sink.held l.sink)) script l.kept;
   source_later : g.S.Source.faults l.initial.source ≤ g.S.Source.faults l.source;
   sink_later : g.K.Sink.faults l.initial.sink ≤ g.K.Sink.faults l.sink;
+  counted : l.initial.steps ≤ l.steps;
 }
 
 abbrev pub decreases-script : goal.decreases-script

@@ -1,0 +1,6 @@
+use Rattle.std.proofs.Common.{take}
+use Rattle.ve_run.specs.Lines.{IsLine}
+use Rattle.ve_run.proofs.feed.split_line.Given as goal
+
+abbrev pub invariant-loop-at : goal.invariant-loop-at
+invariant-loop-at l = IsLine (take l.at l.piece)
