@@ -51,6 +51,9 @@ fn end_line<K: Sink, M: Machine, L: Ledger>(
     ensures later { K.faults sink.old ≤ K.faults sink.new }
     ensures counted { steps.old ≤ steps.new }
 {
+    if kept.as_slice().is_empty() {
+        return answer(alloc, end, sink, world, steps);
+    }
     kept.push(end)?;
     answer(alloc, kept.as_slice(), sink, world, steps)?;
     kept.clear();
