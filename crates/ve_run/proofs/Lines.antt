@@ -1,5 +1,5 @@
 -- Cutting a script into its lines.
-use Rattle.std.proofs.Common.{◌≡◌, ◌≢◌, ◌==◌, ◌↔◌, ◌⊎◌, inl, inr, ℕ, List, [], ◌∷◌, ◌++◌, Bool, true, false, refl, sym, ap, ◌∙◌, append_assoc, append-nil, ◌<◌, length, if◌then◌else◌, arith}
+use Rattle.std.proofs.Common.{◌≡◌, ◌≢◌, ◌==◌, ◌⊎◌, inl, inr, ℕ, List, [], ◌∷◌, ◌++◌, refl, sym, ap, ◌∙◌, append_assoc, append-nil, ◌<◌, length, if◌then◌else◌, arith}
 use Rattle.ve_run.specs.Lines.{lines_of, onto_first, joined, last_line, newline, IsLine, AreLines, IsCut}
 
 other_byte : {A : Type 0} (b : ℕ) (x y : A) → b ≢ 10 → (if b == 10 then x else y) ≡ y

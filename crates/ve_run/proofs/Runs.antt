@@ -1,8 +1,8 @@
 -- A machine's replies, one piece of the script after another.
-use Rattle.std.proofs.Common.{◌≡◌, ◌+◌, ◌≤◌, ◌<◌, ◌⊎◌, inl, inr, ℕ, List, [], ◌∷◌, ◌++◌, Option, arith, refl, sym, ap, ◌∙◌, subst, append_assoc, append-nil, length}
+use Rattle.std.proofs.Common.{◌≡◌, ◌+◌, ◌≤◌, ◌<◌, inl, inr, ℕ, List, [], ◌∷◌, ◌++◌, Option, arith, refl, sym, ap, ◌∙◌, subst, append_assoc, append-nil, length}
 use Rattle.std.specs.Io.KnownBytes.{Appends}
 use Rattle.std.proofs.KnownBytes.{Appends-nil, Appends-trans}
-use Rattle.ve_run.specs.Lines.{lines_of, last_line, joined, newline, IsLine, AreLines, IsCut}
+use Rattle.ve_run.specs.Lines.{lines_of, joined, newline, IsLine, AreLines}
 use Rattle.ve_run.specs.Output.{Meaning, reply_line, replies, state_after, cost_of, output}
 use Rattle.ve_run.specs.Run.{Scene, AppendsFront, Stepped, Answers, Answered, IsNextLine, BrokeOff, GaveUp}
 use Rattle.ve_run.proofs.Lines.{lines_of-joined, lines_of-line, lines_of-rest, lines_of-cut, last_line-some, AreLines-append, IsLine-append, IsCut-line, IsCut-bytes, IsCut-more, parts-more}

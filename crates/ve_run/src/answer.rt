@@ -1,5 +1,5 @@
 // One line and its reply.
-ghost use Rattle.std.specs.Prelude.{◌≡◌, ◌≤◌, ◌⊎◌, OnOk, OnErr, IsErrOf};
+ghost use Rattle.std.specs.Prelude.{◌≡◌, ◌≤◌, ◌⊎◌, OnOk, OnErr, IfOk, IsErrOf};
 ghost use Rattle.std.specs.Io.KnownBytes.{Appends};
 ghost use Rattle.ve_base.specs.Outside.{HasCause, Rose};
 ghost use Rattle.ve_run.specs.Output.{meaning, reply_line};
@@ -9,7 +9,8 @@ use crate::Machine;
 use crate::stop::Stop;
 use std::alloc::Global;
 use std::sync::ledger::Ledger;
-use ve_base::{Bytes, Failed, Sink, Steps};
+use ve_base::{Bytes, Failed, Memory, Sink, Steps};
+use ve_json::{Reply, reply_text};
 
 /// Writes a whole piece. At an `Err` a front of it was written.
 pub fn write_all<K: Sink>(sink: &mut K, piece: &[u8]) -> Result<(), Failed>
@@ -23,6 +24,15 @@ pub fn write_all<K: Sink>(sink: &mut K, piece: &[u8]) -> Result<(), Failed>
         rest = &rest[taken..];
     }
     Ok(())
+}
+
+/// A reply with its newline, which is written as one piece.
+fn reply_line(alloc: Global, reply: &Reply) -> Result<Bytes, Memory>
+    ensures { IfOk result (λ line. line ≡ reply_line reply.now) }
+{
+    let mut line = Bytes::new(alloc);
+    reply_text(alloc, reply, &mut line)?;
+    Ok(line)
 }
 
 /// Steps the machine with a line, and writes its reply.
@@ -46,9 +56,7 @@ pub fn answer<K: Sink, M: Machine, L: Ledger>(
     ensures counted { steps.old ≤ steps.new }
 {
     let reply = world.step(line, steps)?;
-    let mut spelled = Bytes::new(alloc);
-    reply.spell(alloc, &mut spelled)?;
-    spelled.push(b"\n")?;
-    write_all(sink, spelled.as_slice())?;
+    let piece = reply_line(alloc, &reply)?;
+    write_all(sink, piece.as_slice())?;
     Ok(())
 }

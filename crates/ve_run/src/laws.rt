@@ -7,5 +7,4 @@ ghost use Rattle.ve_run.specs.Lines.{lines_of, last_line, IsCut};
 pub fn script_is_its_lines()
     ensures { (script : List ℕ) (lines : List (List ℕ))
         → (lines ≡ lines_of script) ↔ ((whole : List (List ℕ)) × (rest : List ℕ) × IsCut script whole rest × (lines ≡ whole ++ last_line rest)) }
-{
-}
+{}

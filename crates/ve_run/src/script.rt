@@ -46,7 +46,7 @@ fn read_lines<S: Source, K: Sink, M: Machine, L: Ledger>(
     requires { kept.old ≡ [] }
     ensures answered { OnOk result ((script : List ℕ) × Took (S.left source.old) (S.left source.new) script []
         × Answered (meaning M.reply M.next M.cost)
-            (scene world.old steps.old (K.held sink.old)) (scene world.new steps.new (K.held sink.new)) script kept.new) }
+        (scene world.old steps.old (K.held sink.old)) (scene world.new steps.new (K.held sink.new)) script kept.new) }
     ensures end { OnOk result (IsAtEnd (S.left source.new)) }
     ensures read_fault { IsErrOf result Stop.ReadFault → Stopped (meaning M.reply M.next M.cost) (S.left source.old) (S.left source.new)
         (scene world.old steps.old (K.held sink.old)) (scene world.new steps.new (K.held sink.new)) [] }

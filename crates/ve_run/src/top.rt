@@ -7,10 +7,9 @@ ghost use Rattle.ve_run.specs.Output.{meaning, output, state_after};
 ghost use Rattle.ve_run.specs.Run.{scene, max_script, AppendsFront, Ran, Stopped, Broke, Starved, WroteFront};
 ghost use Rattle.ve_run.specs.Status.{IsRun, usage_line};
 
-use crate::Machine;
-use crate::Status;
 use crate::answer::write_all;
 use crate::script::run_script;
+use crate::{Machine, Status};
 use std::alloc::Global;
 use std::sync::ledger::Ledger;
 use ve_base::{Sink, Source, Steps, Text};
@@ -44,24 +43,24 @@ pub fn run<S: Source, K: Sink, M: Machine, L: Ledger>(
     // The same where the source doesn't tell its bytes: some bytes were taken, and it is at its end.
     ensures done { result ≡ Status.Done → IsRun words.now
         × Ran (meaning M.reply M.next M.cost) (S.left source.old) (S.left source.new)
-            (scene world.old steps.old (K.held sink.old)) (scene world.new steps.new (K.held sink.new)) }
+        (scene world.old steps.old (K.held sink.old)) (scene world.new steps.new (K.held sink.new)) }
 
     // The machine stands after the lines that were answered: all that had ended when the source failed.
     ensures read_fault { result ≡ Status.ReadFault → IsRun words.now
         × Rose (S.faults source.old) (S.faults source.new)
         × Stopped (meaning M.reply M.next M.cost) (S.left source.old) (S.left source.new)
-            (scene world.old steps.old (K.held sink.old)) (scene world.new steps.new (K.held sink.new)) [] }
+        (scene world.old steps.old (K.held sink.old)) (scene world.new steps.new (K.held sink.new)) [] }
     // The same, where 2^26 bytes and one more were taken: all lines that end within the first 2^26.
     ensures too_long { result ≡ Status.InputTooLong → IsRun words.now
         × ((extra : ℕ) × Stopped (meaning M.reply M.next M.cost) (S.left source.old) (S.left source.new)
-            (scene world.old steps.old (K.held sink.old)) (scene world.new steps.new (K.held sink.new)) (extra ∷ [])) }
+        (scene world.old steps.old (K.held sink.old)) (scene world.new steps.new (K.held sink.new)) (extra ∷ [])) }
     // The machine stands after the lines whose replies were written and the one whose reply was not, or not whole.
     ensures write_fault { result ≡ Status.WriteFault → Rose (K.faults sink.old) (K.faults sink.new)
         × (IsRun words.now → Broke (meaning M.reply M.next M.cost) (S.left source.old) (S.left source.new)
-            (scene world.old steps.old (K.held sink.old)) (scene world.new steps.new (K.held sink.new))) }
+        (scene world.old steps.old (K.held sink.old)) (scene world.new steps.new (K.held sink.new))) }
     ensures memory { result ≡ Status.Memory → IsRun words.now
         × Starved (meaning M.reply M.next M.cost) (S.left source.old) (S.left source.new)
-            (scene world.old steps.old (K.held sink.old)) (scene world.new steps.new (K.held sink.new)) }
+        (scene world.old steps.old (K.held sink.old)) (scene world.new steps.new (K.held sink.new)) }
     // At every status what was written is a front of the output of the bytes taken.
     ensures front { IsRun words.now → WroteFront (meaning M.reply M.next M.cost) (S.left source.old) (S.left source.new)
         (scene world.old steps.old (K.held sink.old)) (scene world.new steps.new (K.held sink.new)) }

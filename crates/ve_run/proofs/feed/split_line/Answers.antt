@@ -1,4 +1,4 @@
-use Rattle.std.proofs.Common.{◌≡◌, ◌≢◌, ◌+◌, ◌<◌, ◌++◌, ◌∷◌, [], ℕ, List, length, take, get_or, sym, subst}
+use Rattle.std.proofs.Common.{◌≢◌, ◌+◌, ◌<◌, ◌∷◌, [], ℕ, List, length, take, get_or, sym, subst}
 use Rattle.std.proofs.lemmas.List.{take_more}
 use Rattle.ve_run.specs.Lines.{IsLine}
 use Rattle.ve_run.proofs.Lines.{IsLine-append}

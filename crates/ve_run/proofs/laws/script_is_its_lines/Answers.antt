@@ -1,4 +1,4 @@
-use Rattle.std.proofs.Common.{◌≡◌, ◌↔◌, ◌++◌, ℕ, List, sym, ◌∙◌}
+use Rattle.std.proofs.Common.{◌≡◌, ◌++◌, ℕ, List, sym, ◌∙◌}
 use Rattle.ve_run.specs.Lines.{lines_of, last_line, IsCut}
 use Rattle.ve_run.proofs.Lines.{lines_of-cut, cut_of}
 use Rattle.ve_run.proofs.laws.script_is_its_lines.Goals as goal

@@ -1,7 +1,7 @@
-use Rattle.std.proofs.Common.{◌≡◌, ◌+◌, ◌-◌, ◌<◌, ◌≤◌, ◌++◌, ◌∷◌, [], ◌⊎◌, inl, inr, ℕ, List, Option, arith, length, take, get_or, refl, sym, ap, ◌∙◌, subst, append_assoc, append-nil, length-append, length-take}
+use Rattle.std.proofs.Common.{◌≡◌, ◌+◌, ◌-◌, ◌<◌, ◌≤◌, ◌++◌, ◌∷◌, [], inl, inr, ℕ, List, Option, arith, length, take, get_or, refl, sym, ap, ◌∙◌, subst, append_assoc, append-nil, length-append, length-take}
 use Rattle.std.proofs.lemmas.List.{take_more}
 use Rattle.std.proofs.lemmas.Result.{err_from_is_err_and}
-use Rattle.std.proofs.KnownBytes.{Consumes-nil, Consumes-trans, Consumes-kept}
+use Rattle.std.proofs.KnownBytes.{Consumes-nil, Consumes-trans}
 use Rattle.std.specs.Io.KnownBytes.{Consumes}
 use Rattle.ve_run.specs.Run.{Took, max_script}
 use Rattle.ve_run.proofs.Runs.{Answered-nothing, Answered-more, BrokeOff-more, GaveUp-more}
@@ -58,14 +58,15 @@ returns-then-given-space-clause-too_long g c _ =
     let room = c.read_at_most.new.buffer in
     let space = max_script - c.script.taken in
     let given : c.in-Ok.given ≡ space + 1 = omega (arith, c.in-Ok.ensures.bound.1) in
-    let inside : space < length room = omega (arith, c.in-Ok.ensures.bound.0) in
-    (get_or room space 0,
-    record {
-      script = inv.script ++ take space room;
-      took = took_past _ _ _ inv.script room space c.in-Ok.given (omega (arith, inv.count, inv.short)) given inside inv.consumed c.in-Ok.ensures.bytes.0;
-      rest = c.feed.new.kept;
-      answered = Answered-more _ _ _ _ _ _ _ _ inv.answered c.in_ok-feed.ensures.ok;
-    })
+    let inside : space < length room = omega (arith, c.in-Ok.ensures.bound.0) in (
+      get_or room space 0,
+      record {
+        script = inv.script ++ take space room;
+        took = took_past _ _ _ inv.script room space c.in-Ok.given (omega (arith, inv.count, inv.short)) given inside inv.consumed c.in-Ok.ensures.bytes.0;
+        rest = c.feed.new.kept;
+        answered = Answered-more _ _ _ _ _ _ _ _ inv.answered c.in_ok-feed.ensures.ok;
+      },
+    )
 
 pub returns-in_err-feed-clause-write_fault : goal.returns-in_err-feed-clause-write_fault
 returns-in_err-feed-clause-write_fault g c fault =

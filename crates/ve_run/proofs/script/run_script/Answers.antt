@@ -1,9 +1,8 @@
-use Rattle.std.proofs.Common.{◌≡◌, ◌<◌, ◌++◌, ◌∷◌, [], ℕ, List, rules, length, sym, ap, ◌∙◌, subst}
+use Rattle.std.proofs.Common.{◌≡◌, ◌<◌, [], rules, length, sym, ◌∙◌, subst}
 use Rattle.std.proofs.lemmas.List.{nil_from_length}
 use Rattle.std.proofs.lemmas.Result.{err_from_is_err_and}
-use Rattle.std.specs.Io.KnownBytes.{Appends}
-use Rattle.ve_run.specs.Output.{meaning, reply_line}
-use Rattle.ve_run.specs.Run.{scene, AppendsFront, Stepped, Answered}
+use Rattle.ve_run.specs.Output.{meaning}
+use Rattle.ve_run.specs.Run.{scene, Answered}
 use Rattle.ve_run.proofs.Runs.{BrokeOff-last, Answers-last, Answers-whole}
 use Rattle.ve_run.proofs.script.run_script.Goals as goal
 use Rattle.ve_run.proofs.script.run_script.Goals.{then-not-is_empty+in_ok-answer, else-not-is_empty}

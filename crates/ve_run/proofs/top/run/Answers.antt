@@ -1,4 +1,4 @@
-use Rattle.std.proofs.Common.{◌≡◌, ◌≤◌, ◌⊎◌, inl, inr, ◌++◌, ◌∷◌, [], ℕ, List, Option, None, Some, arith, refl, ap, ◌∙◌, length, length-append}
+use Rattle.std.proofs.Common.{◌≡◌, ◌≤◌, inl, inr, ◌++◌, ◌∷◌, [], ℕ, List, Option, None, Some, arith, refl, ap, ◌∙◌, length, length-append}
 use Rattle.std.specs.Option.{IsSomeAnd}
 use Rattle.ve_run.specs.declared.stop.Stop.{Stop}
 use Rattle.ve_run.specs.declared.stop.Stop.TheVariants.{Memory, ReadFault, WriteFault, InputTooLong}
