@@ -1,0 +1,4 @@
+pub mod OnLiterals
+pub mod PageExamples
+mod ReadingExamples
+mod LimitExamples

@@ -1,0 +1,13 @@
+pub mod Tags
+pub mod Elements
+pub mod Parts
+pub mod DataMw
+pub mod References
+pub mod Fit
+pub mod Heads
+pub mod Pieces
+pub mod ReferenceNodes
+pub mod Convert
+pub mod PageItems
+pub mod Fragment
+pub mod Limits

@@ -1,0 +1,142 @@
+-- Items with the places of their sources, as they are put together from the end of a page to its beginning.
+use Rattle.std.specs.Prelude.{ℕ, ◌+◌, Bool, true, false, List, [], ◌∷◌, ◌++◌, length, map, None, if◌then◌else◌, chars}
+use Rattle.ve_base.specs.declared.marks.Mark.{Mark}
+use Rattle.ve_base.specs.declared.head.RefKey.{RefKey}
+use Rattle.ve_base.specs.declared.head.Head.{Head}
+use Rattle.ve_base.specs.Empty.{empty_head}
+use Rattle.ve_kinds.specs.declared.kind.Kind.{Kind}
+use Rattle.ve_kinds.specs.declared.kind.Kind.TheVariants.{P}
+use Rattle.model_items.specs.declared.plain_item.PlainItem.{PlainItem}
+use Rattle.model_items.specs.declared.plain_item.PlainItem.TheVariants.{Char, Opening, Closing}
+use Rattle.model_page.specs.Elements.{is_white}
+use Rattle.model_page.specs.Fit.{is_inline_kind}
+
+-- ---- what conversion makes, and where it stands
+
+-- bytes of the page
+pub record Span : Type 0 where
+  pub from : ℕ
+  pub to : ℕ
+
+-- items, and the spans of their openings in order
+pub record Piece : Type 0 where
+  pub items : List PlainItem
+  pub spans : List Span
+
+-- a reference that owns its body: the byte where it starts, its key, and the text of its body
+pub record Owner : Type 0 where
+  pub at : ℕ
+  pub key : RefKey
+  pub html : List ℕ
+
+-- What sibling parts become: the items of the run that they begin with, and its source; the items after it; the white text after these; and
+-- the owners among them.
+pub record Made : Type 0 where
+  pub run : Piece
+  pub source : List ℕ
+  pub later : Piece
+  pub pre : List ℕ
+  pub owners : List Owner
+
+-- Where conversion stands: the byte, the owners before it, and whether references are editable here.
+pub record Place : Type 0 where
+  pub at : ℕ
+  pub owners : List Owner
+  pub editable : Bool
+
+-- the place behind this source with these owners
+abbrev pub past : Place → List ℕ → List Owner → Place
+past place source owners = record { at = place.at + length source; owners = place.owners ++ owners; editable = place.editable }
+
+abbrev pub span_at : Place → List ℕ → Span
+span_at place source = record { from = place.at; to = place.at + length source }
+
+-- ---- pieces
+
+abbrev pub no_piece : Piece
+no_piece = record { items = []; spans = [] }
+
+abbrev pub joined_pieces : Piece → Piece → Piece
+joined_pieces a b = record { items = a.items ++ b.items; spans = a.spans ++ b.spans }
+
+-- a node: its opening, what is in it, and its closing after this white text
+abbrev pub node : Kind → Head → List Mark → Bool → Span → Piece → List ℕ → Piece
+node kind head marks generated span inside pre = record {
+  items = Opening kind head marks [] None generated ∷ inside.items ++ Closing kind pre ∷ [];
+  spans = span ∷ inside.spans;
+}
+
+abbrev pub leaf : Kind → Head → List Mark → Span → Piece
+leaf kind head marks span = node kind head marks false span no_piece []
+
+abbrev pub chars_piece : List Mark → List ℕ → Piece
+chars_piece marks text = record { items = map (λ c. Char c marks) text; spans = [] }
+
+-- ---- white text before an item
+
+abbrev pub item_after : List ℕ → PlainItem → PlainItem
+item_after white (Opening kind head marks pre origin generated) = Opening kind head marks (white ++ pre) origin generated
+item_after white (Closing kind pre) = Closing kind (white ++ pre)
+item_after white (Char c marks) = Char c marks
+
+abbrev pub items_after : List ℕ → List PlainItem → List PlainItem
+items_after white [] = []
+items_after white (item ∷ items) = item_after white item ∷ items
+
+-- where there are no items, the white text stays
+abbrev pub white_left : List ℕ → List PlainItem → List ℕ → List ℕ
+white_left white [] pre = white ++ pre
+white_left white (item ∷ items) pre = pre
+
+-- white text in front: it belongs to the first item, or stands after what there is
+abbrev pub with_white : List ℕ → Made → Made
+with_white white made = record made {
+  later = record { items = items_after white made.later.items; spans = made.later.spans };
+  pre = white_left white made.later.items made.pre;
+}
+
+-- ---- runs
+
+abbrev pub run_dropped : Made → Made
+run_dropped made = record made { run = no_piece; source = [] }
+
+-- the run becomes a generated paragraph of this span
+abbrev pub paragraph_before : Span → Made → Made
+paragraph_before span made = record made {
+  run = no_piece;
+  source = [];
+  later = joined_pieces (node P empty_head [] true span made.run []) made.later;
+}
+
+-- the run of this source is over: there was none, it was white text alone, or it becomes a paragraph
+abbrev pub run_ended : List ℕ → Place → Made → Made
+run_ended [] place made = run_dropped made
+run_ended (b ∷ bs) place made =
+    if is_white (b ∷ bs)
+    then with_white (chars (b ∷ bs)) (run_dropped made)
+    else paragraph_before (span_at place (b ∷ bs)) made
+
+-- a run that begins at the place is over
+abbrev pub run_closed : Place → Made → Made
+run_closed place made = run_ended made.source place made
+
+-- one more part of a run or of content in front
+abbrev pub in_run : Piece → List ℕ → List Owner → Made → Made
+in_run piece source owners made = record made {
+  run = joined_pieces piece made.run;
+  source = source ++ made.source;
+  owners = owners ++ made.owners;
+}
+
+-- a block in front; the place is the one behind it
+abbrev pub before_run : Place → Piece → List Owner → Made → Made
+before_run place piece owners made =
+    let closed = run_closed place made in
+    record closed { later = joined_pieces piece closed.later; owners = owners ++ closed.owners }
+
+-- a leaf in front of what is made behind it
+abbrev pub leaf_before : Place → Kind → Head → List Mark → List ℕ → List Owner → Made → Made
+leaf_before place kind head marks source owners made =
+    if is_inline_kind kind
+    then in_run (leaf kind head marks (span_at place source)) source owners made
+    else before_run (past place source owners) (leaf kind head marks (span_at place source)) owners made

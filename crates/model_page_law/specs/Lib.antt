@@ -1,0 +1,4 @@
+pub mod WrittenBack
+pub mod Formed
+pub mod ReadBack
+pub mod WritesFresh

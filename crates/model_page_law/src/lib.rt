@@ -1,0 +1,35 @@
+//! What is written of a page that was read. Definitions of these laws stand in specs/; each public function here does nothing, and its contract is a
+//! law that is proved of every page and every list.
+#![tactic(auto)]
+
+ghost use Rattle.model_page_law.specs.ReadBack.{FreshIsReadBack, FreshOpensAsItself};
+ghost use Rattle.model_page_law.specs.WritesFresh.{WritesFresh};
+ghost use Rattle.model_page_law.specs.WrittenBack.{FaultlessOpens, OpenedIsFaultless, OpenedIsWrittenBack, OpensAsItsForest, SpelledIsWrittenBack};
+
+/// A page opens exactly where it has no fault, and then as what its forest is converted to.
+#[tactic(auto, using(crate::proofs::OpenLemmas::faultless_opens, crate::proofs::OpenLemmas::opened_is_faultless, crate::proofs::OpenLemmas::opens_as_its_forest))]
+pub fn page_opens()
+    ensures faultless { FaultlessOpens }
+    ensures opened { OpenedIsFaultless }
+    ensures forest { OpensAsItsForest }
+{}
+
+/// A page that opens, and is written with the items that it has, is that page, byte for byte.
+#[tactic(auto, using(crate::proofs::KeptLemmas::opened_is_written_back, crate::proofs::KeptLemmas::spelled_is_written_back))]
+pub fn page_is_written_back()
+    ensures opened { OpenedIsWrittenBack }
+    ensures spelled { SpelledIsWrittenBack }
+{}
+
+/// A lawful list that was written fresh is read back, up to origins and the flag generated, where it has nothing that is kept whole.
+#[tactic(auto, using(crate::proofs::FormLemmas::fresh_is_read_back, crate::proofs::FreshOpens::fresh_opens_as_itself))]
+pub fn fresh_is_read_back()
+    ensures forest { FreshIsReadBack }
+    ensures page { FreshOpensAsItself }
+{}
+
+/// Where no node is kept, the page is its head, the fresh text and its tail.
+#[tactic(auto, using(crate::proofs::FreshLemmas::writes_fresh))]
+pub fn writes_fresh()
+    ensures { WritesFresh }
+{}

@@ -1,0 +1,3 @@
+mod WrittenExamples
+mod LongExamples
+mod ReadBackExamples
