@@ -1,0 +1,12 @@
+use Rattle.model_change.proofs.histories_agree.Goals as goal
+use Rattle.model_change.proofs.JoinListLaw.{lists_agree}
+use Rattle.model_change.proofs.ReversalLaw.{reversal_undoes, revoke_takes_back}
+
+pub returns-clause-joined : goal.returns-clause-joined
+returns-clause-joined c = lists_agree
+
+pub returns-clause-reversed : goal.returns-clause-reversed
+returns-clause-reversed c = reversal_undoes
+
+pub returns-clause-revoked : goal.returns-clause-revoked
+returns-clause-revoked c = revoke_takes_back

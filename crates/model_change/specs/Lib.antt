@@ -1,0 +1,12 @@
+pub use Rattle.ve_base.specs.Empty
+pub use Rattle.ve_base.specs.Names
+pub use Rattle.ve_kinds.specs.Table
+pub use Rattle.model_items.specs.Same
+pub use Rattle.model_items.specs.Plain
+pub use Rattle.model_items.specs.Law
+pub use Rattle.model_items.specs.Tree
+pub mod Attributes
+pub mod Transaction
+pub mod Join
+pub mod Replay
+pub mod Touch
