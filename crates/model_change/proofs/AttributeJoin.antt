@@ -7,7 +7,7 @@ use Rattle.model_items.specs.declared.plain_item.PlainItem.TheVariants.{Char, Op
 use Rattle.model_items.specs.Same.{text_same, option_same, bool_same}
 use Rattle.ve_kinds.specs.Table.{is_element}
 use Rattle.model_items.proofs.SameLemmas.{Means-text_same}
-use Rattle.model_change.specs.Attributes.{AttrChange, value_of, attr_added, attr_replaced, attr_removed, attrs_changed, item_changed, is_reserved, allows, adds_or_removes, clash, IsPutBack, PutsBack}
+use Rattle.model_change.specs.Attributes.{AttrChange, value_of, attr_added, attr_replaced, attr_removed, attrs_changed, item_changed, is_reserved, allows, adds_or_removes, clash, IsPutBack, PutsBack, ChangesCommute}
 use Rattle.model_change.proofs.AttributeLemmas.{text_other}
 
 -- two different names, and the changes of their attributes
@@ -116,13 +116,16 @@ item_changed-comm c d (Opening kind head marks pre origin generated) h =
     let e = attrs_commute c.name d.name p.0 c.kept d.kept c.from c.to d.from d.to head.attrs p.1 in
     λ i. Opening kind (record { tag = head.tag; attrs = e i; raw = head.raw; reference = head.reference; owner = head.owner }) marks pre origin generated
 
-pub allows-item_changed : (c d : AttrChange) (item : PlainItem) → clash c d ≡ false → allows d (item_changed c item) ≡ allows d item
-allows-item_changed c d (Char ch marks) h = refl
-allows-item_changed c d (Closing kind pre) h = refl
-allows-item_changed c d (Opening kind head marks pre origin generated) h =
-    let p = or_parts (text_same c.name d.name) (adds_or_removes c && adds_or_removes d) h in
-    let e = value_of-changed_other c.name d.name p.0 c.kept c.from c.to head.attrs in
+-- what a change allows of another attribute stays
+pub allows-other : (c d : AttrChange) (item : PlainItem) → text_same c.name d.name ≡ false → allows d (item_changed c item) ≡ allows d item
+allows-other c d (Char ch marks) h = refl
+allows-other c d (Closing kind pre) h = refl
+allows-other c d (Opening kind head marks pre origin generated) h =
+    let e = value_of-changed_other c.name d.name h c.kept c.from c.to head.attrs in
     ap (λ o. is_element kind && (option_same text_same o d.from && not (is_reserved d.name))) e
+
+pub allows-item_changed : (c d : AttrChange) (item : PlainItem) → clash c d ≡ false → allows d (item_changed c item) ≡ allows d item
+allows-item_changed c d item h = allows-other c d item (or_parts (text_same c.name d.name) (adds_or_removes c && adds_or_removes d) h).0
 
 -- what would be put back still would be
 pub PutsBack-item_changed : (c d : AttrChange) (item : PlainItem) → clash c d ≡ false → PutsBack d item → PutsBack d (item_changed c item)
@@ -144,3 +147,6 @@ PutsBack-item_changed c d (Opening kind head marks pre origin generated) h k =
         ap (attr_added l (record { name = m; value = t })) (removed-replaced m n (text_other n m differ) v attrs)
         ∙ sym (replaced-added m n (text_other n m differ) t v l (attr_removed m attrs))
         ∙ ap (attr_replaced n v) e
+
+pub changes_commute : ChangesCommute
+changes_commute c d item h = (item_changed-comm c d item h, allows-item_changed c d item h)

@@ -1,14 +1,16 @@
 -- A change of an attribute, and its undoing.
-use Rattle.std.proofs.Common.{◌≡◌, ℕ, zero, suc, Bool, true, false, not, if◌then◌else◌, List, [], ◌∷◌, ◌++◌, take, drop, Option, Some, None, refl, sym, ap, ◌∙◌, subst, ◌⊎◌, inl, inr, take-append-drop, append-nil}
+use Rattle.std.proofs.Common.{◌≡◌, ℕ, zero, suc, Bool, true, false, not, if◌then◌else◌, List, [], ◌∷◌, ◌++◌, take, drop, Option, Some, None, Contains, arith, refl, sym, ap, ◌∙◌, subst, ◌⊎◌, inl, inr, take-append-drop, append-nil}
+use Rattle.std.proofs.lemmas.List.Elements.{Contains-append_cases, Contains-append_right}
 use Rattle.std.proofs.lemmas.Bool.{cases_Bool, and_parts, and_from}
 use Rattle.ve_base.specs.declared.attrs.Attr.{Attr}
 use Rattle.ve_base.specs.declared.head.Head.{Head}
+use Rattle.ve_base.specs.Names.{names, NamesApart}
 use Rattle.model_items.specs.declared.plain_item.PlainItem.{PlainItem}
 use Rattle.model_items.specs.declared.plain_item.PlainItem.TheVariants.{Char, Opening, Closing}
 use Rattle.model_items.specs.Same.{text_same, option_same}
 use Rattle.ve_kinds.specs.Table.{is_element}
 use Rattle.model_items.proofs.SameLemmas.{Means-text_same, Means-option_same}
-use Rattle.model_change.specs.Attributes.{AttrChange, value_of, position_of, attr_added, attr_replaced, attr_removed, attrs_changed, item_changed, is_reserved, allows, position_kept, change_filled, change_back, IsPutBack, PutsBack, NamesApart, NamesApartIn}
+use Rattle.model_change.specs.Attributes.{AttrChange, value_of, position_of, attr_added, attr_replaced, attr_removed, attrs_changed, item_changed, is_reserved, allows, position_kept, change_filled, IsPutBack, PutsBack, NamesApartIn, ChangeIsUndone, FilledPutsBack}
 
 text_itself : (s : List ℕ) → text_same s s ≡ true
 text_itself s = Means-text_same.itself s
@@ -84,7 +86,42 @@ attr_added-attr_removed name old (a ∷ attrs) h =
       | inr later ↦ rw later.0 (ap (λ rest. a ∷ rest) (attr_added-attr_removed name old attrs later.1))
     ]
 
-value_of-attr_removed : (name : List ℕ) (attrs : List Attr) → NamesApart attrs → value_of name (attr_removed name attrs) ≡ None
+-- names apart, by the value that others have
+
+abbrev Apart : List Attr → Type 0
+Apart [] = Unit {0}
+Apart (a ∷ attrs) = (value_of a.name attrs ≡ None) × Apart attrs
+
+absent_from_names : (name : List ℕ) (attrs : List Attr) → ¬ Contains (names attrs) name → value_of name attrs ≡ None
+absent_from_names name [] h = refl
+absent_from_names name (a ∷ attrs) h =
+    elim (cases_Bool (text_same a.name name)) [
+      | inl same ↦ absurd (h (0, omega arith, Means-text_same.equal a.name name same))
+      | inr other ↦ rw other (absent_from_names name attrs (λ within. h (Contains-append_right (a.name ∷ []) (names attrs) name within)))
+    ]
+
+names_without : (name : List ℕ) (attrs : List Attr) → value_of name attrs ≡ None → ¬ Contains (names attrs) name
+names_without name [] h within = absurd (let below = within.1 in omega arith)
+names_without name (a ∷ attrs) h within =
+    let parts = absent_parts name a attrs h in
+    elim (Contains-append_cases (a.name ∷ []) (names attrs) name within) [
+      | inl first ↦ absurd (let e = only_name a.name first in let f : text_same a.name name ≡ true = rw e (text_itself name) in cc)
+      | inr behind ↦ names_without name attrs parts.1 behind
+    ]
+  where
+    only_name : (x : List ℕ) → Contains (x ∷ []) name → x ≡ name
+    only_name x (zero, below, here) = here
+    only_name x (suc k, below, here) = absurd (let none : ⊥ = omega arith in none)
+
+Apart_from : (attrs : List Attr) → NamesApart attrs → Apart attrs
+Apart_from [] h = tt
+Apart_from (a ∷ attrs) h = (absent_from_names a.name attrs h.0, Apart_from attrs h.1)
+
+Apart_to : (attrs : List Attr) → Apart attrs → NamesApart attrs
+Apart_to [] h = tt
+Apart_to (a ∷ attrs) h = (names_without a.name attrs h.0, Apart_to attrs h.1)
+
+value_of-attr_removed : (name : List ℕ) (attrs : List Attr) → Apart attrs → value_of name (attr_removed name attrs) ≡ None
 value_of-attr_removed name [] apart = refl
 value_of-attr_removed name (a ∷ attrs) apart =
     elim (cases_Bool (text_same a.name name)) [
@@ -118,7 +155,7 @@ module _ (other : List ℕ) where
   absent-between a (b ∷ p) q differ h =
       let parts = absent_parts other b (p ++ q) h in rw parts.0 (absent-between a p q differ parts.1)
 
-apart-attr_replaced : (name value : List ℕ) (attrs : List Attr) → NamesApart attrs → NamesApart (attr_replaced name value attrs)
+apart-attr_replaced : (name value : List ℕ) (attrs : List Attr) → Apart attrs → Apart (attr_replaced name value attrs)
 apart-attr_replaced name value [] apart = tt
 apart-attr_replaced name value (a ∷ attrs) apart =
     elim (cases_Bool (text_same a.name name)) [
@@ -126,7 +163,7 @@ apart-attr_replaced name value (a ∷ attrs) apart =
       | inr differ ↦ rw differ (absent-attr_replaced a.name name value attrs apart.0, apart-attr_replaced name value attrs apart.1)
     ]
 
-apart-attr_removed : (name : List ℕ) (attrs : List Attr) → NamesApart attrs → NamesApart (attr_removed name attrs)
+apart-attr_removed : (name : List ℕ) (attrs : List Attr) → Apart attrs → Apart (attr_removed name attrs)
 apart-attr_removed name [] apart = tt
 apart-attr_removed name (a ∷ attrs) apart =
     elim (cases_Bool (text_same a.name name)) [
@@ -134,7 +171,7 @@ apart-attr_removed name (a ∷ attrs) apart =
       | inr differ ↦ rw differ (absent-attr_removed a.name name attrs apart.0, apart-attr_removed name attrs apart.1)
     ]
 
-apart-between : (a : Attr) (p q : List Attr) → value_of a.name (p ++ q) ≡ None → NamesApart (p ++ q) → NamesApart (p ++ a ∷ q)
+apart-between : (a : Attr) (p q : List Attr) → value_of a.name (p ++ q) ≡ None → Apart (p ++ q) → Apart (p ++ a ∷ q)
 apart-between a [] q h apart = (h, apart)
 apart-between a (b ∷ p) q h apart =
     let parts = absent_parts a.name b (p ++ q) h in
@@ -147,7 +184,7 @@ record IsUndone (name : List ℕ) (kept : Option ℕ) (from to : Option (List �
 
 -- names stay apart through a change that may be made
 attrs_apart : (name : List ℕ) (kept : Option ℕ) (from to : Option (List ℕ)) (attrs : List Attr) →
-    value_of name attrs ≡ from → NamesApart attrs → NamesApart (attrs_changed name kept from to attrs)
+    value_of name attrs ≡ from → Apart attrs → Apart (attrs_changed name kept from to attrs)
 attrs_apart name kept None None attrs h apart = apart
 attrs_apart name None None (Some value) attrs h apart =
     apart-between (record { name = name; value = value }) attrs [] (rw append-nil h) (rw append-nil apart)
@@ -158,7 +195,7 @@ attrs_apart name kept (Some old) (Some value) attrs h apart = apart-attr_replace
 attrs_apart name kept (Some old) None attrs h apart = apart-attr_removed name attrs apart
 
 attrs_undone : (name : List ℕ) (kept : Option ℕ) (from to : Option (List ℕ)) (attrs : List Attr) →
-    value_of name attrs ≡ from → IsPutBack name kept from to attrs → NamesApart attrs → IsUndone name kept from to attrs
+    value_of name attrs ≡ from → IsPutBack name kept from to attrs → Apart attrs → IsUndone name kept from to attrs
 attrs_undone name kept None None attrs h k apart = record { undone = refl; present = h }
 attrs_undone name None None (Some value) attrs h k apart = record {
   undone = attr_removed-between name value attrs [] h ∙ append-nil attrs;
@@ -196,21 +233,15 @@ pub item_apart : (c : AttrChange) (item : PlainItem) → allows c item ≡ true 
 item_apart c (Char ch marks) h apart = tt
 item_apart c (Closing kind pre) h apart = tt
 item_apart c (Opening kind head marks pre origin generated) h apart =
-    attrs_apart c.name c.kept c.from c.to head.attrs (allowed_parts c kind head marks pre origin generated h).1 apart
+    Apart_to (attrs_changed c.name c.kept c.from c.to head.attrs) (attrs_apart c.name c.kept c.from c.to head.attrs (allowed_parts c kind head marks pre origin generated h).1 (Apart_from head.attrs apart))
 
 -- the same of an item
-pub record IsUndoneIn (c : AttrChange) (item : PlainItem) : Type 0 where
-  pub undone : item_changed (change_back c) (item_changed c item) ≡ item
-  pub allowed : allows (change_back c) (item_changed c item) ≡ true
-  pub put_back : PutsBack (change_back c) (item_changed c item)
-  pub apart : NamesApartIn (item_changed c item)
-
-pub item_undone : (c : AttrChange) (item : PlainItem) → allows c item ≡ true → PutsBack c item → NamesApartIn item → IsUndoneIn c item
+pub item_undone : ChangeIsUndone
 item_undone c (Char ch marks) h k apart = cc
 item_undone c (Closing kind pre) h k apart = cc
 item_undone c (Opening kind head marks pre origin generated) h k apart =
     let p = allowed_parts c kind head marks pre origin generated h in
-    let back = attrs_undone c.name c.kept c.from c.to head.attrs p.1 k apart in
+    let back = attrs_undone c.name c.kept c.from c.to head.attrs p.1 k (Apart_from head.attrs apart) in
     record {
       undone = λ i. Opening kind (record { tag = head.tag; attrs = back.undone i; raw = head.raw; reference = head.reference; owner = head.owner }) marks pre origin generated;
       allowed = and_from (is_element kind) _ p.0 (and_from _ (not (is_reserved c.name)) (option_text_from _ c.to back.present) p.2);
@@ -249,3 +280,6 @@ change_filled-PutsBack c (Opening kind head marks pre origin generated) h =
     by_kind None to e = tt
     by_kind (Some old) (Some value) e = tt
     by_kind (Some old) None e = attr_added-attr_removed c.name old head.attrs e
+
+pub filled_puts_back : FilledPutsBack
+filled_puts_back c item h = (item_changed-change_filled c item, change_filled-PutsBack c item h)

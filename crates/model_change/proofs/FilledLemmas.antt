@@ -1,10 +1,12 @@
 -- Filling in the positions changes nothing else; and names stay apart.
-use Rattle.std.proofs.Common.{◌≡◌, ℕ, zero, suc, ◌+◌, true, not, ◌&&◌, List, [], ◌∷◌, ◌++◌, length, take, drop, refl, sym, ap, ◌∙◌, subst, append-nil}
+use Rattle.std.proofs.Common.{◌≡◌, ℕ, zero, suc, ◌+◌, ◌^◌, nat_le, true, not, ◌&&◌, List, [], ◌∷◌, ◌++◌, length, take, drop, refl, sym, ap, ◌∙◌, subst, append-nil}
 use Rattle.model_items.specs.declared.plain_item.PlainItem.{PlainItem}
 use Rattle.model_items.specs.declared.plain_item.PlainItem.TheVariants.{Char, Opening, Closing}
 use Rattle.model_items.specs.Same.{text_same}
 use Rattle.model_change.specs.Attributes.{AttrChange, item_changed, allows, change_filled, change_back, AllNamesApart}
-use Rattle.model_change.specs.Transaction.{Op, Retain, Replace, Attribute, Transaction, old_length, on_first, edited, first_allows, first_filled, filled, FirstPutsBack, IsRestorable, is_something, may_precede, is_normal, attribute_ops, inverse_after, inverse, Applies, InsertedApart, FillingIsNeutral, NamesStayApart}
+use Rattle.model_change.specs.Transaction.{Op, Retain, Replace, Attribute, Transaction, old_length, all_inserted, total_length, on_first, edited, is_something, may_precede, is_reduced, InsertedApart}
+use Rattle.model_change.specs.Fault.{first_allows, Applies, NamesStayApart}
+use Rattle.model_change.specs.Inverse.{first_filled, filled, FirstPutsBack, IsRestorable, attribute_ops, inverse_after, inverse, FillingIsNeutral}
 use Rattle.model_change.proofs.Fits.{Fits, parts_of_Applies, Applies_from}
 use Rattle.model_change.proofs.AttributeLemmas.{item_apart, item_changed-change_filled, change_filled-PutsBack}
 use Rattle.model_change.proofs.InverseLemmas.{AllNamesApart-drop}
@@ -58,7 +60,7 @@ old_length-filled (Retain count ∷ ops) items = ap (λ n. count + n) (old_lengt
 old_length-filled (Replace removed inserted ∷ ops) items = ap (λ n. length removed + n) (old_length-filled ops (drop (length removed) items))
 old_length-filled (Attribute c ∷ ops) items = old_length-filled ops (on_first (item_changed c) items)
 
--- positions are of no matter to the normal form
+-- positions are of no matter to the reduced form
 
 name-first_filled : (c : AttrChange) (items : List PlainItem) → (first_filled c items).name ≡ c.name
 name-first_filled c [] = refl
@@ -86,14 +88,23 @@ replace_precedes-filled removed inserted (Retain n ∷ ops) items = refl
 replace_precedes-filled removed inserted (Replace r i ∷ ops) items = refl
 replace_precedes-filled removed inserted (Attribute c ∷ ops) items = refl
 
-is_normal-filled : (ops : Transaction) (items : List PlainItem) → is_normal (filled ops items) ≡ is_normal ops
-is_normal-filled [] items = refl
-is_normal-filled (Retain count ∷ ops) items =
-    λ i. is_something (Retain count) && (precedes-filled (Retain count) ops (drop count items) count i && is_normal-filled ops (drop count items) i)
-is_normal-filled (Replace removed inserted ∷ ops) items =
-    λ i. is_something (Replace removed inserted) && (replace_precedes-filled removed inserted ops (drop (length removed) items) i && is_normal-filled ops (drop (length removed) items) i)
-is_normal-filled (Attribute c ∷ ops) items =
-    λ i. true && (attribute_precedes-filled c ops items (on_first (item_changed c) items) i && is_normal-filled ops (on_first (item_changed c) items) i)
+is_reduced-filled : (ops : Transaction) (items : List PlainItem) → is_reduced (filled ops items) ≡ is_reduced ops
+is_reduced-filled [] items = refl
+is_reduced-filled (Retain count ∷ ops) items =
+    λ i. is_something (Retain count) && (precedes-filled (Retain count) ops (drop count items) count i && is_reduced-filled ops (drop count items) i)
+is_reduced-filled (Replace removed inserted ∷ ops) items =
+    λ i. is_something (Replace removed inserted) && (replace_precedes-filled removed inserted ops (drop (length removed) items) i && is_reduced-filled ops (drop (length removed) items) i)
+is_reduced-filled (Attribute c ∷ ops) items =
+    λ i. true && (attribute_precedes-filled c ops items (on_first (item_changed c) items) i && is_reduced-filled ops (on_first (item_changed c) items) i)
+
+inserted-filled : (ops : Transaction) (items : List PlainItem) → all_inserted (filled ops items) ≡ all_inserted ops
+inserted-filled [] items = refl
+inserted-filled (Retain count ∷ ops) items = inserted-filled ops (drop count items)
+inserted-filled (Replace removed inserted ∷ ops) items = ap (λ rest. inserted ++ rest) (inserted-filled ops (drop (length removed) items))
+inserted-filled (Attribute c ∷ ops) items = inserted-filled ops (on_first (item_changed c) items)
+
+total-filled : (ops : Transaction) (items : List PlainItem) → total_length (filled ops items) ≡ total_length ops
+total-filled ops items = λ i. old_length-filled ops items i + length (inserted-filled ops items i)
 
 pub filling_is_neutral : FillingIsNeutral
 filling_is_neutral t items applies =
@@ -102,7 +113,8 @@ filling_is_neutral t items applies =
       applies = Applies_from (filled t items) items (old_length-filled t items ∙ p.0) (Fits-filled t items p.1);
       same = edited-filled t items;
       restorable = IsRestorable-filled t items p.1;
-      normal = is_normal-filled t items;
+      reduced = is_reduced-filled t items;
+      normal = λ i. is_reduced-filled t items i && nat_le (total-filled t items i) (2 ^ 60);
     }
 
 -- names apart

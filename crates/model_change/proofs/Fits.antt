@@ -7,7 +7,8 @@ use Rattle.model_items.proofs.SameLemmas.{Means-item_same}
 use Rattle.model_change.specs.declared.tx_fault.TxFault.{TxFault}
 use Rattle.model_change.specs.declared.tx_fault.TxFault.TheVariants.{BadLength, Mismatch, BadAttr}
 use Rattle.model_change.specs.Attributes.{item_changed}
-use Rattle.model_change.specs.Transaction.{Retain, Replace, Attribute, Transaction, old_length, new_length, on_first, edited, or_else, differs_at, mismatch_at, first_allows, bad_attribute_at, fault_by, Applies, GivesNewLength}
+use Rattle.model_change.specs.Transaction.{Retain, Replace, Attribute, Transaction, old_length, new_length, on_first, edited}
+use Rattle.model_change.specs.Fault.{or_else, differs_at, mismatch_at, first_allows, bad_attribute_at, fault_by, Applies, GivesNewLength}
 
 -- each removed item is there, and each attribute operation is allowed
 abbrev pub Fits : Transaction → List PlainItem → Type 0

@@ -4,7 +4,8 @@ use Rattle.std.proofs.lemmas.Bool.{and_parts}
 use Rattle.std.proofs.lemmas.List.{take_at, drop_at, length-take-le, length-drop}
 use Rattle.model_items.specs.declared.plain_item.PlainItem.{PlainItem}
 use Rattle.model_change.specs.Attributes.{AttrChange, item_changed, allows, change_back, PutsBack, AllNamesApart}
-use Rattle.model_change.specs.Transaction.{Op, Retain, Replace, Attribute, Transaction, old_length, new_length, on_first, edited, is_something, may_precede, is_normal, attribute_ops, inverse_after, inverse, IsRestorable, InverseUndoes}
+use Rattle.model_change.specs.Transaction.{Op, Retain, Replace, Attribute, Transaction, old_length, new_length, on_first, edited, is_something, may_precede, is_reduced}
+use Rattle.model_change.specs.Inverse.{attribute_ops, inverse_after, inverse, IsRestorable, InverseUndoes}
 use Rattle.model_change.proofs.Fits.{Fits, parts_of_Applies, Applies_from, length-edited}
 use Rattle.model_change.proofs.AttributeLemmas.{item_undone}
 
@@ -78,16 +79,16 @@ record IsRestored (ops : Transaction) (new old : List PlainItem) : Type 0 where
 
 -- what the operations ask of a list
 record IsAsked (ops : Transaction) (items : List PlainItem) : Type 0 where
-  normal : is_normal ops ≡ true
+  reduced : is_reduced ops ≡ true
   room : old_length ops ≤ length items
   fits : Fits ops items
   full : IsRestorable ops items
   apart : AllNamesApart items
 
-pub normal_parts : (op : Op) (ops : Transaction) → is_normal (op ∷ ops) ≡ true → (is_something op ≡ true) × (may_precede op ops ≡ true) × (is_normal ops ≡ true)
-normal_parts op ops h =
-    let p = and_parts (is_something op) (may_precede op ops && is_normal ops) h in
-    let q = and_parts (may_precede op ops) (is_normal ops) p.1 in
+pub reduced_parts : (op : Op) (ops : Transaction) → is_reduced (op ∷ ops) ≡ true → (is_something op ≡ true) × (may_precede op ops ≡ true) × (is_reduced ops ≡ true)
+reduced_parts op ops h =
+    let p = and_parts (is_something op) (may_precede op ops && is_reduced ops) h in
+    let q = and_parts (may_precede op ops) (is_reduced ops) p.1 in
     (p.0, q.0, q.1)
 
 restored_after : (ops : Transaction) (changes : List AttrChange) (items : List PlainItem) → Ready changes ops → FirstAllowed changes items → IsAsked ops items →
@@ -98,15 +99,15 @@ restored_after [] changes (item ∷ items) ready allowed asked = record {
   fits = rw (← append-nil (attribute_ops changes)) (Fits-attribute_ops changes [] item items allowed tt);
   full = rw (← append-nil (attribute_ops changes)) (IsRestorable-attribute_ops changes [] item items allowed tt);
 }
-restored_after (Retain zero ∷ ops) changes items ready allowed asked = absurd (let e = (normal_parts (Retain zero) ops asked.normal).0 in cc)
+restored_after (Retain zero ∷ ops) changes items ready allowed asked = absurd (let e = (reduced_parts (Retain zero) ops asked.reduced).0 in cc)
 restored_after (Retain (suc n) ∷ ops) changes [] ready allowed asked = absurd (let r = asked.room in omega arith)
 restored_after (Retain (suc n) ∷ ops) changes (item ∷ items) ready allowed asked =
     let room : n + old_length ops ≤ length items = omega arith in
     let cut : length (drop n items) ≡ length items - n = length-drop n items in
     let front : length (take n items) ≡ n = length-take-le n items (omega arith) in
-    let parts = normal_parts (Retain (suc n)) ops asked.normal in
+    let parts = reduced_parts (Retain (suc n)) ops asked.reduced in
     let rest = restored_after ops [] (drop n items) (Ready_none ops) (FirstAllowed_none (drop n items)) (record {
-      normal = parts.2;
+      reduced = parts.2;
       room = omega arith;
       fits = asked.fits;
       full = asked.full;
@@ -124,9 +125,9 @@ restored_after (Retain (suc n) ∷ ops) changes (item ∷ items) ready allowed a
 restored_after (Replace removed inserted ∷ ops) (c ∷ changes) items ready allowed asked = absurd (let e = ready in cc)
 restored_after (Replace removed inserted ∷ ops) [] items ready allowed asked =
     let cut : length (drop (length removed) items) ≡ length items - length removed = length-drop (length removed) items in
-    let parts = normal_parts (Replace removed inserted) ops asked.normal in
+    let parts = reduced_parts (Replace removed inserted) ops asked.reduced in
     let rest = restored_after ops [] (drop (length removed) items) (Ready_none ops) (FirstAllowed_none (drop (length removed) items)) (record {
-      normal = parts.2;
+      reduced = parts.2;
       room = omega arith;
       fits = asked.fits.1;
       full = asked.full;
@@ -141,11 +142,11 @@ restored_after (Replace removed inserted ∷ ops) [] items ready allowed asked =
     }
 restored_after (Attribute c ∷ ops) changes [] ready allowed asked = absurd (let e = asked.fits.0 in cc)
 restored_after (Attribute c ∷ ops) changes (item ∷ items) ready allowed asked =
-    let parts = normal_parts (Attribute c) ops asked.normal in
+    let parts = reduced_parts (Attribute c) ops asked.reduced in
     let back = item_undone c item asked.fits.0 asked.full.0 asked.apart.0 in
     let rest = restored_after ops (change_back c ∷ changes) (item_changed c item ∷ items) (Ready_after c (change_back c ∷ changes) ops parts.1)
     (back.allowed, back.put_back, subst (λ x. AllAllowed changes x) (sym back.undone) allowed)
-    (record { normal = parts.2; room = asked.room; fits = asked.fits.1; full = asked.full.1; apart = (back.apart, asked.apart.1) }) in
+    (record { reduced = parts.2; room = asked.room; fits = asked.fits.1; full = asked.full.1; apart = (back.apart, asked.apart.1) }) in
     record {
       restored = rest.restored ∙ ap (λ x. changed_all changes x ∷ items) back.undone;
       fits = rest.fits;
@@ -165,9 +166,9 @@ old_length-inverse_after (Replace removed inserted ∷ ops) changes =
 old_length-inverse_after (Attribute c ∷ ops) changes = old_length-inverse_after ops (change_back c ∷ changes)
 
 pub inverse_undoes : InverseUndoes
-inverse_undoes t items normal apart applies full =
+inverse_undoes t items reduced apart applies full =
     let p = parts_of_Applies t items applies in
-    let back = restored_after t [] items (Ready_none t) (FirstAllowed_none items) (record { normal = normal; room = omega arith; fits = p.1; full = full; apart = apart }) in
+    let back = restored_after t [] items (Ready_none t) (FirstAllowed_none items) (record { reduced = reduced; room = omega arith; fits = p.1; full = full; apart = apart }) in
     let new = length-edited t items p.1 (omega arith) in
     let old = old_length-inverse_after t [] in
     record {

@@ -1,13 +1,15 @@
--- The inverse is in normal form.
-use Rattle.std.proofs.Common.{◌≡◌, ℕ, true, false, not, nat_lt, List, [], ◌∷◌, ◌++◌, length, refl, ap, ◌∙◌, add_comm}
+-- The inverse is reduced, and in normal form.
+use Rattle.std.proofs.Common.{◌≡◌, ℕ, ◌+◌, ◌^◌, true, false, not, nat_lt, nat_le, List, [], ◌∷◌, ◌++◌, length, refl, sym, ap, ◌∙◌, add_comm, append-nil, arith}
+use Rattle.std.proofs.lemmas.List.{length-append}
 use Rattle.std.proofs.lemmas.Bool.{and_parts, and_from, not-true, not_from_false}
 use Rattle.model_items.specs.declared.plain_item.PlainItem.{PlainItem}
 use Rattle.model_items.specs.Same.{text_same}
 use Rattle.model_change.specs.Attributes.{AttrChange, change_back}
-use Rattle.model_change.specs.Transaction.{Retain, Replace, Attribute, Transaction, may_precede, is_normal, attribute_ops, inverse_after, inverse, InverseIsNormal}
+use Rattle.model_change.specs.Transaction.{Retain, Replace, Attribute, Transaction, all_inserted, old_length, total_length, may_precede, is_reduced}
+use Rattle.model_change.specs.Inverse.{attribute_ops, inverse_after, inverse, InverseIsReduced, InverseIsNormal}
 use Rattle.model_change.proofs.AttributeLemmas.{text_other}
-use Rattle.model_change.proofs.InverseLemmas.{normal_parts}
-use Rattle.model_change.proofs.JoinNormal.{normal_from}
+use Rattle.model_change.proofs.InverseLemmas.{reduced_parts}
+use Rattle.model_change.proofs.JoinNormal.{reduced_from}
 
 -- its name is none of theirs
 abbrev IsOther : AttrChange → List AttrChange → Type 0
@@ -35,12 +37,12 @@ precedes_all c (d ∷ changes) count ops other =
     and_from (not (text_same c.name d.name)) (may_precede (Attribute c) (attribute_ops changes ++ Retain count ∷ ops))
     (not_from_false (text_same c.name d.name) other.0) (precedes_all c changes count ops other.1)
 
-normal-attribute_ops : (changes : List AttrChange) (count : ℕ) (ops before : Transaction) → IsPending changes before → is_normal (Retain count ∷ ops) ≡ true →
-    is_normal (attribute_ops changes ++ Retain count ∷ ops) ≡ true
-normal-attribute_ops [] count ops before pending h = h
-normal-attribute_ops (c ∷ changes) count ops before pending h =
-    normal_from (Attribute c) (attribute_ops changes ++ Retain count ∷ ops) refl (precedes_all c changes count ops pending.1)
-    (normal-attribute_ops changes count ops before pending.2 h)
+reduced-attribute_ops : (changes : List AttrChange) (count : ℕ) (ops before : Transaction) → IsPending changes before → is_reduced (Retain count ∷ ops) ≡ true →
+    is_reduced (attribute_ops changes ++ Retain count ∷ ops) ≡ true
+reduced-attribute_ops [] count ops before pending h = h
+reduced-attribute_ops (c ∷ changes) count ops before pending h =
+    reduced_from (Attribute c) (attribute_ops changes ++ Retain count ∷ ops) refl (precedes_all c changes count ops pending.1)
+    (reduced-attribute_ops changes count ops before pending.2 h)
 
 -- what may stand before operations may stand before what undoes them
 
@@ -70,23 +72,23 @@ replace_precedes-inverse removed inserted (Retain n ∷ ops) h = refl
 replace_precedes-inverse removed inserted (Replace r i ∷ ops) h = h
 replace_precedes-inverse removed inserted (Attribute d ∷ ops) h = replace_precedes-inverse_after inserted removed ops (change_back d) []
 
-normal-inverse_after : (ops : Transaction) (changes : List AttrChange) → IsPending changes ops → is_normal ops ≡ true → is_normal (inverse_after changes ops) ≡ true
-normal-inverse_after [] [] pending h = refl
-normal-inverse_after [] (c ∷ changes) pending h = absurd (let e = pending.0 in cc)
-normal-inverse_after (Retain count ∷ ops) changes pending h =
-    let p = normal_parts (Retain count) ops h in
-    normal-attribute_ops changes count (inverse ops) (Retain count ∷ ops) pending
-    (normal_from (Retain count) (inverse ops) p.0 (retain_precedes-inverse count ops p.1) (normal-inverse_after ops [] tt p.2))
-normal-inverse_after (Replace removed inserted ∷ ops) (c ∷ changes) pending h = absurd (let e = pending.0 in cc)
-normal-inverse_after (Replace removed inserted ∷ ops) [] pending h =
-    let p = normal_parts (Replace removed inserted) ops h in
-    normal_from (Replace inserted removed) (inverse ops)
+reduced-inverse_after : (ops : Transaction) (changes : List AttrChange) → IsPending changes ops → is_reduced ops ≡ true → is_reduced (inverse_after changes ops) ≡ true
+reduced-inverse_after [] [] pending h = refl
+reduced-inverse_after [] (c ∷ changes) pending h = absurd (let e = pending.0 in cc)
+reduced-inverse_after (Retain count ∷ ops) changes pending h =
+    let p = reduced_parts (Retain count) ops h in
+    reduced-attribute_ops changes count (inverse ops) (Retain count ∷ ops) pending
+    (reduced_from (Retain count) (inverse ops) p.0 (retain_precedes-inverse count ops p.1) (reduced-inverse_after ops [] tt p.2))
+reduced-inverse_after (Replace removed inserted ∷ ops) (c ∷ changes) pending h = absurd (let e = pending.0 in cc)
+reduced-inverse_after (Replace removed inserted ∷ ops) [] pending h =
+    let p = reduced_parts (Replace removed inserted) ops h in
+    reduced_from (Replace inserted removed) (inverse ops)
     (ap (nat_lt 0) (add_comm (length inserted) (length removed)) ∙ p.0)
-    (replace_precedes-inverse removed inserted ops p.1) (normal-inverse_after ops [] tt p.2)
-normal-inverse_after (Attribute d ∷ ops) changes pending h =
-    let p = normal_parts (Attribute d) ops h in
+    (replace_precedes-inverse removed inserted ops p.1) (reduced-inverse_after ops [] tt p.2)
+reduced-inverse_after (Attribute d ∷ ops) changes pending h =
+    let p = reduced_parts (Attribute d) ops h in
     let rest = IsPending_after d changes ops pending in
-    normal-inverse_after ops (change_back d ∷ changes) (back_precedes ops p.1, rest.0, rest.1) p.2
+    reduced-inverse_after ops (change_back d ∷ changes) (back_precedes ops p.1, rest.0, rest.1) p.2
   where
     back_precedes : (ops : Transaction) → may_precede (Attribute d) ops ≡ true → may_precede (Attribute (change_back d)) ops ≡ true
     back_precedes [] h = h
@@ -96,5 +98,35 @@ normal-inverse_after (Attribute d ∷ ops) changes pending h =
         let p = and_parts (not (text_same d.name e.name)) (may_precede (Attribute d) ops) h in
         and_from (not (text_same d.name e.name)) (may_precede (Attribute (change_back d)) ops) p.0 (back_precedes ops p.1)
 
+pub inverse_is_reduced : InverseIsReduced
+inverse_is_reduced t h = reduced-inverse_after t [] tt h
+
+-- what is removed and what is inserted change places
+
+length-inserted-attribute_ops : (changes : List AttrChange) (ops : Transaction) → all_inserted (attribute_ops changes ++ ops) ≡ all_inserted ops
+length-inserted-attribute_ops [] ops = refl
+length-inserted-attribute_ops (c ∷ changes) ops = length-inserted-attribute_ops changes ops
+
+old_length-attribute_ops : (changes : List AttrChange) (ops : Transaction) → old_length (attribute_ops changes ++ ops) ≡ old_length ops
+old_length-attribute_ops [] ops = refl
+old_length-attribute_ops (c ∷ changes) ops = old_length-attribute_ops changes ops
+
+total-attribute_ops : (changes : List AttrChange) (ops : Transaction) → total_length (attribute_ops changes ++ ops) ≡ total_length ops
+total-attribute_ops changes ops = λ i. old_length-attribute_ops changes ops i + length (length-inserted-attribute_ops changes ops i)
+
+total-inverse_after : (ops : Transaction) (changes : List AttrChange) → total_length (inverse_after changes ops) ≡ total_length ops
+total-inverse_after [] changes = ap total_length (sym (append-nil (attribute_ops changes))) ∙ total-attribute_ops changes []
+total-inverse_after (Retain count ∷ ops) changes =
+    let rest = total-inverse_after ops [] in
+    total-attribute_ops changes (Retain count ∷ inverse ops) ∙ omega arith
+total-inverse_after (Replace removed inserted ∷ ops) changes =
+    let rest = total-inverse_after ops [] in
+    let a = length-append removed (all_inserted (inverse ops)) in
+    let b = length-append inserted (all_inserted ops) in
+    total-attribute_ops changes (Replace inserted removed ∷ inverse ops) ∙ omega arith
+total-inverse_after (Attribute c ∷ ops) changes = total-inverse_after ops (change_back c ∷ changes)
+
 pub inverse_is_normal : InverseIsNormal
-inverse_is_normal t h = normal-inverse_after t [] tt h
+inverse_is_normal t h =
+    let p = and_parts (is_reduced t) (nat_le (total_length t) (2 ^ 60)) h in
+    and_from (is_reduced (inverse t)) (nat_le (total_length (inverse t)) (2 ^ 60)) (inverse_is_reduced t p.0) (ap (λ n. nat_le n (2 ^ 60)) (total-inverse_after t []) ∙ p.1)

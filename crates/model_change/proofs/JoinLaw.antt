@@ -3,12 +3,12 @@ use Rattle.std.proofs.Common.{◌≡◌, ℕ, ◌≤◌, Bool, true, false, not,
 use Rattle.std.proofs.Math.Bool.{and_comm}
 use Rattle.std.proofs.lemmas.Bool.{and_parts, not-true, not-false, leb-true}
 use Rattle.model_items.specs.declared.plain_item.PlainItem.{PlainItem}
-use Rattle.model_items.specs.Same.{text_same}
-use Rattle.model_items.specs.Same.{Means}
+use Rattle.model_items.specs.Same.{Means, text_same}
 use Rattle.model_items.proofs.SameLemmas.{Means-nat, Means-text_same}
 use Rattle.model_change.specs.Attributes.{AttrChange, adds_or_removes}
-use Rattle.model_change.specs.Transaction.{Transaction, new_length, edited, Applies}
-use Rattle.model_change.specs.Join.{first, last, core, has_some, is_active, end_of, start_of, has_replace, has_attribute, is_attribute_transaction, both_attributes, placed_changes, some_meet, overlap, conflict, retained, moved_on, with_new_end, join, meets, meets_one, Agree, JoinsAgree, ConflictIsSymmetric}
+use Rattle.model_change.specs.Transaction.{Transaction, new_length, edited}
+use Rattle.model_change.specs.Fault.{Applies, placed_changes}
+use Rattle.model_change.specs.Join.{first, last, core, has_some, is_active, end_of, start_of, has_replace, has_attribute, is_attribute_transaction, both_attributes, some_meet, overlap, conflict, retained, moved_on, with_new_end, join, meets, meets_one, Agree, JoinsAgree, ConflictIsSymmetric}
 use Rattle.model_change.proofs.Fits.{parts_of_Applies, Applies_from, length-edited}
 use Rattle.model_change.proofs.JoinLemmas.{HasParts, parts_of, left_agrees, Agree-swap, edited-behind, edited-with_ends, old_length-retained, Fits-behind}
 use Rattle.model_change.proofs.PlacedLemmas.{attributes_agree}
@@ -92,8 +92,17 @@ module _ (a b : Transaction) (items : List PlainItem) (pa : HasParts a items) (p
   agree_by r (SecondLeft active active_too near) = Agree-swap b a (with_new_end b a) (moved_on a b) items (left_agrees b a items pb pa near)
 
 pub joins_agree : JoinsAgree
-joins_agree a b items normal normal_too applies applies_too free =
-    agree_by a b items (parts_of a items normal applies) (parts_of b items normal_too applies_too) applies applies_too (join a b) (joined_as a b free)
+joins_agree a b items may =
+    agree_by
+    a
+    b
+    items
+    (parts_of a items may.reduced may.applies)
+    (parts_of b items may.reduced_too may.applies_too)
+    may.applies
+    may.applies_too
+    (join a b)
+    (joined_as a b may.apart)
 
 -- conflict is symmetric
 

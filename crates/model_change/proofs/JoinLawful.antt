@@ -5,8 +5,9 @@ use Rattle.model_items.specs.declared.plain_item.PlainItem.TheVariants.{Char, Op
 use Rattle.model_items.specs.Law.{State, start, step, joined, after, Lawful}
 use Rattle.model_items.proofs.LawLemmas.{after_from_Lawful, Lawful_from_after, both_changes}
 use Rattle.model_change.specs.Attributes.{AttrChange, item_changed}
-use Rattle.model_change.specs.Transaction.{Transaction, new_length, edited, Applies}
-use Rattle.model_change.specs.Join.{placed_changes, has_replace, moved_on, with_new_end, join, Agree, JoinsLawful}
+use Rattle.model_change.specs.Transaction.{Transaction, new_length, edited}
+use Rattle.model_change.specs.Fault.{Applies, placed_changes}
+use Rattle.model_change.specs.Join.{has_replace, moved_on, with_new_end, join, Agree, JoinsLawful}
 use Rattle.model_change.proofs.Fits.{parts_of_Applies}
 use Rattle.model_change.proofs.PlacedLemmas.{changed_at, all_placed, edited_placed}
 use Rattle.model_change.proofs.JoinLemmas.{HasParts, parts_of, Beside, left_beside, edited-behind}
@@ -51,6 +52,6 @@ module _ (a b : Transaction) (items : List PlainItem) (pa : HasParts a items) (p
       (beside_lawful b a (with_new_end b a) (moved_on a b) items (left_beside b a items pb pa near) lawful right left).1
 
 pub joins_lawful : JoinsLawful
-joins_lawful a b items normal normal_too applies applies_too free lawful left right =
-    lawful_by a b items (parts_of a items normal applies) (parts_of b items normal_too applies_too) lawful left right
-    (join a b) (joined_as a b free) (joins_agree a b items normal normal_too applies applies_too free)
+joins_lawful a b items may lawful left right =
+    lawful_by a b items (parts_of a items may.reduced may.applies) (parts_of b items may.reduced_too may.applies_too) lawful left right
+    (join a b) (joined_as a b may.apart) (joins_agree a b items may)

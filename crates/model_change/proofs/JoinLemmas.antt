@@ -3,25 +3,27 @@ use Rattle.std.proofs.Common.{◌≡◌, ℕ, zero, suc, ◌+◌, ◌-◌, ◌�
 use Rattle.std.proofs.lemmas.List.{take_at, drop_at, take-append-le, drop-append-le, append_cancel_right, length-take-le, length-drop, length-append, drop-drop}
 use Rattle.model_items.specs.declared.plain_item.PlainItem.{PlainItem}
 use Rattle.model_change.specs.Attributes.{item_changed, PutsBack}
-use Rattle.model_change.specs.Transaction.{Retain, Replace, Attribute, Transaction, old_length, new_length, on_first, edited, first_allows, FirstPutsBack, IsRestorable, is_normal, Applies}
+use Rattle.model_change.specs.Transaction.{Retain, Replace, Attribute, Transaction, old_length, new_length, on_first, edited, is_reduced}
+use Rattle.model_change.specs.Fault.{first_allows, Applies}
+use Rattle.model_change.specs.Inverse.{FirstPutsBack, IsRestorable}
 use Rattle.model_change.specs.Join.{first, end_retain, without_end, last, core, reach, end_of, retained, with_ends, moved_on, with_new_end, Agree}
 use Rattle.model_change.proofs.Fits.{Fits, parts_of_Applies, Applies_from, length-edited}
-use Rattle.model_change.proofs.InverseLemmas.{normal_parts}
+use Rattle.model_change.proofs.InverseLemmas.{reduced_parts}
 
 -- a transaction is its middle between two retains
 
-pub end_split : (ops : Transaction) → is_normal ops ≡ true → without_end ops ++ retained (end_retain ops) ≡ ops
+pub end_split : (ops : Transaction) → is_reduced ops ≡ true → without_end ops ++ retained (end_retain ops) ≡ ops
 end_split [] h = refl
-end_split (Retain zero ∷ []) h = absurd (let e = (normal_parts (Retain zero) [] h).0 in cc)
+end_split (Retain zero ∷ []) h = absurd (let e = (reduced_parts (Retain zero) [] h).0 in cc)
 end_split (Retain (suc n) ∷ []) h = refl
-end_split (Retain n ∷ (op ∷ ops)) h = ap (λ rest. Retain n ∷ rest) (end_split (op ∷ ops) (normal_parts (Retain n) (op ∷ ops) h).2)
-end_split (Replace removed inserted ∷ ops) h = ap (λ rest. Replace removed inserted ∷ rest) (end_split ops (normal_parts (Replace removed inserted) ops h).2)
-end_split (Attribute c ∷ ops) h = ap (λ rest. Attribute c ∷ rest) (end_split ops (normal_parts (Attribute c) ops h).2)
+end_split (Retain n ∷ (op ∷ ops)) h = ap (λ rest. Retain n ∷ rest) (end_split (op ∷ ops) (reduced_parts (Retain n) (op ∷ ops) h).2)
+end_split (Replace removed inserted ∷ ops) h = ap (λ rest. Replace removed inserted ∷ rest) (end_split ops (reduced_parts (Replace removed inserted) ops h).2)
+end_split (Attribute c ∷ ops) h = ap (λ rest. Attribute c ∷ rest) (end_split ops (reduced_parts (Attribute c) ops h).2)
 
-pub ends_split : (t : Transaction) → is_normal t ≡ true → with_ends (first t) (core t) (last t) ≡ t
+pub ends_split : (t : Transaction) → is_reduced t ≡ true → with_ends (first t) (core t) (last t) ≡ t
 ends_split [] h = refl
-ends_split (Retain zero ∷ ops) h = absurd (let e = (normal_parts (Retain zero) ops h).0 in cc)
-ends_split (Retain (suc n) ∷ ops) h = ap (λ rest. Retain (suc n) ∷ rest) (end_split ops (normal_parts (Retain (suc n)) ops h).2)
+ends_split (Retain zero ∷ ops) h = absurd (let e = (reduced_parts (Retain zero) ops h).0 in cc)
+ends_split (Retain (suc n) ∷ ops) h = ap (λ rest. Retain (suc n) ∷ rest) (end_split ops (reduced_parts (Retain (suc n)) ops h).2)
 ends_split (Replace removed inserted ∷ ops) h = end_split (Replace removed inserted ∷ ops) h
 ends_split (Attribute c ∷ ops) h = end_split (Attribute c ∷ ops) h
 
@@ -52,7 +54,7 @@ Fits-behind (Attribute c ∷ ops) n items = ap (λ P. (first_allows c items ≡ 
 -- what lies past the reach of the operations stays
 
 module _ (behind : List PlainItem) where
-  edited-append : (ops : Transaction) (items : List PlainItem) → reach ops ≤ length items → edited ops (items ++ behind) ≡ edited ops items ++ behind
+  pub edited-append : (ops : Transaction) (items : List PlainItem) → reach ops ≤ length items → edited ops (items ++ behind) ≡ edited ops items ++ behind
   edited-append [] items le = refl
   edited-append (Retain count ∷ ops) items le =
       let cut : length (drop count items) ≡ length items - count = length-drop count items in
@@ -278,9 +280,9 @@ pub record HasParts (t : Transaction) (items : List PlainItem) : Type 0 where
   pub new : new_length t ≡ first t + (new_length (core t) + last t)
   pub fits : Fits (core t) (drop (first t) items)
 
-pub parts_of : (t : Transaction) (items : List PlainItem) → is_normal t ≡ true → Applies t items → HasParts t items
-parts_of t items normal applies =
-    let split = ends_split t normal in
+pub parts_of : (t : Transaction) (items : List PlainItem) → is_reduced t ≡ true → Applies t items → HasParts t items
+parts_of t items reduced applies =
+    let split = ends_split t reduced in
     let p = parts_of_Applies t items applies in
     record {
       split = split;

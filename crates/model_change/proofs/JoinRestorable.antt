@@ -4,8 +4,10 @@ use Rattle.std.proofs.lemmas.Bool.{or_parts}
 use Rattle.std.proofs.lemmas.List.{length-append, length-drop, length-take-le}
 use Rattle.model_items.specs.declared.plain_item.PlainItem.{PlainItem}
 use Rattle.model_change.specs.Attributes.{AttrChange, item_changed, PutsBack}
-use Rattle.model_change.specs.Transaction.{Retain, Replace, Attribute, Transaction, old_length, new_length, on_first, edited, FirstPutsBack, IsRestorable, InsertedApart, Applies}
-use Rattle.model_change.specs.Join.{placed_changes, has_replace, meets, meets_one, some_meet, retained, join, Agree, first, without_first, without_end, last, core, with_ends, JoinsRestorable, JoinsApart}
+use Rattle.model_change.specs.Transaction.{Retain, Replace, Attribute, Transaction, old_length, new_length, on_first, edited, InsertedApart}
+use Rattle.model_change.specs.Fault.{Applies, placed_changes}
+use Rattle.model_change.specs.Inverse.{FirstPutsBack, IsRestorable}
+use Rattle.model_change.specs.Join.{has_replace, meets, meets_one, some_meet, retained, join, Agree, first, without_first, without_end, last, core, with_ends, JoinsRestorable, JoinsApart}
 use Rattle.model_change.proofs.Fits.{parts_of_Applies, length-on_first}
 use Rattle.model_change.proofs.AttributeJoin.{item_changed-comm, PutsBack-item_changed}
 use Rattle.model_change.proofs.PlacedLemmas.{changed_at, changed_at-comm, changed_at-append, all_placed, regrouped, edited_placed, apart_at}
@@ -104,9 +106,9 @@ module _ (a b : Transaction) (items : List PlainItem) (pa : HasParts a items) (p
       let s = left_beside b a items pb pa near in (s.first_full full_too, s.second_full full)
 
 pub joins_restorable : JoinsRestorable
-joins_restorable a b items normal normal_too applies applies_too free full full_too =
-    restorable_by a b items (parts_of a items normal applies) (parts_of b items normal_too applies_too) applies applies_too full full_too
-    (join a b) (joined_as a b free) (joins_agree a b items normal normal_too applies applies_too free)
+joins_restorable a b items may full full_too =
+    restorable_by a b items (parts_of a items may.reduced may.applies) (parts_of b items may.reduced_too may.applies_too) may.applies may.applies_too full full_too
+    (join a b) (joined_as a b may.apart) (joins_agree a b items may)
 
 -- what is inserted stays what it was
 

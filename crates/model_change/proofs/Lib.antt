@@ -10,7 +10,18 @@ pub mod JoinLaw
 pub mod JoinLawful
 pub mod JoinNormal
 pub mod JoinRestorable
+pub mod JoinLengths
 pub mod JoinListLaw
 pub mod ReversalLaw
-mod TxExamples
+pub mod FaultLemmas
+pub mod ActiveLemmas
+pub mod StoreLemmas
+mod ExampleItems
+mod AttributeExamples
+mod TransactionExamples
+mod FaultExamples
+mod InverseExamples
+mod JoinExamples
+mod ReplayExamples
+mod StoreExamples
 mod TouchExamples

@@ -5,8 +5,9 @@ use Rattle.std.proofs.lemmas.List.{length-append, length-drop, length-take-le}
 use Rattle.model_items.specs.declared.plain_item.PlainItem.{PlainItem}
 use Rattle.model_items.specs.Same.{text_same}
 use Rattle.model_change.specs.Attributes.{AttrChange, item_changed, allows, adds_or_removes, clash}
-use Rattle.model_change.specs.Transaction.{Retain, Replace, Attribute, Transaction, old_length, new_length, on_first, edited, first_allows, Applies}
-use Rattle.model_change.specs.Join.{placed_changes, has_replace, meets, meets_one, some_meet, Agree}
+use Rattle.model_change.specs.Transaction.{Retain, Replace, Attribute, Transaction, old_length, new_length, on_first, edited}
+use Rattle.model_change.specs.Fault.{first_allows, Applies, placed_changes}
+use Rattle.model_change.specs.Join.{has_replace, meets, meets_one, some_meet, Agree}
 use Rattle.model_change.proofs.Fits.{Fits, parts_of_Applies, Applies_from, length-edited, length-on_first}
 use Rattle.model_change.proofs.AttributeLemmas.{text_other}
 use Rattle.model_change.proofs.AttributeJoin.{item_changed-comm, allows-item_changed}

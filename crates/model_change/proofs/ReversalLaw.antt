@@ -1,11 +1,14 @@
--- Reversals of lists of transactions.
-use Rattle.std.proofs.Common.{◌≡◌, List, [], ◌∷◌, ◌++◌, refl, sym, ap, ◌∙◌, subst}
+-- Reversals of lists of transactions, and an entry taken back under later ones.
+use Rattle.std.proofs.Common.{◌≡◌, ℕ, zero, suc, ◌<◌, List, [], ◌∷◌, ◌++◌, length, Result, Ok, Err, refl, sym, ap, ◌∙◌, subst, append_assoc, arith}
 use Rattle.model_items.specs.declared.plain_item.PlainItem.{PlainItem}
 use Rattle.model_items.specs.Law.{Lawful}
-use Rattle.model_change.specs.Transaction.{Transaction, edited, inverse}
-use Rattle.model_change.specs.Replay.{replay, Runs, AllRun, reversal, ReversalUndoes, RevokeTakesBack}
+use Rattle.model_change.specs.Attributes.{AllNamesApart}
+use Rattle.model_change.specs.Transaction.{Transaction, edited}
+use Rattle.model_change.specs.Inverse.{inverse}
+use Rattle.model_change.specs.Join.{Clash, list_with, join_list}
+use Rattle.model_change.specs.Replay.{replay, Runs, AllRun, reversal, ReversalUndoes, flattened, mine_of, entry_at, before, later, RevokeTakesBack, RevokeOfLast}
 use Rattle.model_change.proofs.InverseLemmas.{inverse_undoes}
-use Rattle.model_change.proofs.InverseNormal.{inverse_is_normal}
+use Rattle.model_change.proofs.InverseNormal.{inverse_is_reduced}
 use Rattle.model_change.proofs.FilledLemmas.{names_stay_apart, InsertedApart-inverse}
 use Rattle.model_change.proofs.JoinListLaw.{lists_agree}
 
@@ -23,9 +26,9 @@ reversal_undoes (t ∷ ts) items lawful apart runs =
     let new = edited t items in
     let run = runs.0 in
     let rest = reversal_undoes ts new run.lawful (names_stay_apart t items run.applies run.apart apart) runs.1 in
-    let undone = inverse_undoes t items run.normal apart run.applies run.restorable in
+    let undone = inverse_undoes t items run.reduced apart run.applies run.restorable in
     let one : Runs (inverse t) new = record {
-      normal = inverse_is_normal t run.normal;
+      reduced = inverse_is_reduced t run.reduced;
       applies = undone.applies;
       lawful = subst Lawful (sym undone.undone) lawful;
       restorable = undone.restorable;
@@ -36,12 +39,55 @@ reversal_undoes (t ∷ ts) items lawful apart runs =
       back = replay-append (reversal ts) (inverse t ∷ []) (replay ts new) ∙ ap (edited (inverse t)) rest.back ∙ undone.undone;
     }
 
+pub join_list-none : (mine : List Transaction) → join_list [] mine ≡ Ok ([], mine)
+join_list-none [] = refl
+join_list-none (one ∷ mine) = ap (list_with one) (join_list-none mine)
+
+pub revoke_of_last : RevokeOfLast
+revoke_of_last entries i none = ap (λ ts. mine_of (join_list ts (reversal (entry_at entries i)))) none ∙ ap mine_of (join_list-none (reversal (entry_at entries i)))
+
+-- entries before one, it, and those after it
+flattened-parts : (entries : List (List Transaction)) (i : ℕ) → i < length entries → flattened entries ≡ before entries i ++ (entry_at entries i ++ later entries i)
+flattened-parts [] i h = absurd (omega arith)
+flattened-parts (entry ∷ entries) zero h = refl
+flattened-parts (entry ∷ entries) (suc i) h =
+    ap (λ ts. entry ++ ts) (flattened-parts entries i (omega arith))
+    ∙ sym (append_assoc entry (before entries i) (entry_at entries i ++ later entries i))
+
+AllRun_front : (ts us : List Transaction) (items : List PlainItem) → AllRun (ts ++ us) items → AllRun ts items × AllRun us (replay ts items)
+AllRun_front [] us items runs = (tt, runs)
+AllRun_front (t ∷ ts) us items runs = let rest = AllRun_front ts us (edited t items) runs.1 in ((runs.0, rest.0), rest.1)
+
+replay_lawful : (ts : List Transaction) (items : List PlainItem) → Lawful items → AllRun ts items → Lawful (replay ts items)
+replay_lawful [] items lawful runs = lawful
+replay_lawful (t ∷ ts) items lawful runs = replay_lawful ts (edited t items) runs.0.lawful runs.1
+
+replay_apart : (ts : List Transaction) (items : List PlainItem) → AllNamesApart items → AllRun ts items → AllNamesApart (replay ts items)
+replay_apart [] items apart runs = apart
+replay_apart (t ∷ ts) items apart runs = replay_apart ts (edited t items) (names_stay_apart t items runs.0.applies runs.0.apart apart) runs.1
+
+mine_of-ok : (r : Result (List Transaction × List Transaction) Clash) (back : List Transaction) → mine_of r ≡ Ok back →
+    (without : List Transaction) × (r ≡ Ok (without, back))
+mine_of-ok (Err clash) back h = cc
+mine_of-ok (Ok joined) back h = let e : joined.1 ≡ back = cc in (joined.0, λ i. Ok (joined.0, e i))
+
 pub revoke_takes_back : RevokeTakesBack
-revoke_takes_back entry later joined items lawful apart runs lawful_after runs_later h =
-    let back = reversal_undoes entry items lawful apart runs in
-    let agree = lists_agree later (reversal entry) joined (replay entry items) lawful_after runs_later back.runs h in
+revoke_takes_back entries i back base inside lawful apart runs h =
+    let entry = entry_at entries i in
+    let j = mine_of-ok (join_list (later entries i) (reversal entry)) back h in
+    let parts = flattened-parts entries i inside in
+    let first = AllRun_front (before entries i) (entry ++ later entries i) base (subst (λ ts. AllRun ts base) parts runs) in
+    let L = replay (before entries i) base in
+    let second = AllRun_front entry (later entries i) L first.1 in
+    let lawful_there = replay_lawful (before entries i) base lawful first.0 in
+    let undone = reversal_undoes entry L lawful_there (replay_apart (before entries i) base apart first.0) second.0 in
+    let agree = lists_agree (later entries i) (reversal entry) (j.0, back) (replay entry L) (replay_lawful entry L lawful_there second.0) second.1 undone.runs j.1 in
+    let whole : replay (flattened entries) base ≡ replay (later entries i) (replay entry L) =
+    ap (λ ts. replay ts base) parts ∙ replay-append (before entries i) (entry ++ later entries i) base ∙ replay-append entry (later entries i) L in
     record {
-      runs = agree.mine_after;
-      later_runs = subst (AllRun joined.0) back.back agree.committed_after;
-      one_list = agree.one_list ∙ ap (replay joined.0) back.back;
+      without = j.0;
+      joined = j.1;
+      runs = subst (AllRun back) (sym whole) agree.mine_after;
+      without_runs = subst (AllRun j.0) undone.back agree.committed_after;
+      one_list = ap (replay back) whole ∙ agree.one_list ∙ ap (replay j.0) undone.back;
     }

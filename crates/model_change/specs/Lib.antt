@@ -7,6 +7,9 @@ pub use Rattle.model_items.specs.Law
 pub use Rattle.model_items.specs.Tree
 pub mod Attributes
 pub mod Transaction
+pub mod Fault
+pub mod Inverse
 pub mod Join
 pub mod Replay
+pub mod Store
 pub mod Touch

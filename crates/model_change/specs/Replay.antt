@@ -1,18 +1,21 @@
--- Whole lists of transactions, one after the other.
-use Rattle.std.specs.Prelude.{◌≡◌, true, List, [], ◌∷◌, ◌++◌, Some}
+-- Whole lists of transactions, one after the other: joined, taken back, and taken back under later ones.
+use Rattle.std.specs.Prelude.{◌≡◌, ℕ, suc, ◌+◌, ◌<◌, ◌≤◌, true, List, [], ◌∷◌, ◌++◌, length, take, drop, slice_index_or, Result, Ok, Err}
 use Rattle.model_items.specs.declared.plain_item.PlainItem.{PlainItem}
 use Rattle.model_items.specs.Law.{Lawful}
 use Rattle.model_change.specs.Attributes.{AllNamesApart}
-use Rattle.model_change.specs.Transaction.{Transaction, edited, is_normal, inverse, IsRestorable, InsertedApart, Applies}
-use Rattle.model_change.specs.Join.{join_list}
+use Rattle.model_change.specs.Transaction.{Transaction, all_inserted, total_length, edited, is_reduced, InsertedApart}
+use Rattle.model_change.specs.Fault.{Applies}
+use Rattle.model_change.specs.Inverse.{inverse, IsRestorable}
+use Rattle.model_change.specs.Join.{Clash, join_list}
 
+-- the list that transactions give, one after the other
 abbrev pub replay : List Transaction → List PlainItem → List PlainItem
 replay [] items = items
 replay (t ∷ ts) items = replay ts (edited t items)
 
--- A transaction in normal form that applies to the list, leaves a lawful one, and can be undone. Every entry of a history is of such ones: joining and reversing keep this.
+-- A reduced transaction that applies to the list, leaves a lawful one, can put back what it removes, and inserts no opening with two attributes of one name. Every entry of a history is of such ones: joining and reversing keep this.
 pub record Runs (t : Transaction) (items : List PlainItem) : Type 0 where
-  pub normal : is_normal t ≡ true
+  pub reduced : is_reduced t ≡ true
   pub applies : Applies t items
   pub lawful : Lawful (edited t items)
   pub restorable : IsRestorable t items
@@ -31,8 +34,25 @@ pub record ListsAgree (committed mine : List Transaction) (joined : List Transac
 
 abbrev pub JoinListsAgree : Type 0
 JoinListsAgree = (committed mine : List Transaction) (joined : List Transaction × List Transaction) (items : List PlainItem) →
-    Lawful items → AllRun committed items → AllRun mine items → join_list committed mine ≡ Some joined →
+    Lawful items → AllRun committed items → AllRun mine items → join_list committed mine ≡ Ok joined →
     ListsAgree committed mine joined items
+
+-- how many items the transactions insert
+abbrev pub inserted_by : List Transaction → ℕ
+inserted_by [] = 0
+inserted_by (t ∷ ts) = length (all_inserted t) + inserted_by ts
+
+-- the lengths of each add up to n at most
+abbrev pub AllWithin : ℕ → List Transaction → Type 0
+AllWithin n [] = Unit {0}
+AllWithin n (t ∷ ts) = (total_length t ≤ n) × AllWithin n ts
+
+-- No transaction, joined, is longer than the list with all that both sides insert.
+abbrev pub JoinListsWithin : Type 0
+JoinListsWithin = (committed mine : List Transaction) (joined : List Transaction × List Transaction) (items : List PlainItem) →
+    Lawful items → AllRun committed items → AllRun mine items → join_list committed mine ≡ Ok joined →
+    AllWithin (length items + (inserted_by committed + inserted_by mine)) joined.0
+    × AllWithin (length items + (inserted_by committed + inserted_by mine)) joined.1
 
 -- the inverses, last first
 abbrev pub reversal : List Transaction → List Transaction
@@ -47,14 +67,42 @@ pub record IsReversed (ts : List Transaction) (items : List PlainItem) : Type 0 
 abbrev pub ReversalUndoes : Type 0
 ReversalUndoes = (ts : List Transaction) (items : List PlainItem) → Lawful items → AllNamesApart items → AllRun ts items → IsReversed ts items
 
--- Taking back an entry under later ones gives the list that the later ones, joined, give without it.
-pub record IsTakenBack (entry later : List Transaction) (joined : List Transaction × List Transaction) (items : List PlainItem) : Type 0 where
-  pub runs : AllRun joined.1 (replay later (replay entry items))
-  pub later_runs : AllRun joined.0 items
-  pub one_list : replay joined.1 (replay later (replay entry items)) ≡ replay joined.0 items
+-- the transactions of entries, in order
+abbrev pub flattened : List (List Transaction) → List Transaction
+flattened [] = []
+flattened (entry ∷ entries) = entry ++ flattened entries
+
+-- What takes entry i back under the entries after it: its reversal over them; or the first two ranges in conflict.
+abbrev pub mine_of : Result (List Transaction × List Transaction) Clash → Result (List Transaction) Clash
+mine_of (Ok joined) = Ok joined.1
+mine_of (Err clash) = Err clash
+
+abbrev pub entry_at : List (List Transaction) → ℕ → List Transaction
+entry_at entries i = slice_index_or entries i []
+
+-- the transactions before entry i, and after it
+abbrev pub before : List (List Transaction) → ℕ → List Transaction
+before entries i = flattened (take i entries)
+
+abbrev pub later : List (List Transaction) → ℕ → List Transaction
+later entries i = flattened (drop (suc i) entries)
+
+abbrev pub revoke : List (List Transaction) → ℕ → Result (List Transaction) Clash
+revoke entries i = mine_of (join_list (later entries i) (reversal (entry_at entries i)))
+
+-- What takes it back runs on the list with all entries. The list is then as it would be had the entry never been made, and the later ones been joined over its absence.
+pub record IsTakenBack (entries : List (List Transaction)) (i : ℕ) (back : List Transaction) (base : List PlainItem) : Type 0 where
+  pub without : List Transaction
+  pub joined : join_list (later entries i) (reversal (entry_at entries i)) ≡ Ok (without, back)
+  pub runs : AllRun back (replay (flattened entries) base)
+  pub without_runs : AllRun without (replay (before entries i) base)
+  pub one_list : replay back (replay (flattened entries) base) ≡ replay without (replay (before entries i) base)
 
 abbrev pub RevokeTakesBack : Type 0
-RevokeTakesBack = (entry later : List Transaction) (joined : List Transaction × List Transaction) (items : List PlainItem) →
-    Lawful items → AllNamesApart items → AllRun entry items → Lawful (replay entry items) → AllRun later (replay entry items) →
-    join_list later (reversal entry) ≡ Some joined →
-    IsTakenBack entry later joined items
+RevokeTakesBack = (entries : List (List Transaction)) (i : ℕ) (back : List Transaction) (base : List PlainItem) → i < length entries →
+    Lawful base → AllNamesApart base → AllRun (flattened entries) base → revoke entries i ≡ Ok back →
+    IsTakenBack entries i back base
+
+-- Where no entry is later, the list is the one before the entry.
+abbrev pub RevokeOfLast : Type 0
+RevokeOfLast = (entries : List (List Transaction)) (i : ℕ) → later entries i ≡ [] → revoke entries i ≡ Ok (reversal (entry_at entries i))

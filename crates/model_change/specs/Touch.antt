@@ -1,9 +1,10 @@
--- How many nodes a transaction touches: those that go, those that come, and those that stay under another parent or with another length.
-use Rattle.std.specs.Prelude.{ℕ, zero, suc, ◌+◌, ◌-◌, Bool, true, false, not, ◌&&◌, ◌==◌, nat_lt, nat_le, if◌then◌else◌, List, [], ◌∷◌, ◌++◌, length, count_by, sum_by, Option, Some, None, option_map}
+-- How many nodes of the tree a transaction touches: those that go, those that come, and those that stay under another parent or with another length.
+use Rattle.std.specs.Prelude.{ℕ, zero, suc, ◌+◌, ◌-◌, Bool, true, false, not, ◌&&◌, ◌==◌, nat_lt, nat_le, if◌then◌else◌, List, [], ◌∷◌, ◌++◌, length, map, count_by, sum_by, Option, Some, None, option_map}
 use Rattle.std.specs.List.{list_any}
 use Rattle.model_items.specs.declared.plain_item.PlainItem.{PlainItem}
 use Rattle.model_items.specs.Tree.{Forest, Empty, Run, Branch, item_count, tree_of}
-use Rattle.model_change.specs.Transaction.{Retain, Replace, Attribute, Transaction, edited, inverse}
+use Rattle.model_change.specs.Transaction.{Retain, Replace, Attribute, Transaction, edited}
+use Rattle.model_change.specs.Inverse.{inverse}
 
 -- a node by the place of its opening, or of its first character
 pub data NodeName : Type 0 where
@@ -25,7 +26,7 @@ nodes_from parent at (Branch kind inside later) =
     record { name = Opened at; parent = parent; count = item_count inside + 2 }
     ∷ (nodes_from (Opened at) (suc at) inside ++ nodes_from parent (at + item_count inside + 2) later)
 
--- all nodes, the root first
+-- all nodes in the order of their starts, the root first
 abbrev pub nodes_of : List PlainItem → List Node
 nodes_of items = record { name = TheRoot; parent = TheRoot; count = length items } ∷ nodes_from TheRoot 0 (tree_of items)
 
@@ -46,33 +47,47 @@ abbrev pub first_retained : Transaction → ℕ → ℕ → Option ℕ
 first_retained t at zero = None
 first_retained t at (suc count) = or_next (new_place t at) (first_retained t (suc at) count)
 
+-- where a node's opening stands in the other list, or the first retained character of a text; nowhere the root, which has none
+abbrev pub image : Transaction → NodeName → ℕ → Option ℕ
+image t TheRoot count = None
+image t (Opened at) count = new_place t at
+image t (Text at) count = first_retained t at count
+
+-- a node with its own place, and its parent's, in the other list
+pub record Seen : Type 0 where
+  pub node : Node
+  pub there : Option ℕ
+  pub parent_there : Option ℕ
+
+abbrev pub seen_by : Transaction → Node → Seen
+seen_by t node = record { node = node; there = image t node.name node.count; parent_there = image t node.parent 0 }
+
 abbrev pub lies_in : Option ℕ → ℕ → ℕ → Bool
 lies_in None from count = false
 lies_in (Some p) from count = nat_le from p && nat_lt p (from + count)
 
 -- The roots match; two bracket nodes where the new opening is the old one, retained; two texts where the first retained character of each lies in the other.
-abbrev pub by_name : Transaction → NodeName → ℕ → NodeName → ℕ → Bool
-by_name t TheRoot count TheRoot count' = true
-by_name t (Opened at) count (Opened at') count' = lies_in (new_place t at) at' 1
-by_name t (Text at) count (Text at') count' =
-    lies_in (first_retained t at count) at' count' && lies_in (first_retained (inverse t) at' count') at count
-by_name t _ count _ count' = false
+abbrev pub match_by : NodeName → Option ℕ → ℕ → NodeName → Option ℕ → ℕ → Bool
+match_by TheRoot there count TheRoot there' count' = true
+match_by (Opened at) there count (Opened at') there' count' = lies_in there at' 1
+match_by (Text at) there count (Text at') there' count' = lies_in there at' count' && lies_in there' at count
+match_by _ there count _ there' count' = false
 
 -- an old and a new node match
-abbrev pub matches : Transaction → Node → Node → Bool
-matches t old new = by_name t old.name old.count new.name new.count
+abbrev pub matches : Seen → Seen → Bool
+matches old new = match_by old.node.name old.there old.node.count new.node.name new.there new.node.count
 
-abbrev pub parents_match : Transaction → Node → Node → Bool
-parents_match t old new = by_name t old.parent 0 new.parent 0
+-- their parents match, and their lengths are equal
+abbrev pub is_alike : Seen → Seen → Bool
+is_alike old new =
+    match_by old.node.parent old.parent_there 0 new.node.parent new.parent_there 0 && (old.node.count == new.node.count)
 
-abbrev pub stays_alike : Transaction → Node → Node → Bool
-stays_alike t old new = parents_match t old new && (old.count == new.count)
+abbrev pub touch_count : List Seen → List Seen → ℕ
+touch_count old new =
+    count_by (λ o. not (list_any (λ n. matches o n) new)) old
+    + count_by (λ n. not (list_any (λ o. matches o n) old)) new
+    + sum_by (λ o. count_by (λ n. matches o n && not (is_alike o n)) new) old
 
-abbrev pub touch_count : Transaction → List Node → List Node → ℕ
-touch_count t old new =
-    count_by (λ o. not (list_any (λ n. matches t o n) new)) old
-    + count_by (λ n. not (list_any (λ o. matches t o n) old)) new
-    + sum_by (λ o. count_by (λ n. matches t o n && not (stays_alike t o n)) new) old
-
+-- of a transaction that applies to a lawful list and gives a lawful one
 abbrev pub touch : Transaction → List PlainItem → ℕ
-touch t items = touch_count t (nodes_of items) (nodes_of (edited t items))
+touch t items = touch_count (map (seen_by t) (nodes_of items)) (map (seen_by (inverse t)) (nodes_of (edited t items)))

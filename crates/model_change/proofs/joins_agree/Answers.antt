@@ -1,7 +1,8 @@
 use Rattle.model_change.proofs.joins_agree.Goals as goal
 use Rattle.model_change.proofs.JoinLaw as law
 use Rattle.model_change.proofs.JoinLawful.{joins_lawful}
-use Rattle.model_change.proofs.JoinNormal.{joins_normal}
+use Rattle.model_change.proofs.JoinNormal.{joins_reduced}
+use Rattle.model_change.proofs.JoinLengths.{joins_lengths, joins_normal}
 use Rattle.model_change.proofs.JoinRestorable.{joins_restorable, joins_apart}
 
 pub returns-clause-symmetric : goal.returns-clause-symmetric
@@ -12,6 +13,12 @@ returns-clause-agree c = law.joins_agree
 
 pub returns-clause-lawful : goal.returns-clause-lawful
 returns-clause-lawful c = joins_lawful
+
+pub returns-clause-reduced : goal.returns-clause-reduced
+returns-clause-reduced c = joins_reduced
+
+pub returns-clause-lengths : goal.returns-clause-lengths
+returns-clause-lengths c = joins_lengths
 
 pub returns-clause-normal : goal.returns-clause-normal
 returns-clause-normal c = joins_normal
