@@ -1,5 +1,5 @@
 -- The classes of kinds, and which kind may hold which.
-use Rattle.std.specs.Prelude.{Bool, true, false, ◌||◌, List, [], ◌∷◌, ◌++◌}
+use Rattle.std.specs.Prelude.{Bool, false, ◌||◌, List, [], ◌∷◌, ◌++◌}
 use Rattle.ve_kinds.specs.declared.kind.Kind.{Kind}
 use Rattle.ve_kinds.specs.declared.kind.Kind.TheVariants.{Root, P, H1, H2, H3, H4, H5, H6, Pre, Section, Li, Dt, Dd, Blockquote, Div, Td, Th, Caption, InternalItem, Ul, Ol, Dl, Table, Thead, Tbody, Tfoot, Tr, InternalList, TransBlock, AlienBlock, Br, Img, Ref, TransInline, AlienInline}
 use denote.Enum.Bare.{sameb}
@@ -41,6 +41,15 @@ is_content_branch = is_among content_branches
 
 abbrev pub is_flow : Kind → Bool
 is_flow = is_among flow_kinds
+
+abbrev pub is_structural : Kind → Bool
+is_structural = is_among structural_kinds
+
+abbrev pub is_block_leaf : Kind → Bool
+is_block_leaf = is_among block_leaves
+
+abbrev pub is_inline_leaf : Kind → Bool
+is_inline_leaf = is_among inline_leaves
 
 abbrev pub is_leaf : Kind → Bool
 is_leaf k = is_among block_leaves k || is_among inline_leaves k
