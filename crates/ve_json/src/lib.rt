@@ -4,6 +4,8 @@
 mod commands;
 mod line;
 mod reply;
+#[cfg(test)]
+mod tests;
 
 pub use commands::Command;
 pub use line::{LineFault, command};
