@@ -1,0 +1,3 @@
+mod Examples
+pub mod PieceLemmas
+pub mod StackLemmas

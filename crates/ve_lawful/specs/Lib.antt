@@ -1,0 +1,3 @@
+pub use Rattle.model_items.specs.Law
+pub mod Stack
+pub mod Uncited
