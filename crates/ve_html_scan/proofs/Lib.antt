@@ -1,0 +1,5 @@
+pub mod Steps
+pub mod TagSteps
+pub mod AttrSteps
+pub mod AttrWalk
+pub mod Lent

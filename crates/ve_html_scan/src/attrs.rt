@@ -1,0 +1,201 @@
+//! Attributes of a start tag. `tag` is the place of its `<`.
+
+ghost use Rattle.std.specs.Prelude.{◌≡◌, ◌≤◌, ◌<◌, ◌+◌, ◌-◌, ◌++◌, ◌==◌, ◌||◌, ◌^◌, ◌≢◌, ℕ, List, [], not, IsSomeAnd, IsNone, length, drop, slice_range, slice_index, IfOk};
+ghost use Rattle.std.specs.List.{flat_map, prefix_len};
+ghost use Rattle.model_spelling.specs.Grammar.{is_name_byte, Attr, attr_text, has_name};
+ghost use Rattle.model_spelling.specs.Reading.{fault, refused, head_at, value_end, attrs_at, attrs_from, tag_close};
+ghost use Rattle.ve_html_scan.specs.Shown.{Finds, IsSpelled, AreSpelled, IsQuote, ShowsAttr, close_text};
+
+use crate::fault::{fault_at, refusal};
+use model_spelling::{ScanFault, ScanWhat};
+use crate::names::is_name;
+use crate::runs::{characters_end, name_end};
+use crate::token::{AttrToken, AttrTokens, Span};
+
+/// Where the name ends of the attribute that begins after the space at `place`.
+#[tactic(auto, using(crate::proofs::AttrSteps::head_steps))]
+fn attr_name(bytes: &[u8], tag: usize, place: usize) -> Result<usize, ScanFault>
+    requires { place < length bytes.now }
+    ensures read { Finds (λ to. (to - (place + 1), slice_index bytes.now (to + 1))) result (head_at tag place (drop (place + 1) bytes.now)) }
+    ensures bound { IfOk result (λ to. (place + 1 < to) × (to + 1 < length bytes.now)) }
+    ensures end { IfOk result (λ to. to ≡ place + 1 + prefix_len is_name_byte (drop (place + 1) bytes.now)) }
+    ensures equals { IfOk result (λ to. slice_index bytes.now to ≡ 61) }
+    ensures mark { IfOk result (λ to. IsQuote (slice_index bytes.now (to + 1))) }
+{
+    let from = place + 1;
+    let bad = fault_at(place, ScanWhat::BadAttribute);
+    let cut = fault_at(tag, ScanWhat::UnclosedTag);
+    let to = name_end(bytes, from);
+    if to == bytes.len() {
+        return Err(cut);
+    }
+    if to == from {
+        return Err(refusal(to, bytes[to], bad));
+    }
+    if bytes[to] != b'=' {
+        return Err(refusal(to, bytes[to], bad));
+    }
+    if to + 1 == bytes.len() {
+        return Err(cut);
+    }
+    if bytes[to + 1] == b'"' {
+        return Ok(to);
+    }
+    if bytes[to + 1] != b'\'' {
+        return Err(refusal(to + 1, bytes[to + 1], bad));
+    }
+    Ok(to)
+}
+
+/// Where the value ends that begins at that place, just after its quote.
+fn attr_value(bytes: &[u8], tag: usize, from: usize) -> Result<usize, ScanFault>
+    requires bound { from ≤ length bytes.now }
+    requires quote { 0 < from }
+    ensures read { result ≡ value_end tag (slice_index bytes.now (from - 1)) from (drop from bytes.now) }
+    ensures bound { IfOk result (λ to. (from ≤ to) × (to < length bytes.now)) }
+    ensures close { IfOk result (λ to. slice_index bytes.now to ≡ slice_index bytes.now (from - 1)) }
+{
+    let unclosed = fault_at(tag, ScanWhat::UnclosedTag);
+    characters_end(bytes, from, bytes[from - 1], Some(unclosed))
+}
+
+/// The end of a start tag: whether there is a `/`, and the place after the `>`.
+#[tactic(auto, using(crate::proofs::AttrSteps::close_steps))]
+pub fn tag_end(bytes: &[u8], tag: usize, void: bool, at: usize) -> Result<(bool, usize), ScanFault>
+    requires { at ≤ length bytes.now }
+    ensures read { result ≡ tag_close tag void at (drop at bytes.now) }
+    ensures bound { IfOk result (λ x. (at < x.1) × (x.1 ≤ length bytes.now)) }
+    ensures first { IfOk result (λ x. slice_index bytes.now at < 128) }
+    ensures close { IfOk result (λ x. slice_index bytes.now (x.1 - 1) ≡ 62) }
+    ensures text { IfOk result (λ x. drop at bytes.now ≡ close_text x.0 ++ drop x.1 bytes.now) }
+{
+    let bad = fault_at(at, ScanWhat::BadAttribute);
+    let cut = fault_at(tag, ScanWhat::UnclosedTag);
+    if at == bytes.len() {
+        return Err(cut);
+    }
+    if bytes[at] == b'>' {
+        return Ok((false, at + 1));
+    }
+    if bytes[at] != b'/' || !void {
+        return Err(refusal(at, bytes[at], bad));
+    }
+    if at + 1 == bytes.len() {
+        return Err(cut);
+    }
+    if bytes[at + 1] != b'>' {
+        return Err(refusal(at + 1, bytes[at + 1], bad));
+    }
+    Ok((true, at + 2))
+}
+
+/// Whether an attribute between these places has that name.
+fn has_attr(bytes: &[u8], from: usize, to: usize, name: &[u8]) -> bool
+    requires from { from ≤ to }
+    requires to { to ≤ length bytes.now }
+    ensures { (before : List Attr) → AreSpelled before → drop from bytes.now ≡ flat_map attr_text before ++ drop to bytes.now → result ≡ has_name name.now before }
+{
+    let mut at = from;
+    while at < to {
+        let name_to = name_end(bytes, at + 1);
+        if is_name(name, &bytes[at + 1..name_to]) {
+            return true;
+        }
+        if name_to + 1 >= to {
+            return false;
+        }
+        let value_to = quote_end(bytes, name_to + 2, bytes[name_to + 1]);
+        if value_to >= to {
+            return false;
+        }
+        at = value_to + 1;
+    }
+    false
+}
+
+fn is_quote(b: u8) -> bool
+    ensures { result ≡ (b == 34 || b == 39) }
+{
+    b == b'"' || b == b'\''
+}
+
+/// Where the first such quote from here on stands.
+fn quote_end(bytes: &[u8], from: usize, quote: u8) -> usize
+    requires { from ≤ length bytes.now }
+    ensures end { result ≡ from + prefix_len (λ b. not (b == quote)) (drop from bytes.now) }
+    ensures bound { (from ≤ result) × (result ≤ length bytes.now) }
+    ensures found { result < length bytes.now → slice_index bytes.now result ≡ quote }
+{
+    let mut at = from;
+    while at < bytes.len() && bytes[at] != quote {
+        at += 1;
+    }
+    at
+}
+
+/// Where the attributes end that begin at that place, just after the tag's name.
+pub fn attrs_end(bytes: &[u8], tag: usize, from: usize) -> Result<usize, ScanFault>
+    requires { from ≤ length bytes.now }
+    ensures read { Finds (λ to. (attrs_from tag from bytes.now, to)) result (attrs_at 256 tag [] from (drop from bytes.now)) }
+    ensures bound { IfOk result (λ to. (from ≤ to) × (to ≤ length bytes.now)) }
+    ensures first { IfOk result (λ to. from < to → slice_index bytes.now from < 128) }
+    ensures spelled { IfOk result (λ to. AreSpelled (attrs_from tag from bytes.now)) }
+    ensures text { IfOk result (λ to. drop from bytes.now ≡ flat_map attr_text (attrs_from tag from bytes.now) ++ drop to bytes.now) }
+{
+    let mut at = from;
+    let mut count: usize = 0;
+    while at < bytes.len() && bytes[at] == b' ' {
+        let name_to = attr_name(bytes, tag, at)?;
+        if count == 256 {
+            return Err(fault_at(at + 1, ScanWhat::TooManyAttributes));
+        }
+        if has_attr(bytes, from, at, &bytes[at + 1..name_to]) {
+            return Err(fault_at(at + 1, ScanWhat::DuplicateAttribute));
+        }
+        at = attr_value(bytes, tag, name_to + 2)? + 1;
+        count += 1;
+    }
+    Ok(at)
+}
+
+impl<'a> AttrTokens<'a> {
+    /// The next attribute; none after the last.
+    pub fn next(&mut self) -> Option<AttrToken<'a>>
+        requires { self.old.at + length self.old.source.now < 2 ^ 64 }
+        ensures found { (a : Attr) (rest : List ℕ) → IsSpelled a → self.old.source.now ≡ attr_text a ++ rest → IsSomeAnd result (λ t. ShowsAttr self.old.at t a) × (self.new.source.now ≡ rest) }
+        ensures end { slice_index self.old.source.now 0 ≢ 32 → IsNone result }
+        ensures place { self.new.at + length self.new.source.now ≡ self.old.at + length self.old.source.now }
+    {
+        let source = self.source;
+        let bytes = source.as_bytes();
+        if bytes.is_empty() || bytes[0] != b' ' {
+            return None;
+        }
+        let name_to = name_end(bytes, 1);
+        if name_to + 1 >= bytes.len() {
+            return None;
+        }
+        if bytes[name_to] != b'=' {
+            return None;
+        }
+        let quote = bytes[name_to + 1];
+        if !is_quote(quote) {
+            return None;
+        }
+        let value_to = quote_end(bytes, name_to + 2, quote);
+        if value_to == bytes.len() {
+            return None;
+        }
+        let span = Span {
+            from: self.at + 1,
+            to: self.at + value_to + 1,
+        };
+        self.source = &source[value_to + 1..];
+        self.at += value_to + 1;
+        Some(AttrToken {
+            name: &source[1..name_to],
+            value: &source[name_to + 2..value_to],
+            span,
+        })
+    }
+}
