@@ -91,7 +91,7 @@ close_found tag at void (c ∷ rest) slash to e =
     ]
 
 -- the parts of a start tag after its name
-record AfterFound (at : ℕ) (name text : List ℕ) (t : Token) (to : ℕ) : Type 0 where
+pub record AfterFound (at : ℕ) (name text : List ℕ) (t : Token) (to : ℕ) : Type 0 where
   pub attrs : List Attr
   pub slash : Bool
   pub rest : List ℕ
@@ -158,7 +158,7 @@ after_by_attrs : (tag at : ℕ) (name text : List ℕ) (a : Result (List Attr ×
 after_by_attrs tag at name text (Err f) t to e g r = absurd (not_ok (start_after tag name at text) f (t, to) (after_fails_attrs tag at name text f e g) r)
 after_by_attrs tag at name text (Ok (attrs, x)) t to e g r = after_by_close tag at x name text attrs (tag_close tag (is_void name) x (drop (x - at) text)) t to e g refl r
 
-after_by_name : (tag at : ℕ) (name text : List ℕ) (n : Result (Unit {0}) ScanFault) (t : Token) (to : ℕ) → name_ends tag name at text ≡ n → start_after tag name at text ≡ ok (t, to) → AfterFound at name text t to
+pub after_by_name : (tag at : ℕ) (name text : List ℕ) (n : Result (Unit {0}) ScanFault) (t : Token) (to : ℕ) → name_ends tag name at text ≡ n → start_after tag name at text ≡ ok (t, to) → AfterFound at name text t to
 after_by_name tag at name text (Err f) t to e r = absurd (not_ok (start_after tag name at text) f (t, to) (after_fails tag at name text f e) r)
 after_by_name tag at name text (Ok tt) t to e r = after_by_attrs tag at name text (attrs_at 256 tag [] at text) t to e refl r
 
@@ -181,7 +181,7 @@ pub start_is : (tag : ℕ) (text : List ℕ) → start_at tag text ≡ with_name
 unfolding start_at
 start_is tag text = refl
 
-start_found : (tag b : ℕ) (bs : List ℕ) (t : Token) (to : ℕ) → is_letter b ≡ true → start_at tag (b ∷ bs) ≡ ok (t, to) → IsRead tag (60 ∷ (b ∷ bs)) t to
+pub start_found : (tag b : ℕ) (bs : List ℕ) (t : Token) (to : ℕ) → is_letter b ≡ true → start_at tag (b ∷ bs) ≡ ok (t, to) → IsRead tag (60 ∷ (b ∷ bs)) t to
 start_found tag b bs t to l e =
     let s = split is_name_byte (b ∷ bs) in
     let read = sym (start_is tag (b ∷ bs) ∙ named_as (start_after tag) (tag + 1) (b ∷ bs) s) ∙ e in
@@ -313,7 +313,7 @@ markup_found tag (c ∷ cs) t to e =
 
 -- ---- tokens
 
-tag_found : (tag : ℕ) (text : List ℕ) (t : Token) (to : ℕ) → tag_at tag text ≡ ok (t, to) → IsRead tag (60 ∷ text) t to
+pub tag_found : (tag : ℕ) (text : List ℕ) (t : Token) (to : ℕ) → tag_at tag text ≡ ok (t, to) → IsRead tag (60 ∷ text) t to
 unfolding tag_at
 tag_found tag [] t to e = absurd (not_ok (Err (fault tag UnclosedTag)) (fault tag UnclosedTag) (t, to) refl e)
 tag_found tag (c ∷ cs) t to e =

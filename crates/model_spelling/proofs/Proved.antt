@@ -4,7 +4,7 @@ use Rattle.model_spelling.specs.Tokens.{tokens_of}
 use Rattle.model_spelling.specs.Forest.{Forest, Spells}
 use Rattle.model_spelling.specs.Faults.{fault_of}
 use Rattle.model_spelling.specs.Parsed.{ending, forest_of}
-use Rattle.model_spelling.specs.Laws.{BodyInside}
+use Rattle.model_spelling.specs.Laws.{BodyInside, PartsAreThePage, BodyIsFound}
 use Rattle.model_spelling.specs.Canonical.{WritesRight, CanWrite}
 use Rattle.model_spelling.specs.Standing.{FaultStands, UnclosedGoes}
 use Rattle.model_spelling.specs.Utf8.{DecodesUtf8, ForestUtf8}
@@ -76,3 +76,9 @@ law_body_inside page from to e = body.body_inside page from to e
 
 pub law_unclosed_goes : UnclosedGoes
 law_unclosed_goes text f h e = clean.unclosed_goes text f h e
+
+pub law_parts_are_the_page : PartsAreThePage
+law_parts_are_the_page page p e = body.parts_are_the_page page p e
+
+pub law_body_is_found : BodyIsFound
+law_body_is_found page from to whole e = body.body_is_found page from to whole e

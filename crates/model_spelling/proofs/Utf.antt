@@ -58,19 +58,19 @@ front_is (m ∷ ms) b bs g =
       | inr other ↦ subst (λ (x : List ℕ × List ℕ). FrontIs x b bs) (sym (pick_false (begins_with m.0 (b ∷ bs)) m (front_of ms b bs) other)) (front_is ms b bs g.1)
     ]
 
-skipped : (k : ℕ) (bs : List ℕ) → decoded_from k bs ≡ decoded_from 0 (drop k bs)
+pub skipped : (k : ℕ) (bs : List ℕ) → decoded_from k bs ≡ decoded_from 0 (drop k bs)
 unfolding decoded_from
 skipped zero [] = refl
 skipped zero (b ∷ bs) = refl
 skipped (suc k) [] = refl
 skipped (suc k) (b ∷ bs) = skipped k bs
 
-decoded_front : (b : ℕ) (bs : List ℕ) → decoded_from 0 (b ∷ bs) ≡ (front_of meanings b bs).1 ++ decoded_from (length ((front_of meanings b bs).0) - 1) bs
+pub decoded_front : (b : ℕ) (bs : List ℕ) → decoded_from 0 (b ∷ bs) ≡ (front_of meanings b bs).1 ++ decoded_from (length ((front_of meanings b bs).0) - 1) bs
 unfolding decoded_from
 decoded_front b bs = refl
 
 -- bytes without `&` stand for themselves
-plain_decoded : (bs t : List ℕ) → ((k : ℕ) → k < length bs → get_or bs k 0 ≢ 38) → decoded_from 0 (bs ++ t) ≡ bs ++ decoded_from 0 t
+pub plain_decoded : (bs t : List ℕ) → ((k : ℕ) → k < length bs → get_or bs k 0 ≢ 38) → decoded_from 0 (bs ++ t) ≡ bs ++ decoded_from 0 t
 plain_decoded [] t h = refl
 plain_decoded (b ∷ bs) t h = decoded-byte b (bs ++ t) (ne_eqb b 38 (h 0 (omega arith))) ∙ ap (λ (l : List ℕ). b ∷ l) (plain_decoded bs t (λ k lt. h (suc k) (omega (arith, lt))))
 
@@ -84,7 +84,7 @@ amp_utf8 : IsUtf8 (38 ∷ [])
 unfolding encode
 amp_utf8 = (38 ∷ [], (refl, refl))
 
-suc_is : (n : ℕ) → 0 < n → suc (n - 1) ≡ n
+pub suc_is : (n : ℕ) → 0 < n → suc (n - 1) ≡ n
 suc_is n lt = omega (arith, lt)
 
 amp_decoded : (n : ℕ) (bs : List ℕ) → length bs ≤ n → Decodes n → IsUtf8 (38 ∷ bs) → IsUtf8 bs → FrontIs (front_of meanings 38 bs) 38 bs → IsUtf8 ((front_of meanings 38 bs).1 ++ decoded_from (length ((front_of meanings 38 bs).0) - 1) bs)

@@ -1,6 +1,6 @@
 // The laws of the spelling of a page: they speak of the definitions alone.
 ghost use Rattle.model_spelling.specs.Canonical.{WritesRight, CanWrite};
-ghost use Rattle.model_spelling.specs.Laws.{ReadIsSpelled, SpelledIsRead, RawReadIsSpelled, RawSpelledIsRead, EmptyRawIsNoToken, FaultlessIsSpelled, SpelledIsFaultless, OneForestSpells, SpellingIsReadBack, ReadForestSpells, BodyInside};
+ghost use Rattle.model_spelling.specs.Laws.{ReadIsSpelled, SpelledIsRead, RawReadIsSpelled, RawSpelledIsRead, EmptyRawIsNoToken, FaultlessIsSpelled, SpelledIsFaultless, OneForestSpells, SpellingIsReadBack, ReadForestSpells, BodyInside, PartsAreThePage, BodyIsFound};
 ghost use Rattle.model_spelling.specs.Standing.{FaultStands, UnclosedGoes};
 ghost use Rattle.model_spelling.specs.Utf8.{DecodesUtf8, ForestUtf8};
 
@@ -38,10 +38,17 @@ pub fn canonical_laws()
     ensures can_write { CanWrite }
 {}
 
-/// Of a UTF-8 page, what is decoded and each node are UTF-8, and the body lies in the page.
-#[tactic(auto, using(crate::proofs::Proved::law_decodes_utf8, crate::proofs::Proved::law_forest_utf8, crate::proofs::Proved::law_body_inside))]
+/// The body of a page lies in it, the three parts are the page, and in a whole page the body is what stands between its first body start tag and the last `</body>` behind that.
+#[tactic(auto, using(crate::proofs::Proved::law_body_inside, crate::proofs::Proved::law_parts_are_the_page, crate::proofs::Proved::law_body_is_found))]
 pub fn page_laws()
+    ensures inside { BodyInside }
+    ensures parts { PartsAreThePage }
+    ensures found { BodyIsFound }
+{}
+
+/// What is decoded from a UTF-8 text, and each node of it, is UTF-8.
+#[tactic(auto, using(crate::proofs::Proved::law_decodes_utf8, crate::proofs::Proved::law_forest_utf8))]
+pub fn utf8_laws()
     ensures decodes { DecodesUtf8 }
     ensures nodes { ForestUtf8 }
-    ensures body { BodyInside }
 {}

@@ -4,5 +4,5 @@
 mod laws;
 mod scan_fault;
 
-pub use laws::{canonical_laws, forest_laws, page_laws, prefix_laws, token_laws};
+pub use laws::{canonical_laws, forest_laws, page_laws, prefix_laws, token_laws, utf8_laws};
 pub use scan_fault::{ScanFault, ScanWhat};

@@ -1,17 +1,16 @@
 -- Going over attributes that are spelled, and reading one more.
-use Rattle.std.proofs.Common.{◌≡◌, ◌≢◌, ℕ, suc, ◌+◌, ◌-◌, ◌<◌, ◌≤◌, Bool, true, false, cond, not, ◌&&◌, ◌||◌, eqb, List, [], ◌∷◌, ◌++◌, length, get_or, drop, take, Some, Ok, Err, refl, sym, ap, ◌∙◌, arith, eq-eqb, append_assoc, add-zero, subst, inl, inr, ◌⊎◌}
+use Rattle.std.proofs.Common.{◌≡◌, ◌≢◌, ℕ, suc, ◌+◌, ◌-◌, ◌<◌, ◌≤◌, Bool, true, false, cond, not, ◌&&◌, ◌||◌, eqb, List, [], ◌∷◌, ◌++◌, length, get_or, drop, take, Some, Ok, Err, refl, sym, ap, ◌∙◌, arith, eq-eqb, append_assoc, add-zero, subst, inl, inr}
 use Rattle.std.specs.Prelude.{◌==◌, IsTrue, slice_index}
 use Rattle.std.proofs.lemmas.List.{drop-drop, length-drop, length-append, get_or-drop, get_or_past, append-nil, drop_more, take-append-drop}
 use Rattle.std.proofs.lemmas.List.Folds.{length-prefix_len}
-use Rattle.std.proofs.Math.Seq.{drop-append_seam, take-append_seam, take-length}
+use Rattle.std.proofs.Math.Seq.{drop-append_seam, take-append_seam}
 use Rattle.std.proofs.lemmas.Bool.{cases_lt}
-use Rattle.std.proofs.lemmas.Bool.Decides.{nat_tests}
 use Rattle.std.specs.List.{prefix_len, slice_range, flat_map, list_all}
 use Rattle.model_spelling.specs.Grammar.{is_barred, starts_reference, is_name_byte, is_attr_name, is_same_name, Attr, attr_text, has_name}
 use Rattle.model_spelling.specs.declared.scan_fault.ScanFault.{ScanFault}
 use Rattle.model_spelling.specs.declared.scan_fault.ScanWhat.TheVariants.{DuplicateAttribute, TooManyAttributes, BadChar, UnclosedTag}
 use Rattle.model_spelling.specs.Reading.{fault, reference_fault, run_end, value_end, head_at, attr_at, attrs_at, attrs_of, attrs_from}
-use Rattle.ve_html_scan.specs.Shown.{IsQuote, IsSpelled, AreSpelled}
+use Rattle.ve_html_scan.specs.Parts.{IsQuote, IsSpelled, AreSpelled}
 use Rattle.model_spelling.proofs.AttrReading.{prefix_all, four_ways, attr_head_fault, attr_many, attr_twice, attr_value_fault, attr_whole, attrs_stop, attrs_fault, attrs_more}
 
 -- what follows a part of the text
@@ -31,7 +30,7 @@ attr_then : (a : Attr) (left : List Attr) (d : List ℕ)
     → flat_map attr_text (a ∷ left) ++ d ≡ 32 ∷ (a.name ++ (61 ∷ (a.quote ∷ (a.value ++ (a.quote ∷ (flat_map attr_text left ++ d))))))
 attr_then a left d = simp append_assoc
 
-names_all : (name : List ℕ) → IsTrue (is_attr_name name) → list_all is_name_byte name ≡ true
+pub names_all : (name : List ℕ) → IsTrue (is_attr_name name) → list_all is_name_byte name ≡ true
 names_all [] e = refl
 names_all (b ∷ bs) e = e
 
@@ -104,7 +103,7 @@ cut_name t at to name_to name before lt le e l =
     let n = next_left t at to name before lt le l in
     omega (arith, n.walked.name_len, n.walked.ends)
 
-value_len_is : (t : List ℕ) (name_to mark : ℕ) (n : ℕ) (a : Attr) → name_to ≡ n → mark ≡ get_or t (name_to + 1) 0 → get_or t (n + 1) 0 ≡ a.quote
+pub value_len_is : (t : List ℕ) (name_to mark : ℕ) (n : ℕ) (a : Attr) → name_to ≡ n → mark ≡ get_or t (name_to + 1) 0 → get_or t (n + 1) 0 ≡ a.quote
     → prefix_len (λ b. not (b == a.quote)) (drop (n + 2) t) ≡ length a.value → prefix_len (λ b. not (b == mark)) (drop (name_to + 2) t) ≡ length a.value
 value_len_is t name_to mark n a e m q v =
     let same : mark ≡ a.quote = m ∙ ap (λ k. get_or t (k + 1) 0) e ∙ q in
@@ -211,7 +210,7 @@ run_passes f q at to (b ∷ bs) e =
 abbrev pub attr_here : List ℕ → ℕ → ℕ → ℕ → ℕ → Attr
 attr_here t at n q to = record { name = take n (drop (at + 1) t); value = take (to - (at + n + 3)) (drop (at + n + 3) t); quote = q }
 
-attr_then_one : (a : Attr) (d : List ℕ) → attr_text a ++ d ≡ 32 ∷ (a.name ++ (61 ∷ (a.quote ∷ (a.value ++ (a.quote ∷ d)))))
+pub attr_then_one : (a : Attr) (d : List ℕ) → attr_text a ++ d ≡ 32 ∷ (a.name ++ (61 ∷ (a.quote ∷ (a.value ++ (a.quote ∷ d)))))
 attr_then_one a d = simp append_assoc
 
 parted : (t : List ℕ) (at n : ℕ) → drop at t ≡ take n (drop at t) ++ drop (at + n) t
@@ -343,85 +342,6 @@ so_far_text t tag from at room n s = s.text ∙ ap (λ (a : List Attr). flat_map
 
 pub so_far_text_at_end : (t : List ℕ) (tag from at room : ℕ) → at ≡ length t → SoFar t tag from at room → drop from t ≡ flat_map attr_text (attrs_from tag from t) ++ drop at t
 so_far_text_at_end t tag from at room e s = so_far_text t tag from at room (λ h. absurd (omega (arith, h, get_or_past t at 0 (omega arith)))) s
-
--- ---- the iterator
-
--- what the bytes are, where an attribute stands at the front and rest follows
-pub record Stands (t : List ℕ) (a : Attr) (rest : List ℕ) : Type 0 where
-  pub name_len : prefix_len is_name_byte (drop 1 t) ≡ length a.name
-  pub name : take (length a.name) (drop 1 t) ≡ a.name
-  pub equals : get_or t (1 + length a.name) 0 ≡ 61
-  pub quote : get_or t (1 + length a.name + 1) 0 ≡ a.quote
-  pub value_len : prefix_len (λ b. not (b == a.quote)) (drop (1 + length a.name + 2) t) ≡ length a.value
-  pub value : take (length a.value) (drop (1 + length a.name + 2) t) ≡ a.value
-  pub after : drop (1 + length a.name + 2 + length a.value + 1) t ≡ rest
-  pub len : 1 + length a.name + 2 + length a.value + 1 + length rest ≡ length t
-
-pub stands : (t : List ℕ) (a : Attr) (rest : List ℕ) → IsSpelled a → t ≡ attr_text a ++ rest → Stands t a rest
-stands t a rest s e =
-    let d0 : drop 0 t ≡ (32 ∷ []) ++ (a.name ++ (61 ∷ (a.quote ∷ (a.value ++ (a.quote ∷ rest))))) = e ∙ attr_then_one a rest in
-    let d1 : drop 1 t ≡ a.name ++ (61 ∷ (a.quote ∷ (a.value ++ (a.quote ∷ rest)))) = rest_after t (32 ∷ []) (a.name ++ (61 ∷ (a.quote ∷ (a.value ++ (a.quote ∷ rest))))) 0 d0 in
-    let d2 : drop (1 + length a.name) t ≡ 61 ∷ (a.quote ∷ (a.value ++ (a.quote ∷ rest))) = rest_after t a.name (61 ∷ (a.quote ∷ (a.value ++ (a.quote ∷ rest)))) 1 d1 in
-    let d3 : drop (1 + length a.name + 2) t ≡ a.value ++ (a.quote ∷ rest) = rest_after t (61 ∷ a.quote ∷ []) (a.value ++ (a.quote ∷ rest)) (1 + length a.name) d2 in
-    let d4 : drop (1 + length a.name + 2 + length a.value) t ≡ a.quote ∷ rest = rest_after t a.value (a.quote ∷ rest) (1 + length a.name + 2) d3 in
-    let d5 : drop (1 + length a.name + 2 + length a.value + 1) t ≡ rest = rest_after t (a.quote ∷ []) rest (1 + length a.name + 2 + length a.value) d4 in
-    let l4 : length (drop (1 + length a.name + 2 + length a.value) t) ≡ 1 + length rest = ap length d4 ∙ omega arith in
-    record {
-      name_len = ap (prefix_len is_name_byte) d1 ∙ prefix_all is_name_byte a.name (a.quote ∷ (a.value ++ (a.quote ∷ rest))) 61 (names_all a.name s.name) refl;
-      name = ap (take (length a.name)) d1 ∙ take-append_seam a.name (61 ∷ (a.quote ∷ (a.value ++ (a.quote ∷ rest))));
-      equals = ap (λ (k : ℕ). get_or t k 0) (sym (add-zero (1 + length a.name))) ∙ sym (get_or-drop (1 + length a.name) t 0 0) ∙ ap (λ (l : List ℕ). get_or l 0 0) d2;
-      quote = sym (get_or-drop (1 + length a.name) t 1 0) ∙ ap (λ (l : List ℕ). get_or l 1 0) d2;
-      value_len = ap (prefix_len (λ b. not (b == a.quote))) d3 ∙ prefix_all (λ b. not (b == a.quote)) a.value rest a.quote s.value (ap not (eq-eqb a.quote a.quote refl));
-      value = ap (take (length a.value)) d3 ∙ take-append_seam a.value (a.quote ∷ rest);
-      after = d5;
-      len = omega (arith, l4, length-drop (1 + length a.name + 2 + length a.value) t);
-    }
-
--- the places that the iterator finds
-pub record Found (b : List ℕ) (name_to value_to : ℕ) (a : Attr) (rest : List ℕ) : Type 0 where
-  pub name_to_is : name_to ≡ 1 + length a.name
-  pub value_to_is : value_to ≡ name_to + 2 + length a.value
-  pub value_in : value_to + 1 ≤ length b
-  pub name : slice_range b 1 name_to ≡ a.name
-  pub value : slice_range b (name_to + 2) value_to ≡ a.value
-  pub after : drop (value_to + 1) b ≡ rest
-
-pub name_in : (b : List ℕ) (name_to : ℕ) (a : Attr) (rest : List ℕ) → IsSpelled a → b ≡ attr_text a ++ rest → name_to ≡ 1 + prefix_len is_name_byte (drop 1 b) → (name_to + 1 < length b) × (get_or b name_to 0 ≡ 61) × (get_or b (name_to + 1) 0 ≡ a.quote)
-name_in b name_to a rest s e n =
-    let w = stands b a rest s e in
-    let same : 1 + length a.name ≡ name_to = omega (arith, w.name_len) in
-    (omega (arith, w.len, w.name_len), ap (λ (k : ℕ). get_or b k 0) (sym same) ∙ w.equals, ap (λ (k : ℕ). get_or b (k + 1) 0) (sym same) ∙ w.quote)
-
-pub found_at : (b : List ℕ) (name_to value_to q : ℕ) (a : Attr) (rest : List ℕ) → IsSpelled a → b ≡ attr_text a ++ rest → name_to ≡ 1 + prefix_len is_name_byte (drop 1 b) → q ≡ get_or b (name_to + 1) 0
-    → value_to ≡ name_to + 2 + prefix_len (λ x. not (x == q)) (drop (name_to + 2) b) → Found b name_to value_to a rest
-found_at b name_to value_to q a rest s e n m v =
-    let w = stands b a rest s e in
-    let same : name_to ≡ 1 + length a.name = omega (arith, w.name_len) in
-    let len = value_len_is b name_to q (1 + length a.name) a same m w.quote w.value_len in
-    let to_is : value_to ≡ name_to + 2 + length a.value = omega (arith, len) in
-    let k1 : name_to - 1 ≡ length a.name = omega arith in
-    let k2 : value_to - (name_to + 2) ≡ length a.value = omega arith in
-    let k3 : value_to + 1 ≡ 1 + length a.name + 2 + length a.value + 1 = omega arith in
-    record {
-      name_to_is = same;
-      value_to_is = to_is;
-      value_in = omega (arith, w.len);
-      name = ap (λ (k : ℕ). take k (drop 1 b)) k1 ∙ w.name;
-      value = ap (λ (k : ℕ). take k (drop (name_to + 2) b)) k2 ∙ ap (λ (k : ℕ). take (length a.value) (drop (k + 2) b)) same ∙ w.value;
-      after = ap (λ (k : ℕ). drop k b) k3 ∙ w.after;
-    }
-
-pub quote_ascii : (b : ℕ) → (b == 34 || b == 39) ≡ true → b < 128
-quote_ascii b e = grind (arith, nat_tests)
-
-pub quote_told : (b : ℕ) → (b == 34 || b == 39) ≡ false → (b ≡ 34) ⊎ (b ≡ 39) → ⊥
-quote_told b e h = grind (arith, nat_tests)
-
-pub attr_len : (a : Attr) → length (attr_text a) ≡ length a.name + length a.value + 4
-attr_len a = omega (arith, length-append (32 ∷ a.name ++ 61 ∷ a.quote ∷ a.value) (a.quote ∷ []), length-append (32 ∷ a.name) (61 ∷ a.quote ∷ a.value))
-
-pub to_end : (s : List ℕ) (k : ℕ) → slice_range s k (length s) ≡ drop k s
-to_end s k = ap (λ (n : ℕ). take n (drop k s)) (sym (length-drop k s)) ∙ take-length (drop k s)
 
 pub so_far_spelled : (t : List ℕ) (tag from at room : ℕ) → get_or t at 0 ≢ 32 → SoFar t tag from at room → AreSpelled (attrs_from tag from t)
 so_far_spelled t tag from at room n s = subst AreSpelled (sym (so_far_attrs t tag from at room n s)) s.spelled

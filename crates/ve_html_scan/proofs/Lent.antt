@@ -1,4 +1,11 @@
 -- Where a text may be cut, and what is lent from it.
+use Rattle.std.specs.List.{list_all}
+use Rattle.std.specs.Prelude.{nat_le}
+use Rattle.std.proofs.lemmas.List.{drop-take}
+use Rattle.std.proofs.Common.{take, not, ◌&&◌, ◌||◌}
+use Rattle.model_spelling.specs.Grammar.{Attr, is_attr, is_start, is_tag_name, are_attrs, are_distinct, is_void}
+use Rattle.model_spelling.proofs.AttrReading.{and_left, and_right}
+use Rattle.model_spelling.proofs.FoundTokens.{start_found}
 use Rattle.std.proofs.Common.{◌≡◌, ◌≢◌, ℕ, ◌+◌, ◌-◌, ◌<◌, ◌≤◌, Bool, true, cond, eqb, List, [], ◌∷◌, ◌++◌, length, get_or, drop, Some, None, Result, Ok, Err, refl, sym, ap, ◌∙◌, arith, eq-eqb, IsUtf8, IsCharBoundary, Bor, subst, lit<, add-zero, inl, inr}
 use Rattle.std.proofs.lemmas.Str.{IsCharBoundary-after_ascii, IsCharBoundary-before_ascii, IsCharBoundary-end}
 use Rattle.std.proofs.lemmas.Slice.Eq.{starts_is}
@@ -11,7 +18,8 @@ use Rattle.model_spelling.specs.declared.scan_fault.ScanFault.{ScanFault}
 use Rattle.model_spelling.specs.Grammar.{is_letter, is_raw, begins_with, Token, Start, End, Comment, Chars, Raw, attr_text, comment_close, end_text}
 use Rattle.model_spelling.specs.Reading.{◌>>=◌, fault, some_token, Between, After, Failed, run_end, verbatim_end, tag_at, between_at, token_at, start_at, end_at, markup_at, attrs_from}
 use Rattle.ve_html_scan.specs.declared.token.Token.TheVariants as lent
-use Rattle.ve_html_scan.specs.Shown.{AreSpelled, IsFound, close_text}
+use Rattle.ve_html_scan.specs.Parts.{close_text}
+use Rattle.ve_html_scan.specs.Shown.{IsFound}
 
 -- after an ASCII byte
 pub after_byte : (t : List ℕ) (at b : ℕ) → IsUtf8 t → at < length t → get_or t at 0 ≡ b → b < 128 → IsCharBoundary t (at + 1)
@@ -88,20 +96,40 @@ comment_lent t b tag to text same utf8 read ge le close is =
       boundary = subst (IsCharBoundary t) n end;
     }
 
-pub start_lent : (t b : List ℕ) (tag name_to to : ℕ) (slash : Bool) (name source : Bor (List ℕ)) → b ≡ t → IsUtf8 t → start_at tag (drop (tag + 1) b) ≡ Ok (Start (slice_range b (tag + 1) name_to) (attrs_from tag name_to b) slash, to)
-    → tag + 1 ≤ name_to → name_to < to → to ≤ length b → get_or b (to - 1) 0 ≡ 62 → slice_range b name_to to ≡ flat_map attr_text (attrs_from tag name_to b) ++ close_text slash → AreSpelled (attrs_from tag name_to b)
-    → name.now ≡ slice_range t (tag + 1) name_to → source.now ≡ slice_range t name_to to
+attrs_of_start : (name : List ℕ) (attrs : List Attr) (slash : Bool) → is_start name attrs slash ≡ true → list_all is_attr attrs ≡ true
+attrs_of_start name attrs slash e =
+    let are = and_right (is_tag_name name) (are_attrs attrs) (and_left (is_tag_name name && are_attrs attrs) (not slash || is_void name) e) in
+    and_left (list_all is_attr attrs) (are_distinct attrs) (and_left (list_all is_attr attrs && are_distinct attrs) (nat_le (length attrs) 256) are)
+
+pub first_is : (t : List ℕ) (to : ℕ) → slice_range t 0 to ≡ take to t
+first_is t to = let same : to - 0 ≡ to = omega arith in ap (λ (k : ℕ). take k t) same
+
+start_allowed : (t : List ℕ) (tag to : ℕ) (name : List ℕ) (attrs : List Attr) (slash : Bool) → tag + 1 < length t → is_letter (get_or t (tag + 1) 0) ≡ true → start_at tag (drop (tag + 1) t) ≡ Ok (Start name attrs slash, to) → list_all is_attr attrs ≡ true
+start_allowed t tag to name attrs slash lt letter read =
+    let more : drop (tag + 1) t ≡ get_or t (tag + 1) 0 ∷ drop (tag + 1 + 1) t = drop_more t (tag + 1) 0 lt in
+    attrs_of_start name attrs slash (start_found tag (get_or t (tag + 1) 0) (drop (tag + 1 + 1) t) (Start name attrs slash) to letter (ap (start_at tag) (sym more) ∙ read)).allowed
+
+pub start_lent : (t b : List ℕ) (tag name_to to : ℕ) (slash : Bool) (name source : Bor (List ℕ)) → b ≡ t → IsUtf8 t → tag + 1 < length t → is_letter (get_or t (tag + 1) 0) ≡ true
+    → start_at tag (drop (tag + 1) b) ≡ Ok (Start (slice_range b (tag + 1) name_to) (attrs_from tag name_to b) slash, to)
+    → tag + 1 ≤ name_to → name_to < to → to ≤ length b → get_or b (to - 1) 0 ≡ 62 → slice_range b name_to to ≡ flat_map attr_text (attrs_from tag name_to b) ++ close_text slash
+    → name.now ≡ slice_range t (tag + 1) name_to → source.now ≡ take to t
     → IsFound t tag (some_token (start_at tag (drop (tag + 1) t))) (lent.StartTag name (record { source = source; at = name_to }) (record { from = tag; to = to }))
-start_lent t b tag name_to to slash name source same utf8 read ge lt le close text spelled name_is source_is =
+start_lent t b tag name_to to slash name source same utf8 room letter read ge lt le close text name_is source_is =
     let r = subst (λ (x : List ℕ). start_at tag (drop (tag + 1) x) ≡ Ok (Start (slice_range x (tag + 1) name_to) (attrs_from tag name_to x) slash, to)) same read in
     let s = subst (λ (x : List ℕ). slice_range x name_to to ≡ flat_map attr_text (attrs_from tag name_to x) ++ close_text slash) same text in
     let n : to - 1 + 1 ≡ to = omega arith in
     let len : length b ≡ length t = ap length same in
     let end : IsCharBoundary t (to - 1 + 1) = after_byte t (to - 1) 62 utf8 (omega (arith, len)) (ap (λ (x : List ℕ). get_or x (to - 1) 0) (sym same) ∙ close) (omega arith) in
+    let whole : to ≡ name_to + (to - name_to) = omega arith in
+    let cut : drop name_to (take to t) ≡ slice_range t name_to to = ap (λ (k : ℕ). drop name_to (take k t)) whole ∙ drop-take name_to (to - name_to) t in
     record {
       token = Start (slice_range t (tag + 1) name_to) (attrs_from tag name_to t) slash;
       is = some_found (start_at tag (drop (tag + 1) t)) (Start (slice_range t (tag + 1) name_to) (attrs_from tag name_to t) slash, to) r;
-      shows = (name_is, source_is ∙ s, omega (arith, ap length source_is, length-take (to - name_to) (drop name_to t), length-drop name_to t, len), subst (λ (x : List ℕ). AreSpelled (attrs_from tag name_to x)) same spelled);
+      shows = (
+        name_is,
+        record { source = ap (drop name_to) source_is ∙ cut ∙ s; allowed = start_allowed t tag to (slice_range t (tag + 1) name_to) (attrs_from tag name_to t) slash room letter r },
+        omega (arith, length-take (name_to - (tag + 1)) (drop (tag + 1) t), length-drop (tag + 1) t, len),
+      );
       from = refl;
       some = omega arith;
       mode = ap (λ (n : List ℕ). cond (is_raw n) (After n) Between) name_is;

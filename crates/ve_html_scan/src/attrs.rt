@@ -1,16 +1,15 @@
 //! Attributes of a start tag. `tag` is the place of its `<`.
 
-ghost use Rattle.std.specs.Prelude.{◌≡◌, ◌≤◌, ◌<◌, ◌+◌, ◌-◌, ◌++◌, ◌==◌, ◌||◌, ◌^◌, ◌≢◌, ℕ, List, [], not, IsSomeAnd, IsNone, length, drop, slice_range, slice_index, IfOk};
+ghost use Rattle.std.specs.Prelude.{◌≡◌, ◌≤◌, ◌<◌, ◌+◌, ◌-◌, ◌++◌, ◌==◌, ◌||◌, ℕ, List, [], not, length, drop, slice_range, slice_index, IfOk};
 ghost use Rattle.std.specs.List.{flat_map, prefix_len};
 ghost use Rattle.model_spelling.specs.Grammar.{is_name_byte, Attr, attr_text, has_name};
 ghost use Rattle.model_spelling.specs.Reading.{fault, refused, head_at, value_end, attrs_at, attrs_from, tag_close};
-ghost use Rattle.ve_html_scan.specs.Shown.{Finds, IsSpelled, AreSpelled, IsQuote, ShowsAttr, close_text};
+ghost use Rattle.ve_html_scan.specs.Parts.{Finds, AreSpelled, IsQuote, close_text};
 
 use crate::fault::{fault_at, refusal};
-use model_spelling::{ScanFault, ScanWhat};
 use crate::names::is_name;
-use crate::runs::{characters_end, name_end};
-use crate::token::{AttrToken, AttrTokens, Span};
+use crate::runs::{characters_end, name_end, next_place_of};
+use model_spelling::{ScanFault, ScanWhat};
 
 /// Where the name ends of the attribute that begins after the space at `place`.
 #[tactic(auto, using(crate::proofs::AttrSteps::head_steps))]
@@ -104,7 +103,7 @@ fn has_attr(bytes: &[u8], from: usize, to: usize, name: &[u8]) -> bool
         if name_to + 1 >= to {
             return false;
         }
-        let value_to = quote_end(bytes, name_to + 2, bytes[name_to + 1]);
+        let value_to = next_place_of(bytes, name_to + 2, bytes[name_to + 1]);
         if value_to >= to {
             return false;
         }
@@ -113,24 +112,11 @@ fn has_attr(bytes: &[u8], from: usize, to: usize, name: &[u8]) -> bool
     false
 }
 
-fn is_quote(b: u8) -> bool
+/// `"` or `'`.
+pub fn is_quote(b: u8) -> bool
     ensures { result ≡ (b == 34 || b == 39) }
 {
     b == b'"' || b == b'\''
-}
-
-/// Where the first such quote from here on stands.
-fn quote_end(bytes: &[u8], from: usize, quote: u8) -> usize
-    requires { from ≤ length bytes.now }
-    ensures end { result ≡ from + prefix_len (λ b. not (b == quote)) (drop from bytes.now) }
-    ensures bound { (from ≤ result) × (result ≤ length bytes.now) }
-    ensures found { result < length bytes.now → slice_index bytes.now result ≡ quote }
-{
-    let mut at = from;
-    while at < bytes.len() && bytes[at] != quote {
-        at += 1;
-    }
-    at
 }
 
 /// Where the attributes end that begin at that place, just after the tag's name.
@@ -156,46 +142,4 @@ pub fn attrs_end(bytes: &[u8], tag: usize, from: usize) -> Result<usize, ScanFau
         count += 1;
     }
     Ok(at)
-}
-
-impl<'a> AttrTokens<'a> {
-    /// The next attribute; none after the last.
-    pub fn next(&mut self) -> Option<AttrToken<'a>>
-        requires { self.old.at + length self.old.source.now < 2 ^ 64 }
-        ensures found { (a : Attr) (rest : List ℕ) → IsSpelled a → self.old.source.now ≡ attr_text a ++ rest → IsSomeAnd result (λ t. ShowsAttr self.old.at t a) × (self.new.source.now ≡ rest) }
-        ensures end { slice_index self.old.source.now 0 ≢ 32 → IsNone result }
-        ensures place { self.new.at + length self.new.source.now ≡ self.old.at + length self.old.source.now }
-    {
-        let source = self.source;
-        let bytes = source.as_bytes();
-        if bytes.is_empty() || bytes[0] != b' ' {
-            return None;
-        }
-        let name_to = name_end(bytes, 1);
-        if name_to + 1 >= bytes.len() {
-            return None;
-        }
-        if bytes[name_to] != b'=' {
-            return None;
-        }
-        let quote = bytes[name_to + 1];
-        if !is_quote(quote) {
-            return None;
-        }
-        let value_to = quote_end(bytes, name_to + 2, quote);
-        if value_to == bytes.len() {
-            return None;
-        }
-        let span = Span {
-            from: self.at + 1,
-            to: self.at + value_to + 1,
-        };
-        self.source = &source[value_to + 1..];
-        self.at += value_to + 1;
-        Some(AttrToken {
-            name: &source[1..name_to],
-            value: &source[name_to + 2..value_to],
-            span,
-        })
-    }
 }

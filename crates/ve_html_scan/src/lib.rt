@@ -1,7 +1,10 @@
 //! Tokens of a page, lent from its text.
 #![tactic(auto)]
 
+mod attr_tokens;
 mod attrs;
+mod body;
+mod decode;
 mod fault;
 mod names;
 mod runs;
@@ -9,10 +12,13 @@ mod scanner;
 mod tags;
 mod token;
 
+pub use attr_tokens::{AttrToken, AttrTokens};
+pub use body::body_of;
+pub use decode::decoded;
 pub use model_spelling::{ScanFault, ScanWhat};
-pub use names::{is_name, is_void_name};
+pub use names::{is_raw_name, is_void_name};
 pub use scanner::Scanner;
-pub use token::{AttrToken, AttrTokens, Span, Token};
+pub use token::{Span, Token};
 
 #[cfg(test)]
 mod tests;

@@ -1,10 +1,10 @@
 //! How far names, characters and raw text go. Each function reads from a place in the bytes of a text.
 
-ghost use Rattle.std.specs.Prelude.{◌≡◌, ◌≤◌, ◌<◌, ◌+◌, length, drop, slice_index, nat_eq, true, IsTrue, IsSome, IfOk};
+ghost use Rattle.std.specs.Prelude.{◌≡◌, ◌≤◌, ◌<◌, ◌+◌, length, drop, slice_index, nat_eq, not, ◌==◌, true, IsTrue, IsSome, IfOk};
 ghost use Rattle.std.specs.List.{prefix_len, common_prefix_len};
 ghost use Rattle.model_spelling.specs.Grammar.{is_barred, begins_with, is_letter, is_name_byte, references, starts_reference};
 ghost use Rattle.model_spelling.specs.Reading.{fault, longest_front, reference_fault, run_end, verbatim_end};
-ghost use Rattle.ve_html_scan.specs.Shown.{closing};
+ghost use Rattle.ve_html_scan.specs.Parts.{closing};
 
 use crate::fault::{fault_at, refusal};
 use model_spelling::{ScanFault, ScanWhat};
@@ -38,6 +38,20 @@ pub fn name_end(bytes: &[u8], from: usize) -> usize
 {
     let mut at = from;
     while at < bytes.len() && is_byte_of_name(bytes[at]) {
+        at += 1;
+    }
+    at
+}
+
+/// Where the first such byte from that place on stands; else the end.
+pub fn next_place_of(bytes: &[u8], from: usize, byte: u8) -> usize
+    requires { from ≤ length bytes.now }
+    ensures end { result ≡ from + prefix_len (λ b. not (b == byte)) (drop from bytes.now) }
+    ensures bound { (from ≤ result) × (result ≤ length bytes.now) }
+    ensures found { result < length bytes.now → slice_index bytes.now result ≡ byte }
+{
+    let mut at = from;
+    while at < bytes.len() && bytes[at] != byte {
         at += 1;
     }
     at

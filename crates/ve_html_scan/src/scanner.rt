@@ -6,12 +6,13 @@ ghost use Rattle.model_spelling.specs.Reading.{some_token, Between, start_at, en
 ghost use Rattle.ve_html_scan.specs.Shown.{Gives, mode_after, next_of, place_after};
 ghost use Rattle.ve_html_scan.specs.Scanned.{shown_mode};
 
+use crate::attr_tokens::AttrTokens;
 use crate::fault::{fault_at, refusal};
-use model_spelling::{ScanFault, ScanWhat};
 use crate::names::is_raw_name;
 use crate::runs::{Close, characters_end, closing_at, is_tag_letter};
 use crate::tags::{end_tag, markup, start_tag};
-use crate::token::{AttrTokens, Span, Token};
+use crate::token::{Span, Token};
+use model_spelling::{ScanFault, ScanWhat};
 use std::marker::Model;
 
 /// What a scanner waits for.
@@ -33,7 +34,7 @@ fn start_token<'a>(text: &'a str, tag: usize) -> Result<Option<Token<'a>>, ScanF
     Ok(Some(Token::StartTag {
         name: &text[tag + 1..places.name_to],
         attrs: AttrTokens {
-            source: &text[places.name_to..places.to],
+            source: &text[..places.to],
             at: places.name_to,
         },
         span: Span {

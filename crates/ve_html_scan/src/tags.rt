@@ -4,13 +4,13 @@ ghost use Rattle.std.specs.Prelude.{◌≡◌, ◌≤◌, ◌<◌, ◌+◌, ◌-
 ghost use Rattle.std.specs.List.{flat_map};
 ghost use Rattle.model_spelling.specs.Grammar.{is_barred, begins_with, is_letter, attr_text, End, Comment, comment_close};
 ghost use Rattle.model_spelling.specs.Reading.{fault, refused, attrs_from, start_at, end_at, is_doctype, comment_at, markup_at};
-ghost use Rattle.ve_html_scan.specs.Shown.{Finds, start_view, close_text, AreSpelled};
+ghost use Rattle.ve_html_scan.specs.Parts.{Finds, start_view, close_text, AreSpelled};
 
 use crate::attrs::{attrs_end, tag_end};
 use crate::fault::{fault_at, refusal};
-use model_spelling::{ScanFault, ScanWhat};
 use crate::names::{is_plaintext_name, is_void_name};
 use crate::runs::{Close, closing_at, is_tag_letter, name_end, rest};
+use model_spelling::{ScanFault, ScanWhat};
 
 /// Where the name of an end tag ends.
 #[tactic(auto, using(crate::proofs::TagSteps::end_steps))]

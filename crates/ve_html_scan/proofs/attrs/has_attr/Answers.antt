@@ -12,10 +12,10 @@ pub returns-then-name_to-to : goal.returns-then-name_to-to
 returns-then-name_to-to c = λ before s e. absurd (omega (arith, cut_name c.args.bytes.now c.loop-at.at c.args.to c.name_end-name_to.result c.args.name.now before c.loop-at-test.true c.requires.to c.name_end-name_to.ensures.end (c.loop-at.invariant.0 before s e)))
 
 pub returns-then-value_to-to : goal.returns-then-value_to-to
-returns-then-value_to-to c = λ before s e. absurd (omega (arith, cut_value c.args.bytes.now c.loop-at.at c.args.to c.name_end-name_to.result c.quote_end-value_to.result _ c.args.name.now before c.loop-at-test.true c.requires.to c.name_end-name_to.ensures.end refl c.quote_end-value_to.ensures.end (c.loop-at.invariant.0 before s e)))
+returns-then-value_to-to c = λ before s e. absurd (omega (arith, cut_value c.args.bytes.now c.loop-at.at c.args.to c.name_end-name_to.result c.next_place_of-value_to.result _ c.args.name.now before c.loop-at-test.true c.requires.to c.name_end-name_to.ensures.end refl c.next_place_of-value_to.ensures.end (c.loop-at.invariant.0 before s e)))
 
 pub loop-at-preserved : goal.loop-at-preserved
-loop-at-preserved c = (λ before s e. goes_on c.args.bytes.now c.loop-at.at c.args.to c.name_end-name_to.result c.quote_end-value_to.result _ c.args.name.now before c.loop-at-test.true c.requires.to c.name_end-name_to.ensures.end refl c.quote_end-value_to.ensures.end (sym c.is_name.ensures ∙ c.if-is_name.false) (c.loop-at.invariant.0 before s e), omega arith)
+loop-at-preserved c = (λ before s e. goes_on c.args.bytes.now c.loop-at.at c.args.to c.name_end-name_to.result c.next_place_of-value_to.result _ c.args.name.now before c.loop-at-test.true c.requires.to c.name_end-name_to.ensures.end refl c.next_place_of-value_to.ensures.end (sym c.is_name.ensures ∙ c.if-is_name.false) (c.loop-at.invariant.0 before s e), omega arith)
 
 pub returns : goal.returns
 returns c = λ before s e. none_left _ _ _ _ before (omega arith) (omega arith) (omega arith) (c.loop-at.invariant.0 before s e)

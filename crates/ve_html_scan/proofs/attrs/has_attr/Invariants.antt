@@ -1,7 +1,7 @@
 use Rattle.std.proofs.Common.{◌-◌, ◌≡◌, ◌≤◌, ◌++◌, drop, List}
 use Rattle.std.specs.List.{flat_map}
 use Rattle.model_spelling.specs.Grammar.{Attr, attr_text}
-use Rattle.ve_html_scan.specs.Shown.{AreSpelled}
+use Rattle.ve_html_scan.specs.Parts.{AreSpelled}
 use Rattle.ve_html_scan.proofs.AttrWalk.{Left}
 use Rattle.ve_html_scan.proofs.attrs.has_attr.Given as goal
 

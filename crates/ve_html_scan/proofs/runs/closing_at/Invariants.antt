@@ -1,6 +1,6 @@
 use Rattle.std.proofs.Common.{length, ◌-◌, ◌≡◌, ◌≤◌, drop}
 use Rattle.model_spelling.specs.Reading.{verbatim_end}
-use Rattle.ve_html_scan.specs.Shown.{closing}
+use Rattle.ve_html_scan.specs.Parts.{closing}
 use Rattle.ve_html_scan.proofs.runs.closing_at.Given as goal
 
 abbrev pub invariant-loop-at : goal.invariant-loop-at

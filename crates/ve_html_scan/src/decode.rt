@@ -1,0 +1,115 @@
+//! What a spelled text or value says.
+
+ghost use Rattle.std.specs.Prelude.{◌≡◌, ◌≤◌, ◌<◌, ◌-◌, ◌++◌, length, drop, slice_index, IsCharBoundary, IsUtf8, IfOk, encode_utf8_all};
+ghost use Rattle.std.specs.Str.{chars};
+ghost use Rattle.model_spelling.specs.Written as written;
+
+use crate::runs::{begins, next_place_of, rest};
+use std::alloc::Global;
+use ve_base::{Memory, Text};
+
+/// A reference at the front of a text: how long it is, and what it stands for.
+#[derive(Clone, Copy)]
+struct Reference {
+    meaning: &'static str,
+    len: usize,
+}
+
+/// The reference at the front of a text that begins with `&`; where there is none, the `&` itself.
+#[tactic(auto, using(crate::proofs::Decoding::front_steps))]
+fn first_reference(text: &[u8]) -> Reference
+    requires { slice_index text.now 0 ≡ 38 }
+    ensures decoded { written.decoded text.now ≡ result.meaning.now ++ written.decoded (drop result.len text.now) }
+    ensures some { 0 < result.len }
+    ensures inside { result.len ≤ length text.now }
+    ensures ascii { slice_index text.now (result.len - 1) < 128 }
+    ensures utf8 { IsUtf8 result.meaning.now }
+{
+    if begins(text, b"&amp;") {
+        return Reference {
+            meaning: "&",
+            len: 5,
+        };
+    }
+    if begins(text, b"&lt;") {
+        return Reference {
+            meaning: "<",
+            len: 4,
+        };
+    }
+    if begins(text, b"&gt;") {
+        return Reference {
+            meaning: ">",
+            len: 4,
+        };
+    }
+    if begins(text, b"&nbsp;") {
+        return Reference {
+            meaning: "\u{a0}",
+            len: 6,
+        };
+    }
+    if begins(text, b"&quot;") {
+        return Reference {
+            meaning: "\"",
+            len: 6,
+        };
+    }
+    if begins(text, b"&apos;") {
+        return Reference {
+            meaning: "'",
+            len: 6,
+        };
+    }
+    Reference {
+        meaning: "&",
+        len: 1,
+    }
+}
+
+/// What stands at a place says, and where it ends.
+#[derive(Clone, Copy)]
+struct Piece<'a> {
+    text: &'a str,
+    to: usize,
+}
+
+/// The reference at that place, or the text up to the next `&`.
+fn piece_at<'a>(spelled: &'a str, at: usize) -> Piece<'a>
+    requires inside { at < length spelled.now }
+    requires boundary { IsCharBoundary spelled.now at }
+    ensures decoded { written.decoded (drop at spelled.now) ≡ result.text.now ++ written.decoded (drop result.to spelled.now) }
+    ensures boundary { IsCharBoundary spelled.now result.to }
+    ensures more { at < result.to }
+    ensures bound { result.to ≤ length spelled.now }
+    ensures utf8 { IsUtf8 result.text.now }
+{
+    let bytes = spelled.as_bytes();
+    if bytes[at] == b'&' {
+        let first = first_reference(rest(bytes, at));
+        return Piece {
+            text: first.meaning,
+            to: at + first.len,
+        };
+    }
+    let to = next_place_of(bytes, at, b'&');
+    Piece {
+        text: &spelled[at..to],
+        to,
+    }
+}
+
+/// A text or value of a page with its six references replaced by their characters. An `&` that starts none of them stays.
+pub fn decoded(alloc: Global, spelled: &str) -> Result<Text, Memory>
+    ensures chars { IfOk result (λ text. text ≡ chars (written.decoded spelled.now)) }
+    ensures bytes { IfOk result (λ text. encode_utf8_all text ≡ written.decoded spelled.now) }
+{
+    let mut text = Text::new(alloc);
+    let mut at = 0;
+    while at < spelled.len() {
+        let piece = piece_at(spelled, at);
+        text.push_str(piece.text)?;
+        at = piece.to;
+    }
+    Ok(text)
+}
