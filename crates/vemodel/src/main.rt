@@ -1,0 +1,58 @@
+//! The program: a script from standard input, its replies to standard output.
+#![tactic(auto)]
+
+mod adapters;
+
+ghost use Rattle.std.specs.Prelude.{◌≡◌};
+
+use adapters::{ReadSource, WriteSink};
+use std::env;
+use std::io::ErrorKind;
+use std::marker::Brand;
+use std::process::ExitCode;
+use std::sync::ledger::{Blank, Ledger};
+use ve_base::{Memory, Steps, Text};
+use ve_session::{Status, World, run};
+
+/// The words after the program's name. Where one of them isn't UTF-8, none is understood, and there are none.
+fn words(rt: &HostRuntime) -> Result<Vec<Text>, Memory> {
+    let mut words = Vec::new(rt.alloc());
+    match env::args(rt) {
+        Ok(args) => {
+            for arg in args.skip(1) {
+                words.push(Text::from_str(rt.alloc(), arg.as_str())?)?;
+            }
+        }
+        Err(error) if error.kind() == ErrorKind::InvalidData => {}
+        Err(_) => return Err(Memory),
+    }
+    Ok(words)
+}
+
+/// Runs a world that has no page on standard input and output.
+fn run_all<L: Ledger>(rt: &HostRuntime, blank: Blank) -> Status
+    requires name { blank.name ≡ L.name }
+    requires parts { blank.parts ≡ L.parts }
+    requires one { blank.parts ≡ 1 }
+{
+    let Ok(words) = words(rt) else {
+        return Status::Memory;
+    };
+    let alloc = rt.alloc();
+    let mut steps: Steps<L> = Steps::start(rt, blank);
+    let mut source = ReadSource::new(rt.stdin());
+    let mut sink = WriteSink::new(rt.stdout());
+    let mut world = World::new(alloc);
+    run(
+        alloc,
+        words.as_slice(),
+        &mut source,
+        &mut sink,
+        &mut world,
+        &mut steps,
+    )
+}
+
+fn main(rt: HostRuntime) -> ExitCode {
+    ExitCode::from(run_all::<Brand>(&rt, Blank::new(1)).number())
+}
