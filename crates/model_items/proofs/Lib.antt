@@ -4,6 +4,8 @@ pub mod LawLemmas
 pub mod VerdictLemmas
 pub mod TreeLemmas
 pub mod OnlyLemmas
+pub mod LawfulTreeLemmas
+pub mod NodeAtLemmas
 mod SameExamples
 mod PlainExamples
 mod LawExamples

@@ -61,3 +61,7 @@ unfolding closings
 tree_spells items lawful =
     let read = read_from items start (after_from_Lawful items lawful) in
     sym (append-nil (shapes (tree_of items))) ∙ read.spelled
+
+-- as many forests are read after open nodes as nodes are open
+pub read_deep : (items : List PlainItem) (s : State) → after s items ≡ Ok finish → length (reading items).outer ≡ length s.stack
+read_deep items s h = (read_from items s h).deep

@@ -5,3 +5,5 @@ pub mod Same
 pub mod Plain
 pub mod Law
 pub mod Tree
+pub mod LawfulTree
+pub mod NodeAt

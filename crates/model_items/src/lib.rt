@@ -6,6 +6,8 @@ ghost use Rattle.model_items.specs.Same.{Means, item_same, value_same};
 ghost use Rattle.model_items.specs.Plain.{PlainTellsApart};
 ghost use Rattle.model_items.specs.Law.{VerdictIsFirstOffence, LawReadsNoValues, VerdictReadsNoValues, PieceFails, PieceFits, PieceDiffers, StateDecided};
 ghost use Rattle.model_items.specs.Tree.{TreeSpells, TreeHasWholeRuns, TreeIsOnly, TreeReadsNoValues};
+ghost use Rattle.model_items.specs.LawfulTree.{LawfulHasTree, TreeIsLawful};
+ghost use Rattle.model_items.specs.NodeAt.{NodeAtIsInnermost, OpenIsStack, ClassIsOfTop};
 
 mod item;
 mod law_fault;
@@ -63,4 +65,19 @@ pub fn tree_spells()
     ensures spells { TreeSpells }
     ensures whole { TreeHasWholeRuns }
     ensures only { TreeIsOnly }
+{}
+
+/// A list is lawful exactly where a tree writes it out in which each node stands in one that may hold it, characters stand in content branches
+/// alone, at most 100 nodes stand one inside the other, and the root's last child, and no other, is the internal list.
+pub fn lawful_lists_are_trees()
+    ensures tree { LawfulHasTree }
+    ensures list { TreeIsLawful }
+{}
+
+/// The node at an offset of a lawful list is the innermost of the tree's nodes that hold the offset. The open nodes there are the law's state,
+/// and the offset's class goes by the top of its stack.
+pub fn node_at_is_innermost()
+    ensures innermost { NodeAtIsInnermost }
+    ensures state { OpenIsStack }
+    ensures class { ClassIsOfTop }
 {}

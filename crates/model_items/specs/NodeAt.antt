@@ -1,0 +1,41 @@
+-- The node round an offset, in words of the tree's nodes and of the law's state.
+use Rattle.std.specs.Prelude.{◌≡◌, ℕ, suc, ◌+◌, ◌<◌, ◌≤◌, ◌⊎◌, List, [], ◌∷◌, ◌++◌, length, map, take, Contains, Ok}
+use Rattle.ve_kinds.specs.declared.kind.Kind.TheVariants.{Root}
+use Rattle.model_items.specs.declared.plain_item.PlainItem.{PlainItem}
+use Rattle.model_items.specs.Law.{State, start, top, after, Lawful}
+use Rattle.model_items.specs.Tree.{Forest, Empty, Run, Branch, item_count, tree_of, Open, opens_after, Place, node_at, class_in, class_at}
+
+-- the places of a forest's nodes, text nodes aside, in the order of their starts; its first item stands at a place
+abbrev pub places_from : ℕ → Forest → List Place
+places_from at Empty = []
+places_from at (Run count later) = places_from (at + count) later
+places_from at (Branch kind inside later) =
+    record { kind = kind; from = at; to = at + (item_count inside + 2) }
+    ∷ (places_from (suc at) inside ++ places_from (at + (item_count inside + 2)) later)
+
+abbrev pub root_place : List PlainItem → Place
+root_place items = record { kind = Root; from = 0; to = length items }
+
+-- the root, and then all others
+abbrev pub all_places : List PlainItem → List Place
+all_places items = root_place items ∷ places_from 0 (tree_of items)
+
+-- the node's opening stands before the offset, and its closing at the offset or after it; the root has none, and holds every offset
+abbrev pub HoldsOffset : List PlainItem → ℕ → Place → Type 0
+HoldsOffset items at p = (p ≡ root_place items) ⊎ ((p.from < at) × (at < p.to))
+
+-- a node that holds the offset, and lies in every node that does
+pub record IsInnermost (items : List PlainItem) (at : ℕ) (p : Place) : Type 0 where
+  pub node : Contains (all_places items) p
+  pub holds : HoldsOffset items at p
+  pub within : (q : Place) → Contains (all_places items) q → HoldsOffset items at q → (q.from ≤ p.from) × (p.to ≤ q.to)
+
+abbrev pub NodeAtIsInnermost : Type 0
+NodeAtIsInnermost = (items : List PlainItem) (at : ℕ) → Lawful items → at ≤ length items → IsInnermost items at (node_at items at)
+
+-- The open nodes at an offset are the law's state there, so the class goes by the top of its stack.
+abbrev pub OpenIsStack : Type 0
+OpenIsStack = (items : List PlainItem) (s : State) → after start items ≡ Ok s → map (λ (o : Open). o.kind) (opens_after [] 0 items) ≡ s.stack
+
+abbrev pub ClassIsOfTop : Type 0
+ClassIsOfTop = (items : List PlainItem) (at : ℕ) (s : State) → after start (take at items) ≡ Ok s → class_at items at ≡ class_in (top s.stack)
