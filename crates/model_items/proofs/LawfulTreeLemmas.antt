@@ -1,16 +1,16 @@
 -- A list is lawful exactly where it is what a lawful tree writes out.
-use Rattle.std.proofs.Common.{◌≡◌, ◌≢◌, ℕ, zero, suc, ◌+◌, ◌<◌, ◌≤◌, max, Bool, true, false, not, ◌&&◌, ◌||◌, if◌then◌else◌, nat_lt, List, [], ◌∷◌, ◌++◌, length, map, drop, replicate, Result, Ok, Err, refl, sym, ap, ◌∙◌, subst, inl, inr, arith, lt-ltb, ltb-true}
-use Rattle.std.proofs.lemmas.Bool.{cases_Bool, and_parts, and_from, not-true}
+use Rattle.std.proofs.Common.{◌≡◌, ◌≢◌, ℕ, zero, suc, ◌+◌, ◌<◌, ◌≤◌, Bool, true, false, not, ◌&&◌, ◌||◌, if◌then◌else◌, nat_lt, List, [], ◌∷◌, ◌++◌, length, map, drop, replicate, Result, Ok, Err, refl, sym, ap, ◌∙◌, subst, inl, inr, arith, lt-ltb, ltb-true}
+use Rattle.std.proofs.lemmas.Bool.{cases_Bool, and_parts}
 use Rattle.ve_kinds.specs.declared.kind.Kind.{Kind}
 use Rattle.ve_kinds.specs.declared.kind.Kind.TheVariants.{Root, InternalList}
 use Rattle.ve_kinds.specs.Table.{kind_same, may_hold, is_content_branch}
 use Rattle.model_items.specs.declared.plain_item.PlainItem.{PlainItem}
 use Rattle.model_items.specs.declared.plain_item.PlainItem.TheVariants.{Char, Opening, Closing}
 use Rattle.model_items.specs.declared.law_fault.LawFault.{LawFault}
-use Rattle.model_items.specs.declared.law_fault.LawFault.TheVariants.{Unlawful, TooDeep}
-use Rattle.model_items.specs.Law.{State, start, finish, top, is_empty, is_over, may_open, opened, closed, step, outcome_moved, joined, after, Lawful}
-use Rattle.model_items.specs.Tree.{Forest, Empty, Run, Branch, with_char, first_of, reading, tree_of, Shape, Letter, Begin, End, shape_of, shapes}
-use Rattle.model_items.specs.LawfulTree.{AllHeld, nesting, is_none, ends_with_internal_list, IsLawfulTree, LawfulHasTree, TreeIsLawful}
+use Rattle.model_items.specs.declared.law_fault.LawFault.TheVariants.{Unlawful}
+use Rattle.model_items.specs.Law.{State, start, finish, top, may_open, opened, closed, step, outcome_moved, joined, after}
+use Rattle.model_items.specs.Tree.{Forest, Empty, Run, Branch, with_char, first_of, reading, Shape, Letter, Begin, End, shape_of, shapes}
+use Rattle.model_items.specs.LawfulTree.{AllHeld, nesting, is_none, ends_with_internal_list, LawfulHasTree, TreeIsLawful}
 use Rattle.model_items.proofs.SameLemmas.{Means-kind_same}
 use Rattle.model_items.proofs.LawLemmas.{if_ok, Ok-same, closed_before, joined-ok, after_from_Lawful, Lawful_from_after}
 use Rattle.model_items.proofs.TreeLemmas.{tree_spells}

@@ -10,3 +10,4 @@ mod SameExamples
 mod PlainExamples
 mod LawExamples
 mod TreeExamples
+mod NodeAtExamples

@@ -1,6 +1,6 @@
 -- The node round an offset is the innermost of the tree's nodes that hold it.
-use Rattle.std.proofs.Common.{◌≡◌, ◌≢◌, ℕ, zero, suc, ◌+◌, ◌<◌, ◌≤◌, ◌⊎◌, inl, inr, Bool, true, false, ◌&&◌, if◌then◌else◌, nat_lt, List, [], ◌∷◌, ◌++◌, length, map, take, drop, Contains, Result, Ok, Err, refl, sym, ap, ◌∙◌, subst, arith, lt-ltb, ltb-true, zero-add}
-use Rattle.std.proofs.lemmas.Bool.{cases_Bool, and_parts}
+use Rattle.std.proofs.Common.{◌≡◌, ℕ, zero, suc, ◌+◌, ◌<◌, ◌≤◌, ◌⊎◌, inl, inr, Bool, true, false, ◌&&◌, if◌then◌else◌, nat_lt, List, [], ◌∷◌, ◌++◌, length, map, take, drop, Contains, Ok, refl, sym, ap, ◌∙◌, subst, arith, lt-ltb, ltb-true}
+use Rattle.std.proofs.lemmas.Bool.{cases_Bool}
 use Rattle.std.proofs.lemmas.List.Elements.{Contains-append_left, Contains-append_right, Contains-append_cases}
 use Rattle.ve_kinds.specs.declared.kind.Kind.{Kind}
 use Rattle.ve_kinds.specs.declared.kind.Kind.TheVariants.{Root}
@@ -8,9 +8,9 @@ use Rattle.ve_kinds.specs.Table.{is_content_branch}
 use Rattle.model_items.specs.declared.plain_item.PlainItem.{PlainItem}
 use Rattle.model_items.specs.declared.plain_item.PlainItem.TheVariants.{Char, Opening, Closing}
 use Rattle.model_items.specs.declared.law_fault.LawFault.{LawFault}
-use Rattle.model_items.specs.Law.{State, start, finish, top, step, joined, after, Lawful}
-use Rattle.model_items.specs.Tree.{Forest, Empty, Run, Branch, with_char, first_of, reading, tree_of, item_count, Open, opens_with, opens_after, length_to_close, Place, place_with, node_at, class_in, class_at}
-use Rattle.model_items.specs.NodeAt.{places_from, root_place, all_places, HoldsOffset, IsInnermost, NodeAtIsInnermost, OpenIsStack, ClassIsOfTop}
+use Rattle.model_items.specs.Law.{State, start, finish, top, step, after, Lawful}
+use Rattle.model_items.specs.Tree.{Forest, Empty, Run, Branch, with_char, first_of, reading, tree_of, item_count, Open, opens_after, length_to_close, Place, place_with, node_at, class_in}
+use Rattle.model_items.specs.NodeAt.{places_from, root_place, all_places, IsInnermost, NodeAtIsInnermost, OpenIsStack, ClassIsOfTop}
 use Rattle.model_items.proofs.LawLemmas.{if_ok, Ok-same, opened_before, closed_before, joined-ok, after_from_Lawful}
 use Rattle.model_items.proofs.TreeLemmas.{read_deep}
 
@@ -332,7 +332,7 @@ module _ (kind : Kind) (at : ℕ) (inside later : Forest) (o : ℕ) where
   parts_of_branch q within one two three =
       elim (Contains-append_cases (branch_at kind at inside ∷ []) (places_from (suc at) inside ++ places_from (at + (item_count inside + 2)) later) q within) [
         | inl here ↦ one (only_place (branch_at kind at inside) q here)
-        | inr rest ↦ elim (Contains-append_cases (places_from (suc at) inside) (places_from (at + (item_count inside + 2)) later) q rest) [ | inl a ↦ two a | inr b ↦ three b ]
+        | inr rest ↦ elim (Contains-append_cases (places_from (suc at) inside) (places_from (at + (item_count inside + 2)) later) q rest) [ inl a ↦ two a | inr b ↦ three b ]
       ]
 
   in_branch : (d : Place) (p : Place) → at < o → o < at + (item_count inside + 2) → Searched (branch_at kind at inside) (suc at) inside o p → Searched d at (Branch kind inside later) o p
@@ -402,7 +402,7 @@ innermost_of items at p count s = record {
     | inl e ↦ subst (Contains (all_places items)) (sym e) (contains_first (root_place items) (places_from 0 (tree_of items)))
     | inr c ↦ Contains-append_right (root_place items ∷ []) (places_from 0 (tree_of items)) p c.0
   ];
-  holds = elim (s.node) [ | inl e ↦ inl e | inr c ↦ inr c.1 ];
+  holds = elim (s.node) [ inl e ↦ inl e | inr c ↦ inr c.1 ];
   within = λ q c holds. elim holds [
     | inl e ↦ subst (λ (x : Place). (x.from ≤ p.from) × (p.to ≤ x.to)) (sym e) (in_root (s.node))
     | inr ins ↦ elim (Contains-append_cases (root_place items ∷ []) (places_from 0 (tree_of items)) q c) [
