@@ -6,7 +6,7 @@ use Rattle.std.proofs.lemmas.Grind.{flat_map-append}
 use Rattle.std.specs.List.{slice_get}
 use Rattle.model_items.specs.declared.item.Item.{Item}
 use Rattle.ve_session.specs.Written.{html_of, written}
-use Rattle.ve_session.specs.World.{is_bracket, last_bracket, opens_paragraph, is_content}
+use Rattle.ve_session.specs.World.{is_bracket, last_bracket, opens_content, is_content}
 
 pub take-one : {A : Type 0} (xs : List A) (n : ℕ) (x : A) → slice_get xs n ≡ Some x → take (n + 1) xs ≡ take n xs ++ x ∷ []
 take-one xs n x h = take_more xs n x (slice_get_within xs n x h) ∙ ap (λ y. take n xs ++ y ∷ []) (get_or_from_slice_get xs n x x h)
@@ -28,5 +28,5 @@ within : (items : List Item) (at : ℕ) (b : Bool) → at ≤ length items → (
 within items at b h = grind arith
 
 -- An offset is content by the last bracket before it.
-pub is_content-by : (items : List Item) (at : ℕ) (o : Option Item) → at ≤ length items → last_bracket (take at items) ≡ o → is_content items at ≡ opens_paragraph o
-is_content-by items at o h e = within items at (opens_paragraph (last_bracket (take at items))) h ∙ ap opens_paragraph e
+pub is_content-by : (items : List Item) (at : ℕ) (o : Option Item) → at ≤ length items → last_bracket (take at items) ≡ o → is_content items at ≡ opens_content o
+is_content-by items at o h e = within items at (opens_content (last_bracket (take at items))) h ∙ ap opens_content e

@@ -1,3 +1,6 @@
 pub mod Literals
 pub mod Fronts
 pub mod Refused
+pub mod Paragraphs
+pub mod PageLaws
+pub mod ScriptExamples

@@ -1,6 +1,6 @@
 -- Plain pages, and the items of a page. A paragraph is its characters, a page is its paragraphs in order.
-use Rattle.std.specs.Prelude.{◌≡◌, ℕ, ◌==◌, ◌&&◌, ◌++◌, ◌≤◌, List, [], ◌∷◌, length, map, Bool, true, false, not, None, codes, All}
-use Rattle.std.specs.List.{flat_map}
+use Rattle.std.specs.Prelude.{◌≡◌, ℕ, ◌==◌, ◌&&◌, ◌++◌, ◌≤◌, List, [], ◌∷◌, length, map, Bool, true, false, not, None, codes}
+use Rattle.std.specs.List.{flat_map, list_all}
 use Rattle.std.specs.Str.{encode_utf8_all}
 use Rattle.ve_kinds.specs.declared.kind.Kind.{Kind}
 use Rattle.ve_kinds.specs.declared.kind.Kind.TheVariants.{P, InternalList}
@@ -11,7 +11,7 @@ use Rattle.model_items.specs.declared.item.Item.TheVariants.{Char, Opening, Clos
 abbrev pub max_page : ℕ
 max_page = 4194304
 
--- An item that cites nothing.
+-- items that cite nothing
 abbrev pub opening : Kind → Item
 opening kind = Opening kind None None None None false
 
@@ -28,8 +28,8 @@ characters text = map character text
 abbrev pub is_plain : ℕ → Bool
 is_plain ch = not (ch == 60) && not (ch == 62) && not (ch == 38) && not (ch == 160) && not (ch == 0) && not (ch == 13)
 
-abbrev pub IsPlain : ℕ → Type 0
-IsPlain ch = is_plain ch ≡ true
+abbrev pub are_plain : List (List ℕ) → Bool
+are_plain paragraphs = list_all (list_all is_plain) paragraphs
 
 -- how a paragraph is spelled
 abbrev pub paragraph : List ℕ → List ℕ
@@ -37,7 +37,7 @@ paragraph text = codes "<p>" ++ text ++ codes "</p>"
 
 -- These paragraphs spell the page.
 pub record Spells (page : List ℕ) (paragraphs : List (List ℕ)) : Type 0 where
-  pub plain : All (All IsPlain) paragraphs
+  pub plain : are_plain paragraphs ≡ true
   pub joined : page ≡ flat_map paragraph paragraphs
   pub short : length (encode_utf8_all page) ≤ max_page
 

@@ -22,15 +22,14 @@ abbrev pub put : Option Item → List Item → List Item
 put None items = items
 put (Some item) items = item ∷ items
 
--- the items that end from a place on, where the page may end after the last character
+-- A page may end between paragraphs.
+abbrev pub ended : Place → Option (List Item)
+ended Between = Some []
+ended _ = None
+
+-- the items that end from a place on
 abbrev pub items_from : Place → List ℕ → Option (List Item)
-items_from Between [] = Some []
-items_from StartLess [] = None
-items_from StartName [] = None
-items_from Within [] = None
-items_from EndLess [] = None
-items_from EndSlash [] = None
-items_from EndName [] = None
+items_from place [] = ended place
 items_from place (ch ∷ chs) = option_and_then (λ s. option_map (put s.1) (items_from s.0 chs)) (step place ch)
 
 -- the items of a page, where it is plain

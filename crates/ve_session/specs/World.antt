@@ -1,7 +1,6 @@
 -- What a world answers to a line, and the world after it.
 use Rattle.std.specs.Prelude.{ℕ, ◌+◌, ◌&&◌, List, length, take, reverse, find, Bool, true, false, nat_le, if◌then◌else◌, Option, Some, None, Result, Ok, Err}
-use Rattle.ve_kinds.specs.declared.kind.Kind.{Kind}
-use Rattle.ve_kinds.specs.declared.kind.Kind.TheVariants.{P}
+use Rattle.ve_kinds.specs.Table.{is_content_branch}
 use Rattle.model_items.specs.declared.item.Item.{Item}
 use Rattle.model_items.specs.declared.item.Item.TheVariants.{Char, Opening, Closing}
 use Rattle.ve_items.specs.Substitution.{spliced}
@@ -23,6 +22,10 @@ pub record State : Type 0 where
   pub page : Option (List Item)
   pub is_spent : Bool
 
+-- a world before its first line
+abbrev pub begun : State
+begun = record { page = None; is_spent = false }
+
 -- a world that ran out of memory
 abbrev pub spent : State
 spent = record { page = None; is_spent = true }
@@ -36,23 +39,19 @@ is_bracket (Char ch marks) = false
 is_bracket (Opening kind head marks pre origin generated) = true
 is_bracket (Closing kind pre) = true
 
-abbrev pub is_paragraph : Kind → Bool
-is_paragraph P = true
-is_paragraph _ = false
-
-abbrev pub opens_paragraph : Option Item → Bool
-opens_paragraph None = false
-opens_paragraph (Some (Char ch marks)) = false
-opens_paragraph (Some (Opening kind head marks pre origin generated)) = is_paragraph kind
-opens_paragraph (Some (Closing kind pre)) = false
+abbrev pub opens_content : Option Item → Bool
+opens_content None = false
+opens_content (Some (Char ch marks)) = false
+opens_content (Some (Opening kind head marks pre origin generated)) = is_content_branch kind
+opens_content (Some (Closing kind pre)) = false
 
 -- the last opening or closing
 abbrev pub last_bracket : List Item → Option Item
 last_bracket items = find is_bracket (reverse items)
 
--- The offset stands among the characters of a paragraph: the last bracket before it opens one.
+-- The offset stands among the characters of a content branch: the last bracket before it opens one.
 abbrev pub is_content : List Item → ℕ → Bool
-is_content items at = nat_le at (length items) && opens_paragraph (last_bracket (take at items))
+is_content items at = nat_le at (length items) && opens_content (last_bracket (take at items))
 
 -- A text has its place there.
 abbrev pub can_insert : List Item → ℕ → List ℕ → Bool
@@ -93,3 +92,7 @@ reply state line = (stepped state.page (command line)).0
 -- the world after it
 abbrev pub next : State → List ℕ → State
 next state line = record state { page = (stepped state.page (command line)).1 }
+
+-- the greatest number of steps that it takes
+abbrev pub cost : State → List ℕ → ℕ
+cost state line = 0

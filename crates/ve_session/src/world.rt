@@ -4,7 +4,7 @@ ghost use Rattle.ve_items.specs.Substitution.{spliced};
 ghost use Rattle.ve_json.specs.declared.reply.Reply.TheVariants as reply_to;
 ghost use Rattle.ve_json.specs.declared.reply.Refusal.{Refusal};
 ghost use Rattle.ve_session.specs.Plain.{characters};
-ghost use Rattle.ve_session.specs.World.{State, answered, stepped, reply, next, spent, can_insert, is_content, is_paragraph};
+ghost use Rattle.ve_session.specs.World.{State, answered, stepped, reply, next, begun, spent, can_insert, is_content};
 
 use crate::page::{characters, html_of, read_page};
 use std::alloc::Global;
@@ -13,7 +13,7 @@ use std::sync::ledger::Ledger;
 use ve_base::{Memory, Steps, Text};
 use ve_items::{Item, Linear};
 use ve_json::{Command, LineFault, Refusal, Reply, command};
-use ve_kinds::Kind;
+use ve_kinds::is_content_branch;
 use ve_run::Machine;
 
 /// The most items of a page after a text was put into it.
@@ -36,13 +36,7 @@ impl Model for World {
     ghost view = { λ w. record { page = option_map (λ list. list.items) w.page; is_spent = w.is_spent } };
 }
 
-fn is_paragraph(kind: Kind) -> bool
-    ensures { result ≡ is_paragraph kind }
-{
-    kind == Kind::P
-}
-
-/// Whether the offset stands among the characters of a paragraph. It looks back to the nearest bracket only.
+/// Whether the offset stands among the characters of a content branch. It looks back to the nearest bracket only.
 fn is_content(list: &Linear, at: usize) -> bool
     ensures { result ≡ is_content list.now.items at }
 {
@@ -53,7 +47,7 @@ fn is_content(list: &Linear, at: usize) -> bool
     while before > 0 {
         match list.get(before - 1) {
             Item::Char { .. } => before -= 1,
-            Item::Opening { kind, .. } => return is_paragraph(kind),
+            Item::Opening { kind, .. } => return is_content_branch(kind),
             Item::Closing { .. } => return false,
         }
     }
@@ -81,7 +75,7 @@ fn insert(alloc: Global, list: &mut Linear, at: usize, text: &Text) -> Result<bo
 impl World {
     /// A world without a page. It takes no memory.
     pub fn new(alloc: Global) -> World
-        ensures { result ≡ record { page = None; is_spent = false } }
+        ensures { result ≡ begun }
     {
         World {
             alloc,
@@ -159,13 +153,13 @@ impl World {
 }
 
 impl Machine for World {
-    ghost use Rattle.ve_session.specs.World.{reply, next};
+    ghost use Rattle.ve_session.specs.World.{reply, next, cost};
 
     ghost reply = { reply };
 
     ghost next = { next };
 
-    ghost cost = { λ _ _. 0 };
+    ghost cost = { cost };
 
     fn step<L: Ledger>(&mut self, line: &[u8], steps: &mut Steps<L>) -> Result<Reply, Memory> {
         World::step(self, line, steps)

@@ -11,7 +11,7 @@ loop-before-preserved c = record {
 pub returns-in-Opening : goal.returns-in-Opening
 returns-in-Opening c =
     let within : c.args.at ≤ length c.args.list.now.items = search rules in
-    c.is_paragraph.ensures ∙ sym (is_content-by c.args.list.now.items c.args.at _ within
+    c.is_content_branch.ensures ∙ sym (is_content-by c.args.list.now.items c.args.at _ within
     (sym c.loop-before.invariant.bracket ∙ last_bracket-take c.args.list.now.items c.loop-before.before _ c.loop-before-test.true c.in-Opening.ensures))
 
 pub returns-in-Closing : goal.returns-in-Closing

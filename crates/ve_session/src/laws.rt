@@ -1,0 +1,14 @@
+// Laws of the definitions, each on a function that does nothing.
+ghost use Rattle.ve_session.specs.Laws.{ReadsParagraphs, SpellsOnce, WritesAsRead, OpensAndWrites};
+
+/// A page is read exactly where some paragraphs spell it, and as their items; no second list of paragraphs spells it.
+pub fn pages_are_read_by_paragraphs()
+    ensures read { ReadsParagraphs }
+    ensures once { SpellsOnce }
+{}
+
+/// A page that was read is written as it was: by its items, and by the replies of a world that opened it.
+pub fn pages_are_written_as_read()
+    ensures items { WritesAsRead }
+    ensures replies { OpensAndWrites }
+{}
