@@ -70,12 +70,13 @@ body_limit o =
     let forest = or_nothing (forest_of o.html) in
     option_map (moved_to o.at) (limit_of 2 (Flow InternalItem) (parts_of forest) 0 (body_made forest))
 
+-- of the bodies in order
 abbrev pub first_body_limit : List Owner → Option Limit
 first_body_limit [] = None
-first_body_limit (o ∷ owners) = elim (body_limit o) [ Some l ↦ Some l | None ↦ first_body_limit owners ]
+first_body_limit (o ∷ owners) = or_else (body_limit o) (first_body_limit owners)
 
 -- of a page whose body begins at the byte `at`; bodies come after the whole page
 abbrev pub page_limit : ℕ → Forest → Option Limit
 page_limit at forest =
-    let m = page_made at forest in
-    elim (limit_of 0 (Flow Root) (parts_of forest) at m) [ Some l ↦ Some l | None ↦ first_body_limit m.owners ]
+    let made = page_made at forest in
+    or_else (limit_of 0 (Flow Root) (parts_of forest) at made) (first_body_limit made.owners)

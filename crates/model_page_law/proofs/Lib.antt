@@ -29,4 +29,7 @@ pub mod ReadLemmas
 pub mod FormLemmas
 pub mod FreshOpens
 pub mod FreshLemmas
+pub mod KindFits
+pub mod NestLemmas
+pub mod LawfulLemmas
 mod FormCases

@@ -2,3 +2,4 @@ pub mod WrittenBack
 pub mod Formed
 pub mod ReadBack
 pub mod WritesFresh
+pub mod Lawful
