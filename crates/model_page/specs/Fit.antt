@@ -5,10 +5,11 @@ use Rattle.model_spelling.specs.Forest.{Forest, Nothing, Text, Remark, Void, Raw
 use Rattle.ve_base.specs.declared.marks.Mark.{Mark}
 use Rattle.ve_kinds.specs.declared.kind.Kind.{Kind}
 use Rattle.ve_kinds.specs.declared.kind.Kind.TheVariants.{Br, Img, TransInline, AlienInline, TransBlock, AlienBlock}
-use Rattle.ve_kinds.specs.Table.{is_content_branch, is_flow, is_among, structural_kinds, inline_leaves, may_hold}
+use Rattle.ve_kinds.specs.Table.{is_content_branch, is_flow, is_structural, may_hold}
 use Rattle.model_page.specs.Elements.{is_white, has_type, is_generator}
 use Rattle.model_page.specs.Parts.{Parts, Ended, Words, Note, Group, Single, Parent}
-use Rattle.model_page.specs.Tags.{kind_of_tag, is_annotation_tag, is_inline_tag}
+use Rattle.ve_kinds.specs.Tags.{kind_of_tag}
+use Rattle.model_page.specs.Tags.{is_annotation_tag, is_inline_tag}
 
 -- Where parts stand: in a flow parent, in a structural parent, or in content inside of these marks.
 pub data Around : Type 0 where
@@ -42,7 +43,7 @@ has_blocks_alone (Parent name attrs children later) = not (is_inline_tag name) &
 
 -- an element of a structural kind is a branch only where it has blocks alone
 abbrev pub is_convertible : Kind → Parts → Bool
-is_convertible k children = not (is_among structural_kinds k) || has_blocks_alone children
+is_convertible k children = not (is_structural k) || has_blocks_alone children
 
 abbrev pub fit_in_content : List ℕ → Parts → Option Kind → Fit
 fit_in_content name children (Some Br) = Leaf Br
@@ -96,7 +97,3 @@ group_kind around nodes = whole_kind (is_generated nodes) (is_inline_at around (
 -- what a comment becomes, and whatever else is kept whole
 abbrev pub note_kind : Around → Kind
 note_kind around = whole_kind false (is_inline_at around false)
-
--- a leaf of this kind stands in content, or is a part of a run
-abbrev pub is_inline_kind : Kind → Bool
-is_inline_kind k = is_among inline_leaves k

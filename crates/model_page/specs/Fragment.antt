@@ -8,7 +8,8 @@ use Rattle.model_items.specs.declared.plain_item.PlainItem.TheVariants.{Char, Op
 use Rattle.ve_kinds.specs.Table.{is_content_branch, is_flow, may_hold}
 use Rattle.model_page.specs.Elements.{is_white}
 use Rattle.model_page.specs.Parts.{Parts, Ended, Words, Note, Group, Single, Parent, parts_of, source_of}
-use Rattle.model_page.specs.Tags.{is_inline_tag, kind_of_tag}
+use Rattle.ve_kinds.specs.Tags.{kind_of_tag}
+use Rattle.model_page.specs.Tags.{is_inline_tag}
 use Rattle.model_page.specs.Fit.{around_in, has_inline_tags}
 use Rattle.ve_base.specs.Empty.{empty_head}
 use Rattle.model_page.specs.Pieces.{Made, Place}

@@ -11,3 +11,4 @@ pub mod Convert
 pub mod PageItems
 pub mod Fragment
 pub mod Limits
+pub mod OpenPage

@@ -9,7 +9,7 @@ use Rattle.ve_kinds.specs.declared.kind.Kind.TheVariants.{P}
 use Rattle.model_items.specs.declared.plain_item.PlainItem.{PlainItem}
 use Rattle.model_items.specs.declared.plain_item.PlainItem.TheVariants.{Char, Opening, Closing}
 use Rattle.model_page.specs.Elements.{is_white}
-use Rattle.model_page.specs.Fit.{is_inline_kind}
+use Rattle.ve_kinds.specs.Table.{is_inline_leaf}
 
 -- ---- what conversion makes, and where it stands
 
@@ -137,6 +137,6 @@ before_run place piece owners made =
 -- a leaf in front of what is made behind it
 abbrev pub leaf_before : Place → Kind → Head → List Mark → List ℕ → List Owner → Made → Made
 leaf_before place kind head marks source owners made =
-    if is_inline_kind kind
+    if is_inline_leaf kind
     then in_run (leaf kind head marks (span_at place source)) source owners made
     else before_run (past place source owners) (leaf kind head marks (span_at place source)) owners made

@@ -10,7 +10,7 @@ use Rattle.ve_base.specs.declared.head.Key.TheVariants.{Named, Auto}
 use Rattle.ve_base.specs.declared.head.RefKey.{RefKey}
 use Rattle.ve_base.specs.declared.head.Head.{Head}
 use Rattle.model_items.specs.Same.{ref_key_same}
-use Rattle.model_page.specs.Tags.{is_one_of}
+use Rattle.ve_kinds.specs.Tags.{is_one_of}
 use Rattle.model_page.specs.Elements.{value_of, has_type, is_transclusion, is_reference_type}
 use Rattle.model_page.specs.DataMw.{RefRead, reference_of}
 use Rattle.model_page.specs.Fit.{Around, Structural}

@@ -12,8 +12,10 @@ use Rattle.model_items.specs.declared.plain_item.PlainItem.TheVariants.{Char, Op
 use Rattle.ve_kinds.specs.Table.{kind_same}
 use Rattle.model_page.specs.Elements.{is_white_char, is_white}
 use Rattle.model_page.specs.Parts.{Parts, Ended, Words, Note, Group, Single, Parent}
-use Rattle.model_page.specs.Tags.{is_inline_tag, is_annotation_tag, kind_of_tag}
-use Rattle.model_page.specs.Fit.{Around, Flow, Content, Fit, Annotation, Leaf, Branch, Whole, around_in, has_child, fit_of, fit_in_content, fit_in_block, whole_kind, is_generated, has_inline_tags, group_kind, is_inline_kind}
+use Rattle.ve_kinds.specs.Tags.{kind_of_tag}
+use Rattle.model_page.specs.Tags.{is_inline_tag, is_annotation_tag}
+use Rattle.model_page.specs.Fit.{Around, Flow, Content, Fit, Annotation, Leaf, Branch, Whole, around_in, has_child, fit_of, fit_in_content, fit_in_block, whole_kind, is_generated, has_inline_tags, group_kind}
+use Rattle.ve_kinds.specs.Table.{is_inline_leaf}
 use Rattle.model_page.specs.Heads.{characters, attrs_of, head_with, whole_head}
 use Rattle.model_page.specs.Pieces.{Span, Piece, Owner, Made, Place, past, span_at, no_piece, joined_pieces, node, leaf, chars_piece, items_after, white_left, with_white, run_dropped, paragraph_before, run_ended, run_closed, in_run, before_run, leaf_before}
 use Rattle.model_page.specs.ReferenceNodes.{RefNode, ref_of}
@@ -239,7 +241,7 @@ Ready-chosen false a b f g = g
 
 -- a leaf of this kind with this raw text stays a part of a run
 abbrev pub Stays : Kind → Head → Type 0
-Stays kind head = is_inline_kind kind ≡ true → stays_inline (record { kind = kind; head = head; marks = []; pre = []; origin = None; generated = false; body = None }) ≡ true
+Stays kind head = is_inline_leaf kind ≡ true → stays_inline (record { kind = kind; head = head; marks = []; pre = []; origin = None; generated = false; body = None }) ≡ true
 
 Inline-leaf : (kind : Kind) (head : Head) (span : Span) (source : List ℕ) →
     stays_inline (record { kind = kind; head = head; marks = []; pre = []; origin = None; generated = false; body = None }) ≡ true → Inline (leaf kind head [] span) source
@@ -253,7 +255,7 @@ Inline-leaf kind head span source h = record {
 Ready-leaf_before : (w : Place) (kind : Kind) (head : Head) (source : List ℕ) (owners : List Owner) (m : Made) →
     Stays kind head → Ready m → Ready (leaf_before w kind head [] source owners m)
 Ready-leaf_before w kind head source owners m h r =
-    Ready-chosen (is_inline_kind kind) _ _
+    Ready-chosen (is_inline_leaf kind) _ _
     (λ inline. Ready-in_run (leaf kind head [] (span_at w source)) source owners m (Inline-leaf kind head (span_at w source) source (h inline)) r)
     (Ready-before_run (past w source owners) kind head [] (span_at w source) no_piece [] owners m (record { nodes = Empty; items = refl; count = refl }) r)
 
@@ -311,16 +313,16 @@ Marked-chosen child true a b h f = f
 Marked-chosen child false a b h f = cc
 
 Marked-leaf_before : (m : Mark) (ms : List Mark) (w : Place) (kind : Kind) (head : Head) (source : List ℕ) (owners : List Owner) (child : Bool) (made : Made) →
-    is_inline_kind kind ≡ true → Marked child made.run → Marked true (leaf_before w kind head (m ∷ ms) source owners made).run
+    is_inline_leaf kind ≡ true → Marked child made.run → Marked true (leaf_before w kind head (m ∷ ms) source owners made).run
 Marked-leaf_before m ms w kind head source owners child made h f =
-    Marked-chosen true (is_inline_kind kind) (in_run (leaf kind head (m ∷ ms) (span_at w source)) source owners made) _ h
+    Marked-chosen true (is_inline_leaf kind) (in_run (leaf kind head (m ∷ ms) (span_at w source)) source owners made) _ h
     (Marked-joined_pieces child (leaf kind head (m ∷ ms) (span_at w source)) made.run (Marked-leaf m ms kind head (span_at w source)) f)
 
 -- what an element in content becomes
 abbrev pub FitsContent : Parts → Fit → Type 0
 FitsContent children Annotation = has_child children ≡ true
-FitsContent children (Leaf kind) = is_inline_kind kind ≡ true
-FitsContent children (Whole kind) = is_inline_kind kind ≡ true
+FitsContent children (Leaf kind) = is_inline_leaf kind ≡ true
+FitsContent children (Whole kind) = is_inline_leaf kind ≡ true
 FitsContent children (Branch kind) = ⊥
 
 FitsContent-chosen : (children : Parts) (a : Bool) → FitsContent children (if a && has_child children then Annotation else Whole AlienInline)
@@ -335,7 +337,7 @@ FitsContent-kind name children (Some Br) = refl
 FitsContent-kind name children (Some Img) = refl
 FitsContent-kind name children kind = FitsContent-chosen children (is_annotation_tag name)
 
-inline-whole_kind : (g : Bool) → is_inline_kind (whole_kind g true) ≡ true
+inline-whole_kind : (g : Bool) → is_inline_leaf (whole_kind g true) ≡ true
 inline-whole_kind true = refl
 inline-whole_kind false = refl
 
@@ -401,7 +403,7 @@ Inlined (Parent name attrs children later) =
 abbrev pub FitsFlow : Parts → List Spelled → List ℕ → Fit → Type 0
 FitsFlow children attrs source Annotation = has_child children ≡ true
 FitsFlow children attrs source (Leaf kind) = Stays kind (head_with attrs)
-FitsFlow children attrs source (Whole kind) = is_inline_kind kind ≡ true → reads_inline (chars source) ≡ true
+FitsFlow children attrs source (Whole kind) = is_inline_leaf kind ≡ true → reads_inline (chars source) ≡ true
 FitsFlow children attrs source (Branch kind) = Unit {0}
 
 FitsFlow-content : (name : List ℕ) (children : Parts) (attrs : List Spelled) (source : List ℕ) (kind : Option Kind) → reads_inline (chars source) ≡ true →
@@ -430,7 +432,7 @@ FitsFlow-fit_of parent name children attrs source h = chosen_fit (is_inline_tag 
     chosen_fit true g = FitsFlow-content name children attrs source (kind_of_tag name) (g refl)
     chosen_fit false g = FitsFlow-block parent children attrs source (kind_of_tag name)
 
-whole-Stays : (kind : Kind) (source : List ℕ) → (is_inline_kind kind ≡ true → reads_inline (chars source) ≡ true) → Stays kind (whole_head source)
+whole-Stays : (kind : Kind) (source : List ℕ) → (is_inline_leaf kind ≡ true → reads_inline (chars source) ≡ true) → Stays kind (whole_head source)
 whole-Stays kind source h g = or_right (not (kind_same kind TransInline || kind_same kind AlienInline) || false) (reads_inline (chars source)) (h g)
 
 Ready-leaf_made : (k : Kind) (attrs : List Spelled) (source : List ℕ) (later : Place → Made) (w : Place) (children : Parts) (fit : Fit) →
@@ -441,7 +443,7 @@ Ready-leaf_made k attrs source later w children (Whole kind) f h =
 Ready-leaf_made k attrs source later w children Annotation f h = let p = past w source [] in Ready-leaf_before w AlienBlock (whole_head source) source [] (later p) (λ e. cc) (h p)
 Ready-leaf_made k attrs source later w children (Branch kind) f h = let p = past w source [] in Ready-leaf_before w AlienBlock (whole_head source) source [] (later p) (λ e. cc) (h p)
 
-inline_from-whole_kind : (g i : Bool) → is_inline_kind (whole_kind g i) ≡ true → i ≡ true
+inline_from-whole_kind : (g i : Bool) → is_inline_leaf (whole_kind g i) ≡ true → i ≡ true
 inline_from-whole_kind g true h = refl
 inline_from-whole_kind true false h = cc
 inline_from-whole_kind false false h = cc

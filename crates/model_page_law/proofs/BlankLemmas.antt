@@ -13,7 +13,8 @@ use Rattle.model_items.specs.declared.plain_item.PlainItem.{PlainItem}
 use Rattle.model_items.specs.declared.plain_item.PlainItem.TheVariants.{Char, Opening, Closing}
 use Rattle.model_page.specs.Elements.{is_white_char, is_white, is_held}
 use Rattle.model_page.specs.Parts.{Ended, Single, Parent, parts_of}
-use Rattle.model_page.specs.Fit.{Around, Flow, Structural, Content, Fit, Annotation, Leaf, Branch, Whole, around_in, note_kind, fit_of, is_inline_kind}
+use Rattle.model_page.specs.Fit.{Around, Flow, Structural, Content, Fit, Annotation, Leaf, Branch, Whole, around_in, note_kind, fit_of}
+use Rattle.ve_kinds.specs.Table.{is_inline_leaf}
 use Rattle.model_page.specs.Heads.{characters, head_with, whole_head}
 use Rattle.model_page.specs.Pieces.{Made, Place, past, span_at, leaf, in_run, before_run, run_dropped, with_white, paragraph_before, run_ended, leaf_before}
 use Rattle.model_page.specs.Convert.{leaf_made, element_source, element_made, inside_of, inside_piece, marked_around, words_before, marks_at, made_of}
@@ -114,7 +115,7 @@ run_ended-owners (b ∷ bs) w m = chosen (is_white (b ∷ bs)) (with_white (char
 
 leaf_before-owners : (w : Place) (kind : Kind) (head : Head) (marks : List Mark) (part : List ℕ) (m : Made) → m.owners ≡ [] → (leaf_before w kind head marks part [] m).owners ≡ []
 leaf_before-owners w kind head marks part m e =
-    chosen (is_inline_kind kind) (in_run (leaf kind head marks (span_at w part)) part [] m) (before_run (past w part []) (leaf kind head marks (span_at w part)) [] m)
+    chosen (is_inline_leaf kind) (in_run (leaf kind head marks (span_at w part)) part [] m) (before_run (past w part []) (leaf kind head marks (span_at w part)) [] m)
     e (run_ended-owners m.source (past w part []) m ∙ e)
   where
     chosen : (c : Bool) (x y : Made) → x.owners ≡ [] → y.owners ≡ [] → (if c then x else y).owners ≡ []

@@ -12,7 +12,8 @@ use Rattle.model_items.specs.declared.plain_item.PlainItem.{PlainItem}
 use Rattle.model_items.specs.declared.plain_item.PlainItem.TheVariants.{Char, Opening, Closing}
 use Rattle.model_page.specs.Elements.{is_white, is_held}
 use Rattle.model_page.specs.Parts.{Parts, Ended, Single, Parent, parts_of}
-use Rattle.model_page.specs.Fit.{Around, Flow, Structural, Content, Fit, Annotation, Leaf, Branch, around_in, is_inline_kind, fit_of}
+use Rattle.model_page.specs.Fit.{Around, Flow, Structural, Content, Fit, Annotation, Leaf, Branch, around_in, fit_of}
+use Rattle.ve_kinds.specs.Table.{is_inline_leaf}
 use Rattle.model_page.specs.Tags.{tag_of}
 use Rattle.model_page.specs.Fragment.{item_unmade}
 use Rattle.model_page.specs.Heads.{characters, head_with}
@@ -41,7 +42,7 @@ Loose k (Remark text rest) = ⊥
 Loose k (RawElement name attrs text rest) = ⊥
 Loose k (Void name attrs slash rest) =
     (is_held attrs ≡ false)
-    × ((kind : Kind) × (is_inline_kind kind ≡ true) × (fit_of (Flow k) name Ended ≡ Leaf kind) × (fit_of (Content []) name Ended ≡ Leaf kind))
+    × ((kind : Kind) × (is_inline_leaf kind ≡ true) × (fit_of (Flow k) name Ended ≡ Leaf kind) × (fit_of (Content []) name Ended ≡ Leaf kind))
     × Loose k rest
 Loose k (Element name attrs children rest) =
     (is_held attrs ≡ false)
@@ -74,9 +75,9 @@ made_if_true : (c : Bool) (a b : Made) → c ≡ true → (if c then a else b) �
 made_if_true true a b e = refl
 made_if_true false a b e = cc
 
-pub leaf_made-inline : (around : Around) (attrs : List Spelled) (part : List ℕ) (later : Place → Made) (w : Place) (kind : Kind) (fit : Fit) → is_inline_kind kind ≡ true → fit ≡ Leaf kind →
+pub leaf_made-inline : (around : Around) (attrs : List Spelled) (part : List ℕ) (later : Place → Made) (w : Place) (kind : Kind) (fit : Fit) → is_inline_leaf kind ≡ true → fit ≡ Leaf kind →
     leaf_made around attrs part later w fit ≡ in_run (leaf kind (head_with attrs) (marks_at around) (span_at w part)) part [] (later (past w part []))
-leaf_made-inline around attrs part later w kind fit i e = ap (leaf_made around attrs part later w) e ∙ made_if_true (is_inline_kind kind) _ _ i
+leaf_made-inline around attrs part later w kind fit i e = ap (leaf_made around attrs part later w) e ∙ made_if_true (is_inline_leaf kind) _ _ i
 
 pub run-in_front : (k : Kind) (f rest : Forest) (items : List PlainItem) (pre : List ℕ) → Loose k f → AtBlock (Flow k) rest items pre → (w : Place) →
     RunBefore (made_of (Flow k) (parts_of (in_front f rest)) w) (made_of (Content []) (parts_of f) w) (spelling f) items pre

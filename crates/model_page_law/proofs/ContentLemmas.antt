@@ -14,7 +14,8 @@ use Rattle.model_items.specs.Same.{mark_same}
 use Rattle.model_page.specs.Elements.{is_held}
 use Rattle.model_page.specs.Parts.{Parts, Ended, Single, Parent, parts_of}
 use Rattle.model_page.specs.Tags.{tag_of}
-use Rattle.model_page.specs.Fit.{Content, Annotation, Leaf, has_child, fit_of, is_inline_kind}
+use Rattle.model_page.specs.Fit.{Content, Annotation, Leaf, has_child, fit_of}
+use Rattle.ve_kinds.specs.Table.{is_inline_leaf}
 use Rattle.model_page.specs.Heads.{characters, attrs_of, head_with}
 use Rattle.model_page.specs.Pieces.{Place, past, leaf, span_at, in_run, Made}
 use Rattle.model_page.specs.Convert.{inside_of, element_source, element_made, leaf_made, made_of}
@@ -78,7 +79,7 @@ pub record GoodMark (m : Mark) : Type 0 where
 pub record GoodLeaf (s : Start) : Type 0 where
   pub fits : (ms : List Mark) → fit_of (Content ms) (tag_of s.kind) Ended ≡ Leaf s.kind
   pub free : is_held (canon_attrs (map attr_bytes s.head.attrs)) ≡ false
-  pub inline : is_inline_kind s.kind ≡ true
+  pub inline : is_inline_leaf s.kind ≡ true
   pub same : head_with (canon_attrs (map attr_bytes s.head.attrs)) ≡ s.head
 
 pub parts_if_false : (c : Bool) (a b : Parts) → c ≡ false → (if c then a else b) ≡ b
@@ -156,7 +157,7 @@ Reads-leaf s f xs g h w =
     let behind : Place = past w source [] in
     ap (λ p. (made_of (Content s.marks) p w).run.items) (parts_if_false (is_held attrs) _ (Single name attrs source (parts_of f)) g.free)
     ∙ ap (λ t. (leaf_made (Content s.marks) attrs source later w t).run.items) (g.fits s.marks)
-    ∙ ap (λ m. m.run.items) (made_if_true (is_inline_kind s.kind) (in_run (leaf s.kind (head_with attrs) s.marks (span_at w source)) source [] (later behind)) _ g.inline)
+    ∙ ap (λ m. m.run.items) (made_if_true (is_inline_leaf s.kind) (in_run (leaf s.kind (head_with attrs) s.marks (span_at w source)) source [] (later behind)) _ g.inline)
     ∙ ap (λ k. Opening s.kind k s.marks [] None false ∷ Closing s.kind [] ∷ (later behind).run.items) g.same
     ∙ ap (λ ys. leaf_items s ys) (h behind)
 

@@ -12,7 +12,8 @@ use Rattle.ve_base.specs.declared.attrs.Attr.{Attr}
 use Rattle.ve_base.specs.declared.marks.Mark.{Mark}
 use Rattle.ve_kinds.specs.declared.kind.Kind.TheVariants.{AlienInline}
 use Rattle.model_page.specs.Parts.{Parts}
-use Rattle.model_page.specs.Tags.{is_one_of, kind_of_tag, annotation_tags, is_annotation_tag}
+use Rattle.ve_kinds.specs.Tags.{is_one_of, kind_of_tag, annotation_tags}
+use Rattle.model_page.specs.Tags.{is_annotation_tag}
 use Rattle.model_page.specs.Fit.{Content, Annotation, Whole, has_child, fit_in_content, fit_of}
 use Rattle.model_page.specs.Heads.{characters, attr_of, attrs_of}
 use Rattle.model_page_write.specs.Written.{attr_bytes}

@@ -1,21 +1,22 @@
 -- What becomes of each part may stand where it is put: what the fit of an element and the kind of a leaf promise.
-use Rattle.std.proofs.Common.{◌≡◌, ℕ, Bool, true, false, ◌&&◌, not, if◌then◌else◌, List, [], ◌∷◌, Option, Some, None, refl, sym, ap, ◌∙◌, subst, inl, inr}
+use Rattle.std.proofs.Common.{◌≡◌, ℕ, Bool, true, false, ◌&&◌, if◌then◌else◌, List, [], ◌∷◌, Option, Some, None, refl, sym, ap, ◌∙◌}
 use Rattle.std.specs.Prelude.{bytes_eq}
-use Rattle.std.proofs.lemmas.Bool.{and_parts, cases_Bool}
+use Rattle.std.proofs.lemmas.Bool.{and_parts}
 use Rattle.model_spelling.specs.Forest.{Forest, Nothing, Text, Remark, Void, RawElement, Element}
 use Rattle.ve_kinds.specs.declared.kind.Kind.{Kind}
 use Rattle.ve_kinds.specs.declared.kind.Kind.TheVariants.{Root, P, H1, H2, H3, H4, H5, H6, Pre, Section, Li, Dt, Dd, Blockquote, Div, Td, Th, Caption, InternalItem, Ul, Ol, Dl, Table, Thead, Tbody, Tfoot, Tr, InternalList, TransBlock, AlienBlock, Br, Img, Ref, TransInline, AlienInline}
 use Rattle.ve_kinds.specs.Table.{kind_same, may_hold, is_content_branch, is_flow, is_leaf, is_element}
-use Rattle.ve_base.specs.declared.marks.Mark.{Mark}
-use Rattle.model_page.specs.Tags.{kind_among, tags_of_kinds, kind_of_tag, is_annotation_tag, is_inline_tag}
+use Rattle.ve_kinds.specs.Tags.{kind_among, tags_of_kinds, kind_of_tag}
+use Rattle.model_page.specs.Tags.{is_annotation_tag, is_inline_tag}
 use Rattle.model_page.specs.Parts.{Parts}
-use Rattle.model_page.specs.Fit.{Around, Flow, Structural, Content, Fit, Annotation, Leaf, Branch, Whole, around_in, has_child, is_convertible, fit_in_content, fit_in_block, fit_of, whole_kind, is_generated, has_inline_tags, is_inline_at, group_kind, note_kind, is_inline_kind}
+use Rattle.model_page.specs.Fit.{Around, Flow, Structural, Content, Fit, Annotation, Leaf, Branch, Whole, around_in, has_child, is_convertible, fit_in_content, fit_in_block, fit_of, whole_kind, is_generated, has_inline_tags, is_inline_at, group_kind, note_kind}
+use Rattle.ve_kinds.specs.Table.{is_inline_leaf}
 use Rattle.model_page.specs.Pieces.{Place}
-use Rattle.model_page.specs.ReferenceNodes.{RefNode, ref_of}
+use Rattle.model_page.specs.ReferenceNodes.{ref_of}
 
 -- ---- kinds
 
-pub inline_held : (parent k : Kind) → is_content_branch parent ≡ true → is_inline_kind k ≡ true → may_hold parent k ≡ true
+pub inline_held : (parent k : Kind) → is_content_branch parent ≡ true → is_inline_leaf k ≡ true → may_hold parent k ≡ true
 inline_held Root k e h = cc
 inline_held P k e h = h
 inline_held H1 k e h = h
@@ -52,7 +53,7 @@ inline_held Ref k e h = cc
 inline_held TransInline k e h = cc
 inline_held AlienInline k e h = cc
 
-inline_no_list : (k : Kind) → is_inline_kind k ≡ true → kind_same k InternalList ≡ false
+inline_no_list : (k : Kind) → is_inline_leaf k ≡ true → kind_same k InternalList ≡ false
 inline_no_list Root h = cc
 inline_no_list P h = cc
 inline_no_list H1 h = cc
@@ -310,7 +311,7 @@ Stands (Structural parent) k true = ⊥
 Stands (Structural parent) k false = may_hold parent k ≡ true
 
 abbrev pub LeafFits : Around → Kind → Type 0
-LeafFits around k = (kind_same k InternalList ≡ false) × Stands around k (is_inline_kind k)
+LeafFits around k = (kind_same k InternalList ≡ false) × Stands around k (is_inline_leaf k)
 
 -- in content or in a run
 abbrev pub HoldsRuns : Around → Type 0

@@ -1,5 +1,5 @@
 -- A page within the limits opens as a lawful list.
-use Rattle.std.proofs.Common.{◌≡◌, ℕ, suc, ◌+◌, ◌-◌, ◌≤◌, Bool, true, false, not, ◌&&◌, ◌||◌, if◌then◌else◌, List, [], ◌∷◌, ◌++◌, length, Option, Some, None, Result, Ok, Err, refl, sym, ap, ◌∙◌, arith}
+use Rattle.std.proofs.Common.{◌≡◌, ℕ, suc, ◌+◌, ◌-◌, ◌≤◌, Bool, true, false, not, ◌&&◌, ◌||◌, if◌then◌else◌, List, [], ◌∷◌, ◌++◌, length, Option, Some, None, Ok, refl, sym, ap, ◌∙◌, arith}
 use Rattle.std.specs.Prelude.{nat_lt, flat_map, option_map}
 use Rattle.std.proofs.lemmas.Bool.{and_from}
 use Rattle.model_spelling.specs.Forest.{Forest}
@@ -11,7 +11,7 @@ use Rattle.ve_base.specs.declared.marks.Mark.{Mark}
 use Rattle.ve_base.specs.Empty.{empty_head}
 use Rattle.model_items.specs.declared.plain_item.PlainItem.{PlainItem}
 use Rattle.model_items.specs.declared.plain_item.PlainItem.TheVariants.{Char, Opening, Closing}
-use Rattle.model_items.specs.Law.{State, start, finish, top, is_empty, is_over, may_open, opened, closed, step, outcome_moved, joined, after, Lawful}
+use Rattle.model_items.specs.Law.{State, start, finish, top, is_empty, is_over, may_open, opened, closed, step, outcome_moved, joined, after}
 use Rattle.model_items.proofs.LawLemmas.{after_whole, Lawful_from_after}
 use Rattle.model_items.proofs.SameLemmas.{Means-kind_same}
 use Rattle.model_page.specs.References.{or_else}

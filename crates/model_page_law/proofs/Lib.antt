@@ -32,4 +32,5 @@ pub mod FreshLemmas
 pub mod KindFits
 pub mod NestLemmas
 pub mod LawfulLemmas
+pub mod OpenPageLemmas
 mod FormCases

@@ -13,9 +13,10 @@ use Rattle.model_items.specs.declared.plain_item.PlainItem.{PlainItem}
 use Rattle.model_items.specs.declared.plain_item.PlainItem.TheVariants.{Char, Opening, Closing}
 use Rattle.model_page.specs.Elements.{is_white}
 use Rattle.model_page.specs.Parts.{Parts, Ended, Words, Note, Group, Single, Parent}
-use Rattle.model_page.specs.Fit.{Around, Flow, Structural, Content, Fit, Annotation, Leaf, Branch, Whole, around_in, fit_of, group_kind, note_kind, is_inline_kind}
+use Rattle.model_page.specs.Fit.{Around, Flow, Structural, Content, Fit, Annotation, Leaf, Branch, Whole, around_in, fit_of, group_kind, note_kind}
+use Rattle.ve_kinds.specs.Table.{is_inline_leaf}
 use Rattle.model_page.specs.Heads.{characters, head_with, whole_head}
-use Rattle.model_page.specs.Pieces.{Span, Piece, Owner, Made, Place, past, span_at, no_piece, node, leaf, chars_piece, items_after, with_white, run_dropped, paragraph_before, run_ended, run_closed, in_run, before_run, leaf_before}
+use Rattle.model_page.specs.Pieces.{Span, Piece, Owner, Made, Place, past, span_at, no_piece, node, leaf, chars_piece, items_after, with_white, run_dropped, run_ended, run_closed, in_run, before_run, leaf_before}
 use Rattle.model_page.specs.ReferenceNodes.{RefNode, ref_of}
 use Rattle.model_page.specs.Convert.{marks_at, marked_around, element_source, inside_of, inside_piece, words_before, group_made, leaf_made, element_made, made_of}
 use Rattle.model_page_law.proofs.KindFits.{inline_held, Sane, Matches, matches, Stands, LeafFits, HoldsRuns, ref_fits, group_fits, note_fits, no_reference, Held, FitStands, fit_stands}
@@ -177,7 +178,7 @@ Meets-before_run around s w piece owners m p h =
 
 -- ---- leaves
 
-Inline-leaf : (kind : Kind) (head : Head) (marks : List Mark) (span : Span) → is_inline_kind kind ≡ true → kind_same kind InternalList ≡ false → Inline (leaf kind head marks span).items
+Inline-leaf : (kind : Kind) (head : Head) (marks : List Mark) (span : Span) → is_inline_leaf kind ≡ true → kind_same kind InternalList ≡ false → Inline (leaf kind head marks span).items
 Inline-leaf kind head marks span i other parent e = Holds-node parent kind head marks [] None false [] [] (inline_held parent kind e i) other refl
 
 stands_in : (around : Around) (kind : Kind) → Stands around kind true → HoldsRuns around
@@ -192,12 +193,12 @@ stands_held (Structural k) kind h = h
 
 Meets-leaf_before : (around : Around) → Sane around → (w : Place) (kind : Kind) (head : Head) (marks : List Mark) (source : List ℕ) (owners : List Owner) (m : Made) →
     LeafFits around kind → Meets around m → Meets around (leaf_before w kind head marks source owners m)
-Meets-leaf_before around s w kind head marks source owners m f h = by (is_inline_kind kind) refl f.1
+Meets-leaf_before around s w kind head marks source owners m f h = by (is_inline_leaf kind) refl f.1
   where
-    by : (c : Bool) → is_inline_kind kind ≡ c → Stands around kind c → Meets around (
-      if c
-      then in_run (leaf kind head marks (span_at w source)) source owners m
-      else before_run (past w source owners) (leaf kind head marks (span_at w source)) owners m)
+    by : (c : Bool) → is_inline_leaf kind ≡ c → Stands around kind c → Meets around (
+        if c
+        then in_run (leaf kind head marks (span_at w source)) source owners m
+        else before_run (past w source owners) (leaf kind head marks (span_at w source)) owners m)
     by true e g = Meets-in_run around (stands_in around kind g) (leaf kind head marks (span_at w source)) source owners m (Inline-leaf kind head marks (span_at w source) e f.0) h
     by false e g =
         Meets-before_run around s (past w source owners) (leaf kind head marks (span_at w source)) owners m

@@ -13,7 +13,8 @@ use Rattle.model_page.specs.Elements.{is_white, is_held}
 use Rattle.model_page.specs.Parts.{Parts, parts_of}
 use Rattle.model_page.specs.Fit.{Around, Flow, Structural, Content, Branch, around_in, is_convertible, fit_in_block, fit_of}
 use Rattle.model_page.specs.Fragment.{item_unmade}
-use Rattle.model_page.specs.Tags.{tag_of, kind_of_tag, is_inline_tag}
+use Rattle.ve_kinds.specs.Tags.{kind_of_tag}
+use Rattle.model_page.specs.Tags.{tag_of, is_inline_tag}
 use Rattle.ve_base.specs.Empty.{empty_head}
 use Rattle.model_page.specs.Pieces.{Place}
 use Rattle.model_page.specs.Convert.{inside_piece, made_of}

@@ -11,7 +11,8 @@ use Rattle.model_items.specs.declared.plain_item.PlainItem.{PlainItem}
 use Rattle.model_items.specs.declared.plain_item.PlainItem.TheVariants.{Char, Opening, Closing}
 use Rattle.model_page.specs.Elements.{is_white}
 use Rattle.model_page.specs.Parts.{Parts, Ended, Words, Note, Group, Single, Parent}
-use Rattle.model_page.specs.Fit.{Around, Flow, Structural, Content, Fit, Annotation, Leaf, Branch, Whole, around_in, fit_of, group_kind, note_kind, is_inline_kind}
+use Rattle.model_page.specs.Fit.{Around, Flow, Structural, Content, Fit, Annotation, Leaf, Branch, Whole, around_in, fit_of, group_kind, note_kind}
+use Rattle.ve_kinds.specs.Table.{is_inline_leaf}
 use Rattle.model_page.specs.Heads.{characters, head_with, whole_head}
 use Rattle.model_page.specs.Pieces.{Span, Piece, Owner, Made, Place, past, span_at, no_piece, joined_pieces, node, leaf, chars_piece, items_after, with_white, run_dropped, paragraph_before, run_ended, run_closed, in_run, before_run, leaf_before}
 use Rattle.model_page.specs.ReferenceNodes.{RefNode, ref_of}
@@ -139,7 +140,7 @@ pub Fine-leaf_before : (w : Place) (kind : Kind) (head : Head) (marks : List Mar
     Fine m → Fine (leaf_before w kind head marks source owners m)
 Fine-leaf_before w kind head marks source owners m h =
     let s = Shaped-node kind head marks false (span_at w source) no_piece [] Shaped-none in
-    Fine-chosen (is_inline_kind kind) _ _
+    Fine-chosen (is_inline_leaf kind) _ _
     (Fine-in_run (leaf kind head marks (span_at w source)) source owners m s h)
     (Fine-before_run (past w source owners) (leaf kind head marks (span_at w source)) owners m s h)
 

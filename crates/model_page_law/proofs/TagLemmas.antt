@@ -10,14 +10,16 @@ use Rattle.ve_kinds.specs.declared.kind.Kind.{Kind}
 use Rattle.ve_kinds.specs.declared.kind.Kind.TheVariants.{Root, P, H1, H2, H3, H4, H5, H6, Pre, Section, Li, Dt, Dd, Blockquote, Div, Td, Th, Caption, InternalItem, Ul, Ol, Dl, Table, Thead, Tbody, Tfoot, Tr, InternalList, TransBlock, AlienBlock, Br, Img, Ref, TransInline, AlienInline}
 use Rattle.ve_kinds.specs.Table.{kind_same}
 use Rattle.ve_kinds.specs.Table.{is_element, is_leaf, is_among, is_flow, is_content_branch, structural_kinds, may_hold}
-use Rattle.model_page.specs.Tags.{is_one_of, kind_of_tag, tag_of, annotation_tags, is_annotation_tag, is_inline_tag}
+use Rattle.ve_kinds.specs.Tags.{is_one_of, kind_of_tag, annotation_tags}
+use Rattle.model_page.specs.Tags.{tag_of, is_annotation_tag, is_inline_tag}
 use denote.Enum.Bare.{same_true}
 use Rattle.ve_kinds.specs.contracts.kind.Kind.{the_type}
 use Rattle.ve_base.specs.declared.marks.Mark.{Mark}
 use Rattle.model_spelling.specs.Grammar.{start_text}
 use Rattle.model_spelling.specs.Written.{canon_attrs}
 use Rattle.model_page.specs.Parts.{Ended}
-use Rattle.model_page.specs.Fit.{Content, Flow, Leaf, fit_of, is_inline_kind}
+use Rattle.model_page.specs.Fit.{Content, Flow, Leaf, fit_of}
+use Rattle.ve_kinds.specs.Table.{is_inline_leaf}
 use Rattle.model_page_write.specs.Nodes.{Start}
 use Rattle.model_page_write.specs.Written.{attr_bytes, leaf_text, Writer}
 use Rattle.model_page_law.proofs.EscapeLemmas.{same_bytes}
@@ -224,7 +226,7 @@ pub record LeafKind (k : Kind) : Type 0 where
   pub raw_is : is_raw (tag_of k) ≡ false
   pub content : (ms : List Mark) → fit_of (Content ms) (tag_of k) Ended ≡ Leaf k
   pub flow : (parent : Kind) → fit_of (Flow parent) (tag_of k) Ended ≡ Leaf k
-  pub inline : is_inline_kind k ≡ true
+  pub inline : is_inline_leaf k ≡ true
   pub text : (w : Writer) (s : Start) → leaf_text w s k ≡ start_text (tag_of k) (canon_attrs (map attr_bytes s.head.attrs)) false
 
 br-LeafKind : LeafKind Br

@@ -14,7 +14,8 @@ use Rattle.ve_base.specs.declared.head.Head.{Head}
 use Rattle.model_items.specs.declared.plain_item.PlainItem.TheVariants.{Opening, Closing}
 use Rattle.model_page.specs.Elements.{is_white_char, is_white}
 use Rattle.model_page.specs.Parts.{Parts, Ended, Words, Note, Group, Single, Parent, source_of}
-use Rattle.model_page.specs.Fit.{Around, Flow, Fit, Annotation, Leaf, Branch, Whole, around_in, fit_of, group_kind, note_kind, is_inline_kind}
+use Rattle.model_page.specs.Fit.{Around, Flow, Fit, Annotation, Leaf, Branch, Whole, around_in, fit_of, group_kind, note_kind}
+use Rattle.ve_kinds.specs.Table.{is_inline_leaf}
 use Rattle.model_page.specs.Heads.{characters, head_with, whole_head}
 use Rattle.model_page.specs.Pieces.{Span, Piece, Owner, Made, Place, past, span_at, no_piece, node, leaf, chars_piece, items_after, white_left, with_white, run_dropped, paragraph_before, run_ended, run_closed, in_run, before_run, leaf_before}
 use Rattle.model_page.specs.ReferenceNodes.{RefNode, ref_of}
@@ -237,7 +238,7 @@ Tiled-leaf_before : (w : Place) (kind : Kind) (head : Head) (marks : List Mark) 
     Following (w.at + length part) source later → Tiled w.at (part ++ source) (leaf_before w kind head marks part owners (later (past w part owners)))
 Tiled-leaf_before w kind head marks part source owners later f =
     let behind = past w part owners in
-    Tiled-chosen w.at (part ++ source) (is_inline_kind kind) _ _
+    Tiled-chosen w.at (part ++ source) (is_inline_leaf kind) _ _
     (Tiled-in_run w.at (leaf kind head marks (span_at w part)) part owners (later behind) source (f.tiled behind refl))
     (Tiled-before_run w part source kind head marks no_piece [] owners owners (later behind) Shaped-none (f.fine behind).run (f.tiled behind refl))
 

@@ -2,6 +2,7 @@
 //! law that is proved of every page and every list.
 #![tactic(auto)]
 
+ghost use Rattle.model_page_law.specs.Lawful.{BadPageHasFault, LimitedIsLawful, ReadIsLawful, ReadIsWithin, WithinIsRead};
 ghost use Rattle.model_page_law.specs.ReadBack.{FreshIsReadBack, FreshOpensAsItself};
 ghost use Rattle.model_page_law.specs.WritesFresh.{WritesFresh};
 ghost use Rattle.model_page_law.specs.WrittenBack.{FaultlessOpens, OpenedIsFaultless, OpenedIsWrittenBack, OpensAsItsForest, SpelledIsWrittenBack};
@@ -12,6 +13,16 @@ pub fn page_opens()
     ensures faultless { FaultlessOpens }
     ensures opened { OpenedIsFaultless }
     ensures forest { OpensAsItsForest }
+{}
+
+/// A page is read exactly where it opens within all limits, and then as a lawful list. One that is refused for its spelling is refused with its first fault.
+#[tactic(auto, using(crate::proofs::OpenPageLemmas::read_is_within, crate::proofs::OpenPageLemmas::read_is_lawful, crate::proofs::OpenPageLemmas::within_is_read, crate::proofs::OpenPageLemmas::bad_page_has_fault, crate::proofs::LawfulLemmas::limited_is_lawful))]
+pub fn page_is_read()
+    ensures within { ReadIsWithin }
+    ensures lawful { ReadIsLawful }
+    ensures complete { WithinIsRead }
+    ensures fault { BadPageHasFault }
+    ensures forest { LimitedIsLawful }
 {}
 
 /// A page that opens, and is written with the items that it has, is that page, byte for byte.
