@@ -1,8 +1,11 @@
 //! The flat list of a page: characters, openings and closings, one item each.
 #![tactic(auto)]
 
+mod block;
 mod items;
 mod linear;
+mod moves;
+mod stack;
 
 pub use items::Items;
 pub use linear::Linear;

@@ -1,0 +1,56 @@
+-- Pieces of a list put together, and a range taken out of a list's first block.
+use Rattle.std.proofs.Common.{◌≡◌, ◌+◌, ◌-◌, ◌<◌, ◌≤◌, ◌⊎◌, inl, inr, ℕ, List, [], ◌∷◌, ◌++◌, length, take, drop, min, refl, sym, ap, ◌∙◌, append_assoc, take-append-drop, arith}
+use Rattle.std.proofs.lemmas.List.{take-append-le, drop-append-le}
+use Rattle.std.proofs.lemmas.Bool.{cases_lt}
+use Rattle.std.proofs.Math.Seq.{take-add, drop-append-add, drop-length}
+use Rattle.ve_items.proofs.Blocks.{append_nothing}
+
+-- a list up to `done`, and the piece behind it up to `end`
+pub items_filled : {A : Type 0} (initial before new cleared block items : List A) (done end : ℕ) → before ≡ initial ++ take done items → cleared ≡ [] → block ≡ cleared ++ take (end - done) (drop done items) → new ≡ before ++ block → done ≤ end → new ≡ initial ++ take end items
+items_filled initial before new cleared block items done end h e b n le =
+    let goes : done + (end - done) ≡ end = omega arith in
+    n ∙ ap (λ l. before ++ l) (b ∙ ap (λ l. l ++ take (end - done) (drop done items)) e)
+    ∙ ap (λ l. l ++ take (end - done) (drop done items)) h
+    ∙ append_assoc initial (take done items) (take (end - done) (drop done items))
+    ∙ ap (λ l. initial ++ l) (sym (take-add done (end - done) items) ∙ ap (λ n. take n items) goes)
+
+-- a range that begins in a block and may run past it
+pub block_cut : {A : Type 0} (block rest : List A) (offset left end more : ℕ) → end ≡ offset + min (length block - offset) left → more ≡ left - (end - offset) → offset ≤ length block → take offset (block ++ rest) ++ drop (offset + left) (block ++ rest) ≡ (take offset block ++ drop end block) ++ drop more rest
+block_cut block rest offset left end more e m le =
+    let front = take-append-le offset block rest le in
+    elim (cases_lt (length block - offset) left) [
+      inl past ↦
+        let at_end : end ≡ length block = omega arith in
+        let goes : offset + left ≡ length block + more = omega arith in
+        let none : drop end block ≡ [] = ap (λ n. drop n block) at_end ∙ drop-length block in
+        ap (λ l. l ++ drop (offset + left) (block ++ rest)) front
+        ∙ ap (λ n. take offset block ++ drop n (block ++ rest)) goes
+        ∙ ap (λ l. take offset block ++ l) (drop-append-add block rest more)
+        ∙ ap (λ l. l ++ drop more rest) (sym (append_nothing (take offset block)) ∙ ap (λ l. take offset block ++ l) (sym none))
+    | inr within ↦
+        let here : offset + left ≡ end = omega arith in
+        let no_more : more ≡ 0 = omega arith in
+        let inside : end ≤ length block = omega arith in
+        ap (λ l. l ++ drop (offset + left) (block ++ rest)) front
+        ∙ ap (λ n. take offset block ++ drop n (block ++ rest)) here
+        ∙ ap (λ l. take offset block ++ l) (drop-append-le end block rest inside)
+        ∙ sym (append_assoc (take offset block) (drop end block) rest)
+        ∙ ap (λ n. (take offset block ++ drop end block) ++ drop n rest) (sym no_more)
+    ]
+
+-- one block's turn in taking a range out, where the block's rest goes to the front
+pub range_cut : {A : Type 0} (start before new block rest kept : List A) (old : List A) (offset left end more : ℕ) → start ≡ before ++ (take offset old ++ drop (offset + left) old) → old ≡ block ++ rest → kept ≡ take offset block ++ drop end block → new ≡ before ++ kept → end ≡ offset + min (length block - offset) left → more ≡ left - (end - offset) → offset ≤ length block → new ++ (take 0 rest ++ drop (0 + more) rest) ≡ start
+range_cut start before new block rest kept old offset left end more s o k n e m le =
+    let zero : 0 + more ≡ more = omega arith in
+    ap (λ n. new ++ drop n rest) zero
+    ∙ ap (λ l. l ++ drop more rest) (n ∙ ap (λ l. before ++ l) k)
+    ∙ append_assoc before (take offset block ++ drop end block) (drop more rest)
+    ∙ ap (λ l. before ++ l) (sym (block_cut block rest offset left end more e m le))
+    ∙ ap (λ l. before ++ (take offset l ++ drop (offset + left) l)) (sym o)
+    ∙ sym s
+
+-- where nothing is left to take out
+pub range_gone : {A : Type 0} (items : List A) (offset left : ℕ) → left ≡ 0 → take offset items ++ drop (offset + left) items ≡ items
+range_gone items offset left none =
+    let same : offset + left ≡ offset = omega arith in
+    ap (λ n. take offset items ++ drop n items) same ∙ take-append-drop offset items

@@ -1,0 +1,11 @@
+use Rattle.std.proofs.Common.{◌≡◌, ◌+◌, ◌<◌, ◌≤◌, ◌++◌, length, arith, rules, ap, ◌∙◌}
+use Rattle.ve_items.proofs.Blocks.{rule_grown, rule_pushed}
+use Rattle.ve_items.proofs.moves.put.Goals as goal
+
+pub returns-then-len-le-MOST-clause-rule : goal.returns-then-len-le-MOST-clause-rule
+returns-then-len-le-MOST-clause-rule c =
+    rule_grown _ _ _ _ _ c.args.block c.in-Some.ensures.blocks c.push-then-len-le-MOST.ensures.blocks (c.append.ensures ∙ ap (λ l. c.in-Some.last ++ l) (search rules)) c.requires.rule (search rules)
+
+pub returns-else-len-le-MOST-clause-rule : goal.returns-else-len-le-MOST-clause-rule
+returns-else-len-le-MOST-clause-rule c =
+    rule_pushed _ _ _ _ _ _ c.in-Some.ensures.blocks c.push-else-len-le-MOST.ensures.blocks c.push-else-len-le-MOST-2.ensures.blocks c.requires.rule c.requires.size (search rules)

@@ -1,0 +1,55 @@
+use Rattle.std.proofs.Common.{◌≡◌, ◌+◌, ◌-◌, ◌<◌, ◌≤◌, ◌++◌, [], ◌∷◌, length, min, take, drop, arith, rules, refl, sym, ap, ◌∙◌, length-append}
+use Rattle.ve_items.specs.Blocks.{joined}
+use Rattle.ve_items.specs.Stacked.{from_top, top}
+use Rattle.ve_items.proofs.Blocks.{from_top_was, top_was, sizes_below, behind_nothing}
+use Rattle.ve_items.proofs.Pieces.{range_cut, range_gone}
+use Rattle.ve_items.proofs.moves.take_out.Goals as goal
+
+pub returns-after-loop-left-clause-items : goal.returns-after-loop-left-clause-items
+returns-after-loop-left-clause-items c =
+    ap (λ l. joined c.loop-left.before.blocks ++ l) (sym (range_gone (from_top c.loop-left.after.blocks) c.loop-left.offset c.loop-left.left (omega arith)))
+    ∙ c.loop-left.invariant.items
+
+pub loop-left-preserved-then-len-gt0 : goal.loop-left-preserved-then-len-gt0
+loop-left-preserved-then-len-gt0 c =
+    let inv = c.loop-left.invariant in
+    let was = c.in-Some.ensures.blocks in
+    let first = c.in-Some.first in
+    let rest = from_top c.pop.new.self.blocks in
+    let old : from_top c.loop-left.after.blocks ≡ first ++ rest = from_top_was _ _ first was in
+    let on_top : length (top c.loop-left.after.blocks) ≡ length first = ap length (top_was _ _ first was) in
+    let all : length (from_top c.loop-left.after.blocks) ≡ length first + length rest = ap length old ∙ length-append first rest in
+    let popped : length c.loop-left.after.blocks ≡ length c.pop.new.self.blocks + 1 = ap length was ∙ length-append c.pop.new.self.blocks _ in
+    let step : c.min.result ≡ min (length first - c.loop-left.offset) c.loop-left.left = search rules in
+    record {
+      rule = c.put.ensures.rule;
+      sizes = sizes_below _ _ first was inv.sizes;
+      inside = omega arith;
+      within = omega arith;
+      items = range_cut _ _ _ first rest _ (from_top c.loop-left.after.blocks) c.loop-left.offset c.loop-left.left (c.loop-left.offset + c.min.result) _ (sym inv.items) old c.cut_out.ensures c.put.ensures.items (omega arith) refl (omega arith);
+      count = omega (arith, inv.count, c.put.ensures.count);
+      room_before = cc;
+      room_after = cc;
+    }
+
+pub loop-left-preserved : goal.loop-left-preserved
+loop-left-preserved c =
+    let inv = c.loop-left.invariant in
+    let was = c.in-Some.ensures.blocks in
+    let first = c.in-Some.first in
+    let rest = from_top c.pop.new.self.blocks in
+    let old : from_top c.loop-left.after.blocks ≡ first ++ rest = from_top_was _ _ first was in
+    let on_top : length (top c.loop-left.after.blocks) ≡ length first = ap length (top_was _ _ first was) in
+    let all : length (from_top c.loop-left.after.blocks) ≡ length first + length rest = ap length old ∙ length-append first rest in
+    let popped : length c.loop-left.after.blocks ≡ length c.pop.new.self.blocks + 1 = ap length was ∙ length-append c.pop.new.self.blocks _ in
+    let step : c.min.result ≡ min (length first - c.loop-left.offset) c.loop-left.left = search rules in
+    record {
+      rule = inv.rule;
+      sizes = sizes_below _ _ first was inv.sizes;
+      inside = omega arith;
+      within = omega arith;
+      items = range_cut _ _ _ first rest _ (from_top c.loop-left.after.blocks) c.loop-left.offset c.loop-left.left (c.loop-left.offset + c.min.result) _ (sym inv.items) old c.cut_out.ensures (behind_nothing _ _ (omega arith)) (omega arith) refl (omega arith);
+      count = omega (arith, inv.count);
+      room_before = inv.room_before;
+      room_after = cc;
+    }

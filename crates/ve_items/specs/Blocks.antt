@@ -1,0 +1,21 @@
+-- A list kept in blocks.
+use Rattle.std.specs.Prelude.{ℕ, ◌+◌, ◌-◌, ◌<◌, ◌≤◌, List, [], ◌∷◌, length, reverse, slice_index_or}
+use Rattle.std.specs.List.{flat_map}
+
+-- the blocks one after the other
+abbrev pub joined : {A : Type 0} → List (List A) → List A
+joined blocks = flat_map (λ block. block) blocks
+
+-- a block holds 1 to 512 items
+abbrev pub IsBlock : {A : Type 0} → List A → Type 0
+IsBlock block = (0 < length block) × (length block ≤ 512)
+
+-- a block and the one that follows it, where one follows, hold more than 512 items together
+abbrev pub IsApart : {A : Type 0} → List A → List (List A) → Type 0
+IsApart block [] = Unit {0}
+IsApart block (next ∷ _) = 512 < length block + length next
+
+-- each block keeps its size, and no two neighbours would fit into one
+abbrev pub AreBlocks : {A : Type 0} → List (List A) → Type 0
+AreBlocks [] = Unit {0}
+AreBlocks (block ∷ blocks) = IsBlock block × IsApart block blocks × AreBlocks blocks

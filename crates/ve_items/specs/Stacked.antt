@@ -1,0 +1,18 @@
+-- Blocks on a stack, the last one on top.
+use Rattle.std.specs.Prelude.{ℕ, ◌+◌, ◌-◌, ◌<◌, ◌≤◌, List, [], ◌∷◌, length, reverse, slice_index_or}
+use Rattle.model_items.specs.declared.item.Item.{Item}
+use Rattle.ve_items.specs.Blocks.{joined}
+
+-- what a stack is seen as
+pub record Pile : Type 0 where
+  pub blocks : List (List Item)
+  -- how many blocks it has room for
+  pub room : ℕ
+
+-- the items from the top block to the lowest
+abbrev pub from_top : {A : Type 0} → List (List A) → List A
+from_top blocks = joined (reverse blocks)
+
+-- the top block, or an empty one
+abbrev pub top : {A : Type 0} → List (List A) → List A
+top blocks = slice_index_or blocks (length blocks - 1) []

@@ -1,0 +1,86 @@
+// Blocks on a stack, in a table with room that was taken beforehand.
+ghost use Rattle.std.specs.Prelude.{◌≡◌, ◌≤◌, ◌<◌, ◌+◌, ◌++◌, ◌∷◌, [], Some, OnOk, OnErr, IsOk, length, slice_get, take, option_to_list};
+ghost use Rattle.ve_items.specs.Blocks.{joined};
+
+use crate::block::Block;
+use model_items::Item;
+use std::alloc::Global;
+use std::marker::Model;
+use ve_base::Memory;
+
+/// A stack of blocks, seen as the list of its blocks from the lowest to the top, and the number of
+/// blocks that it has room for.
+#[derive(Drop)]
+pub struct Stack {
+    blocks: Vec<Block>,
+    room: usize,
+}
+
+impl Model for Stack {
+    ghost use Rattle.std.specs.Prelude.{◌≤◌, vec_capacity};
+    ghost use Rattle.ve_items.specs.Stacked.{Pile};
+
+    ghost Value = { Pile };
+
+    ghost view = { λ s. record { blocks = s.blocks.items; room = s.room } };
+
+    ghost invariant = { λ s. s.room ≤ vec_capacity s.blocks };
+}
+
+impl Stack {
+    pub fn new(alloc: Global) -> Stack
+        ensures blocks { result.blocks ≡ [] }
+        ensures room { result.room ≡ 0 }
+    {
+        Stack {
+            blocks: Vec::new(alloc),
+            room: 0,
+        }
+    }
+
+    /// The number of blocks.
+    pub fn len(&self) -> usize
+        ensures { result ≡ length self.now.blocks }
+    {
+        self.blocks.len()
+    }
+
+    /// Lends the items of a block, counted from the lowest.
+    pub fn block(&self, k: usize) -> &[Item]
+        requires { k < length self.now.blocks }
+        ensures { slice_get self.now.blocks k ≡ Some result.now }
+    {
+        self.blocks[k].as_slice()
+    }
+
+    /// Takes room for so many blocks more. An `Err` changes nothing.
+    pub fn reserve(&mut self, more: usize) -> Result<(), Memory>
+        ensures blocks { self.new.blocks ≡ self.old.blocks }
+        ensures grows { self.old.room ≤ self.new.room }
+        ensures ok { OnOk result (length self.old.blocks + more ≤ self.new.room) }
+        ensures err { OnErr result (self.new ≡ self.old) }
+    {
+        self.blocks.reserve(more)?;
+        self.room = self.room.max(self.blocks.len() + more);
+        Ok(())
+    }
+
+    /// Puts a block on top. It takes no memory.
+    pub fn push(&mut self, block: Block)
+        requires { length self.old.blocks < self.old.room }
+        ensures blocks { self.new.blocks ≡ self.old.blocks ++ block ∷ [] }
+        ensures room { self.new.room ≡ self.old.room }
+    {
+        let pushed = self.blocks.push(block).is_ok();
+        prove!(pushed);
+    }
+
+    /// Takes the top block off, where there is one.
+    pub fn pop(&mut self) -> Option<Block>
+        ensures blocks { self.old.blocks ≡ self.new.blocks ++ option_to_list result }
+        ensures none { result ≡ None → self.old.blocks ≡ [] }
+        ensures room { self.new.room ≡ self.old.room }
+    {
+        self.blocks.pop()
+    }
+}
