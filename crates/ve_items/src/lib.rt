@@ -6,6 +6,7 @@ mod items;
 mod linear;
 mod moves;
 mod stack;
+mod table;
 
 pub use items::Items;
 pub use linear::Linear;

@@ -1,5 +1,5 @@
 // Blocks on a stack, in a table with room that was taken beforehand.
-ghost use Rattle.std.specs.Prelude.{◌≡◌, ◌≤◌, ◌<◌, ◌+◌, ◌++◌, ◌∷◌, [], Some, OnOk, OnErr, IsOk, length, slice_get, take, option_to_list};
+ghost use Rattle.std.specs.Prelude.{◌≡◌, ◌≤◌, ◌<◌, ◌+◌, ◌++◌, ◌∷◌, [], Some, OnOk, OnErr, IsOk, length, max, slice_get, option_to_list};
 ghost use Rattle.ve_items.specs.Blocks.{joined};
 
 use crate::block::Block;
@@ -56,8 +56,7 @@ impl Stack {
     /// Takes room for so many blocks more. An `Err` changes nothing.
     pub fn reserve(&mut self, more: usize) -> Result<(), Memory>
         ensures blocks { self.new.blocks ≡ self.old.blocks }
-        ensures grows { self.old.room ≤ self.new.room }
-        ensures ok { OnOk result (length self.old.blocks + more ≤ self.new.room) }
+        ensures ok { OnOk result (self.new.room ≡ max self.old.room (length self.old.blocks + more)) }
         ensures err { OnErr result (self.new ≡ self.old) }
     {
         self.blocks.reserve(more)?;
