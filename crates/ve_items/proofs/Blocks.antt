@@ -88,3 +88,16 @@ sizes_below old rest block was each =
 pub behind_nothing : {A : Type 0} (front back : List A) → length back ≤ 0 → front ≡ front ++ back
 behind_nothing front [] none = sym (append_nothing front)
 behind_nothing front (x ∷ back) none = absurd (omega (arith, none))
+
+-- a block put behind the others from the top of the stack
+pub items_put : {A : Type 0} (before new old rest : List (List A)) (block : List A) → old ≡ rest ++ block ∷ [] → joined new ≡ joined before ++ block → joined new ++ from_top rest ≡ joined before ++ from_top old
+items_put before new old rest block was put =
+    ap (λ l. l ++ from_top rest) put
+    ∙ append_assoc (joined before) block (from_top rest)
+    ∙ ap (λ l. joined before ++ l) (sym (from_top_was old rest block was))
+
+pub length_both : {A : Type 0} (before old rest : List (List A)) (block : List A) → old ≡ rest ++ block ∷ [] → length (joined before ++ from_top old) ≡ length (joined before) + length block + length (from_top rest)
+length_both before old rest block was =
+    let e = length-append (joined before) (from_top old) in
+    let f : length (from_top old) ≡ length block + length (from_top rest) = ap length (from_top_was old rest block was) ∙ length-append block (from_top rest) in
+    omega arith

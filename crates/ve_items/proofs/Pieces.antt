@@ -1,8 +1,8 @@
 -- Pieces of a list put together, and a range taken out of a list's first block.
-use Rattle.std.proofs.Common.{◌≡◌, ◌+◌, ◌-◌, ◌<◌, ◌≤◌, ◌⊎◌, inl, inr, ℕ, List, [], ◌∷◌, ◌++◌, length, take, drop, min, refl, sym, ap, ◌∙◌, append_assoc, take-append-drop, arith}
+use Rattle.std.proofs.Common.{◌≡◌, ◌+◌, ◌-◌, ◌<◌, ◌≤◌, ◌⊎◌, inl, inr, ℕ, List, [], ◌∷◌, ◌++◌, length, take, drop, min, refl, sym, ap, ◌∙◌, append_assoc, take-append-drop, arith, length-append, length-drop, length-take}
 use Rattle.std.proofs.lemmas.List.{take-append-le, drop-append-le}
 use Rattle.std.proofs.lemmas.Bool.{cases_lt}
-use Rattle.std.proofs.Math.Seq.{take-add, drop-append-add, drop-length}
+use Rattle.std.proofs.Math.Seq.{take-add, take-append-add, drop-append-add, drop-length}
 use Rattle.ve_items.proofs.Blocks.{append_nothing}
 
 -- a list up to `done`, and the piece behind it up to `end`
@@ -54,3 +54,20 @@ pub range_gone : {A : Type 0} (items : List A) (offset left : ℕ) → left ≡ 
 range_gone items offset left none =
     let same : offset + left ≡ offset = omega arith in
     ap (λ n. take offset items ++ drop n items) same ∙ take-append-drop offset items
+
+pub cut_shorter : {A : Type 0} (block : List A) (from to : ℕ) → from ≤ to → length (take from block ++ drop to block) ≤ length block
+cut_shorter block from to le = omega (arith, length-append (take from block) (drop to block), length-drop to block, length-take from block)
+
+-- two parts of a list, by the length of the first
+pub part_front : {A : Type 0} (list front back : List A) (offset at : ℕ) → front ++ back ≡ list → length front + offset ≡ at → front ++ take offset back ≡ take at list
+part_front list front back offset at e n =
+    sym (ap (λ l. take at l) (sym e) ∙ ap (λ k. take k (front ++ back)) (sym n) ∙ take-append-add front back offset)
+
+pub part_back : {A : Type 0} (list front back : List A) (offset more at : ℕ) → front ++ back ≡ list → length front + offset ≡ at → drop (offset + more) back ≡ drop (at + more) list
+part_back list front back offset more at e n =
+    let goes : at + more ≡ length front + (offset + more) = omega arith in
+    sym (ap (λ l. drop (at + more) l) (sym e) ∙ ap (λ k. drop k (front ++ back)) goes ∙ drop-append-add front back (offset + more))
+
+pub part_rest : {A : Type 0} (list front back : List A) (offset at : ℕ) → front ++ back ≡ list → length front + offset ≡ at → drop offset back ≡ drop at list
+part_rest list front back offset at e n =
+    sym (ap (λ l. drop at l) (sym e) ∙ ap (λ k. drop k (front ++ back)) (sym n) ∙ drop-append-add front back offset)

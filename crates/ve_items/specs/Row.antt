@@ -6,3 +6,5 @@ pub record Row : Type 0 where
   pub items : List Item
   -- how many more fit without memory
   pub spare : ℕ
+  -- the same items, in the pieces in which they are lent
+  pub blocks : List (List Item)

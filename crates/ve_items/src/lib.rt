@@ -2,6 +2,7 @@
 #![tactic(auto)]
 
 mod block;
+mod edit;
 mod items;
 mod linear;
 mod moves;

@@ -1,38 +1,45 @@
-// The list of a page, and how many items fit without memory.
-ghost use Rattle.std.specs.Prelude.{◌≡◌, ◌≤◌, ◌<◌, ◌+◌, ◌-◌, ◌↔◌, [], Some, OnOk, OnErr, IsOk, IfOk, IsTrue, length, slice_get, slice_range};
-ghost use Rattle.ve_items.specs.Substitution.{spliced, moved_back};
+// The list of a page, kept in blocks.
+ghost use Rattle.std.specs.Prelude.{◌≡◌, ◌≤◌, ◌<◌, ◌+◌, ◌↔◌, [], Some, OnOk, OnErr, IsOk, IfOk, IsTrue, length, slice_get, slice_range};
+ghost use Rattle.ve_items.specs.Blocks.{joined, AreBlocks};
+ghost use Rattle.ve_items.specs.Substitution.{spliced};
 
 use crate::Items;
+use crate::block::Block;
+use crate::edit::{insert, remove};
+use crate::stack::Stack;
+use crate::table::Table;
 use model_items::Item;
 use std::alloc::Global;
 use std::marker::Model;
 use ve_base::Memory;
 
-/// The items of a page in their order, seen as their list and a number, `spare`: that many items
-/// go into a splice without memory being taken. Places and lengths count items.
+/// The items of a page in their order, seen as their list, the blocks in which they are kept, and a
+/// number, `spare`: a splice of that many items takes no memory. Places and lengths count items.
+///
+/// A block holds 1 to 512 items, and two neighbours hold more than 512 together. So a splice moves
+/// the items of the blocks that it touches and the table of blocks, and no others.
 #[derive(Drop)]
 pub struct Linear {
-    list: Vec<Item>,
+    table: Table,
+    // empty blocks' room while a splice sets the blocks behind its place aside
+    aside: Stack,
+    // blocks with memory for what splices put in
+    pool: Vec<Block>,
+    spare: usize,
+    alloc: Global,
 }
 
 impl Model for Linear {
-    ghost use Rattle.std.specs.Prelude.{vec_len, vec_capacity, ◌-◌};
+    ghost use Rattle.std.specs.Prelude.{vec_len};
+    ghost use Rattle.ve_items.specs.Blocks.{joined};
+    ghost use Rattle.ve_items.specs.Room.{IsReady};
     ghost use Rattle.ve_items.specs.Row.{Row};
 
     ghost Value = { Row };
 
-    ghost view = { λ l. record { items = l.list.items; spare = vec_capacity l.list - vec_len l.list } };
-}
+    ghost view = { λ l. record { items = joined l.table.blocks; spare = l.spare; blocks = l.table.blocks } };
 
-/// Brings what stands from `len` on to the place of a range, and the range to the end.
-fn exchange(list: &mut [Item], at: usize, removed: usize, len: usize)
-    requires range { at + removed ≤ len }
-    requires within { len ≤ length list.old }
-    ensures { list.new ≡ moved_back (moved_back list.old at (len - at)) (at + (length list.old - len)) removed }
-{
-    let many = list.len() - len;
-    list[at..].rotate_left(len - at);
-    list[at + many..].rotate_left(removed);
+    ghost invariant = { λ l. IsReady l.table l.aside (vec_len l.pool) l.spare };
 }
 
 impl Linear {
@@ -41,7 +48,11 @@ impl Linear {
         ensures { result.items ≡ [] }
     {
         Linear {
-            list: Vec::new(alloc),
+            table: Table::new(alloc),
+            aside: Stack::new(alloc),
+            pool: Vec::new(alloc),
+            spare: 0,
+            alloc,
         }
     }
 
@@ -49,22 +60,40 @@ impl Linear {
     pub fn len(&self) -> usize
         ensures { result ≡ length self.now.items }
     {
-        self.list.len()
+        self.table.items()
     }
 
     /// Whether it has no item.
     pub fn is_empty(&self) -> bool
         ensures { IsTrue result ↔ (self.now.items ≡ []) }
     {
-        self.list.is_empty()
+        self.len() == 0
     }
 
-    /// The item at a place.
+    /// The number of blocks. The blocks one after the other are the list.
+    pub fn blocks(&self) -> usize
+        ensures count { result ≡ length self.now.blocks }
+        ensures items { joined self.now.blocks ≡ self.now.items }
+        ensures rule { AreBlocks self.now.blocks }
+    {
+        self.table.len()
+    }
+
+    /// Lends a block, counted from the front.
+    pub fn block(&self, k: usize) -> &[Item]
+        requires { k < length self.now.blocks }
+        ensures { slice_get self.now.blocks k ≡ Some result.now }
+    {
+        self.table.block(k)
+    }
+
+    /// The item at a place. It is found by a search over the ends of the blocks.
     pub fn get(&self, at: usize) -> Item
         requires { at < length self.now.items }
         ensures { slice_get self.now.items at ≡ Some result }
     {
-        self.list[at]
+        let (k, offset) = self.table.find(at);
+        self.table.block(k)[offset]
     }
 
     /// A copy of the items from one place up to another.
@@ -74,7 +103,14 @@ impl Linear {
         ensures { IfOk result (λ copy. copy ≡ slice_range self.now.items from to) }
     {
         let mut copy = Items::new(alloc);
-        copy.extend(&self.list[from..to])?;
+        let mut at = from;
+        while at < to {
+            let (k, offset) = self.table.find(at);
+            let block = self.table.block(k);
+            let end = offset + (block.len() - offset).min(to - at);
+            copy.extend(&block[offset..end])?;
+            at += end - offset;
+        }
         Ok(copy)
     }
 
@@ -82,34 +118,52 @@ impl Linear {
     pub fn copy(&self, alloc: Global) -> Result<Linear, Memory>
         ensures { IfOk result (λ copy. copy.items ≡ self.now.items) }
     {
-        Ok(Linear {
-            list: Vec::from_slice(alloc, self.list.as_slice())?,
-        })
+        let mut copy = Linear::new(alloc);
+        for k in 0..self.table.len() {
+            let end = copy.len();
+            copy.splice(end, 0, self.table.block(k))?;
+        }
+        Ok(copy)
     }
 
-    /// Takes the memory that a splice of so many items may need. An `Err` changes nothing.
+    /// Takes the memory that one splice of so many items may need: room in the table of blocks and
+    /// empty blocks. An `Err` changes nothing.
     pub fn reserve(&mut self, more: usize) -> Result<(), Memory>
         ensures items { self.new.items ≡ self.old.items }
+        ensures blocks { self.new.blocks ≡ self.old.blocks }
         ensures ok { OnOk result (more ≤ self.new.spare) }
         ensures err { OnErr result (self.new ≡ self.old) }
     {
-        self.list.reserve(more)?;
+        if more <= self.spare {
+            return Ok(());
+        }
+        if more > usize::MAX - self.table.items() {
+            return Err(Memory);
+        }
+        let blocks = more / 512 + 2;
+        self.table.reserve(blocks)?;
+        self.aside.reserve(self.table.len() + blocks)?;
+        while self.pool.len() < blocks {
+            self.pool.push(Block::new(self.alloc)?)?;
+        }
+        self.spare = more;
         Ok(())
     }
 
     /// Puts items in the place of the `removed` items from `at` on. It succeeds where `spare` has
-    /// room for them. An `Err` changes nothing.
+    /// room for them, and uses `spare` up. An `Err` changes nothing.
     pub fn splice(&mut self, at: usize, removed: usize, items: &[Item]) -> Result<(), Memory>
         requires { at + removed ≤ length self.old.items }
         ensures ok { OnOk result (self.new.items ≡ spliced self.old.items at removed items.now) }
         ensures err { OnErr result (self.new ≡ self.old) }
         ensures fits { length items.now ≤ self.old.spare → IsOk result }
     {
-        let len = self.list.len();
-        self.list.reserve(items.len())?;
-        self.list.extend_from_slice(items)?;
-        exchange(&mut self.list, at, removed, len);
-        self.list.truncate(len - removed + items.len());
+        self.reserve(items.len())?;
+        remove(&mut self.table, &mut self.aside, at, removed);
+        if !items.is_empty() {
+            insert(&mut self.table, &mut self.aside, &mut self.pool, at, items);
+        }
+        self.spare = 0;
         Ok(())
     }
 }

@@ -1,18 +1,20 @@
 // How blocks move between the stack before a place and the stack after it, whose top is nearest.
-ghost use Rattle.std.specs.Prelude.{◌≡◌, ◌≤◌, ◌<◌, ◌+◌, ◌/◌, ◌++◌, ◌∷◌, [], length, take, drop, vec_len};
+ghost use Rattle.std.specs.Prelude.{◌≡◌, ◌≤◌, ◌<◌, ◌+◌, ◌/◌, ◌^◌, ◌++◌, ◌∷◌, [], length, take, drop, vec_len};
 ghost use Rattle.std.specs.List.{All};
 ghost use Rattle.ve_items.specs.Blocks.{joined, IsBlock, AreBlocks};
 ghost use Rattle.ve_items.specs.Stacked.{from_top, top};
 
 use crate::block::{Block, MOST};
 use crate::stack::Stack;
+use crate::table::Table;
 use model_items::Item;
 
 /// Puts a block behind those before the place: into the last one where both fit into one.
-pub fn put(before: &mut Stack, block: Block)
+pub fn put(before: &mut Table, block: Block)
     requires rule { AreBlocks before.old.blocks }
     requires size { IsBlock block }
     requires room { length before.old.blocks < before.old.room }
+    requires fits { length (joined before.old.blocks) + length block < 2 ^ 64 }
     ensures rule { AreBlocks before.new.blocks }
     ensures items { joined before.new.blocks ≡ joined before.old.blocks ++ block }
     ensures count { length before.new.blocks ≤ length before.old.blocks + 1 }
@@ -33,12 +35,11 @@ pub fn put(before: &mut Stack, block: Block)
 
 /// Moves blocks from before the place to after it, until at most `at` items stand before it. Gives
 /// how many of the first block after it stand before `at`.
-pub fn open(before: &mut Stack, after: &mut Stack, at: usize, len: usize) -> usize
+pub fn open(before: &mut Table, after: &mut Stack, at: usize) -> usize
     requires rule { AreBlocks before.old.blocks }
     requires closed { after.old.blocks ≡ [] }
     requires room { length before.old.blocks ≤ after.old.room }
-    requires len { len ≡ length (joined before.old.blocks) }
-    requires within { at ≤ len }
+    requires within { at ≤ length (joined before.old.blocks) }
     ensures rule { AreBlocks before.new.blocks }
     ensures sizes { All IsBlock after.new.blocks }
     ensures items { joined before.new.blocks ++ from_top after.new.blocks ≡ joined before.old.blocks }
@@ -48,22 +49,21 @@ pub fn open(before: &mut Stack, after: &mut Stack, at: usize, len: usize) -> usi
     ensures room_before { before.new.room ≡ before.old.room }
     ensures room_after { after.new.room ≡ after.old.room }
 {
-    let mut start = len;
-    while start > at {
+    while before.items() > at {
         let Some(block) = before.pop() else {
             break;
         };
-        start -= block.len();
         after.push(block);
     }
-    at - start
+    at - before.items()
 }
 
 /// Puts the blocks after the place behind those before it.
-pub fn close(before: &mut Stack, after: &mut Stack)
+pub fn close(before: &mut Table, after: &mut Stack)
     requires rule { AreBlocks before.old.blocks }
     requires sizes { All IsBlock after.old.blocks }
     requires room { length before.old.blocks + length after.old.blocks ≤ before.old.room }
+    requires fits { length (joined before.old.blocks) + length (from_top after.old.blocks) < 2 ^ 64 }
     ensures rule { AreBlocks before.new.blocks }
     ensures closed { after.new.blocks ≡ [] }
     ensures items { joined before.new.blocks ≡ joined before.old.blocks ++ from_top after.old.blocks }
@@ -77,13 +77,14 @@ pub fn close(before: &mut Stack, after: &mut Stack)
 }
 
 /// Cuts the first block after the place, so that its first items stand before the place.
-pub fn cut(before: &mut Stack, after: &mut Stack, pool: &mut Vec<Block>, offset: usize)
+pub fn cut(before: &mut Table, after: &mut Stack, pool: &mut Vec<Block>, offset: usize)
     requires rule { AreBlocks before.old.blocks }
     requires sizes { All IsBlock after.old.blocks }
     requires inside { offset ≤ length (top after.old.blocks) }
     requires room { length before.old.blocks < before.old.room }
     requires room_after { length after.old.blocks ≤ after.old.room }
     requires pool { 0 < vec_len pool.old }
+    requires fits { length (joined before.old.blocks) + length (from_top after.old.blocks) < 2 ^ 64 }
     ensures rule { AreBlocks before.new.blocks }
     ensures sizes { All IsBlock after.new.blocks }
     ensures items_before { joined before.new.blocks ≡ joined before.old.blocks ++ take offset (from_top after.old.blocks) }
@@ -113,10 +114,11 @@ pub fn cut(before: &mut Stack, after: &mut Stack, pool: &mut Vec<Block>, offset:
 }
 
 /// Puts items behind those before the place, in blocks of the pool.
-pub fn fill(before: &mut Stack, pool: &mut Vec<Block>, items: &[Item])
+pub fn fill(before: &mut Table, pool: &mut Vec<Block>, items: &[Item])
     requires rule { AreBlocks before.old.blocks }
     requires room { length before.old.blocks + (length items.now + 511) / 512 ≤ before.old.room }
     requires pool { (length items.now + 511) / 512 ≤ vec_len pool.old }
+    requires fits { length (joined before.old.blocks) + length items.now < 2 ^ 64 }
     ensures rule { AreBlocks before.new.blocks }
     ensures items { joined before.new.blocks ≡ joined before.old.blocks ++ items.now }
     ensures count { length before.new.blocks ≤ length before.old.blocks + (length items.now + 511) / 512 }
@@ -137,12 +139,13 @@ pub fn fill(before: &mut Stack, pool: &mut Vec<Block>, items: &[Item])
 
 /// Takes items out that begin `offset` items after the place. What stands before them in the first
 /// block stands before the place then.
-pub fn take_out(before: &mut Stack, after: &mut Stack, offset: usize, removed: usize)
+pub fn take_out(before: &mut Table, after: &mut Stack, offset: usize, removed: usize)
     requires rule { AreBlocks before.old.blocks }
     requires sizes { All IsBlock after.old.blocks }
     requires inside { offset ≤ length (top after.old.blocks) }
     requires within { offset + removed ≤ length (from_top after.old.blocks) }
     requires room { length before.old.blocks + length after.old.blocks ≤ before.old.room }
+    requires fits { length (joined before.old.blocks) + length (from_top after.old.blocks) < 2 ^ 64 }
     ensures rule { AreBlocks before.new.blocks }
     ensures sizes { All IsBlock after.new.blocks }
     ensures items { joined before.new.blocks ++ from_top after.new.blocks ≡ joined before.old.blocks ++ (take offset (from_top after.old.blocks) ++ drop (offset + removed) (from_top after.old.blocks)) }

@@ -1,4 +1,4 @@
-use Rattle.std.proofs.Common.{◌≡◌, ◌+◌, ◌<◌, ◌≤◌, ◌++◌, length, take, drop}
+use Rattle.std.proofs.Common.{◌≡◌, ◌+◌, ◌^◌, ◌<◌, ◌≤◌, ◌++◌, length, take, drop}
 use Rattle.std.specs.List.{All}
 use Rattle.ve_items.specs.Blocks.{joined, IsBlock, AreBlocks}
 use Rattle.ve_items.specs.Stacked.{from_top, top}
@@ -11,6 +11,7 @@ invariant-loop-left l = record {
   inside : l.offset ≤ length (top l.after.blocks);
   within : l.offset + l.left ≤ length (from_top l.after.blocks);
   items : joined l.before.blocks ++ (take l.offset (from_top l.after.blocks) ++ drop (l.offset + l.left) (from_top l.after.blocks)) ≡ joined l.initial.before.blocks ++ (take l.initial.offset (from_top l.initial.after.blocks) ++ drop (l.initial.offset + l.initial.left) (from_top l.initial.after.blocks));
+  fits : length (joined l.before.blocks) + length (from_top l.after.blocks) < 2 ^ 64;
   count : length l.before.blocks + length l.after.blocks ≤ length l.initial.before.blocks + length l.initial.after.blocks;
   room_before : l.before.room ≡ l.initial.before.room;
   room_after : l.after.room ≡ l.initial.after.room;
