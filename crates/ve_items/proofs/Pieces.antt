@@ -1,8 +1,9 @@
 -- Pieces of a list put together, and a range taken out of a list's first block.
 use Rattle.std.proofs.Common.{◌≡◌, ◌+◌, ◌-◌, ◌<◌, ◌≤◌, ◌⊎◌, inl, inr, ℕ, List, [], ◌∷◌, ◌++◌, length, take, drop, min, refl, sym, ap, ◌∙◌, append_assoc, take-append-drop, arith, length-append, length-drop, length-take}
-use Rattle.std.proofs.lemmas.List.{take-append-le, drop-append-le}
+use Rattle.std.proofs.lemmas.List.{take-append-le, drop-append-le, take_all}
 use Rattle.std.proofs.lemmas.Bool.{cases_lt}
 use Rattle.std.proofs.Math.Seq.{take-add, take-append-add, drop-append-add, drop-length}
+use Rattle.ve_items.specs.Substitution.{spliced}
 use Rattle.ve_items.proofs.Blocks.{append_nothing}
 
 -- a list up to `done`, and the piece behind it up to `end`
@@ -71,3 +72,11 @@ part_back list front back offset more at e n =
 pub part_rest : {A : Type 0} (list front back : List A) (offset at : ℕ) → front ++ back ≡ list → length front + offset ≡ at → drop offset back ≡ drop at list
 part_rest list front back offset at e n =
     sym (ap (λ l. drop at l) (sym e) ∙ ap (λ k. drop k (front ++ back)) (sym n) ∙ drop-append-add front back offset)
+
+-- a splice at the end appends
+pub spliced_end : {A : Type 0} (list items : List A) (end : ℕ) → end ≡ length list → spliced list end 0 items ≡ list ++ items
+spliced_end list items end e =
+    let none : drop (end + 0) list ≡ [] = ap (λ n. drop n list) (omega arith) ∙ drop-length list in
+    ap (λ l. take end list ++ items ++ l) none
+    ∙ append_nothing (take end list ++ items)
+    ∙ ap (λ l. l ++ items) (take_all end list (omega arith))

@@ -1,5 +1,5 @@
 // One block of a list: a short run of items in memory that it has taken beforehand.
-ghost use Rattle.std.specs.Prelude.{◌≡◌, ◌≤◌, ◌+◌, ◌++◌, [], IfOk, length, take, drop};
+ghost use Rattle.std.specs.Prelude.{◌≡◌, ◌≤◌, ◌+◌, ◌++◌, [], IfOk, OnOk, length, take, drop, vec_len};
 
 use model_items::Item;
 use std::alloc::Global;
@@ -80,4 +80,15 @@ impl Block {
         self.items[from..].rotate_left(to - from);
         self.items.truncate(len - (to - from));
     }
+}
+
+/// Takes memory until a pool has so many blocks. The blocks that it gets stay, whatever the result.
+pub fn stock(pool: &mut Vec<Block>, alloc: Global, blocks: usize) -> Result<(), Memory>
+    ensures keeps { vec_len pool.old ≤ vec_len pool.new }
+    ensures ok { OnOk result (blocks ≤ vec_len pool.new) }
+{
+    while pool.len() < blocks {
+        pool.push(Block::new(alloc)?)?;
+    }
+    Ok(())
 }

@@ -4,7 +4,7 @@ ghost use Rattle.ve_items.specs.Blocks.{joined, AreBlocks};
 ghost use Rattle.ve_items.specs.Substitution.{spliced};
 
 use crate::Items;
-use crate::block::Block;
+use crate::block::{Block, stock};
 use crate::edit::{insert, remove};
 use crate::stack::Stack;
 use crate::table::Table;
@@ -133,6 +133,7 @@ impl Linear {
         ensures blocks { self.new.blocks ≡ self.old.blocks }
         ensures ok { OnOk result (more ≤ self.new.spare) }
         ensures err { OnErr result (self.new ≡ self.old) }
+        ensures fits { more ≤ self.old.spare → IsOk result }
     {
         if more <= self.spare {
             return Ok(());
@@ -143,9 +144,7 @@ impl Linear {
         let blocks = more / 512 + 2;
         self.table.reserve(blocks)?;
         self.aside.reserve(self.table.len() + blocks)?;
-        while self.pool.len() < blocks {
-            self.pool.push(Block::new(self.alloc)?)?;
-        }
+        stock(&mut self.pool, self.alloc, blocks)?;
         self.spare = more;
         Ok(())
     }

@@ -1,5 +1,5 @@
 // Blocks on a stack, in a table with room that was taken beforehand.
-ghost use Rattle.std.specs.Prelude.{◌≡◌, ◌≤◌, ◌<◌, ◌+◌, ◌++◌, ◌∷◌, [], Some, OnOk, OnErr, IsOk, length, max, slice_get, option_to_list};
+ghost use Rattle.std.specs.Prelude.{◌≡◌, ◌≤◌, ◌<◌, ◌+◌, ◌^◌, ◌++◌, ◌∷◌, [], Some, OnOk, OnErr, IsOk, length, max, slice_get, option_to_list};
 ghost use Rattle.ve_items.specs.Blocks.{joined};
 
 use crate::block::Block;
@@ -40,7 +40,8 @@ impl Stack {
 
     /// The number of blocks.
     pub fn len(&self) -> usize
-        ensures { result ≡ length self.now.blocks }
+        ensures count { result ≡ length self.now.blocks }
+        ensures small { result < 2 ^ 63 }
     {
         self.blocks.len()
     }

@@ -43,7 +43,8 @@ impl Table {
 
     /// The number of blocks.
     pub fn len(&self) -> usize
-        ensures { result ≡ length self.now.blocks }
+        ensures count { result ≡ length self.now.blocks }
+        ensures small { result < 2 ^ 63 }
     {
         self.stack.len()
     }

@@ -1,0 +1,64 @@
+-- A place in a list, and the same place in one of its blocks.
+use Rattle.std.proofs.Common.{◌≡◌, ◌+◌, ◌-◌, ◌<◌, ◌≤◌, ℕ, List, [], ◌∷◌, ◌++◌, Some, length, take, drop, get_or, refl, sym, ap, ◌∙◌, append_assoc, take-append-drop, arith, length-append, length-drop}
+use Rattle.std.specs.List.{slice_get}
+use Rattle.std.proofs.lemmas.List.{drop_more, drop-drop, take-append-le, drop-append-le, get_or_append_left, get_or-append-add}
+use Rattle.std.proofs.lemmas.Option.{get_or_from_slice_get, slice_get-get_or}
+use Rattle.std.proofs.Math.Seq.{take-add, drop-append-add}
+use Rattle.ve_items.specs.Blocks.{joined}
+use Rattle.ve_items.specs.Ends.{StandsAt}
+use Rattle.ve_items.proofs.Blocks.{joined_append}
+
+-- the blocks before one, that one, and the blocks behind it
+joined_around : {A : Type 0} (blocks : List (List A)) (block : List A) (k : ℕ) → k < length blocks → slice_get blocks k ≡ Some block → joined blocks ≡ joined (take k blocks) ++ (block ++ joined (drop (k + 1) blocks))
+joined_around blocks block k lt is =
+    ap joined (sym (take-append-drop k blocks))
+    ∙ joined_append (take k blocks) (drop k blocks)
+    ∙ ap (λ l. joined (take k blocks) ++ joined l) (drop_more blocks k [] lt)
+    ∙ ap (λ l. joined (take k blocks) ++ (l ++ joined (drop (k + 1) blocks))) (get_or_from_slice_get blocks k block [] is)
+
+pub inside_block : {A : Type 0} (blocks : List (List A)) (block : List A) (at k offset : ℕ) → StandsAt blocks at k offset → slice_get blocks k ≡ Some block → offset < length block
+inside_block blocks block at k offset h is =
+    let same : length (get_or blocks k []) ≡ length block = ap length (get_or_from_slice_get blocks k block [] is) in
+    let within = h.inside in
+    omega arith
+
+pub item_at : {A : Type 0} (blocks : List (List A)) (block : List A) (at k offset : ℕ) (d : A) → StandsAt blocks at k offset → slice_get blocks k ≡ Some block → slice_get (joined blocks) at ≡ Some (get_or block offset d)
+item_at blocks block at k offset d h is =
+    let before = joined (take k blocks) in
+    let behind = joined (drop (k + 1) blocks) in
+    let around = joined_around blocks block k h.among is in
+    let within = inside_block blocks block at k offset h is in
+    let place = h.place in
+    let sizes = length-append before (block ++ behind) in
+    let size = length-append block behind in
+    let all : length (joined blocks) ≡ length (before ++ (block ++ behind)) = ap length around in
+    slice_get-get_or (joined blocks) at d (omega arith)
+    ∙ ap Some (ap (λ l. get_or l at d) around
+      ∙ ap (λ n. get_or (before ++ (block ++ behind)) n d) (sym place)
+      ∙ get_or-append-add before (block ++ behind) offset d
+      ∙ get_or_append_left block behind d offset within)
+
+-- a range that ends within the block in which it begins
+pub range_at : {A : Type 0} (blocks : List (List A)) (block : List A) (at k offset many : ℕ) → StandsAt blocks at k offset → slice_get blocks k ≡ Some block → offset + many ≤ length block → take many (drop offset block) ≡ take many (drop at (joined blocks))
+range_at blocks block at k offset many h is le =
+    let before = joined (take k blocks) in
+    let behind = joined (drop (k + 1) blocks) in
+    let around = joined_around blocks block k h.among is in
+    let rest = length-drop offset block in
+    let dropped : drop at (joined blocks) ≡ drop offset block ++ behind =
+      ap (λ l. drop at l) around
+      ∙ ap (λ n. drop n (before ++ (block ++ behind))) (sym h.place)
+      ∙ drop-append-add before (block ++ behind) offset
+      ∙ drop-append-le offset block behind (omega arith) in
+    sym (ap (λ l. take many l) dropped ∙ take-append-le many (drop offset block) behind (omega arith))
+
+-- a copy of a range that grows by a piece
+pub range_more : {A : Type 0} (items copy grown piece : List A) (from at many : ℕ) → from ≤ at → copy ≡ take (at - from) (drop from items) → grown ≡ copy ++ piece → piece ≡ take many (drop at items) → grown ≡ take (at + many - from) (drop from items)
+range_more items copy grown piece from at many le c g p =
+    let goes : from + (at - from) ≡ at = omega arith in
+    let more : at - from + many ≡ at + many - from = omega arith in
+    g ∙ ap (λ l. copy ++ l) p ∙ ap (λ l. l ++ take many (drop at items)) c
+    ∙ ap (λ n. take (at - from) (drop from items) ++ take many (drop n items)) (sym goes)
+    ∙ ap (λ l. take (at - from) (drop from items) ++ take many l) (sym (drop-drop (at - from) from items))
+    ∙ sym (take-add (at - from) many (drop from items))
+    ∙ ap (λ n. take n (drop from items)) more
