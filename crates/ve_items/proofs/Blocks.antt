@@ -1,10 +1,10 @@
 -- Blocks one after the other, and stacks of them.
-use Rattle.std.proofs.Common.{◌≡◌, ◌+◌, ◌-◌, ◌<◌, ◌≤◌, ℕ, List, [], ◌∷◌, ◌++◌, length, take, drop, refl, sym, ap, ◌∙◌, subst, append_assoc, arith, length-append}
+use Rattle.std.proofs.Common.{◌≡◌, ◌+◌, ◌<◌, ◌≤◌, List, [], ◌∷◌, ◌++◌, length, refl, sym, ap, ◌∙◌, subst, append_assoc, arith, length-append}
 use Rattle.std.proofs.lemmas.List.{reverse-append, get_or_push, get_or_append_left}
 use Rattle.std.specs.List.{All}
 use Rattle.std.proofs.lemmas.List.Elements.{All-push}
 use Rattle.std.proofs.lemmas.List.Concat.{flat_map-append}
-use Rattle.ve_items.specs.Blocks.{joined, IsBlock, IsApart, AreBlocks}
+use Rattle.ve_items.specs.Blocks.{joined, IsBlock, AreBlocks}
 use Rattle.ve_items.specs.Stacked.{from_top, top}
 
 pub append_nothing : {A : Type 0} (xs : List A) → xs ++ [] ≡ xs
@@ -82,8 +82,8 @@ pub sizes_below : {A : Type 0} (old rest : List (List A)) (block : List A) → o
 sizes_below old rest block was each =
     let all = subst (All IsBlock) was each in
     λ k d lt.
-      let more = length-append rest (block ∷ []) in
-      subst IsBlock (get_or_append_left rest (block ∷ []) d k lt) (all k d (omega arith))
+    let more = length-append rest (block ∷ []) in
+    subst IsBlock (get_or_append_left rest (block ∷ []) d k lt) (all k d (omega arith))
 
 pub behind_nothing : {A : Type 0} (front back : List A) → length back ≤ 0 → front ≡ front ++ back
 behind_nothing front [] none = sym (append_nothing front)
@@ -101,3 +101,8 @@ length_both before old rest block was =
     let e = length-append (joined before) (from_top old) in
     let f : length (from_top old) ≡ length block + length (from_top rest) = ap length (from_top_was old rest block was) ∙ length-append block (from_top rest) in
     omega arith
+
+pub no_blocks : {A : Type 0} (blocks : List (List A)) → AreBlocks blocks → joined blocks ≡ [] → length blocks ≡ 0
+no_blocks [] rule none = refl
+no_blocks ([] ∷ blocks) rule none = let size = rule.0 in absurd (omega arith)
+no_blocks ((x ∷ block) ∷ blocks) rule none = cc

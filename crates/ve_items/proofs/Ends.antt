@@ -1,10 +1,10 @@
 -- The ends of blocks, as blocks come and go at the end of a table.
-use Rattle.std.proofs.Common.{◌≡◌, ◌+◌, ◌-◌, ◌<◌, ◌≤◌, ◌⊎◌, inl, inr, ℕ, List, [], ◌∷◌, ◌++◌, length, take, drop, get_or, refl, sym, ap, subst, ◌∙◌, arith, length-append}
+use Rattle.std.proofs.Common.{◌≡◌, ◌+◌, ◌-◌, ◌<◌, ◌≤◌, inl, inr, ℕ, List, [], ◌∷◌, ◌++◌, length, take, get_or, sym, ap, subst, ◌∙◌, arith, length-append}
 use Rattle.std.proofs.lemmas.List.{take-append-le, get_or_append_left, get_or_push, get_or-take, length-take-le, take_all, take_more}
 use Rattle.std.proofs.lemmas.Bool.{cases_lt}
 use Rattle.ve_items.specs.Blocks.{joined}
-use Rattle.ve_items.specs.Ends.{AreEnds, StandsAt}
-use Rattle.ve_items.proofs.Blocks.{joined_push, joined_append}
+use Rattle.ve_items.specs.Ends.{AreEnds}
+use Rattle.ve_items.proofs.Blocks.{joined_push}
 
 pub last_end : {A : Type 0} (blocks : List (List A)) (ends : List ℕ) (k : ℕ) → AreEnds blocks ends → k + 1 ≡ length blocks → get_or ends k 0 ≡ length (joined blocks)
 last_end blocks ends k h e = h.each k (omega arith) ∙ ap (λ l. length (joined l)) (take_all (k + 1) blocks (omega arith))
@@ -15,9 +15,9 @@ ends_pushed blocks new block ends more end is grows e h =
     let le = length-append ends (end ∷ []) in
     let h_count = h.count in
     let below : (k : ℕ) → k < length blocks → get_or (ends ++ end ∷ []) k 0 ≡ length (joined (take (k + 1) (blocks ++ block ∷ []))) =
-      λ k lt. get_or_append_left ends (end ∷ []) 0 k (omega arith) ∙ h.each k lt ∙ ap (λ l. length (joined l)) (sym (take-append-le (k + 1) blocks (block ∷ []) (omega arith))) in
+    λ k lt. get_or_append_left ends (end ∷ []) 0 k (omega arith) ∙ h.each k lt ∙ ap (λ l. length (joined l)) (sym (take-append-le (k + 1) blocks (block ∷ []) (omega arith))) in
     let here : (k : ℕ) → k ≡ length blocks → get_or (ends ++ end ∷ []) k 0 ≡ length (joined (take (k + 1) (blocks ++ block ∷ []))) =
-      λ k at. get_or_push ends end 0 k (omega arith) ∙ e ∙ sym (length-append (joined blocks) block) ∙ ap length (sym (joined_push blocks block)) ∙ ap (λ l. length (joined l)) (sym (take_all (k + 1) (blocks ++ block ∷ []) (omega arith))) in
+    λ k at. get_or_push ends end 0 k (omega arith) ∙ e ∙ sym (length-append (joined blocks) block) ∙ ap length (sym (joined_push blocks block)) ∙ ap (λ l. length (joined l)) (sym (take_all (k + 1) (blocks ++ block ∷ []) (omega arith))) in
     let all : AreEnds (blocks ++ block ∷ []) (ends ++ end ∷ []) = record {
       count = omega arith;
       each = λ k lt. elim (cases_lt k (length blocks)) [ inl less ↦ below k less | inr more ↦ here k (omega arith) ];
@@ -40,29 +40,29 @@ pub stands_at : {A : Type 0} (blocks : List (List A)) (ends : List ℕ) (at low 
 stands_at blocks ends at low h le below above within =
     let count = h.count in
     let some : low < length blocks = elim (cases_lt low (length blocks)) [
-      inl less ↦ less
-    | inr all ↦ elim (cases_lt 0 low) [
-        inl more ↦
-          let last = last_end blocks ends (low - 1) h (omega arith) in
-          let under = below more in
-          absurd (omega arith)
-      | inr none ↦
-          let gone = take_all 0 blocks (omega arith) in
-          let nothing : length (joined blocks) ≡ 0 = ap (λ l. length (joined l)) (sym gone) in
-          absurd (omega arith)
+      | inl less ↦ less
+      | inr all ↦ elim (cases_lt 0 low) [
+        | inl more ↦
+            let last = last_end blocks ends (low - 1) h (omega arith) in
+            let under = below more in
+            absurd (omega arith)
+        | inr none ↦
+            let gone = take_all 0 blocks (omega arith) in
+            let nothing : length (joined blocks) ≡ 0 = ap (λ l. length (joined l)) (sym gone) in
+            absurd (omega arith)
       ]
     ] in
     let before : length (joined (take low blocks)) ≤ at = elim (cases_lt 0 low) [
-      inl more ↦
-        let e = h.each (low - 1) (omega arith) in
-        let goes : low - 1 + 1 ≡ low = omega arith in
-        let f : length (joined (take (low - 1 + 1) blocks)) ≡ length (joined (take low blocks)) = ap (λ n. length (joined (take n blocks))) goes in
-        let under = below more in
-        omega arith
-    | inr none ↦
-        let zero : low ≡ 0 = omega arith in
-        let f : length (joined (take low blocks)) ≡ 0 = ap (λ n. length (joined (take n blocks))) zero in
-        omega arith
+      | inl more ↦
+          let e = h.each (low - 1) (omega arith) in
+          let goes : low - 1 + 1 ≡ low = omega arith in
+          let f : length (joined (take (low - 1 + 1) blocks)) ≡ length (joined (take low blocks)) = ap (λ n. length (joined (take n blocks))) goes in
+          let under = below more in
+          omega arith
+      | inr none ↦
+          let zero : low ≡ 0 = omega arith in
+          let f : length (joined (take low blocks)) ≡ 0 = ap (λ n. length (joined (take n blocks))) zero in
+          omega arith
     ] in
     let e = h.each low some in
     let over = above (omega arith) in

@@ -1,5 +1,5 @@
 -- Pieces of a list put together, and a range taken out of a list's first block.
-use Rattle.std.proofs.Common.{◌≡◌, ◌+◌, ◌-◌, ◌<◌, ◌≤◌, ◌⊎◌, inl, inr, ℕ, List, [], ◌∷◌, ◌++◌, length, take, drop, min, refl, sym, ap, ◌∙◌, append_assoc, take-append-drop, arith, length-append, length-drop, length-take}
+use Rattle.std.proofs.Common.{◌≡◌, ◌+◌, ◌-◌, ◌≤◌, inl, inr, ℕ, List, [], ◌++◌, length, take, drop, min, sym, ap, ◌∙◌, append_assoc, take-append-drop, arith, length-append, length-drop, length-take}
 use Rattle.std.proofs.lemmas.List.{take-append-le, drop-append-le, take_all}
 use Rattle.std.proofs.lemmas.Bool.{cases_lt}
 use Rattle.std.proofs.Math.Seq.{take-add, take-append-add, drop-append-add, drop-length}
@@ -20,23 +20,23 @@ pub block_cut : {A : Type 0} (block rest : List A) (offset left end more : ℕ) 
 block_cut block rest offset left end more e m le =
     let front = take-append-le offset block rest le in
     elim (cases_lt (length block - offset) left) [
-      inl past ↦
-        let at_end : end ≡ length block = omega arith in
-        let goes : offset + left ≡ length block + more = omega arith in
-        let none : drop end block ≡ [] = ap (λ n. drop n block) at_end ∙ drop-length block in
-        ap (λ l. l ++ drop (offset + left) (block ++ rest)) front
-        ∙ ap (λ n. take offset block ++ drop n (block ++ rest)) goes
-        ∙ ap (λ l. take offset block ++ l) (drop-append-add block rest more)
-        ∙ ap (λ l. l ++ drop more rest) (sym (append_nothing (take offset block)) ∙ ap (λ l. take offset block ++ l) (sym none))
-    | inr within ↦
-        let here : offset + left ≡ end = omega arith in
-        let no_more : more ≡ 0 = omega arith in
-        let inside : end ≤ length block = omega arith in
-        ap (λ l. l ++ drop (offset + left) (block ++ rest)) front
-        ∙ ap (λ n. take offset block ++ drop n (block ++ rest)) here
-        ∙ ap (λ l. take offset block ++ l) (drop-append-le end block rest inside)
-        ∙ sym (append_assoc (take offset block) (drop end block) rest)
-        ∙ ap (λ n. (take offset block ++ drop end block) ++ drop n rest) (sym no_more)
+      | inl past ↦
+          let at_end : end ≡ length block = omega arith in
+          let goes : offset + left ≡ length block + more = omega arith in
+          let none : drop end block ≡ [] = ap (λ n. drop n block) at_end ∙ drop-length block in
+          ap (λ l. l ++ drop (offset + left) (block ++ rest)) front
+          ∙ ap (λ n. take offset block ++ drop n (block ++ rest)) goes
+          ∙ ap (λ l. take offset block ++ l) (drop-append-add block rest more)
+          ∙ ap (λ l. l ++ drop more rest) (sym (append_nothing (take offset block)) ∙ ap (λ l. take offset block ++ l) (sym none))
+      | inr within ↦
+          let here : offset + left ≡ end = omega arith in
+          let no_more : more ≡ 0 = omega arith in
+          let inside : end ≤ length block = omega arith in
+          ap (λ l. l ++ drop (offset + left) (block ++ rest)) front
+          ∙ ap (λ n. take offset block ++ drop n (block ++ rest)) here
+          ∙ ap (λ l. take offset block ++ l) (drop-append-le end block rest inside)
+          ∙ sym (append_assoc (take offset block) (drop end block) rest)
+          ∙ ap (λ n. (take offset block ++ drop end block) ++ drop n rest) (sym no_more)
     ]
 
 -- one block's turn in taking a range out, where the block's rest goes to the front

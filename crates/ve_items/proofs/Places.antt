@@ -1,7 +1,7 @@
 -- A place in a list, and the same place in one of its blocks.
-use Rattle.std.proofs.Common.{◌≡◌, ◌+◌, ◌-◌, ◌<◌, ◌≤◌, ℕ, List, [], ◌∷◌, ◌++◌, Some, length, take, drop, get_or, refl, sym, ap, ◌∙◌, append_assoc, take-append-drop, arith, length-append, length-drop}
+use Rattle.std.proofs.Common.{◌≡◌, ◌+◌, ◌-◌, ◌<◌, ◌≤◌, ℕ, List, [], ◌++◌, Some, length, take, drop, get_or, sym, ap, ◌∙◌, take-append-drop, arith, length-append, length-drop}
 use Rattle.std.specs.List.{slice_get}
-use Rattle.std.proofs.lemmas.List.{drop_more, drop-drop, take-append-le, drop-append-le, get_or_append_left, get_or-append-add}
+use Rattle.std.proofs.lemmas.List.{drop_more, drop-drop, take-append-le, drop-append-le, get_or_append_left, get_or-append-add, length-take-le}
 use Rattle.std.proofs.lemmas.Option.{get_or_from_slice_get, slice_get-get_or}
 use Rattle.std.proofs.Math.Seq.{take-add, drop-append-add}
 use Rattle.ve_items.specs.Blocks.{joined}
@@ -34,9 +34,9 @@ item_at blocks block at k offset d h is =
     let all : length (joined blocks) ≡ length (before ++ (block ++ behind)) = ap length around in
     slice_get-get_or (joined blocks) at d (omega arith)
     ∙ ap Some (ap (λ l. get_or l at d) around
-      ∙ ap (λ n. get_or (before ++ (block ++ behind)) n d) (sym place)
-      ∙ get_or-append-add before (block ++ behind) offset d
-      ∙ get_or_append_left block behind d offset within)
+    ∙ ap (λ n. get_or (before ++ (block ++ behind)) n d) (sym place)
+    ∙ get_or-append-add before (block ++ behind) offset d
+    ∙ get_or_append_left block behind d offset within)
 
 -- a range that ends within the block in which it begins
 pub range_at : {A : Type 0} (blocks : List (List A)) (block : List A) (at k offset many : ℕ) → StandsAt blocks at k offset → slice_get blocks k ≡ Some block → offset + many ≤ length block → take many (drop offset block) ≡ take many (drop at (joined blocks))
@@ -46,10 +46,10 @@ range_at blocks block at k offset many h is le =
     let around = joined_around blocks block k h.among is in
     let rest = length-drop offset block in
     let dropped : drop at (joined blocks) ≡ drop offset block ++ behind =
-      ap (λ l. drop at l) around
-      ∙ ap (λ n. drop n (before ++ (block ++ behind))) (sym h.place)
-      ∙ drop-append-add before (block ++ behind) offset
-      ∙ drop-append-le offset block behind (omega arith) in
+    ap (λ l. drop at l) around
+    ∙ ap (λ n. drop n (before ++ (block ++ behind))) (sym h.place)
+    ∙ drop-append-add before (block ++ behind) offset
+    ∙ drop-append-le offset block behind (omega arith) in
     sym (ap (λ l. take many l) dropped ∙ take-append-le many (drop offset block) behind (omega arith))
 
 -- a copy of a range that grows by a piece
@@ -62,3 +62,10 @@ range_more items copy grown piece from at many le c g p =
     ∙ ap (λ l. take (at - from) (drop from items) ++ take many l) (sym (drop-drop (at - from) from items))
     ∙ sym (take-add (at - from) many (drop from items))
     ∙ ap (λ n. take n (drop from items)) more
+
+-- a range by the length of its copy
+pub range_length : {A : Type 0} (items block : List A) (from offset many : ℕ) → offset + many ≤ length block → take many (drop from items) ≡ take (from + length (take many (drop offset block)) - from) (drop from items)
+range_length items block from offset many le =
+    let size = length-take-le many (drop offset block) (omega (arith, length-drop offset block)) in
+    let same : many ≡ from + length (take many (drop offset block)) - from = omega arith in
+    ap (λ n. take n (drop from items)) same

@@ -1,5 +1,5 @@
 -- Blocks on a stack, the last one on top.
-use Rattle.std.specs.Prelude.{ℕ, ◌+◌, ◌-◌, ◌<◌, ◌≤◌, List, [], ◌∷◌, length, reverse, slice_index_or}
+use Rattle.std.specs.Prelude.{ℕ, ◌-◌, List, [], length, reverse, slice_index_or}
 use Rattle.model_items.specs.declared.item.Item.{Item}
 use Rattle.ve_items.specs.Blocks.{joined}
 

@@ -3,13 +3,19 @@ ghost use Rattle.std.specs.Prelude.{◌≡◌, ◌≤◌, ◌<◌, ◌+◌, ◌/
 ghost use Rattle.ve_items.specs.Blocks.{joined, AreBlocks};
 
 use crate::block::Block;
-use crate::moves::{close, cut, fill, open, take_out};
+use crate::moves::{cut, fill, gather, seek, take_out};
 use crate::stack::Stack;
 use crate::table::Table;
 use model_items::Item;
 
 /// Takes items out from a place on. It takes no memory.
-pub fn remove(before: &mut Table, after: &mut Stack, at: usize, removed: usize)
+pub fn remove(
+    before: &mut Table,
+    after: &mut Stack,
+    pool: &mut Vec<Block>,
+    at: usize,
+    removed: usize,
+)
     requires rule { AreBlocks before.old.blocks }
     requires closed { after.old.blocks ≡ [] }
     requires within { at + removed ≤ length (joined before.old.blocks) }
@@ -22,30 +28,44 @@ pub fn remove(before: &mut Table, after: &mut Stack, at: usize, removed: usize)
     ensures count { length before.new.blocks ≤ length before.old.blocks }
     ensures room_before { before.new.room ≡ before.old.room }
     ensures room_after { after.new.room ≡ after.old.room }
+    ensures pool { vec_len pool.old ≤ vec_len pool.new }
 {
-    let offset = open(before, after, at);
-    take_out(before, after, offset, removed);
-    close(before, after);
+    if removed == 0 {
+        return;
+    }
+    let offset = seek(before, after, at);
+    take_out(before, after, pool, offset, removed);
+    gather(before, after, pool);
 }
 
 /// Puts items in at a place, in blocks of the pool. It takes no memory.
-pub fn insert(before: &mut Table, after: &mut Stack, pool: &mut Vec<Block>, at: usize, items: &[Item])
+pub fn insert(
+    before: &mut Table,
+    after: &mut Stack,
+    pool: &mut Vec<Block>,
+    at: usize,
+    items: &[Item],
+)
     requires rule { AreBlocks before.old.blocks }
     requires closed { after.old.blocks ≡ [] }
     requires within { at ≤ length (joined before.old.blocks) }
     requires fits { length (joined before.old.blocks) + length items.now < 2 ^ 64 }
-    requires room_before { length before.old.blocks + (length items.now / 512 + 2) ≤ before.old.room }
+    requires room_before { 0 < length items.now → length before.old.blocks + (length items.now / 512 + 2) ≤ before.old.room }
     requires room_after { length before.old.blocks ≤ after.old.room }
-    requires pool { length items.now / 512 + 2 ≤ vec_len pool.old }
+    requires pool { 0 < length items.now → length items.now / 512 + 2 ≤ vec_len pool.old }
     ensures rule { AreBlocks before.new.blocks }
     ensures closed { after.new.blocks ≡ [] }
     ensures items { joined before.new.blocks ≡ take at (joined before.old.blocks) ++ items.now ++ drop at (joined before.old.blocks) }
     ensures count { length before.new.blocks ≤ length before.old.blocks + (length items.now / 512 + 2) }
+    ensures none { length items.now ≡ 0 → length before.new.blocks ≤ length before.old.blocks }
     ensures room_before { before.new.room ≡ before.old.room }
     ensures room_after { after.new.room ≡ after.old.room }
 {
-    let offset = open(before, after, at);
+    if items.is_empty() {
+        return;
+    }
+    let offset = seek(before, after, at);
     cut(before, after, pool, offset);
     fill(before, pool, items);
-    close(before, after);
+    gather(before, after, pool);
 }

@@ -4,7 +4,7 @@ ghost use Rattle.ve_items.specs.Blocks.{joined, AreBlocks};
 ghost use Rattle.ve_items.specs.Substitution.{spliced};
 
 use crate::Items;
-use crate::block::{Block, stock};
+use crate::block::{Block, MOST, stock};
 use crate::edit::{insert, remove};
 use crate::stack::Stack;
 use crate::table::Table;
@@ -21,9 +21,9 @@ use ve_base::Memory;
 #[derive(Drop)]
 pub struct Linear {
     table: Table,
-    // empty blocks' room while a splice sets the blocks behind its place aside
+    // where a splice sets the blocks behind its place aside, empty else
     aside: Stack,
-    // blocks with memory for what splices put in
+    // memory for the blocks that a splice puts in
     pool: Vec<Block>,
     spare: usize,
     alloc: Global,
@@ -75,6 +75,7 @@ impl Linear {
         ensures count { result ≡ length self.now.blocks }
         ensures items { joined self.now.blocks ≡ self.now.items }
         ensures rule { AreBlocks self.now.blocks }
+        ensures none { self.now.items ≡ [] → result ≡ 0 }
     {
         self.table.len()
     }
@@ -96,6 +97,21 @@ impl Linear {
         self.table.block(k)[offset]
     }
 
+    /// Lends the items from one place up to another, as far as the first one's block goes. So a walk
+    /// over a range takes piece after piece.
+    pub fn piece(&self, from: usize, to: usize) -> &[Item]
+        requires order { from < to }
+        requires within { to ≤ length self.now.items }
+        ensures some { 0 < length result.now }
+        ensures within { from + length result.now ≤ to }
+        ensures items { result.now ≡ slice_range self.now.items from (from + length result.now) }
+    {
+        let (k, offset) = self.table.find(from);
+        let block = self.table.block(k);
+        let end = offset + (block.len() - offset).min(to - from);
+        &block[offset..end]
+    }
+
     /// A copy of the items from one place up to another.
     pub fn slice(&self, alloc: Global, from: usize, to: usize) -> Result<Items, Memory>
         requires order { from ≤ to }
@@ -105,11 +121,9 @@ impl Linear {
         let mut copy = Items::new(alloc);
         let mut at = from;
         while at < to {
-            let (k, offset) = self.table.find(at);
-            let block = self.table.block(k);
-            let end = offset + (block.len() - offset).min(to - at);
-            copy.extend(&block[offset..end])?;
-            at += end - offset;
+            let piece = self.piece(at, to);
+            copy.extend(piece)?;
+            at += piece.len();
         }
         Ok(copy)
     }
@@ -141,7 +155,7 @@ impl Linear {
         if more > usize::MAX - self.table.items() {
             return Err(Memory);
         }
-        let blocks = more / 512 + 2;
+        let blocks = more / MOST + 2;
         self.table.reserve(blocks)?;
         self.aside.reserve(self.table.len() + blocks)?;
         stock(&mut self.pool, self.alloc, blocks)?;
@@ -158,10 +172,14 @@ impl Linear {
         ensures fits { length items.now ≤ self.old.spare → IsOk result }
     {
         self.reserve(items.len())?;
-        remove(&mut self.table, &mut self.aside, at, removed);
-        if !items.is_empty() {
-            insert(&mut self.table, &mut self.aside, &mut self.pool, at, items);
-        }
+        remove(
+            &mut self.table,
+            &mut self.aside,
+            &mut self.pool,
+            at,
+            removed,
+        );
+        insert(&mut self.table, &mut self.aside, &mut self.pool, at, items);
         self.spare = 0;
         Ok(())
     }

@@ -9,8 +9,9 @@ use crate::stack::Stack;
 use crate::table::Table;
 use model_items::Item;
 
-/// Puts a block behind those before the place: into the last one where both fit into one.
-pub fn put(before: &mut Table, block: Block)
+/// Puts a block behind those before the place: into the last one where both fit into one. The block
+/// that is empty then goes to the pool, where that has room.
+pub fn put(before: &mut Table, pool: &mut Vec<Block>, block: Block)
     requires rule { AreBlocks before.old.blocks }
     requires size { IsBlock block }
     requires room { length before.old.blocks < before.old.room }
@@ -19,6 +20,7 @@ pub fn put(before: &mut Table, block: Block)
     ensures items { joined before.new.blocks ≡ joined before.old.blocks ++ block }
     ensures count { length before.new.blocks ≤ length before.old.blocks + 1 }
     ensures room { before.new.room ≡ before.old.room }
+    ensures pool { vec_len pool.old ≤ vec_len pool.new }
 {
     let Some(mut last) = before.pop() else {
         before.push(block);
@@ -27,15 +29,26 @@ pub fn put(before: &mut Table, block: Block)
     if last.len() + block.len() <= MOST {
         last.append(block.as_slice());
         before.push(last);
+        give_back(pool, block);
     } else {
         before.push(last);
         before.push(block);
     }
 }
 
+/// Keeps a block's memory for a later splice, where the pool has room for it.
+fn give_back(pool: &mut Vec<Block>, block: Block)
+    ensures { vec_len pool.old ≤ vec_len pool.new }
+{
+    if pool.len() < pool.capacity() {
+        let kept = pool.push(block).is_ok();
+        prove!(kept);
+    }
+}
+
 /// Moves blocks from before the place to after it, until at most `at` items stand before it. Gives
 /// how many of the first block after it stand before `at`.
-pub fn open(before: &mut Table, after: &mut Stack, at: usize) -> usize
+pub fn seek(before: &mut Table, after: &mut Stack, at: usize) -> usize
     requires rule { AreBlocks before.old.blocks }
     requires closed { after.old.blocks ≡ [] }
     requires room { length before.old.blocks ≤ after.old.room }
@@ -59,7 +72,7 @@ pub fn open(before: &mut Table, after: &mut Stack, at: usize) -> usize
 }
 
 /// Puts the blocks after the place behind those before it.
-pub fn close(before: &mut Table, after: &mut Stack)
+pub fn gather(before: &mut Table, after: &mut Stack, pool: &mut Vec<Block>)
     requires rule { AreBlocks before.old.blocks }
     requires sizes { All IsBlock after.old.blocks }
     requires room { length before.old.blocks + length after.old.blocks ≤ before.old.room }
@@ -70,9 +83,10 @@ pub fn close(before: &mut Table, after: &mut Stack)
     ensures count { length before.new.blocks ≤ length before.old.blocks + length after.old.blocks }
     ensures room_before { before.new.room ≡ before.old.room }
     ensures room_after { after.new.room ≡ after.old.room }
+    ensures pool { vec_len pool.old ≤ vec_len pool.new }
 {
     while let Some(block) = after.pop() {
-        put(before, block);
+        put(before, pool, block);
     }
 }
 
@@ -107,7 +121,7 @@ pub fn cut(before: &mut Table, after: &mut Stack, pool: &mut Vec<Block>, offset:
     second.clear();
     second.append(&first.as_slice()[offset..]);
     first.truncate(offset);
-    put(before, first);
+    put(before, pool, first);
     if second.len() > 0 {
         after.push(second);
     }
@@ -132,14 +146,20 @@ pub fn fill(before: &mut Table, pool: &mut Vec<Block>, items: &[Item])
         let end = done + (items.len() - done).min(MOST);
         block.clear();
         block.append(&items[done..end]);
-        put(before, block);
+        put(before, pool, block);
         done = end;
     }
 }
 
 /// Takes items out that begin `offset` items after the place. What stands before them in the first
 /// block stands before the place then.
-pub fn take_out(before: &mut Table, after: &mut Stack, offset: usize, removed: usize)
+pub fn take_out(
+    before: &mut Table,
+    after: &mut Stack,
+    pool: &mut Vec<Block>,
+    offset: usize,
+    removed: usize,
+)
     requires rule { AreBlocks before.old.blocks }
     requires sizes { All IsBlock after.old.blocks }
     requires inside { offset ≤ length (top after.old.blocks) }
@@ -152,6 +172,7 @@ pub fn take_out(before: &mut Table, after: &mut Stack, offset: usize, removed: u
     ensures count { length before.new.blocks + length after.new.blocks ≤ length before.old.blocks + length after.old.blocks }
     ensures room_before { before.new.room ≡ before.old.room }
     ensures room_after { after.new.room ≡ after.old.room }
+    ensures pool { vec_len pool.old ≤ vec_len pool.new }
 {
     let mut offset = offset;
     let mut left = removed;
@@ -164,7 +185,7 @@ pub fn take_out(before: &mut Table, after: &mut Stack, offset: usize, removed: u
         first.cut_out(offset, end);
         offset = 0;
         if first.len() > 0 {
-            put(before, first);
+            put(before, pool, first);
         }
     }
 }

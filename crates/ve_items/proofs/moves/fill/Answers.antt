@@ -1,4 +1,4 @@
-use Rattle.std.proofs.Common.{◌≡◌, ◌+◌, ◌-◌, ◌/◌, ◌<◌, ◌≤◌, ◌++◌, length, min, take, arith, rules, vec_len}
+use Rattle.std.proofs.Common.{◌≡◌, ◌+◌, ◌-◌, ◌<◌, length, min, arith, rules}
 use Rattle.ve_items.proofs.Pieces.{items_filled}
 use Rattle.ve_items.proofs.moves.fill.Goals as goal
 

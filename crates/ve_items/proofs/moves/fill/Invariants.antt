@@ -1,4 +1,4 @@
-use Rattle.std.proofs.Common.{◌≡◌, ◌+◌, ◌-◌, ◌/◌, ◌<◌, ◌≤◌, ◌++◌, length, take, vec_len}
+use Rattle.std.proofs.Common.{◌≡◌, ◌+◌, ◌-◌, ◌/◌, ◌≤◌, ◌++◌, length, take, vec_len}
 use Rattle.ve_items.specs.Blocks.{joined, AreBlocks}
 use Rattle.ve_items.proofs.moves.fill.Given as goal
 

@@ -1,4 +1,4 @@
-use Rattle.std.proofs.Common.{◌≡◌, ◌+◌, ◌<◌, ◌≤◌, ◌++◌, length, arith, rules, ap, ◌∙◌}
+use Rattle.std.proofs.Common.{◌++◌, rules, ap, ◌∙◌}
 use Rattle.ve_items.proofs.Blocks.{rule_grown, rule_pushed}
 use Rattle.ve_items.proofs.moves.put.Goals as goal
 

@@ -1,4 +1,4 @@
-use Rattle.std.proofs.Common.{◌≡◌, ◌+◌, ◌-◌, ◌<◌, ◌≤◌, ◌++◌, [], ◌∷◌, length, min, take, drop, arith, rules, refl, sym, ap, ◌∙◌, length-append}
+use Rattle.std.proofs.Common.{◌≡◌, ◌+◌, ◌-◌, ◌++◌, length, min, take, drop, arith, rules, refl, sym, ap, ◌∙◌, length-append}
 use Rattle.ve_items.specs.Blocks.{joined}
 use Rattle.ve_items.specs.Stacked.{from_top, top}
 use Rattle.ve_items.proofs.Blocks.{from_top_was, top_was, sizes_below, behind_nothing}
@@ -33,6 +33,7 @@ loop-left-preserved-then-len-gt0 c =
       fits = omega (arith, inv.fits);
       count = omega (arith, inv.count, c.put.ensures.count);
       room_before = cc;
+      pool = omega (arith, inv.pool, c.put.ensures.pool);
       room_after = cc;
     }
 
@@ -56,6 +57,7 @@ loop-left-preserved c =
       fits = omega (arith, inv.fits);
       count = omega (arith, inv.count);
       room_before = inv.room_before;
+      pool = inv.pool;
       room_after = cc;
     }
 

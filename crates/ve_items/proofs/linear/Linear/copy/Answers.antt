@@ -1,8 +1,6 @@
-use Rattle.std.proofs.Common.{◌≡◌, ◌+◌, ◌<◌, ◌++◌, [], length, take, drop, get_or, arith, rules, ap, ◌∙◌, sym, append-nil}
-use Rattle.std.proofs.lemmas.List.{take_all, drop_all}
+use Rattle.std.proofs.Common.{◌++◌, [], take, rules, ap, ◌∙◌, sym}
 use Rattle.std.proofs.lemmas.Option.{get_or_from_slice_get}
 use Rattle.ve_items.specs.Blocks.{joined}
-use Rattle.ve_items.specs.Substitution.{spliced}
 use Rattle.ve_items.proofs.Ends.{joined_next}
 use Rattle.ve_items.proofs.Pieces.{spliced_end}
 use Rattle.ve_items.proofs.linear.Linear.copy.Goals as goal

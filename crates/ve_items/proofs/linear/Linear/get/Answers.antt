@@ -1,4 +1,4 @@
-use Rattle.std.proofs.Common.{◌≡◌, Some, ap, ◌∙◌, sym}
+use Rattle.std.proofs.Common.{ap, ◌∙◌, sym}
 use Rattle.std.specs.List.{slice_get}
 use Rattle.ve_items.proofs.Places.{item_at}
 use Rattle.ve_items.proofs.linear.Linear.get.Goals as goal

@@ -1,12 +1,11 @@
 use Rattle.std.proofs.Common.{◌≡◌, ◌-◌, ◌≤◌, take, drop}
-use Rattle.ve_items.specs.Blocks.{joined}
 use Rattle.ve_items.proofs.linear.Linear.slice.Given as goal
 
 abbrev pub invariant-loop-at : goal.invariant-loop-at
 invariant-loop-at l = record {
   begun : l.from ≤ l.at;
   within : l.at ≤ l.to;
-  items : l.copy ≡ take (l.at - l.from) (drop l.from (joined l.self-inside.table.blocks));
+  items : l.copy ≡ take (l.at - l.from) (drop l.from l.self.items);
 }
 
 abbrev pub decreases-loop-at : goal.decreases-loop-at

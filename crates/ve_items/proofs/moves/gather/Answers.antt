@@ -1,8 +1,8 @@
-use Rattle.std.proofs.Common.{◌≡◌, ◌+◌, ◌<◌, ◌≤◌, ◌++◌, length, arith, sym, ap, ◌∙◌, length-append}
+use Rattle.std.proofs.Common.{◌≡◌, ◌+◌, ◌++◌, length, arith, ap, ◌∙◌, length-append}
 use Rattle.ve_items.specs.Blocks.{joined}
 use Rattle.ve_items.specs.Stacked.{from_top}
 use Rattle.ve_items.proofs.Blocks.{sizes_below, items_put, length_both}
-use Rattle.ve_items.proofs.moves.close.Goals as goal
+use Rattle.ve_items.proofs.moves.gather.Goals as goal
 
 pub put-requires-clause-fits : goal.put-requires-clause-fits
 put-requires-clause-fits c =
@@ -22,5 +22,6 @@ loop-block-preserved c =
       items = items_put c.loop-block.before.blocks c.put.new.before.blocks _ _ _ was c.put.ensures.items ∙ inv.items;
       count = omega (arith, inv.count, c.put.ensures.count);
       room_before = cc;
+      pool = omega (arith, inv.pool, c.put.ensures.pool);
       room_after = cc;
     }

@@ -1,8 +1,8 @@
-use Rattle.std.proofs.Common.{◌≡◌, ◌+◌, ◌-◌, ◌<◌, ◌≤◌, ◌++◌, length, arith, ap, ◌∙◌, length-append}
+use Rattle.std.proofs.Common.{◌≡◌, ◌+◌, length, arith, ap, ◌∙◌, length-append}
 use Rattle.ve_items.specs.Blocks.{joined}
 use Rattle.ve_items.specs.Stacked.{top}
 use Rattle.ve_items.proofs.Blocks.{rule_below, rule_top, sizes_pushed, items_moved, joined_was, top_was}
-use Rattle.ve_items.proofs.moves.open.Goals as goal
+use Rattle.ve_items.proofs.moves.seek.Goals as goal
 
 pub loop-before-preserved : goal.loop-before-preserved
 loop-before-preserved c =

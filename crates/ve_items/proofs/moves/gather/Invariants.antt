@@ -1,8 +1,8 @@
-use Rattle.std.proofs.Common.{◌≡◌, ◌+◌, ◌<◌, ◌≤◌, ◌++◌, length}
+use Rattle.std.proofs.Common.{◌≡◌, ◌+◌, ◌≤◌, ◌++◌, length, vec_len}
 use Rattle.std.specs.List.{All}
 use Rattle.ve_items.specs.Blocks.{joined, IsBlock, AreBlocks}
 use Rattle.ve_items.specs.Stacked.{from_top}
-use Rattle.ve_items.proofs.moves.close.Given as goal
+use Rattle.ve_items.proofs.moves.gather.Given as goal
 
 abbrev pub invariant-loop-block : goal.invariant-loop-block
 invariant-loop-block l = record {
@@ -11,6 +11,7 @@ invariant-loop-block l = record {
   items : joined l.before.blocks ++ from_top l.after.blocks ≡ joined l.initial.before.blocks ++ from_top l.initial.after.blocks;
   count : length l.before.blocks + length l.after.blocks ≤ length l.initial.before.blocks + length l.initial.after.blocks;
   room_before : l.before.room ≡ l.initial.before.room;
+  pool : vec_len l.initial.pool ≤ vec_len l.pool;
   room_after : l.after.room ≡ l.initial.after.room;
 }
 
