@@ -8,6 +8,8 @@ mod linear;
 mod moves;
 mod stack;
 mod table;
+#[cfg(test)]
+mod tests;
 
 pub use items::Items;
 pub use linear::Linear;

@@ -26,7 +26,8 @@ pub fn put(before: &mut Table, pool: &mut Vec<Block>, block: Block)
         before.push(block);
         return;
     };
-    if last.len() + block.len() <= MOST {
+    let together = last.len() + block.len();
+    if together <= MOST {
         last.append(block.as_slice());
         before.push(last);
         give_back(pool, block);
