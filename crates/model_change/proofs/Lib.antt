@@ -25,3 +25,4 @@ mod JoinExamples
 mod ReplayExamples
 mod StoreExamples
 mod TouchExamples
+pub mod TouchLemmas

@@ -6,7 +6,7 @@ use Rattle.model_change.specs.Attributes.{AllNamesApart}
 use Rattle.model_change.specs.Transaction.{Transaction, edited}
 use Rattle.model_change.specs.Inverse.{inverse}
 use Rattle.model_change.specs.Join.{Clash, list_with, join_list}
-use Rattle.model_change.specs.Replay.{replay, Runs, AllRun, reversal, ReversalUndoes, flattened, mine_of, entry_at, before, later, RevokeTakesBack, RevokeOfLast}
+use Rattle.model_change.specs.Replay.{replay, Runs, AllRun, reversal, ReversalUndoes, flattened, mine_of, entry_at, made_before, made_after, RevokeTakesBack, RevokeOfLast}
 use Rattle.model_change.proofs.InverseLemmas.{inverse_undoes}
 use Rattle.model_change.proofs.InverseNormal.{inverse_is_reduced}
 use Rattle.model_change.proofs.FilledLemmas.{names_stay_apart, InsertedApart-inverse}
@@ -47,12 +47,12 @@ pub revoke_of_last : RevokeOfLast
 revoke_of_last entries i none = ap (λ ts. mine_of (join_list ts (reversal (entry_at entries i)))) none ∙ ap mine_of (join_list-none (reversal (entry_at entries i)))
 
 -- entries before one, it, and those after it
-flattened-parts : (entries : List (List Transaction)) (i : ℕ) → i < length entries → flattened entries ≡ before entries i ++ (entry_at entries i ++ later entries i)
+flattened-parts : (entries : List (List Transaction)) (i : ℕ) → i < length entries → flattened entries ≡ made_before entries i ++ (entry_at entries i ++ made_after entries i)
 flattened-parts [] i h = absurd (omega arith)
 flattened-parts (entry ∷ entries) zero h = refl
 flattened-parts (entry ∷ entries) (suc i) h =
     ap (λ ts. entry ++ ts) (flattened-parts entries i (omega arith))
-    ∙ sym (append_assoc entry (before entries i) (entry_at entries i ++ later entries i))
+    ∙ sym (append_assoc entry (made_before entries i) (entry_at entries i ++ made_after entries i))
 
 AllRun_front : (ts us : List Transaction) (items : List PlainItem) → AllRun (ts ++ us) items → AllRun ts items × AllRun us (replay ts items)
 AllRun_front [] us items runs = (tt, runs)
@@ -74,16 +74,16 @@ mine_of-ok (Ok joined) back h = let e : joined.1 ≡ back = cc in (joined.0, λ 
 pub revoke_takes_back : RevokeTakesBack
 revoke_takes_back entries i back base inside lawful apart runs h =
     let entry = entry_at entries i in
-    let j = mine_of-ok (join_list (later entries i) (reversal entry)) back h in
+    let j = mine_of-ok (join_list (made_after entries i) (reversal entry)) back h in
     let parts = flattened-parts entries i inside in
-    let first = AllRun_front (before entries i) (entry ++ later entries i) base (subst (λ ts. AllRun ts base) parts runs) in
-    let L = replay (before entries i) base in
-    let second = AllRun_front entry (later entries i) L first.1 in
-    let lawful_there = replay_lawful (before entries i) base lawful first.0 in
-    let undone = reversal_undoes entry L lawful_there (replay_apart (before entries i) base apart first.0) second.0 in
-    let agree = lists_agree (later entries i) (reversal entry) (j.0, back) (replay entry L) (replay_lawful entry L lawful_there second.0) second.1 undone.runs j.1 in
-    let whole : replay (flattened entries) base ≡ replay (later entries i) (replay entry L) =
-    ap (λ ts. replay ts base) parts ∙ replay-append (before entries i) (entry ++ later entries i) base ∙ replay-append entry (later entries i) L in
+    let first = AllRun_front (made_before entries i) (entry ++ made_after entries i) base (subst (λ ts. AllRun ts base) parts runs) in
+    let L = replay (made_before entries i) base in
+    let second = AllRun_front entry (made_after entries i) L first.1 in
+    let lawful_there = replay_lawful (made_before entries i) base lawful first.0 in
+    let undone = reversal_undoes entry L lawful_there (replay_apart (made_before entries i) base apart first.0) second.0 in
+    let agree = lists_agree (made_after entries i) (reversal entry) (j.0, back) (replay entry L) (replay_lawful entry L lawful_there second.0) second.1 undone.runs j.1 in
+    let whole : replay (flattened entries) base ≡ replay (made_after entries i) (replay entry L) =
+    ap (λ ts. replay ts base) parts ∙ replay-append (made_before entries i) (entry ++ made_after entries i) base ∙ replay-append entry (made_after entries i) L in
     record {
       without = j.0;
       joined = j.1;

@@ -1,11 +1,13 @@
 -- What filling a list of values does.
-use Rattle.std.proofs.Common.{◌≡◌, zero, suc, Bool, true, false, ◌||◌, List, [], ◌∷◌, ◌++◌, Contains, refl, sym, ◌∙◌, subst, inl, inr, append_assoc, append-nil, arith}
+use Rattle.std.proofs.Common.{ap, ◌≡◌, ℕ, zero, suc, Bool, true, false, ◌||◌, List, [], ◌∷◌, ◌++◌, Contains, slice_get, Some, refl, sym, ◌∙◌, subst, inl, inr, append_assoc, append-nil, arith}
 use Rattle.std.proofs.lemmas.Bool.{cases_Bool, or_parts}
+use Rattle.std.proofs.lemmas.Option.{slice_get_within, get_or_from_slice_get, slice_get-get_or}
 use Rattle.std.proofs.lemmas.List.Elements.{Contains-append_left, Contains-append_right, Contains-append_cases}
 use Rattle.ve_base.specs.declared.value.Value.{Value}
 use Rattle.model_items.specs.Same.{value_same}
 use Rattle.model_items.proofs.SameLemmas.{Means-value_same}
-use Rattle.model_change.specs.Store.{holds, admitted, fill, NoneTwice, IsFilled, FillAppends}
+use Rattle.model_change.specs.Store.{holds, admitted, fill, IsFilled, FillAppends}
+use Rattle.model_items.specs.Plain.{AreDistinct}
 
 contains_first : (v : Value) (vs : List Value) → Contains (v ∷ vs) v
 contains_first v vs = (0, omega arith, refl)
@@ -36,6 +38,31 @@ not_held (w ∷ vs) v h within =
       | inr behind ↦ not_held vs v p.1 behind
     ]
 
+-- no value stands among those after it: distinct, by recursion
+abbrev NoneTwice : List Value → Type 0
+NoneTwice [] = Unit {0}
+NoneTwice (v ∷ vs) = (¬ Contains vs v) × NoneTwice vs
+
+contains_at : (vs : List Value) (i : ℕ) (v : Value) → slice_get vs i ≡ Some v → Contains vs v
+contains_at vs i v h = (i, slice_get_within vs i v h, get_or_from_slice_get vs i v v h)
+
+at_place : (vs : List Value) (v : Value) → Contains vs v → (i : ℕ) × (slice_get vs i ≡ Some v)
+at_place vs v within = (within.0, slice_get-get_or vs within.0 v within.1 ∙ ap Some within.2)
+
+none_twice_from : (vs : List Value) → AreDistinct vs → NoneTwice vs
+none_twice_from [] h = tt
+none_twice_from (v ∷ vs) h = (
+  λ within. let place = at_place vs v within in absurd (let e : 0 ≡ suc place.0 = h 0 (suc place.0) v refl place.1 in omega arith),
+  none_twice_from vs (λ i j w p q. let e : suc i ≡ suc j = h (suc i) (suc j) w p q in omega arith),
+)
+
+distinct_from : (vs : List Value) → NoneTwice vs → AreDistinct vs
+distinct_from [] h i j w p q = cc
+distinct_from (v ∷ vs) h zero zero w p q = refl
+distinct_from (v ∷ vs) h zero (suc j) w p q = let e : v ≡ w = cc in absurd (h.0 (contains_at vs j v (q ∙ ap Some (sym e))))
+distinct_from (v ∷ vs) h (suc i) zero w p q = let e : v ≡ w = cc in absurd (h.0 (contains_at vs i v (p ∙ ap Some (sym e))))
+distinct_from (v ∷ vs) h (suc i) (suc j) w p q = ap suc (distinct_from vs h.1 i j w p q)
+
 none_twice-push : (vs : List Value) (v : Value) → NoneTwice vs → ¬ Contains vs v → NoneTwice (vs ++ v ∷ [])
 none_twice-push [] v apart new = (contains_none v, tt)
 none_twice-push (u ∷ us) v apart new = (
@@ -52,7 +79,7 @@ held_before values v vs filled there rest = record {
     | inl first ↦ subst (Contains filled) (contains_one v w first) (let P : List Value → Type 0 = λ l. Contains l v in subst P (sym rest.parts) (Contains-append_left values rest.appended v there))
     | inr behind ↦ rest.all w behind
   ];
-  apart = rest.apart;
+  distinct = rest.distinct;
 }
 
 new_to_it : (values : List Value) (v : Value) (vs filled : List Value) → ¬ Contains values v → IsFilled (values ++ v ∷ []) vs filled → IsFilled values (v ∷ vs) filled
@@ -69,7 +96,7 @@ new_to_it values v vs filled new rest =
         | inl first ↦ subst (Contains filled) (contains_one v w first) (let P : List Value → Type 0 = λ l. Contains l v in subst P (sym parts) (Contains-append_right values (v ∷ rest.appended) v (contains_first v rest.appended)))
         | inr behind ↦ rest.all w behind
       ];
-      apart = λ h. rest.apart (none_twice-push values v h new);
+      distinct = λ h. rest.distinct (distinct_from (values ++ v ∷ []) (none_twice-push values v (none_twice_from values h) new));
     }
 
 pub fill_appends : FillAppends
@@ -78,7 +105,7 @@ fill_appends values [] = record {
   parts = sym (append-nil values);
   new = λ v within. absurd (contains_none v within);
   all = λ v within. absurd (contains_none v within);
-  apart = λ h. h;
+  distinct = λ h. h;
 }
 fill_appends values (v ∷ vs) =
     elim (cases_Bool (holds values v)) [

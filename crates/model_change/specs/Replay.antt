@@ -81,28 +81,28 @@ abbrev pub entry_at : List (List Transaction) → ℕ → List Transaction
 entry_at entries i = slice_index_or entries i []
 
 -- the transactions before entry i, and after it
-abbrev pub before : List (List Transaction) → ℕ → List Transaction
-before entries i = flattened (take i entries)
+abbrev pub made_before : List (List Transaction) → ℕ → List Transaction
+made_before entries i = flattened (take i entries)
 
-abbrev pub later : List (List Transaction) → ℕ → List Transaction
-later entries i = flattened (drop (suc i) entries)
+abbrev pub made_after : List (List Transaction) → ℕ → List Transaction
+made_after entries i = flattened (drop (suc i) entries)
 
 abbrev pub revoke : List (List Transaction) → ℕ → Result (List Transaction) Clash
-revoke entries i = mine_of (join_list (later entries i) (reversal (entry_at entries i)))
+revoke entries i = mine_of (join_list (made_after entries i) (reversal (entry_at entries i)))
 
 -- What takes it back runs on the list with all entries. The list is then as it would be had the entry never been made, and the later ones been joined over its absence.
 pub record IsTakenBack (entries : List (List Transaction)) (i : ℕ) (back : List Transaction) (base : List PlainItem) : Type 0 where
   pub without : List Transaction
-  pub joined : join_list (later entries i) (reversal (entry_at entries i)) ≡ Ok (without, back)
+  pub joined : join_list (made_after entries i) (reversal (entry_at entries i)) ≡ Ok (without, back)
   pub runs : AllRun back (replay (flattened entries) base)
-  pub without_runs : AllRun without (replay (before entries i) base)
-  pub one_list : replay back (replay (flattened entries) base) ≡ replay without (replay (before entries i) base)
+  pub without_runs : AllRun without (replay (made_before entries i) base)
+  pub one_list : replay back (replay (flattened entries) base) ≡ replay without (replay (made_before entries i) base)
 
 abbrev pub RevokeTakesBack : Type 0
 RevokeTakesBack = (entries : List (List Transaction)) (i : ℕ) (back : List Transaction) (base : List PlainItem) → i < length entries →
     Lawful base → AllNamesApart base → AllRun (flattened entries) base → revoke entries i ≡ Ok back →
     IsTakenBack entries i back base
 
--- Where no entry is later, the list is the one before the entry.
+-- Where no entry is later, its reversal takes it back, which gives the list before the entry.
 abbrev pub RevokeOfLast : Type 0
-RevokeOfLast = (entries : List (List Transaction)) (i : ℕ) → later entries i ≡ [] → revoke entries i ≡ Ok (reversal (entry_at entries i))
+RevokeOfLast = (entries : List (List Transaction)) (i : ℕ) → made_after entries i ≡ [] → revoke entries i ≡ Ok (reversal (entry_at entries i))

@@ -8,6 +8,7 @@ use Rattle.ve_base.specs.declared.value.Value.TheVariants as value
 use Rattle.ve_base.specs.Empty.{empty_head}
 use Rattle.model_items.specs.declared.plain_item.PlainItem.{PlainItem}
 use Rattle.model_items.specs.declared.plain_item.PlainItem.TheVariants.{Char, Opening, Closing}
+use Rattle.model_items.specs.Plain.{AreDistinct}
 use Rattle.model_items.specs.Same.{head_same, value_same}
 use Rattle.model_change.specs.Attributes.{item_changed}
 use Rattle.model_change.specs.Transaction.{Retain, Replace, Attribute, Transaction, on_first, all_inserted}
@@ -65,18 +66,13 @@ changed_heads = heads_from false
 abbrev pub brought : Transaction → List PlainItem → List Value
 brought t items = cited (all_inserted t) ++ changed_heads t items
 
--- no value stands among those after it
-abbrev pub NoneTwice : List Value → Type 0
-NoneTwice [] = Unit {0}
-NoneTwice (v ∷ vs) = (¬ Contains vs v) × NoneTwice vs
-
--- Filling appends: distinct values that were not there, each one of those that were to be put in; and then all of these are there.
+-- Filling appends values, each one of those that were to be put in, and then all of these are there; distinct values stay distinct.
 pub record IsFilled (values vs filled : List Value) : Type 0 where
   pub appended : List Value
   pub parts : filled ≡ values ++ appended
   pub new : (v : Value) → Contains appended v → Contains vs v
   pub all : (v : Value) → Contains vs v → Contains filled v
-  pub apart : NoneTwice values → NoneTwice filled
+  pub distinct : AreDistinct values → AreDistinct filled
 
 abbrev pub FillAppends : Type 0
 FillAppends = (values vs : List Value) → IsFilled values vs (fill values vs)

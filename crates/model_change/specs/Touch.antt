@@ -1,8 +1,8 @@
 -- How many nodes of the tree a transaction touches: those that go, those that come, and those that stay under another parent or with another length.
-use Rattle.std.specs.Prelude.{ℕ, zero, suc, ◌+◌, ◌-◌, Bool, true, false, not, ◌&&◌, ◌==◌, nat_lt, nat_le, if◌then◌else◌, List, [], ◌∷◌, ◌++◌, length, map, count_by, sum_by, Option, Some, None, option_map}
+use Rattle.std.specs.Prelude.{◌≡◌, ℕ, zero, suc, ◌+◌, ◌-◌, Bool, true, false, not, ◌&&◌, ◌==◌, nat_lt, nat_le, if◌then◌else◌, List, [], ◌∷◌, ◌++◌, length, map, count_by, sum_by, slice_get, Option, Some, None, option_map}
 use Rattle.std.specs.List.{list_any}
 use Rattle.model_items.specs.declared.plain_item.PlainItem.{PlainItem}
-use Rattle.model_items.specs.Tree.{Forest, Empty, Run, Branch, item_count, tree_of}
+use Rattle.model_items.specs.Tree.{Forest, Empty, Run, Branch, item_count, tree_of, number_of_nodes, shape_of}
 use Rattle.model_change.specs.Transaction.{Retain, Replace, Attribute, Transaction, edited}
 use Rattle.model_change.specs.Inverse.{inverse}
 
@@ -88,6 +88,21 @@ touch_count old new =
     + count_by (λ n. not (list_any (λ o. matches o n) old)) new
     + sum_by (λ o. count_by (λ n. matches o n && not (is_alike o n)) new) old
 
--- of a transaction that applies to a lawful list and gives a lawful one
+-- of a transaction that applies to a lawful list and gives a lawful one; each cause of a touched node counts once
 abbrev pub touch : Transaction → List PlainItem → ℕ
 touch t items = touch_count (map (seen_by t) (nodes_of items)) (map (seen_by (inverse t)) (nodes_of (edited t items)))
+
+-- All nodes are counted.
+abbrev pub NodesAreCounted : Type 0
+NodesAreCounted = (items : List PlainItem) → length (nodes_of items) ≡ number_of_nodes items
+
+-- What is retained stands at its new place, as it was but for attributes; and the inverse leads back to the old one.
+pub record IsRetained (t : Transaction) (items : List PlainItem) (at to : ℕ) (old : PlainItem) : Type 0 where
+  pub new : PlainItem
+  pub stands : slice_get (edited t items) to ≡ Some new
+  pub shape : shape_of new ≡ shape_of old
+  pub back : new_place (inverse t) to ≡ Some at
+
+abbrev pub RetainedStays : Type 0
+RetainedStays = (t : Transaction) (items : List PlainItem) (at to : ℕ) (old : PlainItem) → new_place t at ≡ Some to → slice_get items at ≡ Some old →
+    IsRetained t items at to old

@@ -11,6 +11,7 @@ ghost use Rattle.model_change.specs.Inverse.{InverseUndoes, InverseIsReduced, In
 ghost use Rattle.model_change.specs.Join.{OnlyActiveChanges, ConflictIsSymmetric, JoinsAgree, JoinsLawful, JoinsReduced, JoinsLengths, JoinsNormal, JoinsRestorable, JoinsApart};
 ghost use Rattle.model_change.specs.Replay.{JoinListsAgree, JoinListsWithin, ReversalUndoes, RevokeTakesBack, RevokeOfLast};
 ghost use Rattle.model_change.specs.Store.{FillAppends};
+ghost use Rattle.model_change.specs.Touch.{NodesAreCounted, RetainedStays};
 
 mod tx_fault;
 
@@ -76,4 +77,11 @@ pub fn histories_agree()
 /// Filling a list of values appends those that are new, each once, and then holds all of them.
 pub fn values_are_filled()
     ensures { FillAppends }
+{}
+
+/// Touched nodes are found by retained places: what is retained stands at its new place as it was but for attributes, and the inverse leads
+/// back. All nodes are counted.
+pub fn retained_items_stay()
+    ensures retained { RetainedStays }
+    ensures counted { NodesAreCounted }
 {}

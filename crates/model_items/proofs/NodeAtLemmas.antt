@@ -8,9 +8,9 @@ use Rattle.ve_kinds.specs.Table.{is_content_branch}
 use Rattle.model_items.specs.declared.plain_item.PlainItem.{PlainItem}
 use Rattle.model_items.specs.declared.plain_item.PlainItem.TheVariants.{Char, Opening, Closing}
 use Rattle.model_items.specs.declared.law_fault.LawFault.{LawFault}
-use Rattle.model_items.specs.Law.{State, start, finish, top, step, after, Lawful}
-use Rattle.model_items.specs.Tree.{Forest, Empty, Run, Branch, with_char, first_of, reading, tree_of, item_count, Open, opens_after, length_to_close, Place, place_with, node_at, class_in}
-use Rattle.model_items.specs.NodeAt.{places_from, root_place, all_places, IsInnermost, NodeAtIsInnermost, OpenIsStack, ClassIsOfTop}
+use Rattle.model_items.specs.Law.{State, start, finish, top, step, after}
+use Rattle.model_items.specs.Tree.{Forest, Empty, Run, Branch, with_char, first_of, reading, tree_of, item_count, Open, opens_after, length_to_close, Place, place_with, class_in}
+use Rattle.model_items.specs.NodeAt.{places_from, root_place, all_places, IsInnermost, search, TreeHasAllItems, NodeAtIsFound, NodeAtIsInnermost, OpenIsStack, ClassIsOfTop}
 use Rattle.model_items.proofs.LawLemmas.{if_ok, Ok-same, opened_before, closed_before, joined-ok, after_from_Lawful}
 use Rattle.model_items.proofs.TreeLemmas.{read_deep}
 
@@ -50,15 +50,7 @@ class_is_of_top items at s h =
     kind_of_top [] at rest = refl
     kind_of_top (o ∷ opens) at rest = refl
 
--- the search in the tree: `d` is the node that holds the forest
-
-abbrev node_in : Place → ℕ → Forest → ℕ → Place
-node_in d at Empty o = d
-node_in d at (Run count later) o = node_in d (at + count) later o
-node_in d at (Branch kind inside later) o =
-    if nat_lt at o && nat_lt o (at + (item_count inside + 2))
-    then node_in (record { kind = kind; from = at; to = at + (item_count inside + 2) }) (suc at) inside o
-    else node_in d (at + (item_count inside + 2)) later o
+-- the search in the tree
 
 not_lt : (a b : ℕ) → b ≤ a → nat_lt a b ≡ false
 not_lt a b h =
@@ -68,16 +60,16 @@ not_lt a b h =
     ]
 
 -- at the forest's start or before it nothing inside holds the offset
-node_in-start : (d : Place) (at : ℕ) (f : Forest) (o : ℕ) → o ≤ at → node_in d at f o ≡ d
-node_in-start d at Empty o h = refl
-node_in-start d at (Run count later) o h = node_in-start d (at + count) later o (omega arith)
-node_in-start d at (Branch kind inside later) o h =
-    rw (not_lt at o h) (node_in-start d (at + (item_count inside + 2)) later o (omega arith))
+search-start : (d : Place) (at : ℕ) (f : Forest) (o : ℕ) → o ≤ at → search d at f o ≡ d
+search-start d at Empty o h = refl
+search-start d at (Run count later) o h = search-start d (at + count) later o (omega arith)
+search-start d at (Branch kind inside later) o h =
+    rw (not_lt at o h) (search-start d (at + (item_count inside + 2)) later o (omega arith))
 
-node_in-with_char : (d : Place) (at : ℕ) (f : Forest) (o : ℕ) → node_in d at (with_char f) o ≡ node_in d (suc at) f o
-node_in-with_char d at Empty o = refl
-node_in-with_char d at (Run count later) o = let e : at + suc count ≡ suc at + count = omega arith in ap (λ n. node_in d n later o) e
-node_in-with_char d at (Branch kind inside later) o = let e : at + 1 ≡ suc at = omega arith in ap (λ n. node_in d n (Branch kind inside later) o) e
+search-with_char : (d : Place) (at : ℕ) (f : Forest) (o : ℕ) → search d at (with_char f) o ≡ search d (suc at) f o
+search-with_char d at Empty o = refl
+search-with_char d at (Run count later) o = let e : at + suc count ≡ suc at + count = omega arith in ap (λ n. search d n later o) e
+search-with_char d at (Branch kind inside later) o = let e : at + 1 ≡ suc at = omega arith in ap (λ n. search d n (Branch kind inside later) o) e
 
 item_count-with_char : (f : Forest) → item_count (with_char f) ≡ suc (item_count f)
 item_count-with_char Empty = refl
@@ -150,11 +142,11 @@ total_count (Closing kind pre ∷ items) s h =
 
 -- the search from a place on: in what stands here, and then, where the offset is past the closing of the innermost open node, outside of that
 abbrev locate : List Open → ℕ → Forest → List Forest → ℕ → Place
-locate [] at here outer o = node_in (record { kind = Root; from = 0; to = at + item_count here }) at here o
+locate [] at here outer o = search (record { kind = Root; from = 0; to = at + item_count here }) at here o
 locate (inner ∷ opens) at here [] o = record { kind = inner.kind; from = inner.from; to = 0 }
 locate (inner ∷ opens) at here (f ∷ fs) o =
     if nat_lt o (at + (item_count here + 1))
-    then node_in (record { kind = inner.kind; from = inner.from; to = at + (item_count here + 1) }) at here o
+    then search (record { kind = inner.kind; from = inner.from; to = at + (item_count here + 1) }) at here o
     else locate opens (at + (item_count here + 1)) f fs o
 
 locate_char : (opens : List Open) (at : ℕ) (f : Forest) (outer : List Forest) (o : ℕ) → length outer ≡ length opens →
@@ -162,15 +154,15 @@ locate_char : (opens : List Open) (at : ℕ) (f : Forest) (outer : List Forest) 
 locate_char [] at f outer o e =
     let one = item_count-with_char f in
     let n : suc at + item_count f ≡ at + item_count (with_char f) = omega arith in
-    ap (λ n. node_in (record { kind = Root; from = 0; to = n }) (suc at) f o) n
-    ∙ sym (node_in-with_char (record { kind = Root; from = 0; to = at + item_count (with_char f) }) at f o)
+    ap (λ n. search (record { kind = Root; from = 0; to = n }) (suc at) f o) n
+    ∙ sym (search-with_char (record { kind = Root; from = 0; to = at + item_count (with_char f) }) at f o)
 locate_char (inner ∷ opens) at f [] o e = absurd (omega arith)
 locate_char (inner ∷ opens) at f (g ∷ gs) o e =
     let one = item_count-with_char f in
     let n : suc at + (item_count f + 1) ≡ at + (item_count (with_char f) + 1) = omega arith in
-    ap (λ n. if nat_lt o n then node_in (record { kind = inner.kind; from = inner.from; to = n }) (suc at) f o else locate opens n g gs o) n
+    ap (λ n. if nat_lt o n then search (record { kind = inner.kind; from = inner.from; to = n }) (suc at) f o else locate opens n g gs o) n
     ∙ ap (λ (p : Place). if nat_lt o (at + (item_count (with_char f) + 1)) then p else locate opens (at + (item_count (with_char f) + 1)) g gs o)
-    (sym (node_in-with_char (record { kind = inner.kind; from = inner.from; to = at + (item_count (with_char f) + 1) }) at f o))
+    (sym (search-with_char (record { kind = inner.kind; from = inner.from; to = at + (item_count (with_char f) + 1) }) at f o))
 
 locate_close : (inner : Open) (opens : List Open) (at : ℕ) (f : Forest) (fs : List Forest) (o : ℕ) → at < o →
     locate opens (suc at) f fs o ≡ locate (inner ∷ opens) at Empty (f ∷ fs) o
@@ -182,10 +174,10 @@ locate_close inner opens at f fs o past =
 abbrev branch_at : Kind → ℕ → Forest → Place
 branch_at kind at inside = record { kind = kind; from = at; to = at + (item_count inside + 2) }
 
-node_in-branch : (d : Place) (at : ℕ) (kind : Kind) (inside later : Forest) (o : ℕ) → at < o →
-    node_in d at (Branch kind inside later) o
-    ≡ (if nat_lt o (at + (item_count inside + 2)) then node_in (branch_at kind at inside) (suc at) inside o else node_in d (at + (item_count inside + 2)) later o)
-node_in-branch d at kind inside later o past = rw (lt-ltb at o past) refl
+search-branch : (d : Place) (at : ℕ) (kind : Kind) (inside later : Forest) (o : ℕ) → at < o →
+    search d at (Branch kind inside later) o
+    ≡ (if nat_lt o (at + (item_count inside + 2)) then search (branch_at kind at inside) (suc at) inside o else search d (at + (item_count inside + 2)) later o)
+search-branch d at kind inside later o past = rw (lt-ltb at o past) refl
 
 -- one test within another
 nested_if : (o n end : ℕ) (p q r : Place) → n ≤ end →
@@ -202,24 +194,24 @@ locate_open kind opens at inside [] o e past = absurd (omega arith)
 locate_open kind [] at inside (g ∷ gs) o e past =
     let n : suc at + (item_count inside + 1) ≡ at + (item_count inside + 2) = omega arith in
     let m : at + (item_count inside + 2) + item_count g ≡ at + (item_count inside + 2 + item_count g) = omega arith in
-    ap (λ n. if nat_lt o n then node_in (record { kind = kind; from = at; to = n }) (suc at) inside o else node_in (record { kind = Root; from = 0; to = n + item_count g }) n g o) n
-    ∙ ap (λ m. if nat_lt o (at + (item_count inside + 2)) then node_in (branch_at kind at inside) (suc at) inside o else node_in (record { kind = Root; from = 0; to = m }) (at + (item_count inside + 2)) g o) m
-    ∙ sym (node_in-branch (record { kind = Root; from = 0; to = at + (item_count inside + 2 + item_count g) }) at kind inside g o past)
+    ap (λ n. if nat_lt o n then search (record { kind = kind; from = at; to = n }) (suc at) inside o else search (record { kind = Root; from = 0; to = n + item_count g }) n g o) n
+    ∙ ap (λ m. if nat_lt o (at + (item_count inside + 2)) then search (branch_at kind at inside) (suc at) inside o else search (record { kind = Root; from = 0; to = m }) (at + (item_count inside + 2)) g o) m
+    ∙ sym (search-branch (record { kind = Root; from = 0; to = at + (item_count inside + 2 + item_count g) }) at kind inside g o past)
 locate_open kind (inner ∷ opens) at inside (g ∷ []) o e past = absurd (omega arith)
 locate_open kind (inner ∷ opens) at inside (g ∷ (h ∷ hs)) o e past =
     let n : suc at + (item_count inside + 1) ≡ at + (item_count inside + 2) = omega arith in
     let m : at + (item_count inside + 2) + (item_count g + 1) ≡ at + (item_count inside + 2 + item_count g + 1) = omega arith in
-    ap (λ n. if nat_lt o n then node_in (record { kind = kind; from = at; to = n }) (suc at) inside o else locate (inner ∷ opens) n g (h ∷ hs) o) n
-    ∙ ap (λ m. if nat_lt o (at + (item_count inside + 2)) then node_in (branch_at kind at inside) (suc at) inside o else (if nat_lt o m then node_in (record { kind = inner.kind; from = inner.from; to = m }) (at + (item_count inside + 2)) g o else locate opens m h hs o)) m
+    ap (λ n. if nat_lt o n then search (record { kind = kind; from = at; to = n }) (suc at) inside o else locate (inner ∷ opens) n g (h ∷ hs) o) n
+    ∙ ap (λ m. if nat_lt o (at + (item_count inside + 2)) then search (branch_at kind at inside) (suc at) inside o else (if nat_lt o m then search (record { kind = inner.kind; from = inner.from; to = m }) (at + (item_count inside + 2)) g o else locate opens m h hs o)) m
     ∙ nested_if
     o
     (at + (item_count inside + 2))
     end
-    (node_in (branch_at kind at inside) (suc at) inside o)
-    (node_in (record { kind = inner.kind; from = inner.from; to = end }) (at + (item_count inside + 2)) g o)
+    (search (branch_at kind at inside) (suc at) inside o)
+    (search (record { kind = inner.kind; from = inner.from; to = end }) (at + (item_count inside + 2)) g o)
     (locate opens end h hs o)
     (omega arith)
-    ∙ ap (λ (p : Place). if nat_lt o end then p else locate opens end h hs o) (sym (node_in-branch (record { kind = inner.kind; from = inner.from; to = end }) at kind inside g o past))
+    ∙ ap (λ (p : Place). if nat_lt o end then p else locate opens end h hs o) (sym (search-branch (record { kind = inner.kind; from = inner.from; to = end }) at kind inside g o past))
   where
     end : ℕ
     end = at + (item_count inside + 2 + item_count g + 1)
@@ -236,7 +228,7 @@ found items s opens at zero o e room h long =
         place_with opens o items ≡ locate opens at here outer o
     at_start [] here [] deep total close =
         let n : o + length items ≡ at + item_count here = omega arith in
-        (λ i. record { kind = Root; from = 0; to = n i }) ∙ sym (node_in-start (record { kind = Root; from = 0; to = at + item_count here }) at here o (omega arith))
+        (λ i. record { kind = Root; from = 0; to = n i }) ∙ sym (search-start (record { kind = Root; from = 0; to = at + item_count here }) at here o (omega arith))
     at_start [] here (f ∷ fs) deep total close = absurd (omega arith)
     at_start (inner ∷ opens) here [] deep total close = absurd (omega arith)
     at_start (inner ∷ opens) here (f ∷ fs) deep total close =
@@ -244,8 +236,8 @@ found items s opens at zero o e room h long =
         let n : o + length_to_close 0 items ≡ at + (item_count here + 1) = omega arith in
         let less : nat_lt o (at + (item_count here + 1)) ≡ true = lt-ltb o (at + (item_count here + 1)) (omega arith) in
         (λ i. record { kind = inner.kind; from = inner.from; to = n i })
-        ∙ sym (node_in-start (record { kind = inner.kind; from = inner.from; to = at + (item_count here + 1) }) at here o (omega arith))
-        ∙ sym (ap (λ b. if b then node_in (record { kind = inner.kind; from = inner.from; to = at + (item_count here + 1) }) at here o else locate opens (at + (item_count here + 1)) f fs o) less)
+        ∙ sym (search-start (record { kind = inner.kind; from = inner.from; to = at + (item_count here + 1) }) at here o (omega arith))
+        ∙ sym (ap (λ b. if b then search (record { kind = inner.kind; from = inner.from; to = at + (item_count here + 1) }) at here o else locate opens (at + (item_count here + 1)) f fs o) less)
 found [] s opens at (suc k) o e room h long = absurd (omega arith)
 found (Char c marks ∷ items) s opens at (suc k) o e room h long =
     let p = joined-ok 1 (step s (Char c marks)) (λ next. after next items) finish h in
@@ -272,7 +264,7 @@ found (Closing kind pre ∷ items) s (inner ∷ opens) at (suc k) o e room h lon
     found items p.0 opens (suc at) k o (omega arith) (omega arith) p.2 (omega arith)
     ∙ locate_close inner opens at (reading items).here (reading items).outer o (omega arith)
 
-found_in_tree : (items : List PlainItem) (at : ℕ) → Lawful items → at ≤ length items → node_at items at ≡ node_in (root_place items) 0 (tree_of items) at
+pub found_in_tree : NodeAtIsFound
 found_in_tree items at lawful room =
     let after_all = after_from_Lawful items lawful in
     let total = total_count items start after_all in
@@ -280,13 +272,13 @@ found_in_tree items at lawful room =
     let count : 0 + item_count (tree_of items) ≡ length items = whole (reading items).outer none total in
     found items start [] 0 at at (omega arith) room after_all refl
     ∙ by_outer (reading items).outer none
-    ∙ ap (λ n. node_in (record { kind = Root; from = 0; to = n }) 0 (tree_of items) at) count
+    ∙ ap (λ n. search (record { kind = Root; from = 0; to = n }) 0 (tree_of items) at) count
   where
     whole : (outer : List Forest) → length outer ≡ 0 → item_count (tree_of items) + outer_count outer ≡ length items → 0 + item_count (tree_of items) ≡ length items
     whole [] none total = omega arith
     whole (f ∷ fs) none total = absurd (omega arith)
 
-    by_outer : (outer : List Forest) → length outer ≡ 0 → locate [] 0 (tree_of items) outer at ≡ node_in (record { kind = Root; from = 0; to = 0 + item_count (tree_of items) }) 0 (tree_of items) at
+    by_outer : (outer : List Forest) → length outer ≡ 0 → locate [] 0 (tree_of items) outer at ≡ search (record { kind = Root; from = 0; to = 0 + item_count (tree_of items) }) 0 (tree_of items) at
     by_outer outer none = refl
 
 -- the search gives the innermost
@@ -373,22 +365,22 @@ module _ (kind : Kind) (at : ℕ) (inside later : Forest) (o : ℕ) where
         (λ b. r.within q b ins);
   }
 
-search_tree : (f : Forest) (d : Place) (at o : ℕ) → Searched d at f o (node_in d at f o)
+search_tree : (f : Forest) (d : Place) (at o : ℕ) → Searched d at f o (search d at f o)
 search_tree Empty d at o = record { node = inl refl; within = λ q c ins. absurd (let below = c.1 in omega arith) }
 search_tree (Run count later) d at o = let r = search_tree later d (at + count) o in record { node = r.node; within = r.within }
 search_tree (Branch kind inside later) d at o =
     by_test (nat_lt at o) (nat_lt o (at + (item_count inside + 2))) refl refl (search_tree inside (branch_at kind at inside) (suc at) o) (search_tree later d (at + (item_count inside + 2)) o)
   where
     by_test : (a b : Bool) → nat_lt at o ≡ a → nat_lt o (at + (item_count inside + 2)) ≡ b →
-        Searched (branch_at kind at inside) (suc at) inside o (node_in (branch_at kind at inside) (suc at) inside o) →
-        Searched d (at + (item_count inside + 2)) later o (node_in d (at + (item_count inside + 2)) later o) →
+        Searched (branch_at kind at inside) (suc at) inside o (search (branch_at kind at inside) (suc at) inside o) →
+        Searched d (at + (item_count inside + 2)) later o (search d (at + (item_count inside + 2)) later o) →
         Searched d at (Branch kind inside later) o
-        (if a && b then node_in (branch_at kind at inside) (suc at) inside o else node_in d (at + (item_count inside + 2)) later o)
+        (if a && b then search (branch_at kind at inside) (suc at) inside o else search d (at + (item_count inside + 2)) later o)
     by_test true true p q one two = in_branch kind at inside later o d _ (ltb-true at o p) (ltb-true o (at + (item_count inside + 2)) q) one
     by_test true false p q one two = behind_branch kind at inside later o d _ (λ h. let yes = lt-ltb o (at + (item_count inside + 2)) h.1 in cc) two
     by_test false b p q one two = behind_branch kind at inside later o d _ (λ h. let yes = lt-ltb at o h.0 in cc) two
 
-count_all : (items : List PlainItem) → Lawful items → item_count (tree_of items) ≡ length items
+pub count_all : TreeHasAllItems
 count_all items lawful =
     by_outer (reading items).outer (read_deep items start (after_from_Lawful items lawful)) (total_count items start (after_from_Lawful items lawful))
   where
@@ -419,4 +411,4 @@ innermost_of items at p count s = record {
 pub node_at_is_innermost : NodeAtIsInnermost
 node_at_is_innermost items at lawful room =
     subst (IsInnermost items at) (sym (found_in_tree items at lawful room))
-    (innermost_of items at (node_in (root_place items) 0 (tree_of items) at) (count_all items lawful) (search_tree (tree_of items) (root_place items) 0 at))
+    (innermost_of items at (search (root_place items) 0 (tree_of items) at) (count_all items lawful) (search_tree (tree_of items) (root_place items) 0 at))

@@ -1,9 +1,18 @@
--- The node round an offset, in words of the tree's nodes and of the law's state.
-use Rattle.std.specs.Prelude.{◌≡◌, ℕ, suc, ◌+◌, ◌<◌, ◌≤◌, ◌⊎◌, List, [], ◌∷◌, ◌++◌, length, map, take, Contains, Ok}
+-- The node round an offset, found in the tree, in words of the tree's nodes, and of the law's state.
+use Rattle.std.specs.Prelude.{◌≡◌, ℕ, suc, ◌+◌, ◌<◌, ◌≤◌, ◌⊎◌, ◌&&◌, nat_lt, if◌then◌else◌, List, [], ◌∷◌, ◌++◌, length, map, take, Contains, Ok}
 use Rattle.ve_kinds.specs.declared.kind.Kind.TheVariants.{Root}
 use Rattle.model_items.specs.declared.plain_item.PlainItem.{PlainItem}
 use Rattle.model_items.specs.Law.{State, start, top, after, Lawful}
 use Rattle.model_items.specs.Tree.{Forest, Empty, Run, Branch, item_count, tree_of, Open, opens_after, Place, node_at, class_in, class_at}
+
+-- The search in a forest whose first item stands at a place, and which stands in the node `around`: into the node that holds the offset, or past it.
+abbrev pub search : Place → ℕ → Forest → ℕ → Place
+search around at Empty o = around
+search around at (Run count later) o = search around (at + count) later o
+search around at (Branch kind inside later) o =
+    if nat_lt at o && nat_lt o (at + (item_count inside + 2))
+    then search (record { kind = kind; from = at; to = at + (item_count inside + 2) }) (suc at) inside o
+    else search around (at + (item_count inside + 2)) later o
 
 -- the places of a forest's nodes, text nodes aside, in the order of their starts; its first item stands at a place
 abbrev pub places_from : ℕ → Forest → List Place
@@ -29,6 +38,14 @@ pub record IsInnermost (items : List PlainItem) (at : ℕ) (p : Place) : Type 0 
   pub node : Contains (all_places items) p
   pub holds : HoldsOffset items at p
   pub within : (q : Place) → Contains (all_places items) q → HoldsOffset items at q → (q.from ≤ p.from) × (p.to ≤ q.to)
+
+-- The items of a lawful list are all in its tree.
+abbrev pub TreeHasAllItems : Type 0
+TreeHasAllItems = (items : List PlainItem) → Lawful items → item_count (tree_of items) ≡ length items
+
+-- The node at an offset is found by searching the tree.
+abbrev pub NodeAtIsFound : Type 0
+NodeAtIsFound = (items : List PlainItem) (at : ℕ) → Lawful items → at ≤ length items → node_at items at ≡ search (root_place items) 0 (tree_of items) at
 
 abbrev pub NodeAtIsInnermost : Type 0
 NodeAtIsInnermost = (items : List PlainItem) (at : ℕ) → Lawful items → at ≤ length items → IsInnermost items at (node_at items at)

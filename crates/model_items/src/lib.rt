@@ -7,7 +7,7 @@ ghost use Rattle.model_items.specs.Plain.{PlainTellsApart};
 ghost use Rattle.model_items.specs.Law.{VerdictIsFirstOffence, LawReadsNoValues, VerdictReadsNoValues, PieceFails, PieceFits, PieceDiffers, StateDecided};
 ghost use Rattle.model_items.specs.Tree.{TreeSpells, TreeHasWholeRuns, TreeIsOnly, TreeReadsNoValues};
 ghost use Rattle.model_items.specs.LawfulTree.{LawfulHasTree, TreeIsLawful};
-ghost use Rattle.model_items.specs.NodeAt.{NodeAtIsInnermost, OpenIsStack, ClassIsOfTop};
+ghost use Rattle.model_items.specs.NodeAt.{NodeAtIsFound, TreeHasAllItems, NodeAtIsInnermost, OpenIsStack, ClassIsOfTop};
 
 mod item;
 mod law_fault;
@@ -74,9 +74,12 @@ pub fn lawful_lists_are_trees()
     ensures list { TreeIsLawful }
 {}
 
-/// The node at an offset of a lawful list is the innermost of the tree's nodes that hold the offset. The open nodes there are the law's state,
+/// The node at an offset of a lawful list is found by searching its tree, which has all items, and is the innermost of the tree's nodes that
+/// hold the offset. The open nodes there are the law's state,
 /// and the offset's class goes by the top of its stack.
 pub fn node_at_is_innermost()
+    ensures found { NodeAtIsFound }
+    ensures all { TreeHasAllItems }
     ensures innermost { NodeAtIsInnermost }
     ensures state { OpenIsStack }
     ensures class { ClassIsOfTop }
