@@ -72,7 +72,7 @@ abbrev pub flattened : List (List Transaction) → List Transaction
 flattened [] = []
 flattened (entry ∷ entries) = entry ++ flattened entries
 
--- What takes entry i back under the entries after it: its reversal over them; or the first two ranges in conflict.
+-- of two lists that were joined, the second one
 abbrev pub mine_of : Result (List Transaction × List Transaction) Clash → Result (List Transaction) Clash
 mine_of (Ok joined) = Ok joined.1
 mine_of (Err clash) = Err clash
@@ -80,13 +80,14 @@ mine_of (Err clash) = Err clash
 abbrev pub entry_at : List (List Transaction) → ℕ → List Transaction
 entry_at entries i = slice_index_or entries i []
 
--- the transactions before entry i, and after it
+-- the transactions of the entries before entry i, and of those after it
 abbrev pub made_before : List (List Transaction) → ℕ → List Transaction
 made_before entries i = flattened (take i entries)
 
 abbrev pub made_after : List (List Transaction) → ℕ → List Transaction
 made_after entries i = flattened (drop (suc i) entries)
 
+-- What takes entry i back under the entries after it: its reversal, joined over them; or the first two ranges in conflict.
 abbrev pub revoke : List (List Transaction) → ℕ → Result (List Transaction) Clash
 revoke entries i = mine_of (join_list (made_after entries i) (reversal (entry_at entries i)))
 

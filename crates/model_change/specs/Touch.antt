@@ -88,7 +88,7 @@ touch_count old new =
     + count_by (λ n. not (list_any (λ o. matches o n) old)) new
     + sum_by (λ o. count_by (λ n. matches o n && not (is_alike o n)) new) old
 
--- of a transaction that applies to a lawful list and gives a lawful one; each cause of a touched node counts once
+-- For a transaction that applies to a lawful list and gives a lawful one: the old nodes without a match, the new ones without a match, and the pairs that match under other parents or with other lengths.
 abbrev pub touch : Transaction → List PlainItem → ℕ
 touch t items = touch_count (map (seen_by t) (nodes_of items)) (map (seen_by (inverse t)) (nodes_of (edited t items)))
 
