@@ -11,6 +11,8 @@ mod machine;
 mod script;
 mod status;
 mod stop;
+#[cfg(test)]
+mod tests;
 mod top;
 
 pub use laws::script_is_its_lines;
