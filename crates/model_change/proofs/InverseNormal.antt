@@ -5,7 +5,7 @@ use Rattle.std.proofs.lemmas.Bool.{and_parts, and_from, not-true, not_from_false
 use Rattle.model_items.specs.declared.plain_item.PlainItem.{PlainItem}
 use Rattle.model_items.specs.Same.{text_same}
 use Rattle.model_change.specs.Attributes.{AttrChange, change_back}
-use Rattle.model_change.specs.Transaction.{Retain, Replace, Attribute, Transaction, all_inserted, old_length, total_length, may_precede, is_reduced}
+use Rattle.model_change.specs.Transaction.{Retain, Replace, Attribute, Transaction, all_inserted, all_removed, old_length, total_length, may_precede, is_reduced}
 use Rattle.model_change.specs.Inverse.{attribute_ops, inverse_after, inverse, InverseIsReduced, InverseIsNormal}
 use Rattle.model_change.proofs.AttributeLemmas.{text_other}
 use Rattle.model_change.proofs.InverseLemmas.{reduced_parts}
@@ -103,16 +103,26 @@ inverse_is_reduced t h = reduced-inverse_after t [] tt h
 
 -- what is removed and what is inserted change places
 
-length-inserted-attribute_ops : (changes : List AttrChange) (ops : Transaction) → all_inserted (attribute_ops changes ++ ops) ≡ all_inserted ops
-length-inserted-attribute_ops [] ops = refl
-length-inserted-attribute_ops (c ∷ changes) ops = length-inserted-attribute_ops changes ops
+inserted-attribute_ops : (changes : List AttrChange) (ops : Transaction) → all_inserted (attribute_ops changes ++ ops) ≡ all_inserted ops
+inserted-attribute_ops [] ops = refl
+inserted-attribute_ops (c ∷ changes) ops = inserted-attribute_ops changes ops
 
 old_length-attribute_ops : (changes : List AttrChange) (ops : Transaction) → old_length (attribute_ops changes ++ ops) ≡ old_length ops
 old_length-attribute_ops [] ops = refl
 old_length-attribute_ops (c ∷ changes) ops = old_length-attribute_ops changes ops
 
 total-attribute_ops : (changes : List AttrChange) (ops : Transaction) → total_length (attribute_ops changes ++ ops) ≡ total_length ops
-total-attribute_ops changes ops = λ i. old_length-attribute_ops changes ops i + length (length-inserted-attribute_ops changes ops i)
+total-attribute_ops changes ops = λ i. old_length-attribute_ops changes ops i + length (inserted-attribute_ops changes ops i)
+
+inserted-inverse_after : (ops : Transaction) (changes : List AttrChange) → all_inserted (inverse_after changes ops) ≡ all_removed ops
+inserted-inverse_after [] changes = ap all_inserted (sym (append-nil (attribute_ops changes))) ∙ inserted-attribute_ops changes []
+inserted-inverse_after (Retain count ∷ ops) changes = inserted-attribute_ops changes (Retain count ∷ inverse ops) ∙ inserted-inverse_after ops []
+inserted-inverse_after (Replace removed inserted ∷ ops) changes =
+    inserted-attribute_ops changes (Replace inserted removed ∷ inverse ops) ∙ ap (λ rest. removed ++ rest) (inserted-inverse_after ops [])
+inserted-inverse_after (Attribute c ∷ ops) changes = inserted-inverse_after ops (change_back c ∷ changes)
+
+pub inverse_inserts : (t : Transaction) → all_inserted (inverse t) ≡ all_removed t
+inverse_inserts t = inserted-inverse_after t []
 
 total-inverse_after : (ops : Transaction) (changes : List AttrChange) → total_length (inverse_after changes ops) ≡ total_length ops
 total-inverse_after [] changes = ap total_length (sym (append-nil (attribute_ops changes))) ∙ total-attribute_ops changes []

@@ -107,7 +107,7 @@ joined_inserts committed (one ∷ mine) joined items lawful runs runs_too h =
       (λ i. inserted_by (sym q.2 i).1) ∙ (λ i. row.mine_inserts i + rest.1 i),
     )
 
-AllWithin-more : (n m : ℕ) (ts : List Transaction) → n ≤ m → AllWithin n ts → AllWithin m ts
+pub AllWithin-more : (n m : ℕ) (ts : List Transaction) → n ≤ m → AllWithin n ts → AllWithin m ts
 AllWithin-more n m [] le h = tt
 AllWithin-more n m (t ∷ ts) le h = let first = h.0 in (omega arith, AllWithin-more n m ts le h.1)
 
@@ -121,7 +121,7 @@ runs_within (t ∷ ts) items runs =
     let rest = runs_within ts (edited t items) runs.1 in
     (omega arith, AllWithin-more (length (edited t items) + inserted_by ts) (length items + inserted_by (t ∷ ts)) ts (omega arith) rest)
 
-replay_within : (ts : List Transaction) (items : List PlainItem) → AllRun ts items → length (replay ts items) ≤ length items + inserted_by ts
+pub replay_within : (ts : List Transaction) (items : List PlainItem) → AllRun ts items → length (replay ts items) ≤ length items + inserted_by ts
 replay_within [] items runs = omega arith
 replay_within (t ∷ ts) items runs =
     let long = gives_new_length t items runs.0.applies in

@@ -1,16 +1,16 @@
 -- Reversals of lists of transactions, and an entry taken back under later ones.
-use Rattle.std.proofs.Common.{◌≡◌, ℕ, zero, suc, ◌<◌, List, [], ◌∷◌, ◌++◌, length, Result, Ok, Err, refl, sym, ap, ◌∙◌, subst, append_assoc, arith}
+use Rattle.std.proofs.Common.{◌≡◌, ℕ, zero, suc, ◌+◌, ◌<◌, List, [], ◌∷◌, ◌++◌, length, Result, Ok, Err, refl, sym, ap, ◌∙◌, subst, append_assoc, arith}
 use Rattle.model_items.specs.declared.plain_item.PlainItem.{PlainItem}
 use Rattle.model_items.specs.Law.{Lawful}
 use Rattle.model_change.specs.Attributes.{AllNamesApart}
-use Rattle.model_change.specs.Transaction.{Transaction, edited}
+use Rattle.model_change.specs.Transaction.{Transaction, all_inserted, all_removed, edited}
 use Rattle.model_change.specs.Inverse.{inverse}
 use Rattle.model_change.specs.Join.{Clash, list_with, join_list}
-use Rattle.model_change.specs.Replay.{replay, Runs, AllRun, reversal, ReversalUndoes, flattened, mine_of, entry_at, made_before, made_after, RevokeTakesBack, RevokeOfLast}
+use Rattle.model_change.specs.Replay.{replay, Runs, AllRun, reversal, ReversalUndoes, flattened, mine_of, entry_at, made_before, made_after, RevokeTakesBack, RevokeOfLast, inserted_by, removed_by, RevokeIsWithin}
 use Rattle.model_change.proofs.InverseLemmas.{inverse_undoes}
-use Rattle.model_change.proofs.InverseNormal.{inverse_is_reduced}
+use Rattle.model_change.proofs.InverseNormal.{inverse_is_reduced, inverse_inserts}
 use Rattle.model_change.proofs.FilledLemmas.{names_stay_apart, InsertedApart-inverse}
-use Rattle.model_change.proofs.JoinListLaw.{lists_agree}
+use Rattle.model_change.proofs.JoinListLaw.{lists_agree, lists_within, AllWithin-more, replay_within}
 
 replay-append : (ts us : List Transaction) (items : List PlainItem) → replay (ts ++ us) items ≡ replay us (replay ts items)
 replay-append [] us items = refl
@@ -91,3 +91,42 @@ revoke_takes_back entries i back base inside lawful apart runs h =
       without_runs = subst (AllRun j.0) undone.back agree.committed_after;
       one_list = ap (replay back) whole ∙ agree.one_list ∙ ap (replay j.0) undone.back;
     }
+
+-- how long it may be
+
+inserted_by-append : (ts us : List Transaction) → inserted_by (ts ++ us) ≡ inserted_by ts + inserted_by us
+inserted_by-append [] us = omega arith
+inserted_by-append (t ∷ ts) us = let rest = inserted_by-append ts us in omega arith
+
+inserted_by-reversal : (ts : List Transaction) → inserted_by (reversal ts) ≡ removed_by ts
+inserted_by-reversal [] = refl
+inserted_by-reversal (t ∷ ts) =
+    let one : length (all_inserted (inverse t)) ≡ length (all_removed t) = ap (λ (l : List PlainItem). length l) (inverse_inserts t) in
+    let rest = inserted_by-reversal ts in
+    let both = inserted_by-append (reversal ts) (inverse t ∷ []) in
+    omega arith
+
+pub revoke_is_within : RevokeIsWithin
+revoke_is_within entries i back base inside lawful apart runs h =
+    let entry = entry_at entries i in
+    let later = made_after entries i in
+    let j = mine_of-ok (join_list later (reversal entry)) back h in
+    let parts = flattened-parts entries i inside in
+    let first = AllRun_front (made_before entries i) (entry ++ later) base (subst (λ ts. AllRun ts base) parts runs) in
+    let L = replay (made_before entries i) base in
+    let second = AllRun_front entry later L first.1 in
+    let lawful_there = replay_lawful (made_before entries i) base lawful first.0 in
+    let undone = reversal_undoes entry L lawful_there (replay_apart (made_before entries i) base apart first.0) second.0 in
+    let within = lists_within later (reversal entry) (j.0, back) (replay entry L) (replay_lawful entry L lawful_there second.0) second.1 undone.runs j.1 in
+    let one = replay_within (made_before entries i) base first.0 in
+    let two = replay_within entry L second.0 in
+    let removed = inserted_by-reversal entry in
+    let whole : inserted_by (flattened entries) ≡ inserted_by (made_before entries i) + (inserted_by entry + inserted_by later) =
+    ap inserted_by parts ∙ inserted_by-append (made_before entries i) (entry ++ later)
+    ∙ ap (λ n. inserted_by (made_before entries i) + n) (inserted_by-append entry later) in
+    AllWithin-more
+    (length (replay entry L) + (inserted_by later + inserted_by (reversal entry)))
+    (length base + (inserted_by (flattened entries) + removed_by entry))
+    back
+    (omega arith)
+    within.1

@@ -3,7 +3,7 @@ use Rattle.std.specs.Prelude.{◌≡◌, ℕ, suc, ◌+◌, ◌<◌, ◌≤◌, 
 use Rattle.model_items.specs.declared.plain_item.PlainItem.{PlainItem}
 use Rattle.model_items.specs.Law.{Lawful}
 use Rattle.model_change.specs.Attributes.{AllNamesApart}
-use Rattle.model_change.specs.Transaction.{Transaction, all_inserted, total_length, edited, is_reduced, InsertedApart}
+use Rattle.model_change.specs.Transaction.{Transaction, all_inserted, all_removed, total_length, edited, is_reduced, InsertedApart}
 use Rattle.model_change.specs.Fault.{Applies}
 use Rattle.model_change.specs.Inverse.{inverse, IsRestorable}
 use Rattle.model_change.specs.Join.{Clash, join_list}
@@ -107,3 +107,14 @@ RevokeTakesBack = (entries : List (List Transaction)) (i : ℕ) (back : List Tra
 -- Where no entry is later, its reversal takes it back, which gives the list before the entry.
 abbrev pub RevokeOfLast : Type 0
 RevokeOfLast = (entries : List (List Transaction)) (i : ℕ) → made_after entries i ≡ [] → revoke entries i ≡ Ok (reversal (entry_at entries i))
+
+-- how many items the transactions remove
+abbrev pub removed_by : List Transaction → ℕ
+removed_by [] = 0
+removed_by (t ∷ ts) = length (all_removed t) + removed_by ts
+
+-- What takes the entry back is no longer than the base with all that the entries insert and the entry removes.
+abbrev pub RevokeIsWithin : Type 0
+RevokeIsWithin = (entries : List (List Transaction)) (i : ℕ) (back : List Transaction) (base : List PlainItem) → i < length entries →
+    Lawful base → AllNamesApart base → AllRun (flattened entries) base → revoke entries i ≡ Ok back →
+    AllWithin (length base + (inserted_by (flattened entries) + removed_by (entry_at entries i))) back

@@ -37,6 +37,13 @@ all_inserted (Retain count ∷ ops) = all_inserted ops
 all_inserted (Replace removed inserted ∷ ops) = inserted ++ all_inserted ops
 all_inserted (Attribute change ∷ ops) = all_inserted ops
 
+-- what it removes, in order
+abbrev pub all_removed : Transaction → List PlainItem
+all_removed [] = []
+all_removed (Retain count ∷ ops) = all_removed ops
+all_removed (Replace removed inserted ∷ ops) = removed ++ all_removed ops
+all_removed (Attribute change ∷ ops) = all_removed ops
+
 -- what it retains, removes and inserts, together
 abbrev pub total_length : Transaction → ℕ
 total_length t = old_length t + length (all_inserted t)

@@ -9,7 +9,7 @@ ghost use Rattle.model_change.specs.Attributes.{ChangeIsUndone, FilledPutsBack, 
 ghost use Rattle.model_change.specs.Fault.{FaultIsFirst, FaultIsOnly, GivesNewLength, NamesStayApart};
 ghost use Rattle.model_change.specs.Inverse.{InverseUndoes, InverseIsReduced, InverseIsNormal, FillingIsNeutral};
 ghost use Rattle.model_change.specs.Join.{OnlyActiveChanges, ConflictIsSymmetric, JoinsAgree, JoinsLawful, JoinsReduced, JoinsLengths, JoinsNormal, JoinsRestorable, JoinsApart};
-ghost use Rattle.model_change.specs.Replay.{JoinListsAgree, JoinListsWithin, ReversalUndoes, RevokeTakesBack, RevokeOfLast};
+ghost use Rattle.model_change.specs.Replay.{JoinListsAgree, JoinListsWithin, ReversalUndoes, RevokeTakesBack, RevokeOfLast, RevokeIsWithin};
 ghost use Rattle.model_change.specs.Store.{FillAppends};
 ghost use Rattle.model_change.specs.Touch.{NodesAreCounted, RetainedStays};
 
@@ -72,6 +72,7 @@ pub fn histories_agree()
     ensures reversed { ReversalUndoes }
     ensures revoked { RevokeTakesBack }
     ensures last { RevokeOfLast }
+    ensures short { RevokeIsWithin }
 {}
 
 /// Filling a list of values appends those that are new, each once, and then holds all of them.

@@ -1,6 +1,6 @@
 use Rattle.model_change.proofs.histories_agree.Goals as goal
 use Rattle.model_change.proofs.JoinListLaw.{lists_agree, lists_within}
-use Rattle.model_change.proofs.ReversalLaw.{reversal_undoes, revoke_takes_back, revoke_of_last}
+use Rattle.model_change.proofs.ReversalLaw.{reversal_undoes, revoke_takes_back, revoke_of_last, revoke_is_within}
 
 pub returns-clause-joined : goal.returns-clause-joined
 returns-clause-joined c = lists_agree
@@ -16,3 +16,6 @@ returns-clause-revoked c = revoke_takes_back
 
 pub returns-clause-last : goal.returns-clause-last
 returns-clause-last c = revoke_of_last
+
+pub returns-clause-short : goal.returns-clause-short
+returns-clause-short c = revoke_is_within
