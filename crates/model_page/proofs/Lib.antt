@@ -2,3 +2,4 @@ pub mod OnLiterals
 pub mod PageExamples
 mod ReadingExamples
 mod LimitExamples
+mod OpenExamples

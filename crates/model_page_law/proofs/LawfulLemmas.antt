@@ -48,7 +48,7 @@ some_none true x n e = (refl, e)
 some_none false x n e = cc
 
 -- how many openings there are
-abbrev opening_count : List PlainItem → ℕ
+abbrev pub opening_count : List PlainItem → ℕ
 opening_count [] = 0
 opening_count (Char c marks ∷ items) = opening_count items
 opening_count (Opening kind head marks pre origin generated ∷ items) = suc (opening_count items)
@@ -129,7 +129,7 @@ runs parent base seen e o (Opening kind head marks pre origin generated ∷ item
     let deep = some_none (nat_lt (length (s ++ base)) 100) (deep_at (suc (length (s ++ base))) items spans) span.from d in
     first_step (state (s ++ base) seen) (state (kind ∷ (s ++ base)) seen) (state (t ++ base) seen) (Opening kind head marks pre origin generated) items
     (opened_ok (s ++ base) seen kind (ap (λ k. may_hold k kind) (top_innermost parent s base e) ∙ h.0) h.1 (not_over s base seen o) deep.0)
-    (runs parent base seen e o items spans (kind ∷ s) t h.2 (omega (arith, c)) deep.1)
+    (runs parent base seen e o items spans (kind ∷ s) t h.3 (omega (arith, c)) deep.1)
 runs parent base seen e o (Closing kind pre ∷ items) spans s t h c d =
     closing_runs s base t seen kind pre items spans (λ outer. Nests parent outer items t) h d
     (λ outer g q. runs parent base seen e o items spans outer t g c q)
@@ -144,21 +144,18 @@ after-with_origins (Opening kind head marks pre origin generated ∷ items) k s 
     (λ i. joined 1 (step s (Opening kind head marks pre origin generated)) (λ next. after-with_origins items (suc k) next i))
 
 -- what stands in a flow parent nests there, with a span for each opening
-flow_holds : (kind : Kind) → Sane (Flow kind) → (parts : Parts) (w : Place) → Holds kind (in_flow kind parts w).later.items
+pub flow_holds : (kind : Kind) → Sane (Flow kind) → (parts : Parts) (w : Place) → Holds kind (in_flow kind parts w).later.items
 flow_holds kind s parts w = (Meets-run_closed (Flow kind) s w (made_of (Flow kind) parts w) (Meets-made_of (Flow kind) s parts w)).later
 
-flow_counted : (kind : Kind) (parts : Parts) (w : Place) → opening_count (in_flow kind parts w).later.items ≤ length (in_flow kind parts w).later.spans
+pub flow_counted : (kind : Kind) (parts : Parts) (w : Place) → opening_count (in_flow kind parts w).later.items ≡ length (in_flow kind parts w).later.spans
 flow_counted kind parts w =
-    let m : Made = in_flow kind parts w in
     let s = (Fine-run_closed w (made_of (Flow kind) parts w) (Fine-made_of (Flow kind) parts w)).later in
-    let e : opening_count m.later.items ≡ openings s.nodes = ap opening_count s.items ∙ opening_count-plain s.nodes in
-    let f : length m.later.spans ≡ openings s.nodes = s.count in
-    omega (arith, e, f)
+    ap opening_count s.items ∙ opening_count-plain s.nodes ∙ sym s.count
 
 flow_runs : (kind : Kind) → Sane (Flow kind) → (base : List Kind) (seen : Bool) → top base ≡ kind → (is_empty base && seen) ≡ false → (parts : Parts) (w : Place) →
     deep_at (length base) (in_flow kind parts w).later.items (in_flow kind parts w).later.spans ≡ None → Runs base seen (in_flow kind parts w).later.items base
 flow_runs kind s base seen e o parts w d =
-    runs kind base seen e o (in_flow kind parts w).later.items (in_flow kind parts w).later.spans [] [] (flow_holds kind s parts w) (flow_counted kind parts w) d
+    runs kind base seen e o (in_flow kind parts w).later.items (in_flow kind parts w).later.spans [] [] (flow_holds kind s parts w) (let c = flow_counted kind parts w in omega (arith, c)) d
 
 earlier_none : (a b : Option Limit) → earlier a b ≡ None → a ≡ None
 earlier_none None b e = refl

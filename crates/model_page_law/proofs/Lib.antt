@@ -33,4 +33,5 @@ pub mod KindFits
 pub mod NestLemmas
 pub mod LawfulLemmas
 pub mod OpenPageLemmas
+pub mod OriginLemmas
 mod FormCases

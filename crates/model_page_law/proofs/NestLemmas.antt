@@ -19,6 +19,7 @@ use Rattle.model_page.specs.Heads.{characters, head_with, whole_head}
 use Rattle.model_page.specs.Pieces.{Span, Piece, Owner, Made, Place, past, span_at, no_piece, node, leaf, chars_piece, items_after, with_white, run_dropped, run_ended, run_closed, in_run, before_run, leaf_before}
 use Rattle.model_page.specs.ReferenceNodes.{RefNode, ref_of}
 use Rattle.model_page.specs.Convert.{marks_at, marked_around, element_source, inside_of, inside_piece, words_before, group_made, leaf_made, element_made, made_of}
+use Rattle.model_page_law.specs.Origins.{origin_before, origins_of}
 use Rattle.model_page_law.proofs.KindFits.{inline_held, Sane, Matches, matches, Stands, LeafFits, HoldsRuns, ref_fits, group_fits, note_fits, no_reference, Held, FitStands, fit_stands}
 
 -- ---- items that nest under a parent
@@ -32,12 +33,12 @@ abbrev pub Closes : List Kind → Kind → (List Kind → Type 0) → Type 0
 Closes [] kind rest = ⊥
 Closes (k ∷ outer) kind rest = (k ≡ kind) × rest outer
 
--- where these kinds are open inside of the parent, the items lead to those
+-- where these kinds are open inside of the parent, the items lead to those; no opening has an origin
 abbrev pub Nests : Kind → List Kind → List PlainItem → List Kind → Type 0
 Nests parent open_kinds [] after_them = open_kinds ≡ after_them
 Nests parent open_kinds (Char c marks ∷ items) after_them = (is_content_branch (innermost parent open_kinds) ≡ true) × Nests parent open_kinds items after_them
 Nests parent open_kinds (Opening kind head marks pre origin generated ∷ items) after_them =
-    (may_hold (innermost parent open_kinds) kind ≡ true) × (kind_same kind InternalList ≡ false) × Nests parent (kind ∷ open_kinds) items after_them
+    (may_hold (innermost parent open_kinds) kind ≡ true) × (kind_same kind InternalList ≡ false) × (origin ≡ None) × Nests parent (kind ∷ open_kinds) items after_them
 Nests parent open_kinds (Closing kind pre ∷ items) after_them = Closes open_kinds kind (λ outer. Nests parent outer items after_them)
 
 -- whole nodes
@@ -51,7 +52,7 @@ closes_then (k ∷ outer) kind a b f h = (h.0, f outer h.1)
 pub Nests-append : (parent : Kind) (xs ys : List PlainItem) (s t u : List Kind) → Nests parent s xs t → Nests parent t ys u → Nests parent s (xs ++ ys) u
 Nests-append parent [] ys s t u h g = subst (λ k. Nests parent k ys u) (sym h) g
 Nests-append parent (Char c marks ∷ xs) ys s t u h g = (h.0, Nests-append parent xs ys s t u h.1 g)
-Nests-append parent (Opening kind head marks pre origin generated ∷ xs) ys s t u h g = (h.0, h.1, Nests-append parent xs ys (kind ∷ s) t u h.2 g)
+Nests-append parent (Opening kind head marks pre origin generated ∷ xs) ys s t u h g = (h.0, h.1, h.2, Nests-append parent xs ys (kind ∷ s) t u h.3 g)
 Nests-append parent (Closing kind pre ∷ xs) ys s t u h g =
     closes_then s kind (λ outer. Nests parent outer xs t) (λ outer. Nests parent outer (xs ++ ys) u) (λ outer k. Nests-append parent xs ys outer t u k g) h
 
@@ -68,14 +69,14 @@ Nests-inside : (parent k : Kind) (s : List Kind) → innermost parent s ≡ k �
 Nests-inside parent k s e [] r t h = ap (λ x. x ++ s) h
 Nests-inside parent k s e (Char c marks ∷ items) r t h = (ap is_content_branch (sym (innermost_same parent k r s e)) ∙ h.0, Nests-inside parent k s e items r t h.1)
 Nests-inside parent k s e (Opening kind head marks pre origin generated ∷ items) r t h =
-    (ap (λ j. may_hold j kind) (sym (innermost_same parent k r s e)) ∙ h.0, h.1, Nests-inside parent k s e items (kind ∷ r) t h.2)
+    (ap (λ j. may_hold j kind) (sym (innermost_same parent k r s e)) ∙ h.0, h.1, h.2, Nests-inside parent k s e items (kind ∷ r) t h.3)
 Nests-inside parent k s e (Closing kind pre ∷ items) r t h =
     inside_closes r s kind (λ outer. Nests k outer items t) (λ outer. Nests parent outer items (t ++ s)) (λ outer g. Nests-inside parent k s e items outer t g) h
 
-pub Holds-node : (parent kind : Kind) (head : Head) (marks : List Mark) (before : List ℕ) (origin : Option ℕ) (generated : Bool) (inside : List PlainItem) (pre : List ℕ) →
-    may_hold parent kind ≡ true → kind_same kind InternalList ≡ false → Holds kind inside → Holds parent (Opening kind head marks before origin generated ∷ inside ++ Closing kind pre ∷ [])
-Holds-node parent kind head marks before origin generated inside pre may other h =
-    (may, other, Nests-append parent inside (Closing kind pre ∷ []) (kind ∷ []) (kind ∷ []) [] (Nests-inside parent kind (kind ∷ []) refl inside [] [] h) (refl, refl))
+pub Holds-node : (parent kind : Kind) (head : Head) (marks : List Mark) (before : List ℕ) (generated : Bool) (inside : List PlainItem) (pre : List ℕ) →
+    may_hold parent kind ≡ true → kind_same kind InternalList ≡ false → Holds kind inside → Holds parent (Opening kind head marks before None generated ∷ inside ++ Closing kind pre ∷ [])
+Holds-node parent kind head marks before generated inside pre may other h =
+    (may, other, refl, Nests-append parent inside (Closing kind pre ∷ []) (kind ∷ []) (kind ∷ []) [] (Nests-inside parent kind (kind ∷ []) refl inside [] [] h) (refl, refl))
 
 pub Holds-append : (parent : Kind) (xs ys : List PlainItem) → Holds parent xs → Holds parent ys → Holds parent (xs ++ ys)
 Holds-append parent xs ys h g = Nests-append parent xs ys [] [] [] h g
@@ -85,6 +86,18 @@ Nests-items_after parent white [] s t h = h
 Nests-items_after parent white (Char c marks ∷ items) s t h = h
 Nests-items_after parent white (Opening kind head marks pre origin generated ∷ items) s t h = h
 Nests-items_after parent white (Closing kind pre ∷ items) s t h = h
+
+-- what nests has no origins
+unplaced_closing : (s : List Kind) (kind : Kind) (nests : List Kind → Type 0) (origins : List ℕ) → Closes s kind nests → ((outer : List Kind) → nests outer → origins ≡ []) → origins ≡ []
+unplaced_closing [] kind nests origins h f = absurd h
+unplaced_closing (k ∷ outer) kind nests origins h f = f outer h.1
+
+pub unplaced : (parent : Kind) (items : List PlainItem) (s t : List Kind) → Nests parent s items t → origins_of items ≡ []
+unplaced parent [] s t h = refl
+unplaced parent (Char c marks ∷ items) s t h = unplaced parent items s t h.1
+unplaced parent (Opening kind head marks pre origin generated ∷ items) s t h = ap (λ o. origin_before o (origins_of items)) h.2 ∙ unplaced parent items (kind ∷ s) t h.3
+unplaced parent (Closing kind pre ∷ items) s t h =
+    unplaced_closing s kind (λ outer. Nests parent outer items t) (origins_of items) h (λ outer g. unplaced parent items outer t g)
 
 -- ---- content
 
@@ -135,8 +148,8 @@ Blocks-append (Structural k) xs ys h g = Holds-append k xs ys h g
 Blocks-node : (around : Around) (kind : Kind) (head : Head) (marks : List Mark) (generated : Bool) (span : Span) (inside : Piece) (pre : List ℕ) →
     Held around kind → kind_same kind InternalList ≡ false → Holds kind inside.items → Blocks around (node kind head marks generated span inside pre).items
 Blocks-node (Content m) kind head marks generated span inside pre may other h = tt
-Blocks-node (Flow k) kind head marks generated span inside pre may other h = Holds-node k kind head marks [] None generated inside.items pre may other h
-Blocks-node (Structural k) kind head marks generated span inside pre may other h = Holds-node k kind head marks [] None generated inside.items pre may other h
+Blocks-node (Flow k) kind head marks generated span inside pre may other h = Holds-node k kind head marks [] generated inside.items pre may other h
+Blocks-node (Structural k) kind head marks generated span inside pre may other h = Holds-node k kind head marks [] generated inside.items pre may other h
 
 Meets-with_white : (around : Around) (white : List ℕ) (m : Made) → Meets around m → Meets around (with_white white m)
 Meets-with_white around white m h = record { run = h.run; later = Blocks-items_after around white m.later.items h.later; source = h.source }
@@ -179,7 +192,7 @@ Meets-before_run around s w piece owners m p h =
 -- ---- leaves
 
 Inline-leaf : (kind : Kind) (head : Head) (marks : List Mark) (span : Span) → is_inline_leaf kind ≡ true → kind_same kind InternalList ≡ false → Inline (leaf kind head marks span).items
-Inline-leaf kind head marks span i other parent e = Holds-node parent kind head marks [] None false [] [] (inline_held parent kind e i) other refl
+Inline-leaf kind head marks span i other parent e = Holds-node parent kind head marks [] false [] [] (inline_held parent kind e i) other refl
 
 stands_in : (around : Around) (kind : Kind) → Stands around kind true → HoldsRuns around
 stands_in (Content marks) kind h = tt

@@ -3,3 +3,4 @@ pub mod Formed
 pub mod ReadBack
 pub mod WritesFresh
 pub mod Lawful
+pub mod Origins

@@ -3,6 +3,7 @@
 #![tactic(auto)]
 
 ghost use Rattle.model_page_law.specs.Lawful.{BadPageHasFault, LimitedIsLawful, ReadIsLawful, ReadIsWithin, WithinIsRead};
+ghost use Rattle.model_page_law.specs.Origins.{OriginsNumberSpans};
 ghost use Rattle.model_page_law.specs.ReadBack.{FreshIsReadBack, FreshOpensAsItself};
 ghost use Rattle.model_page_law.specs.WritesFresh.{WritesFresh};
 ghost use Rattle.model_page_law.specs.WrittenBack.{FaultlessOpens, OpenedIsFaultless, OpenedIsWrittenBack, OpensAsItsForest, SpelledIsWrittenBack};
@@ -23,6 +24,12 @@ pub fn page_is_read()
     ensures complete { WithinIsRead }
     ensures fault { BadPageHasFault }
     ensures forest { LimitedIsLawful }
+{}
+
+/// The origins of an opened page are the numbers of its spans, each once and in order.
+#[tactic(auto, using(crate::proofs::OriginLemmas::origins_number_spans))]
+pub fn origins_number_spans()
+    ensures { OriginsNumberSpans }
 {}
 
 /// A page that opens, and is written with the items that it has, is that page, byte for byte.

@@ -1,3 +1,4 @@
 mod WrittenExamples
 mod LongExamples
 mod ReadBackExamples
+mod JoinedExamples
