@@ -1,8 +1,9 @@
 -- Pages at the limits on nesting and marks, and one past them, by computation.
-use Rattle.std.specs.Prelude.{◌≡◌, ℕ, List, ◌++◌, Option, Some, None, codes, refl, option_and_then}
+use Rattle.std.specs.Prelude.{◌≡◌, ℕ, List, [], ◌∷◌, ◌++◌, Option, Some, None, codes, refl, option_and_then}
 use Rattle.std.specs.List.{repeat}
 use Rattle.model_spelling.specs.Parsed.{forest_of}
-use Rattle.model_page.specs.Limits.{Limit, TooDeep, TooManyMarks, page_limit}
+use Rattle.model_page.specs.Limits.{Limit, TooDeep, TooManyMarks, page_limit, fragment_limit}
+use Rattle.ve_kinds.specs.declared.kind.Kind.TheVariants.{P}
 use Rattle.model_page.proofs.OnLiterals.{page_on_literals}
 
 abbrev limit : List ℕ → Option Limit
@@ -31,3 +32,8 @@ marks_64 = refl
 marks_65 : limit (codes "<p>" ++ repeat 65 (codes "<b>") ++ codes "a" ++ repeat 65 (codes "</b>") ++ codes "</p>") ≡ Some (TooManyMarks 195)
 unfolding page_on_literals
 marks_65 = refl
+
+-- the annotations of a fragment that stands in content
+fragment_marks : option_and_then (fragment_limit (P ∷ [])) (forest_of (repeat 65 (codes "<b>") ++ codes "a" ++ repeat 65 (codes "</b>"))) ≡ Some 192
+unfolding page_on_literals
+fragment_marks = refl

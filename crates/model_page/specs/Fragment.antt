@@ -1,4 +1,5 @@
--- The items of a fragment that is inserted.
+-- The items of a fragment that is inserted: its forest becomes children of the innermost open kind that it fits. No item has an origin, none
+-- is generated, and no reference is editable.
 use Rattle.std.specs.Prelude.{ℕ, Bool, true, false, not, ◌&&◌, ◌||◌, if◌then◌else◌, List, [], ◌∷◌, ◌++◌, map, chars, Some, None}
 use Rattle.model_spelling.specs.Forest.{Forest}
 use Rattle.ve_kinds.specs.declared.kind.Kind.{Kind}
@@ -36,6 +37,7 @@ fits_structural k (Group nodes later) = false
 fits_structural k (Single name attrs source later) = may_hold_tag k name && fits_structural k later
 fits_structural k (Parent name attrs children later) = may_hold_tag k name && fits_structural k later
 
+-- a flow kind always fits
 abbrev pub fits_in : Parts → Kind → Bool
 fits_in parts k =
     if is_content_branch k then fits_content parts
@@ -46,15 +48,17 @@ abbrev pub context_of : Parts → List Kind → Kind
 context_of parts [] = Root
 context_of parts (k ∷ outer) = if fits_in parts k then k else context_of parts outer
 
+-- not generated
 abbrev pub item_unmade : PlainItem → PlainItem
 item_unmade (Opening kind head marks pre origin generated) = Opening kind head marks pre origin false
 item_unmade (Closing kind pre) = Closing kind pre
 item_unmade (Char c marks) = Char c marks
 
+-- what the parts become as children of k
 abbrev pub pieces_in : Kind → Parts → Made
 pieces_in k parts = let w : Place = record { at = 0; owners = []; editable = false } in inside_piece (around_in k) w (made_of (around_in k) parts w)
 
--- the items of a fragment where these kinds are open, innermost first
+-- the items of a fragment where these kinds are open, innermost first; white text alone is a paragraph where blocks may stand
 abbrev pub pieces_of : List Kind → Forest → List PlainItem
 pieces_of stack forest =
     let parts = parts_of forest in

@@ -2,6 +2,7 @@
 use Rattle.std.specs.Prelude.{ℕ, suc, ◌+◌, ◌-◌, false, if◌then◌else◌, nat_lt, List, [], ◌∷◌, length, Option, Some, None, option_map}
 use Rattle.model_spelling.specs.Grammar.{Comment, token_text, start_text}
 use Rattle.model_spelling.specs.Forest.{Forest, spelling}
+use Rattle.ve_kinds.specs.declared.kind.Kind.{Kind}
 use Rattle.ve_kinds.specs.declared.kind.Kind.TheVariants.{Root, InternalItem}
 use Rattle.model_items.specs.declared.plain_item.PlainItem.{PlainItem}
 use Rattle.model_items.specs.declared.plain_item.PlainItem.TheVariants.{Char, Opening, Closing}
@@ -12,7 +13,9 @@ use Rattle.model_page.specs.Fit.{Around, Flow, Annotation, Branch, around_in, fi
 use Rattle.model_page.specs.Pieces.{Span, Owner, Made}
 use Rattle.model_page.specs.Convert.{marks_at, marked_around, element_source}
 use Rattle.model_page.specs.PageItems.{body_made, or_nothing, page_made}
+use Rattle.model_page.specs.Fragment.{context_of}
 
+-- what is over the limit, and the byte of the page where it starts
 pub data Limit : Type 0 where
   TooDeep : ℕ → Limit
   TooManyMarks : ℕ → Limit
@@ -70,7 +73,7 @@ body_limit o =
     let forest = or_nothing (forest_of o.html) in
     option_map (moved_to o.at) (limit_of 2 (Flow InternalItem) (parts_of forest) 0 (body_made forest))
 
--- of the bodies in order
+-- of the bodies, in the order of their owners
 abbrev pub first_body_limit : List Owner → Option Limit
 first_body_limit [] = None
 first_body_limit (o ∷ owners) = or_else (body_limit o) (first_body_limit owners)
@@ -80,3 +83,8 @@ abbrev pub page_limit : ℕ → Forest → Option Limit
 page_limit at forest =
     let made = page_made at forest in
     or_else (limit_of 0 (Flow Root) (parts_of forest) at made) (first_body_limit made.owners)
+
+-- The byte of the first annotation of a fragment inside of 64 marks, where these kinds are open, innermost first. How deep a fragment is says
+-- the law, once it is inserted.
+abbrev pub fragment_limit : List Kind → Forest → Option ℕ
+fragment_limit stack forest = let parts = parts_of forest in marked_at (around_in (context_of parts stack)) parts 0

@@ -29,10 +29,12 @@ item_head key = record { tag = []; attrs = []; raw = []; reference = Some key; o
 abbrev pub body_made : Forest → Made
 body_made forest = in_flow InternalItem (parts_of forest) (record { at = 0; owners = []; editable = false })
 
+-- the forest of a body, which an owner has checked
 abbrev pub or_nothing : Option Forest → Forest
 or_nothing (Some forest) = forest
 or_nothing None = Nothing
 
+-- the internal item of an owner, with its body
 abbrev pub internal_item : Owner → List PlainItem
 internal_item o =
     let body = body_made (or_nothing (forest_of o.html)) in
@@ -46,9 +48,11 @@ internal_list pre owners = Opening InternalList empty_head [] pre None false ∷
 abbrev pub page_made : ℕ → Forest → Made
 page_made at forest = in_flow Root (parts_of forest) (record { at = at; owners = []; editable = true })
 
+-- all items
 abbrev pub items_of : Made → List PlainItem
 items_of m = with_origins 0 m.later.items ++ internal_list m.pre m.owners
 
+-- the bytes between two places
 abbrev pub slice : List ℕ → ℕ → ℕ → List ℕ
 slice bytes from to = take (to - from) (drop from bytes)
 
