@@ -1,0 +1,87 @@
+-- Values found by the test of equality.
+use Rattle.std.proofs.Common.{◌≡◌, ◌↔◌, ◌≤◌, not, ◌<◌, ◌++◌, IfSome, IsSome, cond, ℕ, zero, suc, Bool, true, false, ◌||◌, ◌+◌, append_assoc, List, [], ◌∷◌, length, get_or, slice_get, Contains, Option, Some, None, is_some, position, if◌then◌else◌, nat_lt, refl, sym, ap, subst, ◌∙◌, true≢false, arith}
+use Rattle.std.specs.List.{position_or_len, IsDistinct, AllByRecursion}
+use Rattle.std.proofs.lemmas.Bool.{ltb-true, false_from_ne_true}
+use Rattle.std.proofs.lemmas.List.Folds.{list_any-append}
+use Rattle.std.proofs.lemmas.List.Sums.{passes_at_first, prefix_len-le-length}
+use Rattle.std.proofs.lemmas.Option.{slice_get-get_or}
+use Rattle.std.proofs.lemmas.Map.Views.{list_any-from_Contains}
+use Rattle.std.proofs.lemmas.Map.Keys.{IsDistinct-head, IsDistinct-tail}
+use Rattle.indexmap.proofs.CallerLemmas.{Contains-list_any}
+use Rattle.ve_base.specs.declared.value.Value.{Value}
+use Rattle.model_change.specs.Store.{holds, admitted, NoneTwice}
+use Rattle.model_items.specs.Same.{value_same}
+use Rattle.model_items.proofs.SameLemmas.{Means-value_same}
+use Rattle.ve_store.specs.Laws.{value_same-equivalence}
+
+-- what is found is the value itself
+pub first_is : (values : List Value) (v : Value) → position_or_len (value_same v) values < length values → slice_get values (position_or_len (value_same v) values) ≡ Some v
+first_is values v within =
+    let at = position_or_len (value_same v) values in
+    slice_get-get_or values at v within ∙ ap Some (sym (Means-value_same.equal v (get_or values at v) (passes_at_first (value_same v) values v within)))
+
+pub Contains-holds : (values : List Value) (v : Value) → holds values v ≡ true → Contains values v
+Contains-holds values v h = Contains-list_any value_same Means-value_same.equal values v h
+
+pub holds-Contains : (values : List Value) (v : Value) → Contains values v → holds values v ≡ true
+holds-Contains values v h = list_any-from_Contains value_same-equivalence v values h
+
+other : (v : Value) (vs : List Value) → AllByRecursion (λ y. value_same v y ≡ false) vs → ¬ Contains vs v
+other v vs all h = true≢false (sym (holds-Contains vs v h) ∙ none vs all) where
+  none : (ys : List Value) → AllByRecursion (λ y. value_same v y ≡ false) ys → holds ys v ≡ false
+  none [] a = refl
+  none (y ∷ ys) a = rw a.0 (none ys a.1)
+
+pub none_twice : (values : List Value) → IsDistinct value_same values → NoneTwice values
+none_twice [] d = tt
+none_twice (v ∷ vs) d = (other v vs (IsDistinct-head value_same v vs d), none_twice vs (IsDistinct-tail value_same v vs d))
+
+-- as a look-up answers
+pub found_at : (values : List Value) (v : Value) (r : Option ℕ) → r ≡ position (value_same v) values → IfSome r (λ place. slice_get values place ≡ Some v)
+found_at values v r e =
+    let P : Option ℕ → Type 0 = λ o. IfSome o (λ place. slice_get values place ≡ Some v) in
+    subst P (sym e) (go (nat_lt (position_or_len (value_same v) values) (length values)) refl) where
+      go : (b : Bool) → nat_lt (position_or_len (value_same v) values) (length values) ≡ b
+          → IfSome (cond b (Some (position_or_len (value_same v) values)) None) (λ place. slice_get values place ≡ Some v)
+      go true below = first_is values v (ltb-true _ _ below)
+      go false past = tt
+
+pub found_some : (values : List Value) (v : Value) (r : Option ℕ) → is_some r ≡ holds values v → IsSome r ↔ Contains values v
+found_some values v (Some place) e = (λ _. Contains-holds values v (sym e), λ _. refl)
+found_some values v None e = (λ none. absurd (true≢false (sym none)), λ there. absurd (true≢false (sym (holds-Contains values v there) ∙ sym e)))
+
+-- a value that is there adds nothing
+pub admitted_there : (values : List Value) (v : Value) → Contains values v → values ≡ admitted values v
+admitted_there values v h = sym (ap (λ b. if b then values else values ++ v ∷ []) (holds-Contains values v h))
+
+-- values that follow a store
+pub holds-append : (values more : List Value) (v : Value) → holds (values ++ more) v ≡ (holds values v || holds more v)
+holds-append values more v = list_any-append (value_same v) values more
+
+pub admitted_before : (values more : List Value) (v : Value) → Contains values v → values ++ more ≡ admitted (values ++ more) v
+admitted_before values more v h =
+    sym (ap (λ b. if b then values ++ more else values ++ more ++ v ∷ []) (holds-append values more v ∙ ap (λ b. b || holds more v) (holds-Contains values v h)))
+
+pub admitted_behind : (values more : List Value) (v : Value) → ¬ Contains values v → values ++ admitted more v ≡ admitted (values ++ more) v
+admitted_behind values more v new =
+    let absent : holds values v ≡ false = false_from_ne_true (holds values v) (λ there. new (Contains-holds values v there)) in
+    let same : holds (values ++ more) v ≡ holds more v = holds-append values more v ∙ ap (λ b. b || holds more v) absent in
+    go (holds more v) ∙ sym (ap (λ b. if b then values ++ more else values ++ more ++ v ∷ []) same) where
+      go : (b : Bool) → values ++ (if b then more else more ++ v ∷ []) ≡ (if b then values ++ more else values ++ more ++ v ∷ [])
+      go true = refl
+      go false = sym (append_assoc values more (v ∷ []))
+
+pub get_before : {X : Type 0} (xs ys : List X) (at : ℕ) (x : X) → slice_get xs at ≡ Some x → slice_get (xs ++ ys) at ≡ Some x
+get_before [] ys at x h = cc
+get_before (y ∷ xs) ys zero x h = h
+get_before (y ∷ xs) ys (suc at) x h = get_before xs ys at x h
+
+pub get_behind : {X : Type 0} (xs ys : List X) (at many : ℕ) (x : X) → many ≡ length xs → slice_get ys at ≡ Some x → slice_get (xs ++ ys) (many + at) ≡ Some x
+get_behind [] ys at many x e h = ap (λ n. slice_get ys n) (let f : many + at ≡ at = omega (arith, e) in f) ∙ h
+get_behind (y ∷ xs) ys at zero x e h = absurd (let none : ⊥ = omega (arith, e) in none)
+get_behind (y ∷ xs) ys at (suc many) x e h =
+    ap (λ n. slice_get (y ∷ (xs ++ ys)) n) (let f : suc many + at ≡ suc (many + at) = omega arith in f) ∙ get_behind xs ys at many x (omega (arith, e)) h
+
+-- a place in the list, or at its end
+pub place_within : (values : List Value) (v : Value) → position_or_len (value_same v) values ≤ length values
+place_within values v = prefix_len-le-length (λ x. not (value_same v x)) values

@@ -1,0 +1,101 @@
+// A value as a key of a hash table.
+ghost use Rattle.std.specs.Prelude.{◌≡◌, fold};
+ghost use Rattle.ve_store.specs.HashInput.{text_input, attrs_input, marks_input, reference_input, head_input, value_input};
+
+use std::hash::{Hash, Hasher};
+use std::marker::Model;
+use ve_base::{Attr, Head, Key, Mark, RefKey, Text, Value};
+
+/// A value that is looked up by its hash. Equal are equal values alone.
+#[derive(Drop)]
+pub(crate) struct Hashed {
+    pub(crate) value: Value,
+}
+
+impl Model for Hashed {
+    ghost use Rattle.ve_base.specs.declared.value.Value.{Value as Cited};
+
+    ghost Value = { Cited };
+
+    ghost view = { λ h. h.value };
+}
+
+fn hash_text<H: Hasher>(text: &Text, state: &mut H)
+    ensures { state.new ≡ fold H.write state.old (text_input text.now) }
+{
+    text.as_str().hash(state);
+}
+
+fn hash_attrs<H: Hasher>(attrs: &[Attr], state: &mut H)
+    ensures { state.new ≡ fold H.write state.old (attrs_input attrs.now) }
+{
+    for attr in attrs {
+        hash_text(&attr.name, state);
+        hash_text(&attr.value, state);
+    }
+}
+
+fn hash_marks<H: Hasher>(marks: &[Mark], state: &mut H)
+    ensures { state.new ≡ fold H.write state.old (marks_input marks.now) }
+{
+    for mark in marks {
+        hash_text(&mark.tag, state);
+        hash_attrs(mark.attrs.as_slice(), state);
+    }
+}
+
+fn hash_reference<H: Hasher>(reference: &Option<RefKey>, state: &mut H)
+    ensures { state.new ≡ fold H.write state.old (reference_input reference.now) }
+{
+    if let Some(reference) = reference {
+        hash_text(&reference.group, state);
+        match &reference.key {
+            Key::Named(name) => hash_text(name, state),
+            Key::Auto(number) => state.write_u32(*number),
+        }
+    }
+}
+
+fn hash_head<H: Hasher>(head: &Head, state: &mut H)
+    ensures { state.new ≡ fold H.write state.old (head_input head.now) }
+{
+    hash_text(&head.tag, state);
+    hash_attrs(head.attrs.as_slice(), state);
+    hash_text(&head.raw, state);
+    hash_reference(&head.reference, state);
+}
+
+impl PartialEq for Hashed {
+    ghost use Rattle.model_items.specs.Same.{value_same};
+    ghost use Rattle.ve_store.specs.Laws.{value_same-partial};
+
+    ghost eq = { value_same };
+
+    ghost laws = { value_same-partial };
+
+    fn eq(&self, other: &Hashed) -> bool {
+        self.value.same(&other.value)
+    }
+}
+
+impl Eq for Hashed {
+    ghost use Rattle.ve_store.specs.Laws.{value_same-equivalence};
+
+    ghost laws = { value_same-equivalence };
+}
+
+impl Hash for Hashed {
+    ghost use Rattle.ve_store.specs.Laws.{value_input-same};
+
+    ghost hash_input = { value_input };
+
+    ghost respects_eq = { value_input-same };
+
+    fn hash<H: Hasher>(&self, state: &mut H) {
+        match &self.value {
+            Value::White(text) => hash_text(text, state),
+            Value::Marks(marks) => hash_marks(marks.as_slice(), state),
+            Value::Head(head) => hash_head(head, state),
+        }
+    }
+}

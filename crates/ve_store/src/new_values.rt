@@ -1,0 +1,63 @@
+// Values that an edit brings, before its store takes them.
+ghost use Rattle.std.specs.Prelude.{◌≡◌, ◌++◌, [], length, slice_get, Some, IfOk, OnOk, OnErr};
+ghost use Rattle.model_change.specs.Store.{admitted};
+
+use crate::Store;
+use crate::hashed::Hashed;
+use std::alloc::Global;
+use std::marker::Model;
+use ve_base::{Memory, Value, ValueId};
+
+/// A list of values that are to follow a store of a given length: the first one's place is that length.
+#[derive(Drop)]
+pub struct NewValues {
+    after: usize,
+    values: Store,
+}
+
+impl Model for NewValues {
+    ghost use Rattle.ve_store.specs.Following.{Following};
+
+    ghost Value = { Following };
+
+    ghost view = { λ n. record { after = n.after; values = n.values } };
+}
+
+impl NewValues {
+    /// No values, to follow this store. It takes no memory.
+    pub fn new(alloc: Global, store: &Store) -> NewValues
+        ensures { result ≡ record { after = length store.now; values = [] } }
+    {
+        NewValues {
+            after: store.len(),
+            values: Store::new(alloc),
+        }
+    }
+
+    /// How many values there are.
+    pub fn len(&self) -> usize
+        ensures { result ≡ length self.now.values }
+    {
+        self.values.len()
+    }
+
+    /// The place of a value in the store and these values together; it is appended where it is in neither. An `Err`
+    /// changes nothing. A place that no `usize` names is a want of memory like any other.
+    pub fn id_of(&mut self, store: &Store, value: Value) -> Result<ValueId, Memory>
+        requires { self.old.after ≡ length store.now }
+        ensures stored { IfOk result (λ id. slice_get (store.now ++ self.new.values) id.0 ≡ Some value) }
+        ensures ok { OnOk result (store.now ++ self.new.values ≡ admitted (store.now ++ self.old.values) value) }
+        ensures after { self.new.after ≡ self.old.after }
+        ensures err { OnErr result (self.new ≡ self.old) }
+    {
+        let hashed = Hashed { value };
+        if let Some(place) = store.find(&hashed) {
+            return Ok(ValueId(place));
+        }
+        if usize::MAX - self.values.len() < self.after {
+            return Err(Memory);
+        }
+        let id = self.values.admit(hashed.value)?;
+        Ok(ValueId(self.after + id.0))
+    }
+}

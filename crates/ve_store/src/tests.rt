@@ -1,0 +1,37 @@
+// Each call that takes memory, with ample memory; and what a fault prints.
+use crate::{NewValues, Store, StoreFault};
+use std::alloc::Global;
+use std::test::Fail;
+use ve_base::{Memory, Text, Value, ValueId};
+
+fn white(alloc: Global, text: &str) -> Result<Value, Memory> {
+    Ok(Value::White(Text::from_str(alloc, text)?))
+}
+
+#[test]
+fn values_are_stored_once(rt: HostRuntime) -> Result<(), Fail> {
+    let alloc = rt.alloc();
+    let mut store = Store::new(alloc);
+    assert_eq!(rt; store.intern(white(alloc, " ")?), Ok(ValueId(0)));
+    assert_eq!(rt; store.admit(white(alloc, "\n")?), Ok(ValueId(1)));
+    assert_eq!(rt; store.intern(white(alloc, " ")?), Ok(ValueId(0)));
+    let mut new = NewValues::new(alloc, &store);
+    assert_eq!(rt; new.id_of(&store, white(alloc, "\t")?), Ok(ValueId(2)));
+    assert_eq!(rt; new.id_of(&store, white(alloc, "\n")?), Ok(ValueId(1)));
+    assert_eq!(rt; new.id_of(&store, white(alloc, "\t")?), Ok(ValueId(2)));
+    Ok(())
+}
+
+#[test]
+fn faults_are_printed(rt: HostRuntime) -> Result<(), Fail> {
+    let alloc = rt.alloc();
+    assert_eq!(rt;
+        format!(in alloc; "{}", StoreFault::Full)?.as_str(),
+        "the store is full"
+    );
+    assert_eq!(rt;
+        format!(in alloc; "{}", StoreFault::Memory)?.as_str(),
+        "out of memory"
+    );
+    Ok(())
+}
