@@ -1,0 +1,238 @@
+-- Reading on, token by token: what is left to read, what was made, and the first fault.
+use Rattle.std.proofs.Common.{◌≡◌, ℕ, zero, suc, ◌+◌, ◌-◌, ◌<◌, ◌≤◌, Bool, true, false, cond, List, [], ◌∷◌, length, take, drop, map, reverse, Option, Some, None, Result, Ok, Err, refl, sym, ap, ◌∙◌, subst, arith}
+use Rattle.std.specs.Prelude.{◌==◌}
+use Rattle.std.proofs.lemmas.List.{drop-drop, length-append}
+use Rattle.model_spelling.specs.declared.scan_fault.ScanFault.{ScanFault}
+use Rattle.model_spelling.specs.declared.scan_fault.ScanWhat.TheVariants.{UnclosedRaw}
+use Rattle.model_spelling.specs.Grammar as g
+use Rattle.model_spelling.specs.Reading.{fault, Mode, Between, After, Failed, mode_after, token_at, between_at, verbatim_end}
+use Rattle.model_spelling.specs.Tokens.{Placed, Tokens, with_placed, tokens_by, tokens_from, tokens_of, IsRead}
+use Rattle.model_spelling.specs.Forest.{Forest, Spells}
+use Rattle.model_spelling.specs.Rows.{Row, rows}
+use Rattle.model_spelling.specs.Faults.{Open, ForestFault, Scan, Mismatched, Unclosed, Stray, TooDeep, fault_at_end, after_token, or_fault, fault_in, fault_of}
+use Rattle.model_spelling.proofs.Proved.{law_found}
+use Rattle.model_spelling.proofs.Back.{tokens_read}
+use Rattle.model_spelling.proofs.ForestLaws.{tokens_in}
+use Rattle.model_spelling.proofs.Found.{not_ok}
+use Rattle.model_spelling.proofs.FoundTokens.{token_found, between_found, raw_fails}
+use Rattle.model_spelling.proofs.TokenRuns.{same_step}
+use Rattle.ve_html_scan.specs.Shown.{Place, next_of, place_after, span_of, IsFound, Shows}
+use Rattle.ve_html_scan.specs.declared.token.Token.{Token}
+use Rattle.ve_html_scan.specs.declared.token.Token.TheVariants as lent
+use Rattle.ve_html_tree.specs.Seen.{open_of, opens, numbers, IsFault, met}
+use Rattle.ve_html_tree.specs.Building.{Built, built, taken, AllBelow}
+use Rattle.ve_html_tree.specs.Nodes.{HasRoom, ShowRows}
+use Rattle.ve_html_tree.specs.declared.node.Node.{Node}
+use Rattle.ve_html_tree.specs.declared.open.OpenElement.{OpenElement}
+use Rattle.ve_html_tree.specs.declared.fault.HtmlFault.{HtmlFault}
+use Rattle.ve_html_tree.specs.declared.fault.HtmlFault.TheVariants as faults
+use Rattle.ve_html_tree.proofs.Making.{taken_all, makes}
+
+-- ---- one token
+
+-- where a scanner stands behind a token that ends there
+abbrev pub behind : g.Token → ℕ → Place → Place
+behind token to p = record { text = p.text; at = to; mode = mode_after token }
+
+-- the token t comes from the place p
+pub record Comes (p : Place) (t : Placed) : Type 0 where
+  pub is : next_of p ≡ Ok (Some (t.token, t.to))
+  pub from : t.from ≡ p.at
+  pub some : p.at < t.to
+  pub within : t.to ≤ length p.text
+
+-- where a scanner begins
+abbrev pub start_of : List ℕ → Place
+start_of text = record { text = text; at = 0; mode = Between }
+
+abbrev on : ℕ → Place → g.Token → ℕ → Tokens
+on n p token to = tokens_from n (mode_after token) to (drop (to - p.at) (drop p.at p.text))
+
+step_on : (n : ℕ) (p : Place) (t : Placed) → Comes p t → tokens_from (suc n) p.mode p.at (drop p.at p.text) ≡ with_placed t (tokens_from n (mode_after t.token) t.to (drop t.to p.text))
+unfolding tokens_from
+step_on n p t c =
+    let rest : drop (t.to - p.at) (drop p.at p.text) ≡ drop t.to p.text = drop-drop (t.to - p.at) p.at p.text ∙ ap (λ (k : ℕ). drop k p.text) (omega (arith, c.some)) in
+    ap (tokens_by p.at (on n p)) c.is
+    ∙ ap (λ (k : ℕ). with_placed (record { token = t.token; from = k; to = t.to }) (on n p t.token t.to)) (sym c.from)
+    ∙ ap (λ (l : List ℕ). with_placed t (tokens_from n (mode_after t.token) t.to l)) rest
+
+stop_at_end : (n : ℕ) (p : Place) → next_of p ≡ Ok None → tokens_from (suc n) p.mode p.at (drop p.at p.text) ≡ record { tokens = []; fault = None }
+unfolding tokens_from
+stop_at_end n p e = ap (tokens_by p.at (on n p)) e
+
+stop_at_fault : (n : ℕ) (p : Place) (f : ScanFault) → next_of p ≡ Err f → tokens_from (suc n) p.mode p.at (drop p.at p.text) ≡ record { tokens = []; fault = Some f }
+unfolding tokens_from
+stop_at_fault n p f e = ap (tokens_by p.at (on n p)) e
+
+-- ---- what stands while a text is read
+
+abbrev pub fault_with : Tokens → List Open → Option ForestFault
+fault_with ts os = fault_in ts.fault os ts.tokens
+
+-- what is read from a place, where n is enough
+abbrev pub from_place : ℕ → Place → Tokens
+from_place n p = tokens_from n p.mode p.at (drop p.at p.text)
+
+-- The nodes are rows, which the tokens that are left make those of the text; the first fault from here on, with these elements open, is that of the text.
+pub record SoFar (text : List ℕ) (p : Place) (nodes : List Node) (opened : List OpenElement) : Type 0 where
+  pub count : ℕ
+  pub enough : length p.text - p.at < count
+  pub rows : List Row
+  pub shows : ShowRows nodes rows
+  pub below : AllBelow (length nodes) (numbers opened)
+  pub same : fault_with (from_place count p) (opens opened) ≡ fault_of text
+  pub made : taken_all (from_place count p).tokens (built rows (numbers opened)) ≡ taken_all (tokens_of text).tokens (built [] [])
+
+pub begins : (text : List ℕ) → SoFar text (start_of text) [] []
+unfolding fault_of
+begins text = record { count = length text + 1; enough = omega arith; rows = []; shows = tt; below = tt; same = refl; made = refl }
+
+-- ---- the end
+
+some_left : (p : Place) (n : ℕ) → length p.text - p.at < n → (k : ℕ) × (n ≡ suc k)
+some_left p zero lt = absurd (omega (arith, lt))
+some_left p (suc k) lt = (k, refl)
+
+nothing_left : (p : Place) (n : ℕ) → length p.text - p.at < n → next_of p ≡ Ok None → from_place n p ≡ record { tokens = []; fault = None }
+nothing_left p n lt e = let k = some_left p n lt in ap (λ (m : ℕ). from_place m p) k.1 ∙ stop_at_end k.0 p e
+
+pub at_end : (text : List ℕ) (p : Place) (ns : List Node) (os : List OpenElement) → SoFar text p ns os → next_of p ≡ Ok None → fault_at_end (opens os) None ≡ fault_of text
+at_end text p ns os s e = sym (ap (λ (ts : Tokens). fault_with ts (opens os)) (nothing_left p s.count s.enough e)) ∙ s.same
+
+none_open_by : (l : List OpenElement) → fault_at_end (map open_of l) None ≡ None → map (λ (o : OpenElement). o.node) l ≡ []
+none_open_by [] e = refl
+none_open_by (o ∷ l) e = absurd cc
+
+-- where the text may end, the nodes are the rows of the forest that spells it
+pub spelled_so : (text : List ℕ) (p : Place) (ns : List Node) (os : List OpenElement) → SoFar text p ns os → next_of p ≡ Ok None → fault_at_end (opens os) None ≡ None → (f : Forest) × Spells text f × ShowRows ns (rows 0 0 f)
+spelled_so text p ns os s e ends =
+    let found = law_found text (sym (at_end text p ns os s e) ∙ ends) in
+    let f = found.0 in
+    let none : numbers os ≡ [] = none_open_by (reverse os) ends in
+    let here : built s.rows (numbers os) ≡ taken_all (tokens_of text).tokens (built [] []) = sym (ap (λ (ts : Tokens). taken_all ts.tokens (built s.rows (numbers os))) (nothing_left p s.count s.enough e)) ∙ s.made in
+    let tokens : tokens_of text ≡ record { tokens = tokens_in 0 f; fault = None } = ap tokens_of found.1.text_is ∙ tokens_read f found.1.allowed in
+    let all : built s.rows (numbers os) ≡ built (rows 0 0 f) [] = here ∙ ap (λ (ts : Tokens). taken_all ts.tokens (built [] [])) tokens ∙ makes f 200 0 [] [] found.1.allowed in
+    (f, found.1, subst (λ (l : List Row). ShowRows ns l) (ap (λ (b : Built). b.rows) all) s.shows)
+
+-- ---- faults
+
+scan_stands : (os : List Open) (s : ScanFault) → fault_at_end os (Some s) ≡ Some (Scan s)
+scan_stands [] s = refl
+scan_stands (o ∷ os) s = refl
+
+fault_left : (p : Place) (n : ℕ) (f : ScanFault) → length p.text - p.at < n → next_of p ≡ Err f → from_place n p ≡ record { tokens = []; fault = Some f }
+fault_left p n f lt e = let k = some_left p n lt in ap (λ (m : ℕ). from_place m p) k.1 ∙ stop_at_fault k.0 p f e
+
+pub at_fault : (text : List ℕ) (p : Place) (ns : List Node) (os : List OpenElement) (f : ScanFault) → SoFar text p ns os → next_of p ≡ Err f → fault_of text ≡ Some (Scan f)
+at_fault text p ns os f s e = sym s.same ∙ ap (λ (ts : Tokens). fault_with ts (opens os)) (fault_left p s.count f s.enough e) ∙ scan_stands (opens os) f
+
+-- the token that is found at p
+abbrev pub found_placed : (p : Place) (t : Token) → IsFound p.text p.at (next_of p) t → Placed
+found_placed p t f = record { token = f.token; from = (span_of t).from; to = (span_of t).to }
+
+abbrev found_comes : (p : Place) (t : Token) (f : IsFound p.text p.at (next_of p) t) → Comes p (found_placed p t f)
+found_comes p t f = record { is = f.is; from = f.from; some = f.some; within = f.boundary.0 }
+
+-- with a token that comes
+one_left : (p : Place) (n : ℕ) (t : Placed) → length p.text - p.at < n → Comes p t → (k : ℕ) × (n ≡ suc k) × (from_place n p ≡ with_placed t (from_place k (behind t.token t.to p)))
+one_left p n t lt c = let k = some_left p n lt in (k.0, k.1, ap (λ (m : ℕ). from_place m p) k.1 ∙ step_on k.0 p t c)
+
+goes_by : (text : List ℕ) (p : Place) (ns : List Node) (os : List OpenElement) (t : Placed) (s : SoFar text p ns os) → (c : Comes p t)
+    → or_fault (after_token t.token t.from (opens os)) (λ more. fault_with (from_place (one_left p s.count t s.enough c).0 (behind t.token t.to p)) more) ≡ fault_of text
+goes_by text p ns os t s c = sym (ap (λ (ts : Tokens). fault_with ts (opens os)) (one_left p s.count t s.enough c).2) ∙ s.same
+
+same_fault : (g f : ForestFault) → Some g ≡ Some f → g ≡ f
+same_fault g f e = cc
+
+met_err : (r : Result (List Open) ForestFault) (f : ForestFault) → met r ≡ Some f → r ≡ Err f
+met_err (Ok x) f e = absurd cc
+met_err (Err g) f e = ap (λ (x : ForestFault). Err x) (same_fault g f e)
+
+stops_by : (text : List ℕ) (p : Place) (ns : List Node) (os : List OpenElement) (t : Placed) (f : ForestFault) → SoFar text p ns os → Comes p t → met (after_token t.token t.from (opens os)) ≡ Some f → fault_of text ≡ Some f
+stops_by text p ns os t f s c m =
+    sym (goes_by text p ns os t s c)
+    ∙ ap (λ (r : Result (List Open) ForestFault). or_fault r (λ more. fault_with (from_place (one_left p s.count t s.enough c).0 (behind t.token t.to p)) more)) (met_err (after_token t.token t.from (opens os)) f m)
+
+fault_by : (e : HtmlFault) (read first : Option ForestFault) → ((f : ForestFault) → read ≡ Some f → first ≡ Some f) → IsFault e read → IsFault e first
+fault_by (faults.Scan f) read first h e = h (Scan f) e
+fault_by (faults.Mismatched at) read first h e = h (Mismatched at) e
+fault_by (faults.Unclosed at) read first h e = h (Unclosed at) e
+fault_by (faults.Stray at) read first h e = h (Stray at) e
+fault_by (faults.TooDeep at) read first h e = h (TooDeep at) e
+fault_by faults.Memory read first h e = tt
+
+-- a token that has a fault
+pub stops : (text : List ℕ) (p : Place) (ns : List Node) (os : List OpenElement) (t : Token) (e : HtmlFault) → SoFar text p ns os → (f : IsFound p.text p.at (next_of p) t) → IsFault e (met (after_token f.token (span_of t).from (opens os))) → IsFault e (fault_of text)
+stops text p ns os t e s f h =
+    fault_by e (met (after_token f.token (span_of t).from (opens os))) (fault_of text) (λ x m. stops_by text p ns os (found_placed p t f) x s (found_comes p t f) m) h
+
+-- ---- going on
+
+on_by : (text : List ℕ) (p : Place) (ns : List Node) (os : List OpenElement) (t : Placed) (ms : List Node) (more : List OpenElement) → (s : SoFar text p ns os) → Comes p t → after_token t.token t.from (opens os) ≡ Ok (opens more)
+    → ShowRows ms (taken t.token t.from t.to (built s.rows (numbers os))).rows → (taken t.token t.from t.to (built s.rows (numbers os))).open_ ≡ numbers more → AllBelow (length ms) (numbers more) → SoFar text (behind t.token t.to p) ms more
+on_by text p ns os t ms more s c a shows ks below =
+    let k = one_left p s.count t s.enough c in
+    let made : Built = taken t.token t.from t.to (built s.rows (numbers os)) in record {
+      count = k.0;
+      enough = omega (arith, s.enough, k.1, c.some, c.within);
+      rows = made.rows;
+      shows = shows;
+      below = below;
+      same = sym (ap (λ (r : Result (List Open) ForestFault). or_fault r (λ x. fault_with (from_place k.0 (behind t.token t.to p)) x)) a) ∙ goes_by text p ns os t s c;
+      made = ap (λ (l : List ℕ). taken_all (from_place k.0 (behind t.token t.to p)).tokens (built made.rows l)) (sym ks)
+          ∙ sym (ap (λ (ts : Tokens). taken_all ts.tokens (built s.rows (numbers os))) k.2) ∙ s.made;
+    }
+
+pub goes_on : (text : List ℕ) (p q : Place) (ns : List Node) (os : List OpenElement) (t : Token) (ms : List Node) (more : List OpenElement) → (s : SoFar text p ns os) → (f : IsFound p.text p.at (next_of p) t) → q ≡ place_after (Ok (Some t)) p
+    → after_token f.token (span_of t).from (opens os) ≡ Ok (opens more) → ShowRows ms (taken f.token (span_of t).from (span_of t).to (built s.rows (numbers os))).rows
+    → (taken f.token (span_of t).from (span_of t).to (built s.rows (numbers os))).open_ ≡ numbers more → AllBelow (length ms) (numbers more) → SoFar text q ms more
+goes_on text p q ns os t ms more s f e a shows ks below =
+    let to = (span_of t).to in
+    let stands : q ≡ behind f.token to p = e ∙ ap (λ (m : Mode). record { text = p.text; at = to; mode = m }) f.mode in
+    subst (λ (x : Place). SoFar text x ms more) (sym stands) (on_by text p ns os (found_placed p t f) ms more s (found_comes p t f) a shows ks below)
+
+-- ---- the room in a comment
+
+comment_long : (text : List ℕ) → length (g.token_text (g.Comment text)) ≡ 7 + length text
+comment_long text = omega (arith, length-append (60 ∷ 33 ∷ 45 ∷ 45 ∷ text) (45 ∷ 45 ∷ 62 ∷ []))
+
+read_long : (at to : ℕ) (text x : List ℕ) → IsRead at text (g.Comment x) to → at + 7 ≤ to
+read_long at to text x r = omega (arith, r.to_is, comment_long x)
+
+raw_or_not : (at y to : ℕ) (text x : List ℕ) (b : Bool) → cond b (between_at at text) (Ok (Some (g.Raw (take (y - at) text), y))) ≡ Ok (Some (g.Comment x, to)) → at + 7 ≤ to
+raw_or_not at y to text x true e = read_long at to text x (between_found at text (g.Comment x) to e)
+raw_or_not at y to text x false e =
+    let same = ap (λ (p : g.Token × ℕ). p.0) (same_step (g.Raw (take (y - at) text), y) (g.Comment x, to) e) in absurd cc
+
+after_is : (at y : ℕ) (name text : List ℕ) → verbatim_end (g.end_text name) (fault at UnclosedRaw) at text ≡ Ok y → token_at (After name) at text ≡ cond (y == at) (between_at at text) (Ok (Some (g.Raw (take (y - at) text), y)))
+unfolding token_at
+after_is at y name text e = rw e refl
+
+after_by : (at to : ℕ) (name text x : List ℕ) (r : Result ℕ ScanFault) → verbatim_end (g.end_text name) (fault at UnclosedRaw) at text ≡ r → token_at (After name) at text ≡ Ok (Some (g.Comment x, to)) → at + 7 ≤ to
+after_by at to name text x (Err f) v e = absurd (not_ok (token_at (After name) at text) f (Some (g.Comment x, to)) (raw_fails at name text f v) e)
+after_by at to name text x (Ok y) v e = raw_or_not at y to text x (y == at) (sym (after_is at y name text v) ∙ e)
+
+failed_is : (f : ScanFault) (at : ℕ) (text : List ℕ) → token_at (Failed f) at text ≡ Err f
+unfolding token_at
+failed_is f at text = refl
+
+comment_at_place : (m : Mode) (at to : ℕ) (text x : List ℕ) → token_at m at text ≡ Ok (Some (g.Comment x, to)) → at + 7 ≤ to
+comment_at_place Between at to text x e = read_long at to text x (token_found at text (g.Comment x) to e)
+comment_at_place (After name) at to text x e = after_by at to name text x (verbatim_end (g.end_text name) (fault at UnclosedRaw) at text) refl e
+comment_at_place (Failed f) at to text x e = absurd (not_ok (token_at (Failed f) at text) f (Some (g.Comment x, to)) (failed_is f at text) e)
+
+room_by : (t : Token) (k : g.Token) → Shows t k → ((x : List ℕ) → k ≡ g.Comment x → (span_of t).from + 7 ≤ (span_of t).to) → HasRoom t
+room_by (lent.StartTag name attrs span) k h r = tt
+room_by (lent.EndTag name span) k h r = tt
+room_by (lent.Chars text span) k h r = tt
+room_by (lent.Raw text span) k h r = tt
+room_by (lent.Comment text span) (g.Start n attributes slash) h r = absurd h
+room_by (lent.Comment text span) (g.End n) h r = absurd h
+room_by (lent.Comment text span) (g.Chars x) h r = absurd h
+room_by (lent.Comment text span) (g.Raw x) h r = absurd h
+room_by (lent.Comment text span) (g.Comment x) h r = r x refl
+
+pub room : (p : Place) (t : Token) → IsFound p.text p.at (next_of p) t → HasRoom t
+room p t f = room_by t f.token f.shows (λ x e.
+    let is : next_of p ≡ Ok (Some (g.Comment x, (span_of t).to)) = f.is ∙ ap (λ (k : g.Token). Ok (Some (k, (span_of t).to))) e in
+    omega (arith, comment_at_place p.mode p.at (span_of t).to (drop p.at p.text) x is, f.from))

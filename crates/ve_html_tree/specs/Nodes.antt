@@ -1,0 +1,40 @@
+-- How the nodes show the rows of a forest.
+use Rattle.std.specs.Prelude.{◌≡◌, ◌+◌, ◌-◌, ◌≤◌, List, [], ◌∷◌}
+use Rattle.model_spelling.specs.Rows.{Row}
+use Rattle.ve_html_scan.specs.Shown.{Shows}
+use Rattle.ve_html_scan.specs.declared.token.Span.{Span}
+use Rattle.ve_html_scan.specs.declared.token.Token.{Token}
+use Rattle.ve_html_scan.specs.declared.token.Token.TheVariants as lent
+use Rattle.ve_html_tree.specs.declared.node.Node.{Node}
+
+-- the bytes of what is in a token
+abbrev pub inner_span : Token → Span
+inner_span (lent.StartTag name attrs span) = record { from = span.to; to = span.to }
+inner_span (lent.EndTag name span) = span
+inner_span (lent.Chars text span) = span
+inner_span (lent.Raw text span) = span
+inner_span (lent.Comment text span) = record { from = span.from + 4; to = span.to - 3 }
+
+-- a comment has its `<!--` and `-->`
+abbrev pub HasRoom : Token → Type 0
+HasRoom (lent.StartTag name attrs span) = Unit {0}
+HasRoom (lent.EndTag name span) = Unit {0}
+HasRoom (lent.Chars text span) = Unit {0}
+HasRoom (lent.Raw text span) = Unit {0}
+HasRoom (lent.Comment text span) = span.from + 7 ≤ span.to
+
+-- A node shows a row: it lends its token, and has its bytes, those of its content, and the number past its subtree.
+pub record ShowsRow (n : Node) (r : Row) : Type 0 where
+  pub token : Shows n.token r.token
+  pub from : n.span.from ≡ r.from
+  pub to : n.span.to ≡ r.to
+  pub inner_from : n.inner.from ≡ r.inner_from
+  pub inner_to : n.inner.to ≡ r.inner_to
+  pub next : n.next ≡ r.next
+
+-- the nodes show these rows, one by one
+abbrev pub ShowRows : List Node → List Row → Type 0
+ShowRows [] [] = Unit {0}
+ShowRows (n ∷ ns) (r ∷ rs) = ShowsRow n r × ShowRows ns rs
+ShowRows [] (r ∷ rs) = ⊥
+ShowRows (n ∷ ns) [] = ⊥
