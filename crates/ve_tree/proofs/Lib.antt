@@ -1,0 +1,8 @@
+mod IsTreeExamples
+pub mod GrownLemmas
+pub mod ReadLemmas
+pub mod ReachedLemmas
+pub mod BuildLemmas
+pub mod SeekLemmas
+pub mod WalkLemmas
+pub mod ClimbLemmas

@@ -1,0 +1,125 @@
+// The tree of a list.
+ghost use Rattle.std.specs.Prelude.{◌≡◌, ◌+◌, ◌*◌, ◌≤◌, List, Some, IfOk, Contains, option_map};
+ghost use Rattle.model_items.specs.Law.{Lawful};
+ghost use Rattle.model_items.specs.declared.plain_item.PlainItem.{PlainItem};
+ghost use Rattle.model_items.specs.Tree.{tree_of, node_count};
+ghost use Rattle.model_items.specs.Tree as model;
+ghost use Rattle.ve_arena.specs.Arena.{IsLive};
+ghost use Rattle.ve_tree.specs.Links.{number_of};
+ghost use Rattle.ve_tree.specs.IsTree.{IsTree, unvalued};
+ghost use Rattle.ve_tree.specs.Places.{NodePlace, tree_places, IsNodeAt, HoldsOffset, IsInTree, sort_of, IsBranch};
+
+use crate::build::read_children;
+use crate::{Arena, NodeId, NodeWhat};
+use std::alloc::Global;
+use std::sync::ledger::Ledger;
+use ve_base::{Memory, Steps};
+use ve_items::Linear;
+use ve_kinds::Kind;
+
+/// Linked nodes and the number of their root. That they are the tree of a list is a condition or a promise of each call.
+#[derive(Drop)]
+pub struct Tree {
+    pub arena: Arena,
+    pub root: NodeId,
+}
+
+impl Tree {
+    /// The tree of a lawful list: a node for each opening and its closing, one for each longest run of characters, and the root over all. It takes
+    /// at most eight steps for each node, and sixteen more.
+    pub fn build<L: Ledger>(
+        alloc: Global,
+        list: &Linear,
+        steps: &mut Steps<L>,
+    ) -> Result<Tree, Memory>
+        requires { Lawful (unvalued list.now.items) }
+        ensures tree { IfOk result (λ tree. IsTree tree.arena tree.root (unvalued list.now.items)) }
+        ensures steps { steps.new ≤ steps.old + 8 * (node_count (tree_of (unvalued list.now.items)) + 2) }
+    {
+        let mut arena = Arena::new(alloc);
+        let root = arena.make(NodeWhat::Node(Kind::Root), steps)?;
+        arena.set_len(root, list.len(), steps);
+        read_children(&mut arena, list, list.len(), root, steps)?;
+        Ok(Tree { arena, root })
+    }
+
+    /// The innermost node round an offset, text nodes aside: its opening stands before the offset, and its closing at it or after. The root is round
+    /// every offset. It follows links from the root, and reads no item.
+    pub fn node_at(&self, o: usize) -> NodeId
+        requires { HoldsOffset self.now.arena self.now.root o }
+        ensures { (items : List PlainItem) (tree : IsTree self.now.arena self.now.root items) → IsNodeAt tree result (model.node_at items o) }
+    {
+        let mut inner = self.root;
+        let mut next = self.arena.node(self.root).first;
+        // how many items there are from where `next` begins to the offset
+        let mut left = o;
+        while let Some(child) = next {
+            let node = self.arena.node(child);
+            if node.len <= left {
+                left -= node.len;
+                next = node.after;
+            } else if left == 0 {
+                return inner;
+            } else {
+                match node.what {
+                    NodeWhat::Run => return inner,
+                    NodeWhat::Node(_) => {
+                        inner = child;
+                        left -= 1;
+                        next = node.first;
+                    }
+                }
+            }
+        }
+        inner
+    }
+
+    /// What a node is. A text node has no kind.
+    pub fn kind_of(&self, n: NodeId) -> Kind
+        requires { IsBranch self.now.arena n }
+        ensures arena { sort_of self.now.arena n ≡ Some (NodeWhat.Node result) }
+        ensures place { (items : List PlainItem) (tree : IsTree self.now.arena self.now.root items) (place : NodePlace) → Contains (tree_places tree) place → place.number ≡ n.0 → place.sort ≡ NodeWhat.Node result }
+    {
+        match self.arena.node(n).what {
+            NodeWhat::Node(kind) => kind,
+            NodeWhat::Run => unreachable!(),
+        }
+    }
+
+    /// The node that a node stands in, and none for the root.
+    pub fn parent_of(&self, n: NodeId) -> Option<NodeId>
+        requires { IsLive self.now.arena n }
+        ensures { (items : List PlainItem) (tree : IsTree self.now.arena self.now.root items) (place : NodePlace) → Contains (tree_places tree) place → place.number ≡ n.0 → place.parent ≡ option_map number_of result }
+    {
+        self.arena.node(n).parent
+    }
+
+    /// The places of the list where a node begins and ends, its brackets included; for the root 0 and the length. It follows links to the left and up,
+    /// and reads no item.
+    pub fn range_of(&self, n: NodeId) -> (usize, usize)
+        requires { IsInTree self.now.arena self.now.root n }
+        ensures { (items : List PlainItem) (tree : IsTree self.now.arena self.now.root items) (place : NodePlace) → Contains (tree_places tree) place → place.number ≡ n.0 → result ≡ (place.from, place.to) }
+    {
+        let all = self.arena.node(self.root).len;
+        let len = self.arena.node(n).len;
+        // what is left of the list when all that stands before the node is passed, going to the left and up
+        let mut left = all;
+        let mut at = n;
+        loop {
+            let node = self.arena.node(at);
+            if let Some(before) = node.before {
+                left -= self.arena.node(before).len;
+                at = before;
+                continue;
+            }
+            let Some(parent) = node.parent else {
+                return (all - left, all - left + len);
+            };
+            if parent.0 == self.root.0 {
+                return (all - left, all - left + len);
+            }
+            left -= 1; // the parent's opening
+            at = parent;
+        }
+    }
+}
