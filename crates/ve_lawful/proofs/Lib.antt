@@ -1,3 +1,4 @@
 mod Examples
 pub mod PieceLemmas
 pub mod StackLemmas
+pub mod WalkLemmas

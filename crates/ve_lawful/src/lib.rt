@@ -3,11 +3,13 @@
 
 ghost use Rattle.ve_lawful.specs.Uncited.{StepReadsNoValues, AfterReadsNoValues, VerdictReadsNoValues};
 
+mod list;
 mod piece;
 mod state;
 #[cfg(test)]
 mod tests;
 
+pub use list::check;
 pub use model_items::LawFault;
 pub use piece::check_piece;
 pub use state::State;

@@ -130,7 +130,7 @@ impl State {
             Item::Opening { kind, .. } => {
                 if !self.may_open(kind) {
                     Err(LawFault::Unlawful { at: 0 })
-                } else if self.len == MAX_DEPTH {
+                } else if self.len >= MAX_DEPTH {
                     Err(LawFault::TooDeep { at: 0 })
                 } else {
                     self.kinds[self.len] = kind;
