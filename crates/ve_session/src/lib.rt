@@ -4,6 +4,8 @@
 mod laws;
 mod page;
 mod place;
+#[cfg(test)]
+mod tests;
 mod world;
 
 pub use laws::{pages_are_read_by_paragraphs, pages_are_written_as_read};
