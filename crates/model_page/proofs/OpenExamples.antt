@@ -1,5 +1,5 @@
 -- Pages that open, and pages that do not, by computation.
-use Rattle.std.specs.Prelude.{◌≡◌, ℕ, List, [], ◌∷◌, ◌++◌, length, Option, Some, None, Ok, Err, codes, refl}
+use Rattle.std.specs.Prelude.{◌≡◌, ℕ, true, false, List, [], ◌∷◌, ◌++◌, length, Option, Some, None, Ok, Err, codes, refl}
 use Rattle.std.specs.List.{repeat}
 use Rattle.ve_base.specs.declared.value.Value.{Value}
 use Rattle.ve_base.specs.declared.value.Value.TheVariants as value
@@ -7,7 +7,11 @@ use Rattle.model_spelling.specs.Faults.{Unclosed, Stray, Mismatched}
 use Rattle.model_page.specs.Limits.{TooDeep, TooManyMarks}
 use Rattle.model_page.specs.OpenPage.{OpenFault, BadPage, OverLimit, values_of, read_page}
 use Rattle.model_page.proofs.OnLiterals.{page_on_literals}
-use Rattle.model_page.proofs.PageExamples.{b}
+use Rattle.model_page.proofs.PageExamples.{b, reuse_items}
+use Rattle.ve_base.specs.Empty.{empty_head}
+use Rattle.ve_kinds.specs.declared.kind.Kind.TheVariants.{Ref}
+use Rattle.model_items.specs.declared.plain_item.PlainItem.TheVariants.{Opening, Closing}
+use Rattle.model_page.specs.Editable.{all_refer}
 
 abbrev fault_of_page : List ℕ → Option OpenFault
 fault_of_page page = elim (read_page page) [ Ok o ↦ None | Err f ↦ Some f ]
@@ -57,3 +61,12 @@ deep_body = refl
 values : values_in (codes "<p><b>a</b>c<b>a</b></p> <p>d</p> ") ≡ value.Marks (b ∷ []) ∷ value.White (codes " ") ∷ []
 unfolding page_on_literals
 values = refl
+
+-- the references of a page that opens have keys and editable texts; one that lost its key has not
+references_refer : all_refer reuse_items ≡ true
+unfolding page_on_literals
+references_refer = refl
+
+without_key : all_refer (Opening Ref empty_head [] [] None false ∷ Closing Ref [] ∷ []) ≡ false
+unfolding page_on_literals
+without_key = refl

@@ -12,3 +12,4 @@ pub mod PageItems
 pub mod Fragment
 pub mod Limits
 pub mod OpenPage
+pub mod Editable

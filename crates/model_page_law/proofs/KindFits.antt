@@ -459,3 +459,7 @@ fit_stands (Flow parent) s name children =
     (block_fits (Flow parent) parent (refl, s.3) (λ k e h. (element_no_list k e, h, sane_in k e (not_leaf k parent s.0 h e))) name children (kind_of_tag name) refl)
 fit_stands (Structural parent) s name children =
     block_fits (Structural parent) parent (refl, s.2) (λ k e h. (element_no_list k e, h, sane_in k e (not_leaf k parent s.0 h e))) name children (kind_of_tag name) refl
+
+-- a kind that a tag has is an element's
+pub element_of_tag : (name : List ℕ) (k : Kind) → kind_of_tag name ≡ Some k → is_element k ≡ true
+element_of_tag name k e = among-element tags_of_kinds tags-AllElements name k e

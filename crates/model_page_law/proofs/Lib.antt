@@ -34,4 +34,6 @@ pub mod NestLemmas
 pub mod LawfulLemmas
 pub mod OpenPageLemmas
 pub mod OriginLemmas
+pub mod MadeRefers
+pub mod PageRefers
 mod FormCases

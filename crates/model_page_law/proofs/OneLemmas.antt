@@ -124,7 +124,7 @@ stops-attrs [] true x = refl
 stops-attrs [] false x = refl
 stops-attrs (a ∷ al) s x = ap (stops no_name) (attrs_front a al (close s ++ x))
 
-is_start-parts : (name : List ℕ) (attrs : List Attr) (s : Bool) → is_start name attrs s ≡ true → (is_tag_name name ≡ true) × (list_all is_attr attrs ≡ true)
+pub is_start-parts : (name : List ℕ) (attrs : List Attr) (s : Bool) → is_start name attrs s ≡ true → (is_tag_name name ≡ true) × (list_all is_attr attrs ≡ true)
 is_start-parts name attrs s h =
     let p = and_parts (is_tag_name name && are_attrs attrs) (not s || is_void name) h in
     let q = and_parts (is_tag_name name) (are_attrs attrs) p.0 in

@@ -4,3 +4,4 @@ pub mod ReadBack
 pub mod WritesFresh
 pub mod Lawful
 pub mod Origins
+pub mod Referring

@@ -5,6 +5,7 @@
 ghost use Rattle.model_page_law.specs.Lawful.{BadPageHasFault, LimitedIsLawful, ReadIsLawful, ReadIsWithin, WithinIsRead};
 ghost use Rattle.model_page_law.specs.Origins.{OriginsNumberSpans};
 ghost use Rattle.model_page_law.specs.ReadBack.{FreshIsReadBack, FreshOpensAsItself};
+ghost use Rattle.model_page_law.specs.Referring.{OpenedRefers, SpelledRefers};
 ghost use Rattle.model_page_law.specs.WritesFresh.{WritesFresh};
 ghost use Rattle.model_page_law.specs.WrittenBack.{FaultlessOpens, OpenedIsFaultless, OpenedIsWrittenBack, OpensAsItsForest, SpelledIsWrittenBack};
 
@@ -30,6 +31,13 @@ pub fn page_is_read()
 #[tactic(auto, using(crate::proofs::OriginLemmas::origins_number_spans))]
 pub fn origins_number_spans()
     ensures { OriginsNumberSpans }
+{}
+
+/// Each reference of an opened page has its key and an editable `data-mw`, and each internal item has its key.
+#[tactic(auto, using(crate::proofs::PageRefers::opened_refers, crate::proofs::PageRefers::spelled_refers))]
+pub fn references_are_editable()
+    ensures opened { OpenedRefers }
+    ensures spelled { SpelledRefers }
 {}
 
 /// A page that opens, and is written with the items that it has, is that page, byte for byte.
