@@ -9,7 +9,8 @@ use Rattle.std.proofs.lemmas.Map.Views.{list_any-from_Contains}
 use Rattle.std.proofs.lemmas.Map.Keys.{IsDistinct-head, IsDistinct-tail}
 use Rattle.indexmap.proofs.CallerLemmas.{Contains-list_any}
 use Rattle.ve_base.specs.declared.value.Value.{Value}
-use Rattle.model_change.specs.Store.{holds, admitted, NoneTwice}
+use Rattle.model_change.specs.Store.{holds, admitted}
+use Rattle.model_items.specs.Plain.{AreDistinct}
 use Rattle.model_items.specs.Same.{value_same}
 use Rattle.model_items.proofs.SameLemmas.{Means-value_same}
 use Rattle.ve_store.specs.Laws.{value_same-equivalence}
@@ -26,15 +27,34 @@ Contains-holds values v h = Contains-list_any value_same Means-value_same.equal 
 pub holds-Contains : (values : List Value) (v : Value) → Contains values v → holds values v ≡ true
 holds-Contains values v h = list_any-from_Contains value_same-equivalence v values h
 
-other : (v : Value) (vs : List Value) → AllByRecursion (λ y. value_same v y ≡ false) vs → ¬ Contains vs v
-other v vs all h = true≢false (sym (holds-Contains vs v h) ∙ none vs all) where
-  none : (ys : List Value) → AllByRecursion (λ y. value_same v y ≡ false) ys → holds ys v ≡ false
-  none [] a = refl
-  none (y ∷ ys) a = rw a.0 (none ys a.1)
+none_holds : (v : Value) (ys : List Value) → AllByRecursion (λ y. value_same v y ≡ false) ys → holds ys v ≡ false
+none_holds v [] a = refl
+none_holds v (y ∷ ys) a = rw a.0 (none_holds v ys a.1)
 
-pub none_twice : (values : List Value) → IsDistinct value_same values → NoneTwice values
-none_twice [] d = tt
-none_twice (v ∷ vs) d = (other v vs (IsDistinct-head value_same v vs d), none_twice vs (IsDistinct-tail value_same v vs d))
+or_later : (first later : Bool) → later ≡ true → (first || later) ≡ true
+or_later true later h = refl
+or_later false later h = h
+
+there_holds : (values : List Value) (at : ℕ) (v : Value) → slice_get values at ≡ Some v → holds values v ≡ true
+there_holds [] at v h = cc
+there_holds (x ∷ xs) zero v h =
+    let same : x ≡ v = cc in
+    let P : Value → Type 0 = λ y. value_same v y ≡ true in
+    ap (λ b. b || holds xs v) (subst P (sym same) (Means-value_same.itself v))
+there_holds (x ∷ xs) (suc at) v h = or_later (value_same v x) (holds xs v) (there_holds xs at v h)
+
+not_behind : (x : Value) (xs : List Value) → IsDistinct value_same (x ∷ xs) → (at : ℕ) (v : Value) → ◌≡◌ {A = Option Value} (Some x) (Some v) → slice_get xs at ≡ Some v → ⊥
+not_behind x xs d at v first later =
+    let same : x ≡ v = cc in
+    let P : Value → Type 0 = λ y. holds xs y ≡ false in
+    true≢false (sym (there_holds xs at v later) ∙ subst P same (none_holds x xs (IsDistinct-head value_same x xs d)))
+
+pub are_distinct : (values : List Value) → IsDistinct value_same values → AreDistinct values
+are_distinct [] d i j v p q = cc
+are_distinct (x ∷ xs) d zero zero v p q = refl
+are_distinct (x ∷ xs) d zero (suc j) v p q = absurd (not_behind x xs d j v p q)
+are_distinct (x ∷ xs) d (suc i) zero v p q = absurd (not_behind x xs d i v q p)
+are_distinct (x ∷ xs) d (suc i) (suc j) v p q = ap suc (are_distinct xs (IsDistinct-tail value_same x xs d) i j v p q)
 
 -- as a look-up answers
 pub found_at : (values : List Value) (v : Value) (r : Option ℕ) → r ≡ position (value_same v) values → IfSome r (λ place. slice_get values place ≡ Some v)

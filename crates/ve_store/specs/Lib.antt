@@ -1,3 +1,4 @@
 pub mod Following
 pub mod HashInput
 pub mod Laws
+pub mod Marked

@@ -1,5 +1,5 @@
 // Values that an edit brings, before its store takes them.
-ghost use Rattle.std.specs.Prelude.{◌≡◌, ◌++◌, [], length, slice_get, Some, IfOk, OnOk, OnErr};
+ghost use Rattle.std.specs.Prelude.{◌≡◌, ◌<◌, ◌++◌, [], length, slice_get, Some, IfOk, OnOk, OnErr};
 ghost use Rattle.model_change.specs.Store.{admitted};
 
 use crate::Store;
@@ -39,6 +39,19 @@ impl NewValues {
         ensures { result ≡ length self.now.values }
     {
         self.values.len()
+    }
+
+    /// The value at a place of the store and these values together.
+    pub fn get<'v>(&'v self, store: &'v Store, id: ValueId) -> &'v Value
+        requires follows { self.now.after ≡ length store.now }
+        requires within { id.0 < length (store.now ++ self.now.values) }
+        ensures { slice_get (store.now ++ self.now.values) id.0 ≡ Some result.now }
+    {
+        if id.0 < self.after {
+            store.get(id)
+        } else {
+            self.values.get(ValueId(id.0 - self.after))
+        }
     }
 
     /// The place of a value in the store and these values together; it is appended where it is in neither. An `Err`

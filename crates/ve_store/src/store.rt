@@ -1,7 +1,8 @@
 // The values that a page's items cite.
 ghost use Rattle.std.specs.Prelude.{◌≡◌, ◌↔◌, ◌<◌, ◌≤◌, ◌^◌, [], Contains, length, take, slice_get, Ok, Err, Some, IsSome, IfSome, IfOk, OnOk, OnErr};
 ghost use Rattle.std.specs.List.{position_or_len};
-ghost use Rattle.model_change.specs.Store.{admitted, NoneTwice};
+ghost use Rattle.model_change.specs.Store.{admitted};
+ghost use Rattle.model_items.specs.Plain.{AreDistinct};
 ghost use Rattle.model_items.specs.Same.{value_same};
 
 use crate::StoreFault;
@@ -42,7 +43,7 @@ impl Store {
     /// How many values it holds.
     pub fn len(&self) -> usize
         ensures count { result ≡ length self.now }
-        ensures distinct { NoneTwice self.now }
+        ensures distinct { AreDistinct self.now }
     {
         self.values.len()
     }

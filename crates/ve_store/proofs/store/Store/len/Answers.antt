@@ -1,7 +1,7 @@
 use Rattle.std.proofs.Common.{subst}
-use Rattle.model_change.specs.Store.{NoneTwice}
-use Rattle.ve_store.proofs.StoreLemmas.{none_twice}
+use Rattle.model_items.specs.Plain.{AreDistinct}
+use Rattle.ve_store.proofs.StoreLemmas.{are_distinct}
 use Rattle.ve_store.proofs.store.Store.len.Goals as goal
 
 pub returns-clause-distinct : goal.returns-clause-distinct
-returns-clause-distinct c = subst NoneTwice c.self.view_is (none_twice c.self.inside.values.keys c.len.ensures.unique)
+returns-clause-distinct c = subst AreDistinct c.self.view_is (are_distinct c.self.inside.values.keys c.len.ensures.unique)

@@ -1,0 +1,107 @@
+// Marks with one more, and without one, as values that an item may cite.
+ghost use Rattle.std.specs.Prelude.{◌≡◌, ◌++◌, ◌∷◌, [], length, if◌then◌else◌, IfOk, OnOk, OnErr};
+ghost use Rattle.std.specs.List.{list_any};
+ghost use Rattle.ve_base.specs.declared.value.Value.TheVariants as value;
+ghost use Rattle.model_change.specs.Store.{admitted};
+ghost use Rattle.model_items.specs.Plain.{value_at, marks_in, CitesMarks};
+ghost use Rattle.model_items.specs.Same.{mark_same};
+ghost use Rattle.ve_store.specs.Marked.{marked, unmarked};
+
+use crate::{NewValues, Store};
+use std::alloc::Global;
+use ve_base::{Mark, Marks, Memory, Value, ValueId};
+
+fn is_same(one: &Mark, other: &Mark) -> bool
+    ensures { result ≡ mark_same one.now other.now }
+{
+    one.same(other)
+}
+
+fn has_mark(marks: &[Mark], mark: &Mark) -> bool
+    ensures { result ≡ list_any (mark_same mark.now) marks.now }
+{
+    marks.iter().any(|one| is_same(mark, one))
+}
+
+fn appended(alloc: Global, marks: &[Mark], mark: &Mark) -> Result<Marks, Memory>
+    ensures { IfOk result (λ all. all ≡ marks.now ++ mark.now ∷ []) }
+{
+    let mut all = Marks::new(alloc);
+    for one in marks {
+        all.push(one.copy(alloc)?)?;
+    }
+    all.push(mark.copy(alloc)?)?;
+    Ok(all)
+}
+
+fn rest_of(alloc: Global, marks: &[Mark], mark: &Mark) -> Result<Marks, Memory>
+    ensures { IfOk result (λ rest. rest ≡ unmarked marks.now mark.now) }
+{
+    let mut rest = Marks::new(alloc);
+    for one in marks {
+        if !is_same(mark, one) {
+            rest.push(one.copy(alloc)?)?;
+        }
+    }
+    Ok(rest)
+}
+
+/// The marks that an item cites.
+fn cited_marks<'v>(store: &'v Store, new: &'v NewValues, marks: Option<ValueId>) -> &'v [Mark]
+    requires follows { new.now.after ≡ length store.now }
+    requires cites { CitesMarks (store.now ++ new.now.values) marks }
+    ensures { result.now ≡ marks_in (value_at (store.now ++ new.now.values) marks) }
+{
+    let Some(id) = marks else {
+        return &[];
+    };
+    match new.get(store, id) {
+        Value::Marks(marks) => marks.as_slice(),
+        Value::White(_) | Value::Head(_) => &[],
+    }
+}
+
+/// Cites the marks with one more, inside the others, or the same marks where an equal one is among them. An `Err`
+/// changes nothing.
+pub fn with_mark(
+    alloc: Global,
+    store: &Store,
+    new: &mut NewValues,
+    marks: Option<ValueId>,
+    mark: &Mark,
+) -> Result<Option<ValueId>, Memory>
+    requires follows { new.old.after ≡ length store.now }
+    requires cites { CitesMarks (store.now ++ new.old.values) marks }
+    ensures cited { IfOk result (λ id. marks_in (value_at (store.now ++ new.new.values) id) ≡ marked (marks_in (value_at (store.now ++ new.old.values) marks)) mark.now) }
+    ensures err { OnErr result (new.new ≡ new.old) }
+{
+    let cited = cited_marks(store, new, marks);
+    if has_mark(cited, mark) {
+        return Ok(marks);
+    }
+    let all = appended(alloc, cited, mark)?;
+    let id = new.id_of(store, Value::Marks(all))?;
+    Ok(Some(id))
+}
+
+/// Cites the marks without each one that is equal to this, and nothing where none is left. An `Err` changes nothing.
+pub fn without_mark(
+    alloc: Global,
+    store: &Store,
+    new: &mut NewValues,
+    marks: Option<ValueId>,
+    mark: &Mark,
+) -> Result<Option<ValueId>, Memory>
+    requires follows { new.old.after ≡ length store.now }
+    requires cites { CitesMarks (store.now ++ new.old.values) marks }
+    ensures cited { IfOk result (λ id. marks_in (value_at (store.now ++ new.new.values) id) ≡ unmarked (marks_in (value_at (store.now ++ new.old.values) marks)) mark.now) }
+    ensures err { OnErr result (new.new ≡ new.old) }
+{
+    let cited = cited_marks(store, new, marks);
+    let rest = rest_of(alloc, cited, mark)?;
+    if rest.as_slice().is_empty() {
+        return Ok(None);
+    }
+    let id = new.id_of(store, Value::Marks(rest))?;
+    Ok(Some(id))
+}
