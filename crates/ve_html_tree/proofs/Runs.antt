@@ -1,4 +1,7 @@
 -- Reading on, token by token: what is left to read, what was made, and the first fault.
+use Rattle.ve_html_tree.specs.Nodes.{HasText}
+use Rattle.model_spelling.proofs.FoundTokens.{VerbatimFound, verbatim_parts}
+use Rattle.std.proofs.Common.{take}
 use Rattle.std.proofs.Common.{◌≡◌, ℕ, zero, suc, ◌+◌, ◌-◌, ◌<◌, ◌≤◌, Bool, true, false, cond, List, [], ◌∷◌, length, take, drop, map, reverse, Option, Some, None, Result, Ok, Err, refl, sym, ap, ◌∙◌, subst, arith}
 use Rattle.std.specs.Prelude.{◌==◌}
 use Rattle.std.proofs.lemmas.List.{drop-drop, length-append}
@@ -6,7 +9,7 @@ use Rattle.model_spelling.specs.declared.scan_fault.ScanFault.{ScanFault}
 use Rattle.model_spelling.specs.declared.scan_fault.ScanWhat.TheVariants.{UnclosedRaw}
 use Rattle.model_spelling.specs.Grammar as g
 use Rattle.model_spelling.specs.Reading.{fault, Mode, Between, After, Failed, mode_after, token_at, between_at, verbatim_end}
-use Rattle.model_spelling.specs.Tokens.{Placed, Tokens, with_placed, tokens_by, tokens_from, tokens_of, IsRead}
+use Rattle.model_spelling.specs.Tokens.{Placed, Tokens, with_placed, tokens_by, tokens_from, tokens_of}
 use Rattle.model_spelling.specs.Forest.{Forest, Spells}
 use Rattle.model_spelling.specs.Rows.{Row, rows}
 use Rattle.model_spelling.specs.Faults.{Open, ForestFault, Scan, Mismatched, Unclosed, Stray, TooDeep, fault_at_end, after_token, or_fault, fault_in, fault_of}
@@ -191,35 +194,45 @@ goes_on text p q ns os t ms more s f e a shows ks below =
     let stands : q ≡ behind f.token to p = e ∙ ap (λ (m : Mode). record { text = p.text; at = to; mode = m }) f.mode in
     subst (λ (x : Place). SoFar text x ms more) (sym stands) (on_by text p ns os (found_placed p t f) ms more s (found_comes p t f) a shows ks below)
 
--- ---- the room in a comment
+-- ---- the text of a token
 
-comment_long : (text : List ℕ) → length (g.token_text (g.Comment text)) ≡ 7 + length text
-comment_long text = omega (arith, length-append (60 ∷ 33 ∷ 45 ∷ 45 ∷ text) (45 ∷ 45 ∷ 62 ∷ []))
+raw_text : (at y to : ℕ) (text : List ℕ) (t inner : List ℕ) (k : g.Token) → g.Raw t ≡ k → t ≡ inner → y ≡ to → y ≡ at + length inner → to ≡ at + length (g.token_text k)
+raw_text at y to text t inner k e same end len = omega (arith, end, len, ap length same, ap (λ (x : g.Token). length (g.token_text x)) e)
 
-read_long : (at to : ℕ) (text x : List ℕ) → IsRead at text (g.Comment x) to → at + 7 ≤ to
-read_long at to text x r = omega (arith, r.to_is, comment_long x)
-
-raw_or_not : (at y to : ℕ) (text x : List ℕ) (b : Bool) → cond b (between_at at text) (Ok (Some (g.Raw (take (y - at) text), y))) ≡ Ok (Some (g.Comment x, to)) → at + 7 ≤ to
-raw_or_not at y to text x true e = read_long at to text x (between_found at text (g.Comment x) to e)
-raw_or_not at y to text x false e =
-    let same = ap (λ (p : g.Token × ℕ). p.0) (same_step (g.Raw (take (y - at) text), y) (g.Comment x, to) e) in absurd cc
+raw_or_not : (at y to : ℕ) (name text : List ℕ) (k : g.Token) (b : Bool) → VerbatimFound (g.end_text name) at y text → cond b (between_at at text) (Ok (Some (g.Raw (take (y - at) text), y))) ≡ Ok (Some (k, to)) → to ≡ at + length (g.token_text k)
+raw_or_not at y to name text k true v e = (between_found at text k to e).to_is
+raw_or_not at y to name text k false v e =
+    let same = same_step (g.Raw (take (y - at) text), y) (k, to) e in
+    raw_text at y to text (take (y - at) text) v.inner k (ap (λ (p : g.Token × ℕ). p.0) same) v.taken (ap (λ (p : g.Token × ℕ). p.1) same) v.to_is
 
 after_is : (at y : ℕ) (name text : List ℕ) → verbatim_end (g.end_text name) (fault at UnclosedRaw) at text ≡ Ok y → token_at (After name) at text ≡ cond (y == at) (between_at at text) (Ok (Some (g.Raw (take (y - at) text), y)))
 unfolding token_at
 after_is at y name text e = rw e refl
 
-after_by : (at to : ℕ) (name text x : List ℕ) (r : Result ℕ ScanFault) → verbatim_end (g.end_text name) (fault at UnclosedRaw) at text ≡ r → token_at (After name) at text ≡ Ok (Some (g.Comment x, to)) → at + 7 ≤ to
-after_by at to name text x (Err f) v e = absurd (not_ok (token_at (After name) at text) f (Some (g.Comment x, to)) (raw_fails at name text f v) e)
-after_by at to name text x (Ok y) v e = raw_or_not at y to text x (y == at) (sym (after_is at y name text v) ∙ e)
+end_some : (name : List ℕ) → 0 < length (g.end_text name)
+end_some name = omega (arith, length-append (60 ∷ 47 ∷ name) (62 ∷ []))
+
+after_by : (at to : ℕ) (name text : List ℕ) (k : g.Token) (r : Result ℕ ScanFault) → verbatim_end (g.end_text name) (fault at UnclosedRaw) at text ≡ r → token_at (After name) at text ≡ Ok (Some (k, to)) → to ≡ at + length (g.token_text k)
+after_by at to name text k (Err f) v e = absurd (not_ok (token_at (After name) at text) f (Some (k, to)) (raw_fails at name text f v) e)
+after_by at to name text k (Ok y) v e = raw_or_not at y to name text k (y == at) (verbatim_parts (g.end_text name) (fault at UnclosedRaw) at y text (end_some name) v) (sym (after_is at y name text v) ∙ e)
 
 failed_is : (f : ScanFault) (at : ℕ) (text : List ℕ) → token_at (Failed f) at text ≡ Err f
 unfolding token_at
 failed_is f at text = refl
 
-comment_at_place : (m : Mode) (at to : ℕ) (text x : List ℕ) → token_at m at text ≡ Ok (Some (g.Comment x, to)) → at + 7 ≤ to
-comment_at_place Between at to text x e = read_long at to text x (token_found at text (g.Comment x) to e)
-comment_at_place (After name) at to text x e = after_by at to name text x (verbatim_end (g.end_text name) (fault at UnclosedRaw) at text) refl e
-comment_at_place (Failed f) at to text x e = absurd (not_ok (token_at (Failed f) at text) f (Some (g.Comment x, to)) (failed_is f at text) e)
+-- a token ends behind its text
+text_at : (m : Mode) (at to : ℕ) (text : List ℕ) (k : g.Token) → token_at m at text ≡ Ok (Some (k, to)) → to ≡ at + length (g.token_text k)
+text_at Between at to text k e = (token_found at text k to e).to_is
+text_at (After name) at to text k e = after_by at to name text k (verbatim_end (g.end_text name) (fault at UnclosedRaw) at text) refl e
+text_at (Failed f) at to text k e = absurd (not_ok (token_at (Failed f) at text) f (Some (k, to)) (failed_is f at text) e)
+
+pub text_found : (p : Place) (t : Token) → (f : IsFound p.text p.at (next_of p) t) → HasText t f.token
+text_found p t f = omega (arith, text_at p.mode p.at (span_of t).to (drop p.at p.text) f.token f.is, f.from)
+
+-- ---- the room in a comment
+
+comment_long : (text : List ℕ) → length (g.token_text (g.Comment text)) ≡ 7 + length text
+comment_long text = omega (arith, length-append (60 ∷ 33 ∷ 45 ∷ 45 ∷ text) (45 ∷ 45 ∷ 62 ∷ []))
 
 room_by : (t : Token) (k : g.Token) → Shows t k → ((x : List ℕ) → k ≡ g.Comment x → (span_of t).from + 7 ≤ (span_of t).to) → HasRoom t
 room_by (lent.StartTag name attrs span) k h r = tt
@@ -233,6 +246,4 @@ room_by (lent.Comment text span) (g.Raw x) h r = absurd h
 room_by (lent.Comment text span) (g.Comment x) h r = r x refl
 
 pub room : (p : Place) (t : Token) → IsFound p.text p.at (next_of p) t → HasRoom t
-room p t f = room_by t f.token f.shows (λ x e.
-    let is : next_of p ≡ Ok (Some (g.Comment x, (span_of t).to)) = f.is ∙ ap (λ (k : g.Token). Ok (Some (k, (span_of t).to))) e in
-    omega (arith, comment_at_place p.mode p.at (span_of t).to (drop p.at p.text) x is, f.from))
+room p t f = room_by t f.token f.shows (λ x e. omega (arith, text_found p t f, ap (λ (k : g.Token). length (g.token_text k)) e, comment_long x))

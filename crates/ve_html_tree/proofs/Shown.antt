@@ -18,7 +18,7 @@ use Rattle.ve_html_scan.specs.declared.token.Token.{Token}
 use Rattle.ve_html_scan.specs.declared.token.Token.TheVariants as lent
 use Rattle.ve_html_tree.specs.declared.node.Node.{Node}
 use Rattle.ve_html_tree.specs.Building.{row_of, closed, closed_at}
-use Rattle.ve_html_tree.specs.Nodes.{inner_span, ShowsRow, ShowRows}
+use Rattle.ve_html_tree.specs.Nodes.{HasText, inner_span, ShowsRow, ShowRows}
 
 pub length_shows : (ns : List Node) (rs : List Row) → ShowRows ns rs → length ns ≡ length rs
 length_shows [] [] s = refl
@@ -37,7 +37,7 @@ abbrev pub closed_node : ℕ → ℕ → ℕ → Node → Node
 closed_node from to next n = record { token = n.token; span = record { from = n.span.from; to = to }; inner = record { from = n.inner.from; to = from }; next = next }
 
 end_shows : (n : Node) (r : Row) (from to next : ℕ) → ShowsRow n r → ShowsRow (closed_node from to next n) (closed from to next r)
-end_shows n r from to next h = record { token = h.token; from = h.from; to = refl; inner_from = h.inner_from; inner_to = refl; next = refl }
+end_shows n r from to next h = record { token = h.token; token_from = h.token_from; token_to = h.token_to; from = h.from; to = refl; inner_from = h.inner_from; inner_to = refl; next = refl }
 
 pub close_shows : (ns : List Node) (k : ℕ) (rs : List Row) (m : Node) (from to next : ℕ) → m ≡ slice_index_or ns k m → k < length ns → ShowRows ns rs → ShowRows (slice_set ns k (closed_node from to next m)) (closed_at k from to next rs)
 close_shows [] k rs m from to next e lt s = absurd (omega (arith, lt))
@@ -45,42 +45,42 @@ close_shows (n ∷ ns) k [] m from to next e lt s = absurd s
 close_shows (n ∷ ns) zero (r ∷ rs) m from to next e lt s = (end_shows m r from to next (subst (λ (x : Node). ShowsRow x r) (sym e) s.0), s.1)
 close_shows (n ∷ ns) (suc k) (r ∷ rs) m from to next e lt s = (s.0, close_shows ns k rs m from to next e (omega (arith, lt)) s.1)
 
-pub node_shows : (t : Token) (k : g.Token) (n : ℕ) → Shows t k → ShowsRow (record { token = t; span = span_of t; inner = inner_span t; next = n + 1 }) (row_of k (span_of t).from (span_of t).to n)
-node_shows (lent.StartTag name attrs span) (g.Start m attributes slash) number h = record { token = h; from = refl; to = refl; inner_from = refl; inner_to = refl; next = refl }
-node_shows (lent.StartTag name attrs span) (g.End m) number h = absurd h
-node_shows (lent.StartTag name attrs span) (g.Chars x) number h = absurd h
-node_shows (lent.StartTag name attrs span) (g.Raw x) number h = absurd h
-node_shows (lent.StartTag name attrs span) (g.Comment x) number h = absurd h
-node_shows (lent.EndTag name span) (g.Start m attributes slash) number h = absurd h
-node_shows (lent.EndTag name span) (g.End m) number h = record { token = h; from = refl; to = refl; inner_from = refl; inner_to = refl; next = refl }
-node_shows (lent.EndTag name span) (g.Chars x) number h = absurd h
-node_shows (lent.EndTag name span) (g.Raw x) number h = absurd h
-node_shows (lent.EndTag name span) (g.Comment x) number h = absurd h
-node_shows (lent.Chars text span) (g.Start m attributes slash) number h = absurd h
-node_shows (lent.Chars text span) (g.End m) number h = absurd h
-node_shows (lent.Chars text span) (g.Chars x) number h = record { token = h; from = refl; to = refl; inner_from = refl; inner_to = refl; next = refl }
-node_shows (lent.Chars text span) (g.Raw x) number h = absurd h
-node_shows (lent.Chars text span) (g.Comment x) number h = absurd h
-node_shows (lent.Raw text span) (g.Start m attributes slash) number h = absurd h
-node_shows (lent.Raw text span) (g.End m) number h = absurd h
-node_shows (lent.Raw text span) (g.Chars x) number h = absurd h
-node_shows (lent.Raw text span) (g.Raw x) number h = record { token = h; from = refl; to = refl; inner_from = refl; inner_to = refl; next = refl }
-node_shows (lent.Raw text span) (g.Comment x) number h = absurd h
-node_shows (lent.Comment text span) (g.Start m attributes slash) number h = absurd h
-node_shows (lent.Comment text span) (g.End m) number h = absurd h
-node_shows (lent.Comment text span) (g.Chars x) number h = absurd h
-node_shows (lent.Comment text span) (g.Raw x) number h = absurd h
-node_shows (lent.Comment text span) (g.Comment x) number h = record { token = h; from = refl; to = refl; inner_from = refl; inner_to = refl; next = refl }
+pub node_shows : (t : Token) (k : g.Token) (n : ℕ) → HasText t k → Shows t k → ShowsRow (record { token = t; span = span_of t; inner = inner_span t; next = n + 1 }) (row_of k (span_of t).from (span_of t).to n)
+node_shows (lent.StartTag name attrs span) (g.Start m attributes slash) number w h = record { token = h; token_from = refl; token_to = w; from = refl; to = refl; inner_from = refl; inner_to = refl; next = refl }
+node_shows (lent.StartTag name attrs span) (g.End m) number w h = absurd h
+node_shows (lent.StartTag name attrs span) (g.Chars x) number w h = absurd h
+node_shows (lent.StartTag name attrs span) (g.Raw x) number w h = absurd h
+node_shows (lent.StartTag name attrs span) (g.Comment x) number w h = absurd h
+node_shows (lent.EndTag name span) (g.Start m attributes slash) number w h = absurd h
+node_shows (lent.EndTag name span) (g.End m) number w h = record { token = h; token_from = refl; token_to = w; from = refl; to = refl; inner_from = refl; inner_to = refl; next = refl }
+node_shows (lent.EndTag name span) (g.Chars x) number w h = absurd h
+node_shows (lent.EndTag name span) (g.Raw x) number w h = absurd h
+node_shows (lent.EndTag name span) (g.Comment x) number w h = absurd h
+node_shows (lent.Chars text span) (g.Start m attributes slash) number w h = absurd h
+node_shows (lent.Chars text span) (g.End m) number w h = absurd h
+node_shows (lent.Chars text span) (g.Chars x) number w h = record { token = h; token_from = refl; token_to = w; from = refl; to = refl; inner_from = refl; inner_to = refl; next = refl }
+node_shows (lent.Chars text span) (g.Raw x) number w h = absurd h
+node_shows (lent.Chars text span) (g.Comment x) number w h = absurd h
+node_shows (lent.Raw text span) (g.Start m attributes slash) number w h = absurd h
+node_shows (lent.Raw text span) (g.End m) number w h = absurd h
+node_shows (lent.Raw text span) (g.Chars x) number w h = absurd h
+node_shows (lent.Raw text span) (g.Raw x) number w h = record { token = h; token_from = refl; token_to = w; from = refl; to = refl; inner_from = refl; inner_to = refl; next = refl }
+node_shows (lent.Raw text span) (g.Comment x) number w h = absurd h
+node_shows (lent.Comment text span) (g.Start m attributes slash) number w h = absurd h
+node_shows (lent.Comment text span) (g.End m) number w h = absurd h
+node_shows (lent.Comment text span) (g.Chars x) number w h = absurd h
+node_shows (lent.Comment text span) (g.Raw x) number w h = absurd h
+node_shows (lent.Comment text span) (g.Comment x) number w h = record { token = h; token_from = refl; token_to = w; from = refl; to = refl; inner_from = refl; inner_to = refl; next = refl }
 
 -- the node that is appended for a token
 pub pushed_shows : (new old : List Node) (t : Token) (k : g.Token) (rs : List Row) (span inner : Span) (n : ℕ) → new ≡ old ++ (record { token = t; span = span; inner = inner; next = n + 1 } ∷ []) → span ≡ span_of t → inner ≡ inner_span t → n ≡ length old
-    → Shows t k → ShowRows old rs → ShowRows new (rs ++ row_of k (span_of t).from (span_of t).to (length rs) ∷ [])
-pushed_shows new old t k rs span inner n e s i len h shows =
+    → HasText t k → Shows t k → ShowRows old rs → ShowRows new (rs ++ row_of k (span_of t).from (span_of t).to (length rs) ∷ [])
+pushed_shows new old t k rs span inner n e s i len w h shows =
     let number : n ≡ length rs = len ∙ length_shows old rs shows in
     let whole : new ≡ old ++ (record { token = t; span = span_of t; inner = inner_span t; next = length rs + 1 } ∷ []) =
     e ∙ ap (λ (x : Span). old ++ (record { token = t; span = x; inner = inner; next = n + 1 } ∷ [])) s ∙ ap (λ (x : Span). old ++ (record { token = t; span = span_of t; inner = x; next = n + 1 } ∷ [])) i
     ∙ ap (λ (x : ℕ). old ++ (record { token = t; span = span_of t; inner = inner_span t; next = x + 1 } ∷ [])) number in
-    subst (λ (l : List Node). ShowRows l (rs ++ row_of k (span_of t).from (span_of t).to (length rs) ∷ [])) (sym whole) (push_shows old rs _ _ shows (node_shows t k (length rs) h))
+    subst (λ (l : List Node). ShowRows l (rs ++ row_of k (span_of t).from (span_of t).to (length rs) ∷ [])) (sym whole) (push_shows old rs _ _ shows (node_shows t k (length rs) w h))
 
 -- the node that is ended
 pub closed_shows : (old : List Node) (k : ℕ) (rs : List Row) (m : Node) (from to next : ℕ) → m ≡ slice_index_or old k m → k < length old → next ≡ length old → ShowRows old rs → ShowRows (slice_set old k (closed_node from to next m)) (closed_at k from to (length rs) rs)

@@ -1,7 +1,9 @@
 -- How the nodes show the rows of a forest.
-use Rattle.std.specs.Prelude.{◌≡◌, ◌+◌, ◌-◌, ◌≤◌, List, [], ◌∷◌}
+use Rattle.model_spelling.specs.Grammar as g
+use Rattle.model_spelling.specs.Grammar.{token_text}
+use Rattle.std.specs.Prelude.{◌≡◌, ◌+◌, ◌-◌, ◌≤◌, length, List, [], ◌∷◌}
 use Rattle.model_spelling.specs.Rows.{Row}
-use Rattle.ve_html_scan.specs.Shown.{Shows}
+use Rattle.ve_html_scan.specs.Shown.{Shows, span_of}
 use Rattle.ve_html_scan.specs.declared.token.Span.{Span}
 use Rattle.ve_html_scan.specs.declared.token.Token.{Token}
 use Rattle.ve_html_scan.specs.declared.token.Token.TheVariants as lent
@@ -23,9 +25,15 @@ HasRoom (lent.Chars text span) = Unit {0}
 HasRoom (lent.Raw text span) = Unit {0}
 HasRoom (lent.Comment text span) = span.from + 7 ≤ span.to
 
--- A node shows a row: it lends its token, and has its bytes, those of its content, and the number past its subtree.
+-- the span of a token is as long as its text
+abbrev pub HasText : Token → g.Token → Type 0
+HasText t k = (span_of t).to ≡ (span_of t).from + length (token_text k)
+
+-- A node shows a row: it lends its first token with that token's bytes, and has the bytes of the whole node, those of its content, and the number past its subtree.
 pub record ShowsRow (n : Node) (r : Row) : Type 0 where
   pub token : Shows n.token r.token
+  pub token_from : (span_of n.token).from ≡ r.from
+  pub token_to : (span_of n.token).to ≡ r.from + length (token_text r.token)
   pub from : n.span.from ≡ r.from
   pub to : n.span.to ≡ r.to
   pub inner_from : n.inner.from ≡ r.inner_from

@@ -5,7 +5,7 @@ ghost use Rattle.model_spelling.specs.Grammar as g;
 ghost use Rattle.model_spelling.specs.Rows.{Row};
 ghost use Rattle.ve_html_scan.specs.Shown.{Shows, span_of};
 ghost use Rattle.ve_html_tree.specs.Building.{built, row_of, closed_at, taken, AllBelow};
-ghost use Rattle.ve_html_tree.specs.Nodes.{HasRoom, ShowRows};
+ghost use Rattle.ve_html_tree.specs.Nodes.{HasRoom, HasText, ShowRows};
 ghost use Rattle.ve_html_tree.specs.Seen.{opens, numbers, Goes};
 ghost use Rattle.ve_html_tree.specs.declared.fault.HtmlFault.TheVariants as faults;
 
@@ -17,7 +17,7 @@ use ve_html_scan::{Span, Token};
 /// Appends the node that begins with a token.
 fn push_node<'a>(nodes: &mut Vec<Node<'a>>, token: &Token<'a>) -> Result<(), HtmlFault>
     requires { HasRoom token.now }
-    ensures rows { (k : g.Token) (rs : List Row) → Shows token.now k → ShowRows nodes.old.items rs → OnOk result (ShowRows nodes.new.items (rs ++ row_of k (span_of token.now).from (span_of token.now).to (length rs) ∷ [])) }
+    ensures rows { (k : g.Token) (rs : List Row) → Shows token.now k → HasText token.now k → ShowRows nodes.old.items rs → OnOk result (ShowRows nodes.new.items (rs ++ row_of k (span_of token.now).from (span_of token.now).to (length rs) ∷ [])) }
     ensures len { OnOk result (length nodes.new.items ≡ length nodes.old.items + 1) }
     ensures fault { IfErr result (λ e. e ≡ faults.Memory) }
 {
@@ -53,7 +53,7 @@ pub fn take_token<'a>(
     requires room { HasRoom token.now }
     requires below { AllBelow (length nodes.old.items) (numbers opened.old.items) }
     ensures faults { (k : g.Token) → Shows token.now k → Goes result (opens opened.new.items) (after_token k (span_of token.now).from (opens opened.old.items)) }
-    ensures rows { (k : g.Token) (rs : List Row) → Shows token.now k → ShowRows nodes.old.items rs → OnOk result (ShowRows nodes.new.items (taken k (span_of token.now).from (span_of token.now).to (built rs (numbers opened.old.items))).rows) }
+    ensures rows { (k : g.Token) (rs : List Row) → Shows token.now k → HasText token.now k → ShowRows nodes.old.items rs → OnOk result (ShowRows nodes.new.items (taken k (span_of token.now).from (span_of token.now).to (built rs (numbers opened.old.items))).rows) }
     ensures numbers { (k : g.Token) (rs : List Row) → Shows token.now k → ShowRows nodes.old.items rs → OnOk result ((taken k (span_of token.now).from (span_of token.now).to (built rs (numbers opened.old.items))).open_ ≡ numbers opened.new.items) }
     ensures below { OnOk result (AllBelow (length nodes.new.items) (numbers opened.new.items)) }
 {

@@ -4,7 +4,7 @@ use Rattle.model_spelling.specs.Faults.{fault_at_end}
 use Rattle.ve_html_scan.specs.Shown.{Place, next_of, IsFound}
 use Rattle.ve_html_tree.specs.Seen.{opens, IsFault}
 use Rattle.ve_html_tree.specs.declared.open.OpenElement.{OpenElement}
-use Rattle.ve_html_tree.proofs.Runs.{SoFar, begins, at_end, spelled_so, at_fault, stops, goes_on, room}
+use Rattle.ve_html_tree.proofs.Runs.{SoFar, begins, at_end, spelled_so, at_fault, stops, goes_on, room, text_found}
 use Rattle.ve_html_tree.proofs.reader.read.Goals as goal
 
 pub loop-fault-init : goal.loop-fault-init
@@ -40,7 +40,7 @@ loop-fault-preserved c =
     let place = rw c.in-Ok-Some.field-0-is at c.in-Ok-Some.ensures.place in
     let s = c.loop-fault.invariant.0 in
     let a = c.in_ok-take_token-in-Ok-Some.ensures.faults found.token found.shows in
-    let r = c.in_ok-take_token-in-Ok-Some.ensures.rows found.token s.rows found.shows s.shows in
+    let r = c.in_ok-take_token-in-Ok-Some.ensures.rows found.token s.rows found.shows (text_found c.loop-fault.scanner c.in-Ok-Some.token found) s.shows in
     let n = c.in_ok-take_token-in-Ok-Some.ensures.numbers found.token s.rows found.shows s.shows in (
       goes_on c.args.text.now c.loop-fault.scanner c.next.new.self c.loop-fault.nodes.items c.loop-fault.opened.items c.in-Ok-Some.token c.take_token.new.nodes.items c.take_token.new.opened.items s found place a r n c.in_ok-take_token-in-Ok-Some.ensures.below,
       ap (λ (p : Place). p.text) place ∙ c.loop-fault.invariant.1,
