@@ -4,3 +4,4 @@ pub mod Refused
 pub mod Paragraphs
 pub mod PageLaws
 pub mod ScriptExamples
+pub mod ContentOffsets

@@ -24,11 +24,11 @@ items ps = flat_map paragraph_items ps
 abbrev pub rest_items : List ℕ → List (List ℕ) → List Item
 rest_items text ps = (characters text ++ closing P ∷ []) ++ items ps
 
-and_left : (a b : Bool) → (a && b) ≡ true → a ≡ true
+pub and_left : (a b : Bool) → (a && b) ≡ true → a ≡ true
 and_left true b h = refl
 and_left false b h = cc h
 
-and_right : (a b : Bool) → (a && b) ≡ true → b ≡ true
+pub and_right : (a b : Bool) → (a && b) ≡ true → b ≡ true
 and_right true b h = h
 and_right false b h = cc h
 

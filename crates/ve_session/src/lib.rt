@@ -8,7 +8,9 @@ mod place;
 mod tests;
 mod world;
 
-pub use laws::{pages_are_read_by_paragraphs, pages_are_written_as_read};
+pub use laws::{
+    pages_are_read_by_paragraphs, pages_are_written_as_read, texts_stand_in_their_paragraphs,
+};
 pub use ve_json::{Refusal, Reply};
 pub use ve_run::{Machine, Status, run};
 pub use world::World;
