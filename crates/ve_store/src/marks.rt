@@ -5,6 +5,7 @@ ghost use Rattle.ve_base.specs.declared.value.Value.TheVariants as value;
 ghost use Rattle.model_change.specs.Store.{admitted};
 ghost use Rattle.model_items.specs.Plain.{value_at, marks_in, CitesMarks};
 ghost use Rattle.model_items.specs.Same.{mark_same};
+ghost use Rattle.ve_store.specs.Following.{Grows};
 ghost use Rattle.ve_store.specs.Marked.{marked, unmarked};
 
 use crate::{NewValues, Store};
@@ -73,6 +74,8 @@ pub fn with_mark(
     requires follows { new.old.after ≡ length store.now }
     requires cites { CitesMarks (store.now ++ new.old.values) marks }
     ensures cited { IfOk result (λ id. marks_in (value_at (store.now ++ new.new.values) id) ≡ marked (marks_in (value_at (store.now ++ new.old.values) marks)) mark.now) }
+    ensures cites { IfOk result (CitesMarks (store.now ++ new.new.values)) }
+    ensures grows { Grows new.old new.new }
     ensures err { OnErr result (new.new ≡ new.old) }
 {
     let cited = cited_marks(store, new, marks);
@@ -95,6 +98,8 @@ pub fn without_mark(
     requires follows { new.old.after ≡ length store.now }
     requires cites { CitesMarks (store.now ++ new.old.values) marks }
     ensures cited { IfOk result (λ id. marks_in (value_at (store.now ++ new.new.values) id) ≡ unmarked (marks_in (value_at (store.now ++ new.old.values) marks)) mark.now) }
+    ensures cites { IfOk result (CitesMarks (store.now ++ new.new.values)) }
+    ensures grows { Grows new.old new.new }
     ensures err { OnErr result (new.new ≡ new.old) }
 {
     let cited = cited_marks(store, new, marks);

@@ -1,6 +1,7 @@
 // Values that an edit brings, before its store takes them.
 ghost use Rattle.std.specs.Prelude.{◌≡◌, ◌<◌, ◌++◌, [], length, slice_get, Some, IfOk, OnOk, OnErr};
 ghost use Rattle.model_change.specs.Store.{admitted};
+ghost use Rattle.ve_store.specs.Following.{Grows};
 
 use crate::Store;
 use crate::hashed::Hashed;
@@ -60,7 +61,7 @@ impl NewValues {
         requires { self.old.after ≡ length store.now }
         ensures stored { IfOk result (λ id. slice_get (store.now ++ self.new.values) id.0 ≡ Some value) }
         ensures ok { OnOk result (store.now ++ self.new.values ≡ admitted (store.now ++ self.old.values) value) }
-        ensures after { self.new.after ≡ self.old.after }
+        ensures grows { Grows self.old self.new }
         ensures err { OnErr result (self.new ≡ self.old) }
     {
         let hashed = Hashed { value };

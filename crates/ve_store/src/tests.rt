@@ -1,8 +1,8 @@
 // Each call that takes memory, with ample memory; and what a fault prints.
-use crate::{NewValues, Store, StoreFault};
+use crate::{NewValues, Store, StoreFault, with_mark, without_mark};
 use std::alloc::Global;
 use std::test::Fail;
-use ve_base::{Memory, Text, Value, ValueId};
+use ve_base::{Attrs, Mark, Memory, Text, Value, ValueId};
 
 fn white(alloc: Global, text: &str) -> Result<Value, Memory> {
     Ok(Value::White(Text::from_str(alloc, text)?))
@@ -19,6 +19,24 @@ fn values_are_stored_once(rt: HostRuntime) -> Result<(), Fail> {
     assert_eq!(rt; new.id_of(&store, white(alloc, "\t")?), Ok(ValueId(2)));
     assert_eq!(rt; new.id_of(&store, white(alloc, "\n")?), Ok(ValueId(1)));
     assert_eq!(rt; new.id_of(&store, white(alloc, "\t")?), Ok(ValueId(2)));
+    Ok(())
+}
+
+#[test]
+fn marks_are_added_and_taken_out(rt: HostRuntime) -> Result<(), Fail> {
+    let alloc = rt.alloc();
+    let store = Store::new(alloc);
+    let mut new = NewValues::new(alloc, &store);
+    let bold = Mark {
+        tag: Text::from_str(alloc, "b")?,
+        attrs: Attrs::new(alloc),
+    };
+    let marks = with_mark(alloc, &store, &mut new, None, &bold)?;
+    assert_eq!(rt; marks, Some(ValueId(0)));
+    let again = with_mark(alloc, &store, &mut new, marks, &bold)?;
+    assert_eq!(rt; again, marks);
+    let none = without_mark(alloc, &store, &mut new, again, &bold)?;
+    assert_eq!(rt; none, None);
     Ok(())
 }
 
