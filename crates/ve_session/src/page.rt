@@ -97,13 +97,23 @@ fn write_item(item: Item, out: &mut Text) -> Result<(), Memory>
     }
 }
 
-/// The page of a list.
+/// Appends the items of a piece of the list as they are written in a page.
+fn write_items(items: &[Item], out: &mut Text) -> Result<(), Memory>
+    ensures { OnOk result (out.new ≡ out.old ++ html_of items.now) }
+{
+    for item in items {
+        write_item(*item, out)?;
+    }
+    Ok(())
+}
+
+/// The page of a list, block after block.
 pub fn html_of(alloc: Global, list: &Linear) -> Result<Text, Memory>
     ensures { IfOk result (λ page. page ≡ html_of list.now.items) }
 {
     let mut out = Text::new(alloc);
-    for at in 0..list.len() {
-        write_item(list.get(at), &mut out)?;
+    for k in 0..list.blocks() {
+        write_items(list.block(k), &mut out)?;
     }
     Ok(out)
 }

@@ -1,8 +1,8 @@
 use Rattle.std.proofs.Common.{◌++◌, sym, ap, ◌∙◌}
-use Rattle.ve_session.specs.Written.{written}
-use Rattle.ve_session.proofs.Fronts.{html_of-take}
+use Rattle.ve_session.specs.Written.{html_of}
+use Rattle.ve_session.proofs.Fronts.{html_of-block}
 use Rattle.ve_session.proofs.page.html_of.Goals as goal
 
-pub loop-at-preserved : goal.loop-at-preserved
-loop-at-preserved c =
-    c.in_ok-write_item.ensures ∙ ap (λ s. s ++ written c.get.result) c.loop-at.invariant ∙ sym (html_of-take c.args.list.now.items c.loop-at.at c.get.result c.get.ensures)
+pub loop-k-preserved : goal.loop-k-preserved
+loop-k-preserved c =
+    c.in_ok-write_items.ensures ∙ ap (λ s. s ++ html_of c.block.result.now) c.loop-k.invariant ∙ sym (html_of-block c.args.list.now.blocks c.loop-k.k c.block.result.now c.block.ensures)
