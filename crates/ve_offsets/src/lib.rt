@@ -1,0 +1,10 @@
+//! What an offset of a page's list is: where characters may stand, where nodes may, or where nothing may.
+#![tactic(auto)]
+
+mod class;
+mod doc;
+mod nearest;
+
+pub use class::{is_content, is_inside_leaf, is_structural};
+pub use doc::Doc;
+pub use nearest::nearest_content;
