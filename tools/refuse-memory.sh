@@ -24,7 +24,7 @@ while [ "$number" -le "$to" ]; do
         exit 1
     fi
     if [ "$status" -eq 0 ] && cmp -s "$work/written" "$whole"; then
-        echo "allocation $number never comes: $((number - from)) were refused, one at a time"
+        echo "allocation $number never comes; the $((number - from)) from $from on were refused one at a time"
         exit 0
     fi
     if [ "$status" -ne 6 ]; then
