@@ -1,5 +1,5 @@
 -- The front of a list, one item longer.
-use Rattle.std.proofs.Common.{◌≡◌, get_or, ℕ, ◌+◌, ◌-◌, ◌<◌, ◌≤◌, List, [], ◌∷◌, ◌++◌, Bool, Option, Some, nat_le, length, take, find, if◌then◌else◌, ap, ◌∙◌, append-nil, ◌&&◌, arith}
+use Rattle.std.proofs.Common.{◌≡◌, ℕ, ◌+◌, ◌-◌, ◌<◌, ◌≤◌, List, [], ◌∷◌, ◌++◌, Bool, Option, Some, nat_le, length, take, find, if◌then◌else◌, ap, ◌∙◌, ◌&&◌, arith}
 use Rattle.std.proofs.lemmas.Option.{slice_get_within, get_or_from_slice_get}
 use Rattle.std.proofs.lemmas.List.{take_more, reverse-append}
 use Rattle.std.proofs.lemmas.Grind.{flat_map-append}
@@ -12,9 +12,6 @@ use Rattle.ve_session.specs.World.{is_bracket, last_bracket, opens_content, is_c
 
 pub take-one : {A : Type 0} (xs : List A) (n : ℕ) (x : A) → slice_get xs n ≡ Some x → take (n + 1) xs ≡ take n xs ++ x ∷ []
 take-one xs n x h = take_more xs n x (slice_get_within xs n x h) ∙ ap (λ y. take n xs ++ y ∷ []) (get_or_from_slice_get xs n x x h)
-
-pub html_of-more : (items : List Item) (n : ℕ) (d : Item) → n < length items → html_of (take (n + 1) items) ≡ html_of (take n items) ++ written (get_or items n d)
-html_of-more items n d h = ap html_of (take_more items n d h) ∙ flat_map-append written (take n items) (get_or items n d ∷ []) ∙ ap (λ s. html_of (take n items) ++ s) (append-nil (written (get_or items n d)))
 
 pub html_of-block : (blocks : List (List Item)) (k : ℕ) (block : List Item) → slice_get blocks k ≡ Some block → html_of (joined (take (k + 1) blocks)) ≡ html_of (joined (take k blocks)) ++ html_of block
 html_of-block blocks k block h = ap (λ bs. html_of (joined bs)) (take-one blocks k block h) ∙ ap html_of (joined_push (take k blocks) block) ∙ flat_map-append written (joined (take k blocks)) block
