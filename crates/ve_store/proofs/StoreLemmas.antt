@@ -1,10 +1,11 @@
 -- Values found by the test of equality.
-use Rattle.std.proofs.Common.{◌≡◌, ◌↔◌, ◌≤◌, not, ◌<◌, ◌++◌, IfSome, IsSome, cond, ℕ, zero, suc, Bool, true, false, ◌||◌, ◌+◌, append_assoc, List, [], ◌∷◌, length, get_or, slice_get, Contains, Option, Some, None, is_some, position, if◌then◌else◌, nat_lt, refl, sym, ap, subst, ◌∙◌, true≢false, arith}
+use Rattle.std.proofs.Common.{◌≡◌, take, length-take-le, ◌↔◌, ◌≤◌, not, ◌<◌, ◌++◌, IfSome, IsSome, cond, ℕ, zero, suc, Bool, true, false, ◌||◌, ◌+◌, append_assoc, List, [], ◌∷◌, length, get_or, slice_get, Contains, Option, Some, None, is_some, position, if◌then◌else◌, nat_lt, refl, sym, ap, subst, ◌∙◌, true≢false, arith}
 use Rattle.std.specs.List.{position_or_len, IsDistinct, AllByRecursion}
 use Rattle.std.proofs.lemmas.Bool.{ltb-true, false_from_ne_true}
+use Rattle.std.proofs.lemmas.List.{take_more, get_or-take}
 use Rattle.std.proofs.lemmas.List.Folds.{list_any-append}
 use Rattle.std.proofs.lemmas.List.Sums.{passes_at_first, prefix_len-le-length}
-use Rattle.std.proofs.lemmas.Option.{slice_get-get_or}
+use Rattle.std.proofs.lemmas.Option.{slice_get-get_or, get_or_from_slice_get}
 use Rattle.std.proofs.lemmas.Map.Views.{list_any-from_Contains}
 use Rattle.std.proofs.lemmas.Map.Keys.{IsDistinct-head, IsDistinct-tail}
 use Rattle.indexmap.proofs.CallerLemmas.{Contains-list_any}
@@ -105,3 +106,17 @@ get_behind (y ∷ xs) ys at (suc many) x e h =
 -- a place in the list, or at its end
 pub place_within : (values : List Value) (v : Value) → position_or_len (value_same v) values ≤ length values
 place_within values v = prefix_len-le-length (λ x. not (value_same v x)) values
+
+-- a store that is filled with the values of another, one after the other
+pub admitted_next : (values : List Value) (n : ℕ) (v : Value) → AreDistinct values → n < length values → slice_get values n ≡ Some v → admitted (take n values) v ≡ take (n + 1) values
+admitted_next values n v distinct within at =
+    let twice : Contains (take n values) v → ⊥ = λ there. again there.0 there.1 there.2 in
+    let absent : holds (take n values) v ≡ false = false_from_ne_true (holds (take n values) v) (λ there. twice (Contains-holds (take n values) v there)) in
+    ap (λ b. if b then take n values else take n values ++ v ∷ []) absent
+    ∙ sym (take_more values n v within ∙ ap (λ x. take n values ++ x ∷ []) (get_or_from_slice_get values n v v at)) where
+      again : (i : ℕ) → i < length (take n values) → get_or (take n values) i v ≡ v → ⊥
+      again i below here =
+          let before : i < n = omega (arith, length-take-le n values (omega arith)) in
+          let same : i ≡ n = distinct i n v (slice_get-get_or values i v (omega arith) ∙ ap Some (sym (get_or-take n values i v before) ∙ here)) at in
+          let none : ⊥ = omega arith in
+          none

@@ -96,6 +96,19 @@ impl Store {
         }
     }
 
+    /// An equal store.
+    pub fn copy(&self, alloc: Global) -> Result<Store, Memory>
+        ensures { IfOk result (λ copy. copy ≡ self.now) }
+    {
+        let mut copy = Store::new(alloc);
+        let len = self.len();
+        for place in 0..len {
+            let value = self.get(ValueId(place)).copy(alloc)?;
+            copy.admit(value)?;
+        }
+        Ok(copy)
+    }
+
     /// Keeps the first `n` values.
     pub fn truncate(&mut self, n: usize)
         ensures { self.new ≡ take n self.old }

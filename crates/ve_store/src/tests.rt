@@ -15,6 +15,7 @@ fn values_are_stored_once(rt: HostRuntime) -> Result<(), Fail> {
     assert_eq!(rt; store.intern(white(alloc, " ")?), Ok(ValueId(0)));
     assert_eq!(rt; store.admit(white(alloc, "\n")?), Ok(ValueId(1)));
     assert_eq!(rt; store.intern(white(alloc, " ")?), Ok(ValueId(0)));
+    assert_eq!(rt; store.copy(alloc)?.len(), 2);
     let mut new = NewValues::new(alloc, &store);
     assert_eq!(rt; new.id_of(&store, white(alloc, "\t")?), Ok(ValueId(2)));
     assert_eq!(rt; new.id_of(&store, white(alloc, "\n")?), Ok(ValueId(1)));
