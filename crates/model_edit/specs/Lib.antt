@@ -1,0 +1,14 @@
+pub mod Brackets
+pub mod Offsets
+pub mod Edits
+pub mod Insert
+pub mod Remove
+pub mod Marking
+pub mod Wrap
+pub mod Convert
+pub mod Lists
+pub mod Grid
+pub mod Tables
+pub mod Layout
+pub mod Translate
+pub mod Next

@@ -1,0 +1,26 @@
+//! What edits of a list of items mean: which transaction each is, and when it is refused. Where a caret goes, and what the grid of a table is. There
+//! are definitions in specs/, and the types that they speak of:
+//!
+//! - `Brackets`, `Offsets`: brackets and their partners, the nodes that are open at an offset, and what an offset is;
+//! - `Edits`: edits at rising places, and the one transaction that they are;
+//! - `Insert`, `Remove`, `Marking`, `Wrap`, `Convert`: insertion, text and split; removal; marks; wrapping; kinds and attributes;
+//! - `Lists`: list items moved deeper and out;
+//! - `Grid`, `Tables`, `Layout`: the grid of a table, rows and columns put in and taken out, and what the grid then is;
+//! - `Translate`, `Next`: where offsets and selections stand after a change, and where a caret goes next.
+//!
+//! Their laws are `model_edit_law`'s, `model_list_law`'s and `model_table_law`'s.
+#![tactic(auto)]
+
+mod build_fault;
+mod grid_cell;
+mod list_fault;
+mod selection;
+mod table_fault;
+mod wrap_plan;
+
+pub use build_fault::BuildFault;
+pub use grid_cell::GridCell;
+pub use list_fault::ListFault;
+pub use selection::{Bias, By, Dir, Selection};
+pub use table_fault::TableFault;
+pub use wrap_plan::{Kinds, Shape, Shapes, WrapPlan};

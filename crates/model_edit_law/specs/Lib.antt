@@ -1,0 +1,4 @@
+pub mod Fine
+pub mod InsertLaws
+pub mod RemoveLaws
+pub mod ShapeLaws
