@@ -90,7 +90,7 @@ tree_has_whole_runs items = (reading_whole items).0
 same_reading : (values others : List Value) (items : List Item) → reading (plain_list values items) ≡ reading (plain_list others items)
 same_reading values others [] = refl
 same_reading values others (item.Char ch marks ∷ items) = ap (reading_by Letter) (same_reading values others items)
-same_reading values others (item.Opening kind head marks pre origin generated ∷ items) = ap (reading_by (Begin kind)) (same_reading values others items)
+same_reading values others (item.Opening kind generated head marks pre origin ∷ items) = ap (reading_by (Begin kind)) (same_reading values others items)
 same_reading values others (item.Closing kind pre ∷ items) = ap (reading_by (End kind)) (same_reading values others items)
 
 pub tree_reads_no_values : TreeReadsNoValues

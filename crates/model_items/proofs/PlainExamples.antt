@@ -29,11 +29,11 @@ bold_char = refl
 plain_char : plain values (item.Char 97 None) ≡ Char 97 []
 plain_char = refl
 
-opening : plain values (item.Opening P (Some (place 1)) None (Some (place 2)) (Some 4) false) ≡ Opening P identified [] (codes " ") (Some 4) false
+opening : plain values (item.Opening P false (Some (place 1)) None (Some (place 2)) (Some 4)) ≡ Opening P identified [] (codes " ") (Some 4) false
 opening = refl
 
 no_such_place : plain values (item.Closing P (Some (place 3))) ≡ Closing P []
 no_such_place = refl
 
-of_another_sort : plain values (item.Opening P (Some (place 0)) None None None false) ≡ Opening P empty_head [] [] None false
+of_another_sort : plain values (item.Opening P false (Some (place 0)) None None None) ≡ Opening P empty_head [] [] None false
 of_another_sort = refl

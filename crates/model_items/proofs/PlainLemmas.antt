@@ -36,7 +36,7 @@ plain_tells_apart values (item.Char c marks) (item.Char d marks') distinct p q e
     let marked : marks_in (value_at values marks) ≡ marks_in (value_at values marks') = cc in
     let same = same_marks values distinct marks marks' p q marked in
     λ i. item.Char (chars i) (same i)
-plain_tells_apart values (item.Opening kind head marks pre origin generated) (item.Opening kind' head' marks' pre' origin' generated') distinct p q e =
+plain_tells_apart values (item.Opening kind generated head marks pre origin) (item.Opening kind' generated' head' marks' pre' origin') distinct p q e =
     let kinds : kind ≡ kind' = cc in
     let heads : head_in (value_at values head) ≡ head_in (value_at values head') = cc in
     let marked : marks_in (value_at values marks) ≡ marks_in (value_at values marks') = cc in
@@ -46,7 +46,7 @@ plain_tells_apart values (item.Opening kind head marks pre origin generated) (it
     let h = same_head values distinct head head' p.0 q.0 heads in
     let m = same_marks values distinct marks marks' p.1 q.1 marked in
     let w = same_white values distinct pre pre' p.2 q.2 white in
-    λ i. item.Opening (kinds i) (h i) (m i) (w i) (origins i) (made i)
+    λ i. item.Opening (kinds i) (made i) (h i) (m i) (w i) (origins i)
 plain_tells_apart values (item.Closing kind pre) (item.Closing kind' pre') distinct p q e =
     let kinds : kind ≡ kind' = cc in
     let white : white_in (value_at values pre) ≡ white_in (value_at values pre') = cc in

@@ -8,7 +8,7 @@ use Rattle.model_items.specs.Law.{State, start, step, joined, after, verdict_at,
 
 step_reads_no_values : (values others : List Value) (x : Item) (s : State) → step s (plain values x) ≡ step s (plain others x)
 step_reads_no_values values others (item.Char ch marks) s = refl
-step_reads_no_values values others (item.Opening kind head marks pre origin generated) s = refl
+step_reads_no_values values others (item.Opening kind generated head marks pre origin) s = refl
 step_reads_no_values values others (item.Closing kind pre) s = refl
 
 pub law_reads_no_values : LawReadsNoValues

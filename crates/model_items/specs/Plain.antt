@@ -32,7 +32,7 @@ white_in _ = []
 -- an item by value
 abbrev pub plain : List Value → Item → PlainItem
 plain values (item.Char ch marks) = Char ch (marks_in (value_at values marks))
-plain values (item.Opening kind head marks pre origin generated) =
+plain values (item.Opening kind generated head marks pre origin) =
     Opening kind (head_in (value_at values head)) (marks_in (value_at values marks)) (white_in (value_at values pre)) origin generated
 plain values (item.Closing kind pre) = Closing kind (white_in (value_at values pre))
 
@@ -55,7 +55,7 @@ CitesWhite values (Some id) = (text : List ℕ) × (slice_get values id.0 ≡ So
 -- an item's head cites only heads, its marks only marks and its white text only white text, and nothing that is empty
 abbrev pub CitesWell : List Value → Item → Type 0
 CitesWell values (item.Char ch marks) = CitesMarks values marks
-CitesWell values (item.Opening kind head marks pre origin generated) = CitesHead values head × CitesMarks values marks × CitesWhite values pre
+CitesWell values (item.Opening kind generated head marks pre origin) = CitesHead values head × CitesMarks values marks × CitesWhite values pre
 CitesWell values (item.Closing kind pre) = CitesWhite values pre
 
 -- no value stands at two places

@@ -1,6 +1,8 @@
-// What no clause says: that calls which take memory succeed where there is memory. A walk of splices is compared with the same splices of one plain vector.
+// What no clause says: how large an item is, and that calls which take memory succeed where there
+// is memory. A walk of splices is compared with the same splices of one plain vector.
 use crate::{Item, Items, Linear};
 use std::alloc::{AllocError, Global};
+use std::mem::size_of;
 use std::test::Fail;
 use ve_base::{Memory, ValueId};
 
@@ -55,6 +57,11 @@ fn holds(list: &Linear, items: &[Item]) -> bool {
         at += block.len();
     }
     at == items.len() && list.len() == at
+}
+
+#[test]
+fn an_item_takes_at_most_64_bytes(rt: HostRuntime) {
+    assert!(rt; size_of::<Item>() <= 64);
 }
 
 #[test]

@@ -13,7 +13,7 @@ top_last : stack_of (Div ∷ P ∷ Root ∷ []) 2 ≡ P ∷ Div ∷ []
 top_last = refl
 
 abbrev opening : Kind → Item
-opening kind = Opening kind None None None None false
+opening kind = Opening kind false None None None None
 
 abbrev letter : Item
 letter = Char 97 (Some (record { 0 = 3 }))

@@ -160,7 +160,7 @@ onto_first ch (text ∷ texts) = (ch ∷ text) ∷ texts
 abbrev pub texts_in : List Item → List (List ℕ)
 texts_in [] = []
 texts_in (Char ch marks ∷ more) = onto_first ch (texts_in more)
-texts_in (Opening kind head marks pre origin generated ∷ more) = texts_in more
+texts_in (Opening kind generated head marks pre origin ∷ more) = texts_in more
 texts_in (Closing kind pre ∷ more) = [] ∷ texts_in more
 
 texts_in-rest : (text : List ℕ) (ps : List (List ℕ)) → texts_in (items ps) ≡ ps → texts_in (rest_items text ps) ≡ text ∷ ps

@@ -13,7 +13,7 @@ max_page = 4194304
 
 -- items that cite nothing
 abbrev pub opening : Kind → Item
-opening kind = Opening kind None None None None false
+opening kind = Opening kind false None None None None
 
 abbrev pub closing : Kind → Item
 closing kind = Closing kind None

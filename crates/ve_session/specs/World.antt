@@ -36,13 +36,13 @@ max_items = 4194304
 
 abbrev pub is_bracket : Item → Bool
 is_bracket (Char ch marks) = false
-is_bracket (Opening kind head marks pre origin generated) = true
+is_bracket (Opening kind generated head marks pre origin) = true
 is_bracket (Closing kind pre) = true
 
 abbrev pub opens_content : Option Item → Bool
 opens_content None = false
 opens_content (Some (Char ch marks)) = false
-opens_content (Some (Opening kind head marks pre origin generated)) = is_content_branch kind
+opens_content (Some (Opening kind generated head marks pre origin)) = is_content_branch kind
 opens_content (Some (Closing kind pre)) = false
 
 -- the last opening or closing

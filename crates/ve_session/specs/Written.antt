@@ -25,7 +25,7 @@ end_tag _ = []
 
 abbrev pub written : Item → List ℕ
 written (Char ch marks) = escaped ch
-written (Opening kind head marks pre origin generated) = start_tag kind
+written (Opening kind generated head marks pre origin) = start_tag kind
 written (Closing kind pre) = end_tag kind
 
 -- the page of these items
