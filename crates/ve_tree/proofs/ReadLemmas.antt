@@ -78,7 +78,7 @@ openings-drop items zero h = h
 openings-drop [] (suc m) h = h
 openings-drop (item.Char ch marks ∷ items) (suc m) h = openings-drop items m h
 openings-drop (item.Closing kind pre ∷ items) (suc m) h = openings-drop items m h
-openings-drop (item.Opening kind head marks pre origin generated ∷ items) (suc m) h = openings-drop items m h.1
+openings-drop (item.Opening kind generated head marks pre origin ∷ items) (suc m) h = openings-drop items m h.1
 
 -- nothing is open at the start, and an opening's kind is the next one to be closed
 pub closes-start : (items : List Item) → Lawful (unvalued items) → closes_from items 0 ≡ []
@@ -91,14 +91,14 @@ pub closes-opening : (items : List Item) (m : ℕ) (kind : Kind) (x : Item) → 
 unfolding OpeningsClose
 closes-opening items m kind (item.Char ch marks) lawful at opening closed = absurd opening
 closes-opening items m kind (item.Closing k pre) lawful at opening closed = absurd opening
-closes-opening items m kind (item.Opening k head marks pre origin generated) lawful at opening closed =
+closes-opening items m kind (item.Opening k generated head marks pre origin) lawful at opening closed =
     let all = openings-close (unvalued items) start (after_from_Lawful (unvalued items) lawful) in
-    let here = subst (λ l. OpeningsClose (unvalued l)) (drop-at items m (item.Opening k head marks pre origin generated) at) (openings-drop items m all) in
+    let here = subst (λ l. OpeningsClose (unvalued l)) (drop-at items m (item.Opening k generated head marks pre origin) at) (openings-drop items m all) in
     let r = reading_from items (suc m) in
     let both : k ∷ drop 1 (closes_from items (suc m)) ≡ kind ∷ drop 1 (closes_from items (suc m)) = sym here.0 ∙ closed in
     let same : k ≡ kind = cc in (
       (λ i. record { here = Branch (same i) r.here (first_of r.outer); outer = drop 1 r.outer }),
-      closes-at items m (item.Opening k head marks pre origin generated) at,
+      closes-at items m (item.Opening k generated head marks pre origin) at,
     )
 
 pub reading-closing : (items : List Item) (m : ℕ) (kind : Kind) (pre : Option ValueId) → slice_get items m ≡ Some (item.Closing kind pre) →
@@ -111,7 +111,7 @@ pub reading-char : (items : List Item) (m : ℕ) (x : Item) → slice_get items 
     × (closes_from items m ≡ closes_from items (suc m))
 reading-char items m (item.Char ch marks) at char = (reading-at items m (item.Char ch marks) at, closes-at items m (item.Char ch marks) at)
 reading-char items m (item.Closing k pre) at char = absurd char
-reading-char items m (item.Opening k head marks pre origin generated) at char = absurd char
+reading-char items m (item.Opening k generated head marks pre origin) at char = absurd char
 
 -- a run of one character and more, before what begins with none
 pub reading-run : (items : List Item) (f : Forest) (outer : List Forest) (k from : ℕ) → from + suc k ≤ length items →
@@ -176,9 +176,9 @@ pub opening-inside : (items : List Item) (m : ℕ) (x : Item) → Lawful (unvalu
 unfolding OpeningsClose
 opening-inside items m (item.Char ch marks) lawful at opening e = opening
 opening-inside items m (item.Closing k pre) lawful at opening e = opening
-opening-inside items m (item.Opening k head marks pre origin generated) lawful at opening e =
+opening-inside items m (item.Opening k generated head marks pre origin) lawful at opening e =
     let all = openings-close (unvalued items) start (after_from_Lawful (unvalued items) lawful) in
-    let here = subst (λ l. OpeningsClose (unvalued l)) (drop-at items m (item.Opening k head marks pre origin generated) at) (openings-drop items m all) in
+    let here = subst (λ l. OpeningsClose (unvalued l)) (drop-at items m (item.Opening k generated head marks pre origin) at) (openings-drop items m all) in
     let both : ◌≡◌ {A = List Kind} [] (k ∷ drop 1 (closes_from items (suc m))) = sym e ∙ here.0 in absurd (cc)
 
 -- each closing that is to come has its siblings behind it

@@ -92,12 +92,12 @@ count_from items at = node_count (reading_from items at).here + pending_count (r
 
 abbrev pub IsOpening : Item → Type 0
 IsOpening (item.Char ch marks) = ⊥
-IsOpening (item.Opening kind head marks pre origin generated) = Unit {0}
+IsOpening (item.Opening kind generated head marks pre origin) = Unit {0}
 IsOpening (item.Closing kind pre) = ⊥
 
 abbrev pub IsChar : Item → Type 0
 IsChar (item.Char ch marks) = Unit {0}
-IsChar (item.Opening kind head marks pre origin generated) = ⊥
+IsChar (item.Opening kind generated head marks pre origin) = ⊥
 IsChar (item.Closing kind pre) = ⊥
 
 -- The siblings that end at `to` are read down to `from`, where their parent's opening ends or the list begins, and are the children of p.
