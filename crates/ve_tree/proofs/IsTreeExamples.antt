@@ -12,7 +12,7 @@ use Rattle.ve_tree.specs.Named.{Named, NoNode, NamedRun, NamedBranch}
 use Rattle.ve_tree.specs.IsTree.{unvalued, IsTree}
 
 abbrev page : List Item
-page = Opening P None None None None false ∷ Char 97 None ∷ Char 98 None ∷ Closing P None ∷ Opening InternalList None None None None false ∷ Closing InternalList None ∷ []
+page = Opening P false None None None None ∷ Char 97 None ∷ Char 98 None ∷ Closing P None ∷ Opening InternalList false None None None None ∷ Closing InternalList None ∷ []
 
 abbrev id : ℕ → Option NodeId
 id n = Some (record { 0 = n })
