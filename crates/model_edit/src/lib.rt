@@ -8,7 +8,7 @@
 //! - `Grid`, `Tables`, `Layout`: the grid of a table, rows and columns put in and taken out, and what the grid then is;
 //! - `Translate`, `Next`: where offsets and selections stand after a change, and where a caret goes next.
 //!
-//! Their laws are `model_edit_law`'s, `model_list_law`'s and `model_table_law`'s.
+//! Their laws are `model_edit_law`'s.
 #![tactic(auto)]
 
 mod build_fault;
@@ -16,6 +16,8 @@ mod grid_cell;
 mod list_fault;
 mod selection;
 mod table_fault;
+#[cfg(test)]
+mod tests;
 mod wrap_plan;
 
 pub use build_fault::BuildFault;

@@ -12,3 +12,14 @@ mod RemoveKeptLemmas
 mod RemoveLawfulLemmas
 pub mod ShapeLemmas
 mod WrapLemmas
+mod ListLemmas
+mod IndentLemmas
+mod OutdentLemmas
+mod TablePlaceLemmas
+mod SpanLemmas
+mod TableFineLemmas
+mod TableLawfulLemmas
+mod TableGrowLemmas
+mod LeastLemmas
+mod LayLemmas
+mod LinkLemmas

@@ -12,10 +12,11 @@ use Rattle.model_change.specs.Transaction.{Transaction, edited}
 use Rattle.model_edit_law.specs.Fine.{Fine}
 use Rattle.model_edit.specs.Insert.{split, insertion, text_pieces}
 
+-- A split leaves a lawful list lawful.
 abbrev pub SplitStaysLawful : Type 0
 SplitStaysLawful = (items : List PlainItem) (at depth : ℕ) (t : Transaction) → Lawful items → split items at depth ≡ Ok t → Lawful (edited t items)
 
--- typing leaves a lawful list lawful, but for nesting
+-- Typing, with any marks, leaves it lawful, or its nodes are nested over 100 deep.
 abbrev pub TypingStaysLawful : Type 0
 TypingStaysLawful = (items : List PlainItem) (at : ℕ) (marks : List Mark) (text : List ℕ) (t : Transaction) → Lawful items →
     insertion items at (text_pieces marks text) ≡ Ok t →
@@ -36,13 +37,13 @@ are_children parent opened (Opening kind head marks pre origin generated ∷ ite
 are_children parent [] (Closing kind pre ∷ items) = false
 are_children parent (k ∷ opened) (Closing kind pre ∷ items) = kind_same k kind && are_children parent opened items
 
--- and so does what is pasted, children of whatever kind it was read in
+-- So does what is pasted, where the pieces are children of some kind, whichever they were read in.
 abbrev pub FragmentStaysLawful : Type 0
 FragmentStaysLawful = (items : List PlainItem) (at : ℕ) (parent : Kind) (pieces : List PlainItem) (t : Transaction) → Lawful items →
     are_children parent [] pieces ≡ true → insertion items at pieces ≡ Ok t →
     (verdict (edited t items) ≡ None) ⊎ ((n : ℕ) × (verdict (edited t items) ≡ Some (TooDeep n)))
 
--- the transactions are in normal form, and apply
+-- The transactions are reduced, apply, and can put back what they remove.
 abbrev pub InsertionIsFine : Type 0
 InsertionIsFine = (items : List PlainItem) (at : ℕ) (pieces : List PlainItem) (t : Transaction) → insertion items at pieces ≡ Ok t → Fine items t
 

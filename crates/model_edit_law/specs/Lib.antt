@@ -2,3 +2,6 @@ pub mod Fine
 pub mod InsertLaws
 pub mod RemoveLaws
 pub mod ShapeLaws
+pub mod ListLaws
+pub mod Spans
+pub mod TableLaws

@@ -6,9 +6,10 @@ use Rattle.model_change.specs.Transaction.{Transaction, edited}
 use Rattle.model_edit_law.specs.Fine.{Fine}
 use Rattle.model_edit.specs.Remove.{removal}
 
+-- The transaction is reduced, applies, and can put back what it removes. Its list is lawful: partners of brackets are found by that.
 abbrev pub RemovalIsFine : Type 0
 RemovalIsFine = (items : List PlainItem) (from to : ℕ) (t : Transaction) → Lawful items → removal items from to ≡ Ok t → Fine items t
 
--- a removal leaves a lawful list lawful
+-- A removal leaves a lawful list lawful.
 abbrev pub RemovalStaysLawful : Type 0
 RemovalStaysLawful = (items : List PlainItem) (from to : ℕ) (t : Transaction) → Lawful items → removal items from to ≡ Ok t → Lawful (edited t items)

@@ -11,6 +11,7 @@ use Rattle.model_edit.specs.declared.wrap_plan.WrapPlan.{WrapPlan}
 use Rattle.model_edit.specs.Convert.{convert, attribute}
 use Rattle.model_edit.specs.Wrap.{wrap}
 
+-- The transactions are reduced, apply, and can put back what they remove. Those that look for a bracket's partner ask for a lawful list.
 abbrev pub MarkingIsFine : Type 0
 MarkingIsFine = (items : List PlainItem) (from to : ℕ) (m : Mark) (t : Transaction) → marking items from to m ≡ Ok t → Fine items t
 
@@ -23,7 +24,7 @@ ConvertIsFine = (items : List PlainItem) (at : ℕ) (kind : Kind) (t : Transacti
 abbrev pub AttributeIsFine : Type 0
 AttributeIsFine = (items : List PlainItem) (at : ℕ) (name : List ℕ) (to : Option (List ℕ)) (t : Transaction) → attribute items at name to ≡ Ok t → Fine items t
 
--- a converted branch leaves a lawful list lawful
+-- A converted branch leaves a lawful list lawful.
 abbrev pub ConvertStaysLawful : Type 0
 ConvertStaysLawful = (items : List PlainItem) (at : ℕ) (kind : Kind) (t : Transaction) → Lawful items → convert items at kind ≡ Ok t → Lawful (edited t items)
 

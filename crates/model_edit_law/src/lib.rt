@@ -4,8 +4,10 @@
 
 ghost use Rattle.model_edit_law.specs.Fine.{EditsAreFine, EditsSubstitute, FineIsNormal};
 ghost use Rattle.model_edit_law.specs.InsertLaws.{FragmentStaysLawful, InsertionIsFine, SplitIsFine, SplitStaysLawful, TypingStaysLawful};
+ghost use Rattle.model_edit_law.specs.ListLaws.{IndentIsFine, IndentIsUndone, IndentKeepsText, IndentStaysLawful, OutdentIsFine, OutdentKeepsText, OutdentStaysLawful};
 ghost use Rattle.model_edit_law.specs.RemoveLaws.{RemovalIsFine, RemovalStaysLawful};
 ghost use Rattle.model_edit_law.specs.ShapeLaws.{AttributeIsFine, ConvertIsFine, ConvertStaysLawful, MarkingIsFine, UnmarkingIsFine, WrapIsFine};
+ghost use Rattle.model_edit_law.specs.TableLaws.{ColInIsFine, ColInStaysLawful, ColOutIsFine, ColOutStaysLawful, GridLays, RowInIsFine, RowInStaysLawful, RowOutIsFine, RowOutLays, RowOutStaysLawful};
 
 /// Edits that stand in order are a transaction that cannot be written shorter, applies, can put back each attribute that it removes, and gives the
 /// list with the edits made. It is in normal form exactly where the list's length and what it inserts add up to at most 2^60.
@@ -16,7 +18,6 @@ pub fn edits_are_one_transaction()
 {}
 
 /// An insertion and a split are reduced transactions that apply, and can put back what they remove.
-
 pub fn insertions_are_fine()
     ensures insertion { InsertionIsFine }
     ensures split { SplitIsFine }
@@ -41,7 +42,6 @@ pub fn fragment_stays_lawful()
 {}
 
 /// A removal from a lawful list is a reduced transaction that applies.
-
 pub fn removal_is_fine()
     ensures { RemovalIsFine }
 {}
@@ -53,7 +53,6 @@ pub fn removal_stays_lawful()
 {}
 
 /// What sets and takes marks, converts a branch, sets an attribute or wraps nodes is a reduced transaction that applies.
-
 pub fn shapes_are_fine()
     ensures marking { MarkingIsFine }
     ensures unmarking { UnmarkingIsFine }
@@ -66,4 +65,64 @@ pub fn shapes_are_fine()
 #[tactic(auto, using(crate::proofs::ShapeLemmas::convert_lawful))]
 pub fn convert_stays_lawful()
     ensures { ConvertStaysLawful }
+{}
+
+/// Moving a list item deeper and out are reduced transactions that apply, and can put back what they remove.
+pub fn moves_are_fine()
+    ensures indent { IndentIsFine }
+    ensures outdent { OutdentIsFine }
+{}
+
+/// An item moved in and out again: the list is as it was, where no white text was lost and the item did not join an empty list.
+#[tactic(auto, using(crate::proofs::ListLemmas::indent_is_undone))]
+pub fn indent_is_undone()
+    ensures { IndentIsUndone }
+{}
+
+/// Moving an item deeper keeps characters and leaves in order, and a lawful list lawful, unless nodes are then nested over 100 deep.
+#[tactic(auto, using(crate::proofs::IndentLemmas::indent_keeps_text, crate::proofs::IndentLemmas::indent_stays_lawful))]
+pub fn indent_keeps()
+    ensures text { IndentKeepsText }
+    ensures lawful { IndentStaysLawful }
+{}
+
+/// Moving an item out keeps characters and leaves in order, and a lawful list lawful.
+#[tactic(auto, using(crate::proofs::OutdentLemmas::outdent_keeps_text, crate::proofs::OutdentLemmas::outdent_stays_lawful))]
+pub fn outdent_keeps()
+    ensures text { OutdentKeepsText }
+    ensures lawful { OutdentStaysLawful }
+{}
+
+/// Rows and columns put in and taken out are reduced transactions that apply, and can put back what they remove.
+pub fn tables_are_fine()
+    ensures row_in { RowInIsFine }
+    ensures col_in { ColInIsFine }
+    ensures row_out { RowOutIsFine }
+    ensures col_out { ColOutIsFine }
+{}
+
+/// A row or a column taken out leaves a lawful list lawful.
+#[tactic(auto, using(crate::proofs::TableLawfulLemmas::row_out_lawful, crate::proofs::TableLawfulLemmas::col_out_lawful))]
+pub fn outs_stay_lawful()
+    ensures row { RowOutStaysLawful }
+    ensures column { ColOutStaysLawful }
+{}
+
+/// A row put in leaves a lawful list lawful, unless nodes are then nested over 100 deep.
+#[tactic(auto, using(crate::proofs::TableGrowLemmas::row_in_lawful))]
+pub fn row_in_stays_lawful()
+    ensures { RowInStaysLawful }
+{}
+
+/// So does a column put in.
+#[tactic(auto, using(crate::proofs::TableGrowLemmas::col_in_lawful))]
+pub fn col_in_stays_lawful()
+    ensures { ColInStaysLawful }
+{}
+
+/// A grid's rectangles are those that its rows' spans give, and without a row they are those without the row.
+#[tactic(auto, using(crate::proofs::LayLemmas::row_out_lays, crate::proofs::LinkLemmas::grid_lays))]
+pub fn grids_lay()
+    ensures grid { GridLays }
+    ensures row_out { RowOutLays }
 {}

@@ -1,0 +1,50 @@
+-- What the calls on tables keep.
+use Rattle.std.specs.Prelude.{◌≡◌, ◌⊎◌, ℕ, ◌<◌, List, [], length, filter_map, Some, None, Ok}
+use Rattle.model_items.specs.declared.plain_item.PlainItem.{PlainItem}
+use Rattle.model_items.specs.declared.law_fault.LawFault.TheVariants.{TooDeep}
+use Rattle.model_items.specs.Law.{Lawful, verdict}
+use Rattle.model_change.specs.Transaction.{Transaction, edited}
+use Rattle.model_edit_law.specs.Fine.{Fine}
+use Rattle.model_edit.specs.Grid.{Grid, grid}
+use Rattle.model_edit.specs.Layout.{Rectangle, layout_of, without_row}
+use Rattle.model_edit_law.specs.Spans.{Line, lay, lines_of, lines_after, LowIn}
+use Rattle.model_edit.specs.Tables.{row_in, col_in, row_out, col_out}
+
+-- The transactions are reduced, apply, and can put back what they remove.
+abbrev pub RowInIsFine : Type 0
+RowInIsFine = (items : List PlainItem) (at row : ℕ) (t : Transaction) → Lawful items → row_in items at row ≡ Ok t → Fine items t
+
+abbrev pub ColInIsFine : Type 0
+ColInIsFine = (items : List PlainItem) (at column : ℕ) (t : Transaction) → Lawful items → col_in items at column ≡ Ok t → Fine items t
+
+abbrev pub RowOutIsFine : Type 0
+RowOutIsFine = (items : List PlainItem) (at row : ℕ) (t : Transaction) → Lawful items → row_out items at row ≡ Ok t → Fine items t
+
+abbrev pub ColOutIsFine : Type 0
+ColOutIsFine = (items : List PlainItem) (at column : ℕ) (t : Transaction) → Lawful items → col_out items at column ≡ Ok t → Fine items t
+
+-- A row or a column taken out leaves a lawful list lawful.
+abbrev pub RowOutStaysLawful : Type 0
+RowOutStaysLawful = (items : List PlainItem) (at row : ℕ) (t : Transaction) → Lawful items → row_out items at row ≡ Ok t → Lawful (edited t items)
+
+abbrev pub ColOutStaysLawful : Type 0
+ColOutStaysLawful = (items : List PlainItem) (at column : ℕ) (t : Transaction) → Lawful items → col_out items at column ≡ Ok t → Lawful (edited t items)
+
+-- The rectangles of a table without a row, in which each cell was one high, are those without the row.
+abbrev pub RowOutLays : Type 0
+RowOutLays = (lines : List Line) (gone : ℕ) (all : List Rectangle) → gone < length lines → LowIn gone all → lay 0 lines (Some []) ≡ Some all →
+    lay 0 (lines_after gone gone 0 lines) (Some []) ≡ Some (filter_map (without_row gone) all)
+
+-- A grid's rectangles are those that its rows' spans give.
+abbrev pub GridLays : Type 0
+GridLays = (items : List PlainItem) (at : ℕ) (g : Grid) → grid items at ≡ Ok g → lay 0 (lines_of items at) (Some []) ≡ Some (layout_of g).rectangles
+
+-- A row put in leaves it lawful, or its nodes are nested over 100 deep.
+abbrev pub RowInStaysLawful : Type 0
+RowInStaysLawful = (items : List PlainItem) (at row : ℕ) (t : Transaction) → Lawful items → row_in items at row ≡ Ok t →
+    (verdict (edited t items) ≡ None) ⊎ ((n : ℕ) × (verdict (edited t items) ≡ Some (TooDeep n)))
+
+-- So does a column put in.
+abbrev pub ColInStaysLawful : Type 0
+ColInStaysLawful = (items : List PlainItem) (at column : ℕ) (t : Transaction) → Lawful items → col_in items at column ≡ Ok t →
+    (verdict (edited t items) ≡ None) ⊎ ((n : ℕ) × (verdict (edited t items) ≡ Some (TooDeep n)))
