@@ -12,6 +12,8 @@ mod RemoveKeptLemmas
 mod RemoveLawfulLemmas
 pub mod ShapeLemmas
 mod WrapLemmas
+mod NeutralLemmas
+mod MarkedLemmas
 mod ListLemmas
 mod IndentLemmas
 mod OutdentLemmas

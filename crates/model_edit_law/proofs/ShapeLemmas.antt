@@ -24,18 +24,18 @@ use Rattle.model_edit_law.proofs.BracketLemmas.{node_parts, slice_get-split, sli
 use Rattle.model_edit.specs.Convert.{opens_kind, converted, convert, attribute}
 use Rattle.model_edit.specs.Marking.{remark, remark_edit, remarked, marks_in, with_mark, without_mark, marking, unmarking, marked_unless, is_bad_mark}
 
-if_ok_else : {A E : Type 0} (b : Bool) (e : E) (r : Result A E) (t : A) → (if b then Err e else r) ≡ Ok t → (b ≡ false) × (r ≡ Ok t)
+pub if_ok_else : {A E : Type 0} (b : Bool) (e : E) (r : Result A E) (t : A) → (if b then Err e else r) ≡ Ok t → (b ≡ false) × (r ≡ Ok t)
 if_ok_else true e r t h = cc
 if_ok_else false e r t h = (refl, h)
 
-remark_rises : (f : List Mark → List Mark) (n : ℕ) (o : Option PlainItem) → Rising n (suc n) (remark_edit f n o)
+pub remark_rises : (f : List Mark → List Mark) (n : ℕ) (o : Option PlainItem) → Rising n (suc n) (remark_edit f n o)
 remark_rises f n None = omega arith
 remark_rises f n (Some item) =
     elim (marks_same (marks_in (remarked f item)) (marks_in item)) as (λ b. Rising n (suc n) (if b then [] else Change n 1 (remarked f item ∷ []) ∷ []))
     [ true ↦ omega arith | false ↦ (omega arith, omega arith) ]
 
 -- what a range that is not refused tells
-span_fits : (items : List PlainItem) (from to : ℕ) → is_bad_span items from to ≡ false → (from < to) × (to ≤ length items)
+pub span_fits : (items : List PlainItem) (from to : ℕ) → is_bad_span items from to ≡ false → (from < to) × (to ≤ length items)
 span_fits items from to h =
     let p = or_parts (nat_le to from) _ h in
     let q = or_parts (nat_lt (length items) to) _ p.1 in
@@ -51,7 +51,7 @@ remark_fine f items from to h =
     (Rising-within from 0 (from + (to - from)) (length items) _ (omega arith) (omega arith)
     (Rising-each (λ at. remark_edit f at (slice_get items at)) (λ n. remark_rises f n (slice_get items n)) from (to - from)))
 
-marked_is : (o : Option ℕ) (s t : Transaction) → marked_unless o s ≡ Ok t → s ≡ t
+pub marked_is : (o : Option ℕ) (s t : Transaction) → marked_unless o s ≡ Ok t → s ≡ t
 marked_is None s t h = Ok-same {E = BuildFault} s t h
 marked_is (Some at) s t h = cc
 
@@ -69,12 +69,12 @@ unmarking_fine items from to m t h =
     let e = Ok-same {E = BuildFault} _ t q.1 in
     subst (Fine items) e (remark_fine (without_mark m) items from to p.0)
 
-if_ok_then : {A E : Type 0} (b : Bool) (e : E) (r : Result A E) (t : A) → (if b then r else Err e) ≡ Ok t → (b ≡ true) × (r ≡ Ok t)
+pub if_ok_then : {A E : Type 0} (b : Bool) (e : E) (r : Result A E) (t : A) → (if b then r else Err e) ≡ Ok t → (b ≡ true) × (r ≡ Ok t)
 if_ok_then true e r t h = (refl, h)
 if_ok_then false e r t h = cc
 
 -- an opening of a kind that passes
-opening_there : (test : Kind → Bool) (o : Option PlainItem) → passes (opens_kind test) o ≡ true →
+pub opening_there : (test : Kind → Bool) (o : Option PlainItem) → passes (opens_kind test) o ≡ true →
     (kind : Kind) × (head : Rattle.ve_base.specs.declared.head.Head.Head) × (marks : List Mark) × (pre : List ℕ) × (origin : Option ℕ) × (generated : Bool)
     × (o ≡ Some (Opening kind head marks pre origin generated)) × (test kind ≡ true)
 opening_there test None h = cc
@@ -93,6 +93,11 @@ convert_fine items at kind t lawful h =
     let rising : Rising 0 (length items) edits = (omega arith, (omega arith, omega arith)) in
     subst (Fine items) (Ok-same {E = BuildFault} (transaction_of items edits) t p.1) (Fine-Rising items edits rising)
 
+pub from_place : (items : List PlainItem) (n : ℕ) (x : PlainItem) → slice_get items n ≡ Some x → drop n items ≡ x ∷ drop (suc n) items
+from_place [] n x h = cc
+from_place (y ∷ items) zero x h = ap (λ v. v ∷ items) (let e : y ≡ x = cc in e)
+from_place (y ∷ items) (suc n) x h = from_place items n x h
+
 pub attribute_fine : (items : List PlainItem) (at : ℕ) (name : List ℕ) (to : Option (List ℕ)) (t : Transaction) → attribute items at name to ≡ Ok t → Fine items t
 attribute_fine items at name to t h =
     let p = if_ok_then (passes (opens_kind is_element) (slice_get items at)) _ _ t h in
@@ -104,11 +109,6 @@ attribute_fine items at name to t h =
     let may : may_set name (drop (at - 0) items) ≡ true =
     ap (λ n. may_set name (drop n items)) (omega arith) ∙ ap (may_set name) (from_place items at _ x.6) ∙ and_from _ _ x.7 (ap not q.0) in
     subst (Fine items) (Ok-same {E = BuildFault} (transaction_of items edits) t q.1) (Fine-edits items edits (omega arith, omega arith) (may, tt))
-  where
-    from_place : (items : List PlainItem) (n : ℕ) (x : PlainItem) → slice_get items n ≡ Some x → drop n items ≡ x ∷ drop (suc n) items
-    from_place [] n x h = cc
-    from_place (y ∷ items) zero x h = ap (λ v. v ∷ items) (let e : y ≡ x = cc in e)
-    from_place (y ∷ items) (suc n) x h = from_place items n x h
 
 -- A converted branch leaves a lawful list lawful.
 pub convert_lawful : (items : List PlainItem) (at : ℕ) (kind : Kind) (t : Transaction) → Lawful items → convert items at kind ≡ Ok t → Lawful (edited t items)

@@ -11,7 +11,8 @@ use Rattle.model_edit.specs.Grid.{covers_row, Row, Grid, grid, table_rows, cover
 use Rattle.model_edit.specs.Tables.{spans_column, cell_place, column_edits, spans_row, first_fault, fault_or, row_place, new_row, new_cell, row_in_edits}
 use Rattle.model_edit_law.specs.TableLaws.{ColInStaysLawful, RowInStaysLawful}
 use Rattle.model_edit_law.proofs.TableFineLemmas.{all_row_edits, InOrder-within, drop_twice, drop_at, sets, fault_or_is, grid_given, row_in_order}
-use Rattle.model_edit_law.proofs.TableLawfulLemmas.{cell_not_first, node_back, same_step}
+use Rattle.model_edit_law.proofs.NeutralLemmas.{same_step}
+use Rattle.model_edit_law.proofs.TableLawfulLemmas.{cell_not_first, node_back}
 use Rattle.std.proofs.Common.{◌≡◌, ◌⊎◌, inl, inr, ℕ, zero, suc, ◌+◌, ◌-◌, ◌<◌, ◌≤◌, ◌==◌, Bool, true, false, ◌&&◌, ◌||◌, if◌then◌else◌, nat_lt, List, [], ◌∷◌, ◌++◌, length, take, drop, Option, Some, None, Ok, refl, sym, ap, ◌∙◌, subst, arith, zero-add}
 use Rattle.std.proofs.lemmas.List.{take-append-drop}
 use Rattle.ve_kinds.specs.declared.kind.Kind.{Kind}

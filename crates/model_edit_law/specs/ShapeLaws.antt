@@ -30,3 +30,13 @@ ConvertStaysLawful = (items : List PlainItem) (at : ℕ) (kind : Kind) (t : Tran
 
 abbrev pub WrapIsFine : Type 0
 WrapIsFine = (items : List PlainItem) (from to : ℕ) (plan : WrapPlan) (t : Transaction) → Lawful items → wrap items from to plan ≡ Ok t → Fine items t
+
+-- So do marks set and taken, and an attribute set.
+abbrev pub MarkingStaysLawful : Type 0
+MarkingStaysLawful = (items : List PlainItem) (from to : ℕ) (m : Mark) (t : Transaction) → Lawful items → marking items from to m ≡ Ok t → Lawful (edited t items)
+
+abbrev pub UnmarkingStaysLawful : Type 0
+UnmarkingStaysLawful = (items : List PlainItem) (from to : ℕ) (m : Mark) (t : Transaction) → Lawful items → unmarking items from to m ≡ Ok t → Lawful (edited t items)
+
+abbrev pub AttributeStaysLawful : Type 0
+AttributeStaysLawful = (items : List PlainItem) (at : ℕ) (name : List ℕ) (to : Option (List ℕ)) (t : Transaction) → Lawful items → attribute items at name to ≡ Ok t → Lawful (edited t items)

@@ -6,7 +6,7 @@ ghost use Rattle.model_edit_law.specs.Fine.{EditsAreFine, EditsSubstitute, FineI
 ghost use Rattle.model_edit_law.specs.InsertLaws.{FragmentStaysLawful, InsertionIsFine, SplitIsFine, SplitStaysLawful, TypingStaysLawful};
 ghost use Rattle.model_edit_law.specs.ListLaws.{IndentIsFine, IndentIsUndone, IndentKeepsText, IndentStaysLawful, OutdentIsFine, OutdentKeepsText, OutdentStaysLawful};
 ghost use Rattle.model_edit_law.specs.RemoveLaws.{RemovalIsFine, RemovalStaysLawful};
-ghost use Rattle.model_edit_law.specs.ShapeLaws.{AttributeIsFine, ConvertIsFine, ConvertStaysLawful, MarkingIsFine, UnmarkingIsFine, WrapIsFine};
+ghost use Rattle.model_edit_law.specs.ShapeLaws.{AttributeIsFine, AttributeStaysLawful, ConvertIsFine, ConvertStaysLawful, MarkingIsFine, MarkingStaysLawful, UnmarkingIsFine, UnmarkingStaysLawful, WrapIsFine};
 ghost use Rattle.model_edit_law.specs.TableLaws.{ColInIsFine, ColInStaysLawful, ColOutIsFine, ColOutStaysLawful, GridLays, RowInIsFine, RowInStaysLawful, RowOutIsFine, RowOutLays, RowOutStaysLawful};
 
 /// Edits that stand in order are a transaction that cannot be written shorter, applies, can put back each attribute that it removes, and gives the
@@ -59,6 +59,13 @@ pub fn shapes_are_fine()
     ensures convert { ConvertIsFine }
     ensures attribute { AttributeIsFine }
     ensures wrap { WrapIsFine }
+{}
+
+/// Marks set and taken, and an attribute set, leave a lawful list lawful.
+pub fn marks_stay_lawful()
+    ensures marking { MarkingStaysLawful }
+    ensures unmarking { UnmarkingStaysLawful }
+    ensures attribute { AttributeStaysLawful }
 {}
 
 /// A converted branch leaves a lawful list lawful.
