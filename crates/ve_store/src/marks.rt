@@ -1,12 +1,12 @@
 // Marks with one more, and without one, as values that an item may cite.
-ghost use Rattle.std.specs.Prelude.{◌≡◌, ◌++◌, ◌∷◌, [], length, if◌then◌else◌, IfOk, OnOk, OnErr};
+ghost use Rattle.std.specs.Prelude.{◌≡◌, ◌++◌, ◌∷◌, [], length, if◌then◌else◌, true, Ok, IfOk, OnOk, OnErr};
 ghost use Rattle.std.specs.List.{list_any};
 ghost use Rattle.ve_base.specs.declared.value.Value.TheVariants as value;
 ghost use Rattle.model_change.specs.Store.{admitted};
 ghost use Rattle.model_items.specs.Plain.{value_at, marks_in, CitesMarks};
 ghost use Rattle.model_items.specs.Same.{mark_same};
 ghost use Rattle.ve_store.specs.Following.{Grows};
-ghost use Rattle.ve_store.specs.Marked.{marked, unmarked};
+ghost use Rattle.ve_store.specs.Marked.{marked, unmarked, with_marks, values_marked};
 
 use crate::{NewValues, Store};
 use std::alloc::Global;
@@ -74,6 +74,8 @@ pub fn with_mark(
     requires follows { new.old.after ≡ length store.now }
     requires cites { CitesMarks (store.now ++ new.old.values) marks }
     ensures cited { IfOk result (λ id. marks_in (value_at (store.now ++ new.new.values) id) ≡ marked (marks_in (value_at (store.now ++ new.old.values) marks)) mark.now) }
+    ensures ok { OnOk result (store.now ++ new.new.values ≡ values_marked (store.now ++ new.old.values) (marks_in (value_at (store.now ++ new.old.values) marks)) mark.now) }
+    ensures same { list_any (mark_same mark.now) (marks_in (value_at (store.now ++ new.old.values) marks)) ≡ true → result ≡ Ok marks }
     ensures cites { IfOk result (CitesMarks (store.now ++ new.new.values)) }
     ensures grows { Grows new.old new.new }
     ensures err { OnErr result (new.new ≡ new.old) }
@@ -98,6 +100,7 @@ pub fn without_mark(
     requires follows { new.old.after ≡ length store.now }
     requires cites { CitesMarks (store.now ++ new.old.values) marks }
     ensures cited { IfOk result (λ id. marks_in (value_at (store.now ++ new.new.values) id) ≡ unmarked (marks_in (value_at (store.now ++ new.old.values) marks)) mark.now) }
+    ensures ok { OnOk result (store.now ++ new.new.values ≡ with_marks (store.now ++ new.old.values) (unmarked (marks_in (value_at (store.now ++ new.old.values) marks)) mark.now)) }
     ensures cites { IfOk result (CitesMarks (store.now ++ new.new.values)) }
     ensures grows { Grows new.old new.new }
     ensures err { OnErr result (new.new ≡ new.old) }
