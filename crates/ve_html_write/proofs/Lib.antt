@@ -1,0 +1,3 @@
+mod Examples
+pub mod Escaping
+pub mod StartTag

@@ -1,0 +1,62 @@
+//! Tags.
+
+ghost use Rattle.std.specs.Prelude.{◌≡◌, ◌++◌, IfOk, OnOk, OnErr};
+ghost use Rattle.model_spelling.specs.Grammar.{end_text};
+ghost use Rattle.ve_html_write.specs.Tags.{attr_written, start_tag};
+
+use crate::escape::push_escaped;
+use std::alloc::Global;
+use ve_base::{Attr, Attrs, Bytes, Memory};
+
+/// Appends a space, the name, and the value in double quotes. After an `Err` a part may have been appended.
+fn push_attr(out: &mut Bytes, attr: &Attr) -> Result<(), Memory>
+    ensures { OnOk result (out.new ≡ out.old ++ attr_written attr.now) }
+{
+    out.push(b" ")?;
+    out.push(attr.name.as_str().as_bytes())?;
+    out.push(b"=\"")?;
+    push_escaped(out, attr.value.as_str().as_bytes(), true)?;
+    out.push(b"\"")
+}
+
+fn start_bytes(alloc: Global, tag: &str, attrs: &Attrs) -> Result<Bytes, Memory>
+    ensures { IfOk result (λ bytes. bytes ≡ start_tag tag.now attrs.now) }
+{
+    let mut bytes = Bytes::new(alloc);
+    bytes.push(b"<")?;
+    bytes.push(tag.as_bytes())?;
+    for attr in attrs.as_slice() {
+        push_attr(&mut bytes, attr)?;
+    }
+    bytes.push(b">")?;
+    Ok(bytes)
+}
+
+fn end_bytes(alloc: Global, tag: &str) -> Result<Bytes, Memory>
+    ensures { IfOk result (λ bytes. bytes ≡ end_text tag.now) }
+{
+    let mut bytes = Bytes::new(alloc);
+    bytes.push(b"</")?;
+    bytes.push(tag.as_bytes())?;
+    bytes.push(b">")?;
+    Ok(bytes)
+}
+
+/// Appends a start tag: the name, and the attributes in their order, whose values have `&`, U+00A0, `<`, `>` and `"` as references.
+/// A void element has no `/`. An `Err` changes nothing.
+pub fn put_start(alloc: Global, out: &mut Bytes, tag: &str, attrs: &Attrs) -> Result<(), Memory>
+    ensures ok { OnOk result (out.new ≡ out.old ++ start_tag tag.now attrs.now) }
+    ensures err { OnErr result (out.new ≡ out.old) }
+{
+    let bytes = start_bytes(alloc, tag, attrs)?;
+    out.push(bytes.as_slice())
+}
+
+/// Appends an end tag. An `Err` changes nothing.
+pub fn put_end(alloc: Global, out: &mut Bytes, tag: &str) -> Result<(), Memory>
+    ensures ok { OnOk result (out.new ≡ out.old ++ end_text tag.now) }
+    ensures err { OnErr result (out.new ≡ out.old) }
+{
+    let bytes = end_bytes(alloc, tag)?;
+    out.push(bytes.as_slice())
+}
