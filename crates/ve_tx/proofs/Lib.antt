@@ -1,0 +1,3 @@
+pub mod NormalLemmas
+pub mod RangeLemmas
+pub mod TurnedLemmas

@@ -1,0 +1,13 @@
+pub use Rattle.ve_base.specs.Empty
+pub use Rattle.ve_base.specs.Names
+pub use Rattle.model_items.specs.Plain
+pub use Rattle.model_items.specs.Same
+pub use Rattle.model_change.specs.Attributes
+pub use Rattle.model_change.specs.Transaction
+pub use Rattle.model_change.specs.Fault
+pub use Rattle.model_change.specs.Inverse
+pub use Rattle.model_change.specs.Join
+pub mod Operation
+pub mod Normal
+pub mod Range
+pub mod Turned

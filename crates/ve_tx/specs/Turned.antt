@@ -1,0 +1,29 @@
+-- The inverse as one pass over the operations makes it.
+use Rattle.std.specs.Prelude.{ℕ, List, [], ◌∷◌, ◌++◌, take, drop, Option}
+use Rattle.model_change.specs.Attributes.{change_back}
+use Rattle.ve_tx.specs.declared.op.Op.{Op}
+use Rattle.ve_tx.specs.declared.op.Op.TheVariants as op
+use Rattle.ve_tx.specs.Operation.{Operation, Retain, Replace, Attribute}
+
+abbrev pub inserted_at : ℕ → Operation → List Operation → List Operation
+inserted_at at o ops = take at ops ++ o ∷ drop at ops
+
+-- what undoes an operation
+abbrev pub op_back : Op → Op
+op_back (op.Retain count) = op.Retain count
+op_back (op.Replace removed inserted) = op.Replace inserted removed
+op_back (op.Attribute name from to) = op.Attribute name to from
+
+-- what undoes the operations, after what undoes the attribute operations just before them: those of one place come in reverse order
+abbrev pub turned_after : List Operation → List Operation → List Operation
+turned_after changes [] = changes
+turned_after changes (Retain count ∷ ops) = changes ++ Retain count ∷ turned_after [] ops
+turned_after changes (Replace removed inserted ∷ ops) = changes ++ Replace inserted removed ∷ turned_after [] ops
+turned_after changes (Attribute change ∷ ops) = turned_after (Attribute (change_back change) ∷ changes) ops
+
+abbrev pub turned : List Operation → List Operation
+turned = turned_after []
+
+-- what stands already, in which the attribute operations of the present place begin at `start`, with what undoes the rest
+abbrev pub finished : List Operation → ℕ → List Operation → List Operation
+finished back start rest = take start back ++ turned_after (drop start back) rest

@@ -1,0 +1,41 @@
+// Operations as they are put together.
+ghost use Rattle.std.specs.Prelude.{◌≡◌, ◌≤◌, ◌+◌, [], OnOk, vec_len};
+ghost use Rattle.ve_tx.specs.Operation.{with_position, with_positions};
+ghost use Rattle.ve_tx.specs.Turned.{inserted_at};
+
+use crate::Op;
+use std::alloc::Global;
+use ve_base::Memory;
+
+/// Operations, with the position that each keeps beside it.
+#[derive(Drop)]
+pub struct Gathered {
+    pub ops: Vec<Op>,
+    pub kept: Vec<Option<usize>>,
+}
+
+impl Gathered {
+    /// None yet. It takes no memory.
+    pub fn new(alloc: Global) -> Gathered
+        ensures ops { result.ops.items ≡ [] }
+        ensures kept { result.kept.items ≡ [] }
+    {
+        Gathered {
+            ops: Vec::new(alloc),
+            kept: Vec::new(alloc),
+        }
+    }
+
+    /// Puts an operation in at a place.
+    pub fn insert(&mut self, at: usize, op: Op, kept: Option<usize>) -> Result<(), Memory>
+        requires even { vec_len self.old.ops ≡ vec_len self.old.kept }
+        requires within { at ≤ vec_len self.old.ops }
+        ensures even { OnOk result (vec_len self.new.ops ≡ vec_len self.new.kept) }
+        ensures longer { OnOk result (vec_len self.new.ops ≡ vec_len self.old.ops + 1) }
+        ensures ok { OnOk result (with_positions self.new.ops.items self.new.kept.items ≡ inserted_at at (with_position op kept) (with_positions self.old.ops.items self.old.kept.items)) }
+    {
+        self.ops.insert(at, op)?;
+        self.kept.insert(at, kept)?;
+        Ok(())
+    }
+}

@@ -1,0 +1,70 @@
+// What undoes operations.
+ghost use Rattle.std.specs.Prelude.{◌≡◌, ◌≤◌, ◌∷◌, None, IfOk, OnOk, vec_len, slice_index_or};
+ghost use Rattle.ve_tx.specs.Operation.{with_position, with_positions};
+ghost use Rattle.ve_tx.specs.Turned.{op_back, turned, finished};
+
+use crate::Op;
+use crate::gathered::Gathered;
+use crate::op::text_copy;
+use std::alloc::Global;
+use ve_base::Memory;
+
+fn undoing(alloc: Global, op: &Op) -> Result<Op, Memory>
+    ensures { IfOk result (λ back. back ≡ op_back op.now) }
+{
+    match op {
+        Op::Retain(count) => Ok(Op::Retain(*count)),
+        Op::Replace { removed, inserted } => Ok(Op::Replace {
+            removed: inserted.copy(alloc)?,
+            inserted: removed.copy(alloc)?,
+        }),
+        Op::Attribute { name, from, to } => Ok(Op::Attribute {
+            name: name.copy(alloc)?,
+            from: text_copy(alloc, to)?,
+            to: text_copy(alloc, from)?,
+        }),
+    }
+}
+
+fn position_at(kept: &[Option<usize>], i: usize) -> Option<usize>
+    ensures { result ≡ slice_index_or kept.now i None }
+{
+    if i < kept.len() { kept[i] } else { None }
+}
+
+/// Puts in what undoes the next operation: behind the others or, of an attribute operation, before those that undo the
+/// earlier ones of its place, which begin at `start`. The result is where they begin then.
+fn put_back(
+    alloc: Global,
+    back: &mut Gathered,
+    start: usize,
+    op: &Op,
+    kept: Option<usize>,
+) -> Result<usize, Memory>
+    requires even { vec_len back.old.ops ≡ vec_len back.old.kept }
+    requires within { start ≤ vec_len back.old.ops }
+    ensures even { OnOk result (vec_len back.new.ops ≡ vec_len back.new.kept) }
+    ensures within { IfOk result (λ next. next ≤ vec_len back.new.ops) }
+    ensures ok { IfOk result (λ next. (rest : _) → finished (with_positions back.new.ops.items back.new.kept.items) next rest ≡ finished (with_positions back.old.ops.items back.old.kept.items) start (with_position op.now kept ∷ rest)) }
+{
+    let undone = undoing(alloc, op)?;
+    if let Op::Attribute { .. } = op {
+        back.insert(start, undone, kept)?;
+        return Ok(start);
+    }
+    back.insert(back.ops.len(), undone, None)?;
+    Ok(back.ops.len())
+}
+
+/// What undoes operations with their positions: removed and inserted change places, and so do the old and the new value
+/// of each attribute; attribute operations of one place come in reverse order; positions are kept.
+pub fn inverted(alloc: Global, ops: &[Op], kept: &[Option<usize>]) -> Result<Gathered, Memory>
+    ensures { IfOk result (λ back. with_positions back.ops.items back.kept.items ≡ turned (with_positions ops.now kept.now)) }
+{
+    let mut back = Gathered::new(alloc);
+    let mut start = 0;
+    for i in 0..ops.len() {
+        start = put_back(alloc, &mut back, start, &ops[i], position_at(kept, i))?;
+    }
+    Ok(back)
+}

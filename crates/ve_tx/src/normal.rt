@@ -1,0 +1,103 @@
+// Whether operations are in normal form.
+ghost use Rattle.std.specs.Prelude.{◌≡◌, ◌+◌, ◌<◌, ◌^◌, IfSome, IfNone};
+ghost use Rattle.model_items.specs.Same.{text_same};
+ghost use Rattle.ve_tx.specs.Normal.{names_apart, may_stand_before, is_some_op, size, are_reduced, fit_into, are_normal};
+
+use crate::Op;
+use ve_base::Text;
+
+/// The most that all retained, removed and inserted lengths add up to.
+const LIMIT: usize = 1 << 60;
+
+fn is_same(one: &Text, other: &Text) -> bool
+    ensures { result ≡ text_same one.now other.now }
+{
+    one.same(other)
+}
+
+/// Whether an attribute operation of this name may stand before these: up to the next retain there are only attribute
+/// operations, of other names.
+fn name_may_precede(name: &Text, rest: &[Op]) -> bool
+    ensures { result ≡ names_apart name.now rest.now }
+{
+    for op in rest {
+        match op {
+            Op::Retain(_) => return true,
+            Op::Replace { .. } => return false,
+            Op::Attribute { name: other, .. } => {
+                if is_same(name, other) {
+                    return false;
+                }
+            }
+        }
+    }
+    false
+}
+
+fn may_precede(op: &Op, rest: &[Op]) -> bool
+    ensures { result ≡ may_stand_before op.now rest.now }
+{
+    match op {
+        Op::Retain(_) => !matches!(rest.first(), Some(Op::Retain(_))),
+        Op::Replace { .. } => !matches!(rest.first(), Some(Op::Replace { .. })),
+        Op::Attribute { name, .. } => name_may_precede(name, rest),
+    }
+}
+
+fn is_something(op: &Op) -> bool
+    ensures { result ≡ is_some_op op.now }
+{
+    match op {
+        Op::Retain(count) => *count > 0,
+        Op::Replace { removed, inserted } => {
+            !removed.as_slice().is_empty() || !inserted.as_slice().is_empty()
+        }
+        Op::Attribute { .. } => true,
+    }
+}
+
+fn is_reduced(ops: &[Op]) -> bool
+    ensures { result ≡ are_reduced ops.now }
+{
+    for i in 0..ops.len() {
+        if !is_something(&ops[i]) || !may_precede(&ops[i], &ops[i + 1..]) {
+            return false;
+        }
+    }
+    true
+}
+
+/// What is left of a room, if the operation's lengths fit into it.
+fn room_left(op: &Op, room: usize) -> Option<usize>
+    ensures some { IfSome result (λ left. left + size op.now ≡ room) }
+    ensures none { IfNone result (room < size op.now) }
+{
+    match op {
+        Op::Retain(count) => room.checked_sub(*count),
+        Op::Replace { removed, inserted } => room
+            .checked_sub(removed.as_slice().len())?
+            .checked_sub(inserted.as_slice().len()),
+        Op::Attribute { .. } => Some(room),
+    }
+}
+
+fn is_within_limit(ops: &[Op]) -> bool
+    ensures { result ≡ fit_into (2 ^ 60) ops.now }
+{
+    let mut room = LIMIT;
+    for op in ops {
+        match room_left(op, room) {
+            Some(left) => room = left,
+            None => return false,
+        }
+    }
+    true
+}
+
+/// Whether no operation can be left out or be one with its neighbour, attribute operations of one place have distinct
+/// names and are followed by a retain, and all lengths add up to at most 2^60.
+pub fn is_normal(ops: &[Op]) -> bool
+    ensures { result ≡ are_normal ops.now }
+{
+    is_reduced(ops) && is_within_limit(ops)
+}
