@@ -1,16 +1,17 @@
 -- The normal form of operations that cite values is the normal form by value.
-use Rattle.std.proofs.Common.{◌≡◌, ◌↔◌, ℕ, ◌+◌, ◌^◌, Bool, true, false, ◌&&◌, not, nat_lt, nat_le, List, [], ◌∷◌, ◌++◌, length, map, Option, None, Some, refl, sym, ap, subst, ◌∙◌, arith, ◌≤◌}
+use Rattle.std.proofs.Common.{◌≡◌, ℕ, ◌^◌, Bool, true, false, ◌&&◌, not, nat_lt, List, [], ◌∷◌, map, Option, None, refl, sym, ap, subst, ◌∙◌, arith, ◌≤◌}
 use Rattle.std.specs.Bool.{Decides}
+use Rattle.std.proofs.lemmas.Bool.{leb-true}
 use Rattle.std.proofs.lemmas.List.{length-map, length-append}
 use Rattle.ve_base.specs.declared.value.Value.{Value}
 use Rattle.model_items.specs.Plain.{plain}
 use Rattle.model_items.specs.Same.{text_same}
 use Rattle.model_items.proofs.SameLemmas.{Means-text_same}
 use Rattle.model_change.specs.Attributes.{AttrChange}
-use Rattle.model_change.specs.Transaction.{old_length, all_inserted, total_length, may_precede, is_something, is_reduced, is_normal}
+use Rattle.model_change.specs.Transaction.{all_inserted, total_length, may_precede, is_something, is_reduced, is_normal}
 use Rattle.ve_tx.specs.declared.op.Op.{Op}
 use Rattle.ve_tx.specs.declared.op.Op.TheVariants as op
-use Rattle.ve_tx.specs.Normal.{may_stand_before, names_apart, size, is_some_op, are_reduced, total_size, are_normal}
+use Rattle.ve_tx.specs.Normal.{may_stand_before, names_apart, is_some_op, are_reduced, total_size, are_normal}
 use Rattle.ve_tx.specs.Operation.{Operation, Retain, Replace, Attribute, with_position, with_positions, unkept, bare, operation_by_value, by_value, IsNormal}
 
 pub text_same-Decides : (s t : List ℕ) → Decides (text_same s t) (s ≡ t)
@@ -82,3 +83,12 @@ normal-tested ops kept h values = normal-with_positions values ops kept ∙ h
 
 pub normal-unkept : (values : List Value) (ops : List Op) → is_normal (by_value values (unkept ops)) ≡ are_normal ops
 normal-unkept values ops = ap (λ tx. is_normal (by_value values tx)) (sym (unkept-with_positions ops)) ∙ normal-with_positions values ops []
+
+both_right : (a b : Bool) → (a && b) ≡ true → b ≡ true
+both_right true b h = h
+both_right false b h = cc
+
+-- the lengths of a transaction in normal form add up to at most 2^60
+pub total-within : (ops : List Op) (kept : List (Option ℕ)) → IsNormal (with_positions ops kept) → total_size ops ≤ 2 ^ 60
+total-within ops kept h =
+    leb-true (total_size ops) (2 ^ 60) (both_right (are_reduced ops) _ (sym (normal-with_positions [] ops kept) ∙ h []))

@@ -1,9 +1,9 @@
 -- The active range by one pass is the range from the first to the last operation that isn't a retain.
-use Rattle.std.proofs.Common.{◌≡◌, ◌≤◌, ℕ, ◌+◌, max, Bool, true, false, ◌&&◌, List, [], ◌∷◌, length, map, Option, None, Some, refl, sym, ap, ◌∙◌, arith}
+use Rattle.std.proofs.Common.{◌≡◌, ◌≤◌, ℕ, ◌+◌, max, Bool, true, false, ◌&&◌, List, [], ◌∷◌, length, map, Option, None, Some, refl, ap, ◌∙◌, arith}
 use Rattle.std.proofs.lemmas.List.{length-map}
 use Rattle.ve_base.specs.declared.value.Value.{Value}
 use Rattle.model_items.specs.Plain.{plain}
-use Rattle.model_change.specs.Transaction.{Op, Retain, Replace, Attribute, Transaction, is_something, may_precede, is_reduced, is_normal, total_length}
+use Rattle.model_change.specs.Transaction.{Op, Retain, Replace, Attribute, Transaction, is_something, may_precede, is_reduced, is_normal}
 use Rattle.model_change.specs.Join.{active_range, reach, without_end}
 use Rattle.ve_tx.specs.Range.{widened, range_from}
 use Rattle.ve_tx.specs.Operation.{Operation, bare, by_value}
@@ -47,10 +47,10 @@ pass-some at start end (Retain n ∷ []) h w = some_to start end (max end (at + 
 pass-some at start end (Retain n ∷ Retain m ∷ t) h w = let e = may_stand (Retain n) (Retain m ∷ t) h in cc
 pass-some at start end (Retain n ∷ Replace r i ∷ t) h w =
     pass-some (at + n + length r) start (max end (at + n + length r)) t (rest_reduced (Replace r i) t (rest_reduced (Retain n) (Replace r i ∷ t) h)) (omega arith)
-        ∙ some_to start _ _ (omega arith)
+    ∙ some_to start _ _ (omega arith)
 pass-some at start end (Retain n ∷ Attribute c ∷ t) h w =
     pass-some (at + n) start (max end (at + n + 1)) t (rest_reduced (Attribute c) t (rest_reduced (Retain n) (Attribute c ∷ t) h)) (omega arith)
-        ∙ some_to start _ _ (omega arith)
+    ∙ some_to start _ _ (omega arith)
 pass-some at start end (Replace r i ∷ t) h w =
     pass-some (at + length r) start (max end (at + length r)) t (rest_reduced (Replace r i) t h) (omega arith) ∙ some_to start _ _ (omega arith)
 pass-some at start end (Attribute c ∷ t) h w =
@@ -65,10 +65,10 @@ pass-none (Retain n ∷ []) h = refl
 pass-none (Retain n ∷ Retain m ∷ t) h = let e = may_stand (Retain n) (Retain m ∷ t) h in cc
 pass-none (Retain n ∷ Replace r i ∷ t) h =
     pass-some (0 + n + length r) (0 + n) (0 + n + length r) t (rest_reduced (Replace r i) t (rest_reduced (Retain n) (Replace r i ∷ t) h)) (omega arith)
-        ∙ both_to _ _ _ _ (omega arith) (omega arith)
+    ∙ both_to _ _ _ _ (omega arith) (omega arith)
 pass-none (Retain n ∷ Attribute c ∷ t) h =
     pass-some (0 + n) (0 + n) (0 + n + 1) t (rest_reduced (Attribute c) t (rest_reduced (Retain n) (Attribute c ∷ t) h)) (omega arith)
-        ∙ both_to _ _ _ _ (omega arith) (omega arith)
+    ∙ both_to _ _ _ _ (omega arith) (omega arith)
 pass-none (Replace r i ∷ t) h =
     pass-some (0 + length r) 0 (0 + length r) t (rest_reduced (Replace r i) t h) (omega arith) ∙ both_to _ _ _ _ refl (omega arith)
 pass-none (Attribute c ∷ t) h =

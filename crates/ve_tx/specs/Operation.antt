@@ -1,5 +1,5 @@
 -- What a transaction is seen as, and what it means by value.
-use Rattle.std.specs.Prelude.{◌≡◌, ℕ, true, List, [], ◌∷◌, map, Option, Some, None}
+use Rattle.std.specs.Prelude.{◌≡◌, ℕ, true, List, [], ◌∷◌, map, Option, None}
 use Rattle.ve_base.specs.declared.value.Value.{Value}
 use Rattle.model_items.specs.declared.item.Item.{Item}
 use Rattle.model_items.specs.Plain.{plain_list}

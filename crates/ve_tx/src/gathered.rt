@@ -1,5 +1,5 @@
 // Operations as they are put together.
-ghost use Rattle.std.specs.Prelude.{◌≡◌, ◌≤◌, ◌+◌, [], OnOk, vec_len};
+ghost use Rattle.std.specs.Prelude.{◌≡◌, ◌≤◌, ◌++◌, ◌∷◌, [], None, IfOk, OnOk, vec_len};
 ghost use Rattle.ve_tx.specs.Operation.{with_position, with_positions};
 ghost use Rattle.ve_tx.specs.Turned.{inserted_at};
 
@@ -31,11 +31,23 @@ impl Gathered {
         requires even { vec_len self.old.ops ≡ vec_len self.old.kept }
         requires within { at ≤ vec_len self.old.ops }
         ensures even { OnOk result (vec_len self.new.ops ≡ vec_len self.new.kept) }
-        ensures longer { OnOk result (vec_len self.new.ops ≡ vec_len self.old.ops + 1) }
+        ensures within { OnOk result (at ≤ vec_len self.new.ops) }
         ensures ok { OnOk result (with_positions self.new.ops.items self.new.kept.items ≡ inserted_at at (with_position op kept) (with_positions self.old.ops.items self.old.kept.items)) }
     {
         self.ops.insert(at, op)?;
         self.kept.insert(at, kept)?;
         Ok(())
+    }
+
+    /// Puts an operation that keeps no position behind the others. The result is how many there are then.
+    pub fn append(&mut self, op: Op) -> Result<usize, Memory>
+        requires even { vec_len self.old.ops ≡ vec_len self.old.kept }
+        ensures even { OnOk result (vec_len self.new.ops ≡ vec_len self.new.kept) }
+        ensures len { IfOk result (λ len. len ≡ vec_len self.new.ops) }
+        ensures ok { OnOk result (with_positions self.new.ops.items self.new.kept.items ≡ with_positions self.old.ops.items self.old.kept.items ++ with_position op None ∷ []) }
+    {
+        self.ops.push(op)?;
+        self.kept.push(None)?;
+        Ok(self.ops.len())
     }
 }

@@ -48,12 +48,14 @@ fn put_back(
     ensures ok { IfOk result (λ next. (rest : _) → finished (with_positions back.new.ops.items back.new.kept.items) next rest ≡ finished (with_positions back.old.ops.items back.old.kept.items) start (with_position op.now kept ∷ rest)) }
 {
     let undone = undoing(alloc, op)?;
-    if let Op::Attribute { .. } = op {
-        back.insert(start, undone, kept)?;
-        return Ok(start);
+    match op {
+        Op::Attribute { .. } => {
+            back.insert(start, undone, kept)?;
+            Ok(start)
+        }
+        Op::Retain(_) => back.append(undone),
+        Op::Replace { .. } => back.append(undone),
     }
-    back.insert(back.ops.len(), undone, None)?;
-    Ok(back.ops.len())
 }
 
 /// What undoes operations with their positions: removed and inserted change places, and so do the old and the new value

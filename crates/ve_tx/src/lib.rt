@@ -6,6 +6,8 @@ mod inverse;
 mod normal;
 mod op;
 mod range;
+#[cfg(test)]
+mod tests;
 mod transaction;
 
 pub use op::{Op, OpList};

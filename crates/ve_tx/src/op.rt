@@ -12,7 +12,10 @@ pub enum Op {
     /// Passes so many items.
     Retain(usize),
     /// Passes the items removed, and puts those inserted in their place.
-    Replace { removed: Items, inserted: Items },
+    Replace {
+        removed: Items,
+        inserted: Items,
+    },
     /// Changes an attribute of the item at the cursor, and moves nothing. `from` is the value before and `to` the value
     /// after, `None` where the attribute is absent.
     Attribute {

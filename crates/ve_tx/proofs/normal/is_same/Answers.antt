@@ -1,4 +1,3 @@
-use Rattle.std.proofs.Common.{◌≡◌, ◌↔◌, Bool, true, false, refl, IsTrue, List, ℕ}
 use Rattle.std.proofs.lemmas.Bool.Decides.{same_from_decides}
 use Rattle.model_items.specs.Same.{text_same}
 use Rattle.ve_tx.proofs.NormalLemmas.{text_same-Decides}
