@@ -1,5 +1,5 @@
-// Each call that takes memory, with ample memory; and what a fault prints.
-use crate::{NewValues, Store, StoreFault, with_mark, without_mark};
+// Each call that takes memory, with ample memory; the limit at its number and at the next; and what a fault prints.
+use crate::{MAX_VALUES, NewValues, Store, StoreFault, with_mark, without_mark};
 use std::alloc::Global;
 use std::test::Fail;
 use ve_base::{Attrs, Mark, Memory, Text, Value, ValueId};
@@ -20,6 +20,27 @@ fn values_are_stored_once(rt: HostRuntime) -> Result<(), Fail> {
     assert_eq!(rt; new.id_of(&store, white(alloc, "\t")?), Ok(ValueId(2)));
     assert_eq!(rt; new.id_of(&store, white(alloc, "\n")?), Ok(ValueId(1)));
     assert_eq!(rt; new.id_of(&store, white(alloc, "\t")?), Ok(ValueId(2)));
+    Ok(())
+}
+
+/// A store of so many values: the digits of each number below.
+fn filled(alloc: Global, many: usize) -> Result<Store, Memory> {
+    let mut store = Store::new(alloc);
+    for number in 0..many {
+        let digits = number.to_string(alloc)?;
+        store.admit(white(alloc, digits.as_str())?)?;
+    }
+    Ok(store)
+}
+
+#[test]
+fn a_store_is_full_at_its_limit(rt: HostRuntime) -> Result<(), Fail> {
+    let alloc = rt.alloc();
+    let mut store = filled(alloc, MAX_VALUES - 1)?;
+    assert_eq!(rt; store.intern(white(alloc, "last")?), Ok(ValueId(1_048_575)));
+    assert_eq!(rt; store.intern(white(alloc, "more")?), Err(StoreFault::Full));
+    assert_eq!(rt; store.intern(white(alloc, "0")?), Ok(ValueId(0)));
+    assert_eq!(rt; store.admit(white(alloc, "more")?), Ok(ValueId(1_048_576)));
     Ok(())
 }
 
