@@ -1,1 +1,3 @@
 pub mod NearestLemmas
+pub mod ShapeLemmas
+pub mod StateLemmas

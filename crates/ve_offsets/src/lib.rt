@@ -4,7 +4,10 @@
 mod class;
 mod doc;
 mod nearest;
+mod state;
 
 pub use class::{is_content, is_inside_leaf, is_structural};
 pub use doc::Doc;
 pub use nearest::nearest_content;
+pub use state::state_at;
+pub use ve_lawful::State;
