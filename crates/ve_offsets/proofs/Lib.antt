@@ -1,3 +1,5 @@
 pub mod NearestLemmas
 pub mod ShapeLemmas
 pub mod StateLemmas
+pub mod LevelLemmas
+pub mod PartingLemmas

@@ -77,10 +77,10 @@ way_start {slots = slots} {root = root} {items = items} tree o node here within 
   };
 }
 
-same_number : (child : NodeId) (n : ℕ) → option_map number_of (Some child) ≡ Some n → child.0 ≡ n
+pub same_number : (child : NodeId) (n : ℕ) → option_map number_of (Some child) ≡ Some n → child.0 ≡ n
 same_number child n h = cc
 
-shown_live : (slots : Slots) (child : NodeId) (n : ℕ) (sort : NodeWhat) (len : ℕ) (kids : List ℕ) → child.0 ≡ n → IsShown slots n sort len kids → IsSome (slot_at slots child.0)
+pub shown_live : (slots : Slots) (child : NodeId) (n : ℕ) (sort : NodeWhat) (len : ℕ) (kids : List ℕ) → child.0 ≡ n → IsShown slots n sort len kids → IsSome (slot_at slots child.0)
 shown_live slots child n sort len kids e s = subst (λ m. IsSome (slot_at slots m)) (sym e) (by_slot (slot_at slots n) s.sort_is)
   where
     by_slot : (o : Option ArenaNode) → option_map (λ node. node.what) o ≡ Some sort → IsSome o
@@ -98,12 +98,12 @@ way_live slots items o state child left w = by_forest w.forest w.on
     by_forest (NamedBranch h kind inside later) w = shown_live slots child h _ _ _ (same_number child h w.next_is) w.shown.0
 
 -- the next node's fields
-record IsNext (slots : Slots) (node : ArenaNode) (h : ℕ) (sort : NodeWhat) (len : ℕ) : Type 0 where
-  here : slot_at slots h ≡ Some node
-  sort_is : node.what ≡ sort
-  len_is : node.len ≡ len
+pub record IsNext (slots : Slots) (node : ArenaNode) (h : ℕ) (sort : NodeWhat) (len : ℕ) : Type 0 where
+  pub here : slot_at slots h ≡ Some node
+  pub sort_is : node.what ≡ sort
+  pub len_is : node.len ≡ len
 
-is_next : (slots : Slots) (child : NodeId) (node : ArenaNode) (h : ℕ) (sort : NodeWhat) (len : ℕ) (kids : List ℕ) → slot_at slots child.0 ≡ Some node → child.0 ≡ h →
+pub is_next : (slots : Slots) (child : NodeId) (node : ArenaNode) (h : ℕ) (sort : NodeWhat) (len : ℕ) (kids : List ℕ) → slot_at slots child.0 ≡ Some node → child.0 ≡ h →
     IsShown slots h sort len kids → IsNext slots node h sort len
 is_next slots child node h sort len kids here number s =
     let there : slot_at slots h ≡ Some node = ap (slot_at slots) (sym number) ∙ here in

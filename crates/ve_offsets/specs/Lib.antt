@@ -1,3 +1,5 @@
 pub mod Classes
 pub mod Nearest
 pub mod States
+pub mod Unmatched
+pub mod Levels

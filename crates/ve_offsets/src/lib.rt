@@ -4,10 +4,12 @@
 mod class;
 mod doc;
 mod nearest;
+mod range;
 mod state;
 
 pub use class::{is_content, is_inside_leaf, is_structural};
 pub use doc::Doc;
 pub use nearest::nearest_content;
+pub use range::unmatched;
 pub use state::state_at;
 pub use ve_lawful::State;
