@@ -3,3 +3,5 @@ pub mod ShapeLemmas
 pub mod StateLemmas
 pub mod LevelLemmas
 pub mod PartingLemmas
+pub mod OpenLemmas
+mod OffsetExamples

@@ -1,7 +1,10 @@
 -- The brackets of a range whose partners are not in it.
-use Rattle.std.specs.Prelude.{ℕ, zero, suc, ◌-◌, List, [], ◌∷◌, take, drop}
+use Rattle.std.specs.Prelude.{◌≡◌, ◌≤◌, ℕ, zero, suc, ◌-◌, List, [], ◌∷◌, ◌++◌, length, take, drop}
 use Rattle.model_items.specs.declared.item.Item.{Item}
 use Rattle.model_items.specs.declared.item.Item.TheVariants.{Char, Opening, Closing}
+use Rattle.model_items.specs.Law.{Lawful}
+use Rattle.model_items.specs.Tree.{Open, opens_after}
+use Rattle.ve_tree.specs.IsTree.{unvalued}
 
 -- How many closings and openings of some items are unmatched, with one more item: an opening is, until its closing comes; a closing is the partner of
 -- the last opening that is, or is unmatched itself.
@@ -18,3 +21,24 @@ unmatched_after counts (item ∷ items) = unmatched_after (unmatched_with item c
 -- the closings and the openings that are unmatched among the items from one offset to another
 abbrev pub unmatched_in : List Item → ℕ → ℕ → ℕ × ℕ
 unmatched_in items from to = unmatched_after (0, 0) (take (to - from) (drop from items))
+
+-- the nodes that are open at an offset, innermost first
+abbrev pub opens_at : List Item → ℕ → List Open
+opens_at items o = opens_after [] 0 (take o (unvalued items))
+
+-- all of them begin at a place or behind it
+abbrev pub AllBegin : ℕ → List Open → Type 0
+AllBegin from [] = Unit {0}
+AllBegin from (o ∷ opens) = (from ≤ o.from) × AllBegin from opens
+
+-- Of the nodes that are open at the range's start, the innermost are closed, as many as there are unmatched closings; the others stay open, and inside
+-- them the nodes that begin in the range and are still open at its end, as many as there are unmatched openings.
+pub record IsOpenedAndClosed (items : List Item) (from to : ℕ) : Type 0 where
+  pub begun : List Open
+  pub in_range : AllBegin from begun
+  pub openings : length begun ≡ (unmatched_in items from to).1
+  pub closings : (unmatched_in items from to).0 ≤ length (opens_at items from)
+  pub open_at_end : opens_at items to ≡ begun ++ drop (unmatched_in items from to).0 (opens_at items from)
+
+abbrev pub UnmatchedAreOpen : Type 0
+UnmatchedAreOpen = (items : List Item) (from to : ℕ) → Lawful (unvalued items) → from ≤ to → to ≤ length items → IsOpenedAndClosed items from to

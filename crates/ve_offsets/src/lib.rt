@@ -10,6 +10,6 @@ mod state;
 pub use class::{is_content, is_inside_leaf, is_structural};
 pub use doc::Doc;
 pub use nearest::nearest_content;
-pub use range::unmatched;
+pub use range::{unmatched, unmatched_are_open};
 pub use state::state_at;
 pub use ve_lawful::State;

@@ -3,7 +3,7 @@ ghost use Rattle.std.specs.Prelude.{◌≡◌, ◌≤◌, length};
 ghost use Rattle.ve_tree.specs.IsTree.{IsTree, unvalued};
 ghost use Rattle.ve_tree.specs.Named.{Named, bare};
 ghost use Rattle.ve_offsets.specs.Levels.{levels_in, IsRow, IsInRow, IsParting};
-ghost use Rattle.ve_offsets.specs.Unmatched.{unmatched_in};
+ghost use Rattle.ve_offsets.specs.Unmatched.{unmatched_in, UnmatchedAreOpen};
 
 use crate::Doc;
 use ve_tree::{Arena, NodeId, NodeWhat};
@@ -91,3 +91,10 @@ pub fn unmatched(doc: Doc<'_>, from: usize, to: usize) -> (usize, usize)
     };
     (levels(&doc.tree.arena, start), levels(&doc.tree.arena, end))
 }
+
+/// The unmatched closings of a range close the innermost of the nodes that are open at its start, and its unmatched openings are those of the nodes
+/// that begin in it and are open at its end.
+#[tactic(auto, using(crate::proofs::OpenLemmas::unmatched_are_open))]
+pub fn unmatched_are_open()
+    ensures { UnmatchedAreOpen }
+{}
