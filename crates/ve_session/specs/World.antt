@@ -75,12 +75,13 @@ answered (Some items) (Text at text) = inserted items at text
 answered None Html = (No NotOpen, None)
 answered (Some items) Html = (Page (html_of items), Some items)
 
--- A line without a command changes nothing.
+-- the refusal of a line that gives no command. Want of memory is no reply: the last case is never asked for.
 abbrev pub refusal_of : LineFault → Refusal
 refusal_of fault.BadJson = BadJson
 refusal_of fault.NotYet = NotYet
 refusal_of fault.Memory = NotYet
 
+-- the reply to what a line asks, and the page after it; a line without a command changes nothing
 abbrev pub stepped : Option (List Item) → Result Command LineFault → Reply × Option (List Item)
 stepped page (Err fault) = (No (refusal_of fault), page)
 stepped page (Ok command) = answered page command
