@@ -10,7 +10,8 @@ use Rattle.ve_base.specs.declared.head.RefKey.{RefKey}
 use Rattle.ve_base.specs.declared.head.Head.{Head}
 use Rattle.model_items.specs.declared.plain_item.PlainItem.{PlainItem}
 use Rattle.model_items.specs.declared.plain_item.PlainItem.TheVariants.{Char, Opening, Closing}
-use Rattle.model_page.specs.References.{table, RefRow}
+use Rattle.model_page.specs.References.{table}
+use Rattle.model_page.specs.declared.ref_table.RefRow.{RefRow}
 use Rattle.ve_base.specs.Empty.{empty_head}
 use Rattle.model_page.specs.Pieces.{Span}
 use Rattle.model_page.specs.PageItems.{opened_page}

@@ -11,7 +11,8 @@ use Rattle.model_spelling.specs.Grammar.{Attr as Spelled}
 use Rattle.model_spelling.specs.Forest.{Forest, Nothing, Text, Remark, Void, RawElement, Element, spelling}
 use Rattle.model_spelling.specs.Parsed.{forest_of}
 use Rattle.model_page.specs.DataMw.{reference_of}
-use Rattle.model_page.specs.References.{table, RefRow}
+use Rattle.model_page.specs.References.{table}
+use Rattle.model_page.specs.declared.ref_table.RefRow.{RefRow}
 use Rattle.ve_base.specs.Empty.{empty_head}
 use Rattle.model_page.specs.Fragment.{pieces_of}
 use Rattle.model_page.proofs.OnLiterals.{page_on_literals}

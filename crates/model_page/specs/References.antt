@@ -7,6 +7,7 @@ use Rattle.model_items.specs.declared.plain_item.PlainItem.{PlainItem}
 use Rattle.model_items.specs.declared.plain_item.PlainItem.TheVariants.{Char, Opening, Closing}
 use Rattle.ve_kinds.specs.Table.{kind_same}
 use Rattle.model_items.specs.Same.{text_same, ref_key_same, option_same}
+use Rattle.model_page.specs.declared.ref_table.RefRow.{RefRow}
 
 -- a reference: its place, its key, whether it is an owner, and whether it stands in the internal list
 pub record RefAt : Type 0 where
@@ -99,18 +100,11 @@ number_in key [] = 0
 number_in key (k ∷ keys) =
     if ref_key_same k key then 1 else (if text_same k.group key.group then suc (number_in key keys) else number_in key keys)
 
--- one reference of the table: its place, its key and its number, whether it is the carrier, and the place of the body
-pub record RefRow : Type 0 where
-  pub at : ℕ
-  pub key : RefKey
-  pub number : ℕ
-  pub carrier : Bool
-  pub body_at : Option ℕ
-
 abbrev pub place_of : Option Body → Option ℕ
 place_of None = None
 place_of (Some b) = Some b.at
 
+-- the row of one reference
 abbrev pub row_of : List PlainItem → RefAt → RefRow
 row_of items r = record { at = r.at; key = r.key; number = number_in r.key (keys_after [] (refs_of items)); carrier = is_carrier (refs_of items) r; body_at = place_of (body_of r.key items) }
 

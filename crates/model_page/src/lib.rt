@@ -1,5 +1,5 @@
 //! What a page's text means as items: which parts of it become which items, where their sources stand, and which elements are references. There are
-//! definitions alone, in specs/:
+//! definitions in specs/, and the table of references that they speak of:
 //!
 //! - `Tags`, `Elements`, `Parts`: what tags and attributes say, and the forest of a page with its groups formed;
 //! - `DataMw`, `References`, `Editable`: what a `data-mw` says of a reference, which reference of a list carries which body, and lists whose references can
@@ -10,3 +10,7 @@
 //! How items are written is `model_page_write`'s, and the laws of both are `model_page_law`'s: a page that is opened and written is itself, and what was
 //! written fresh is read back.
 #![tactic(auto)]
+
+mod ref_table;
+
+pub use ref_table::{RefRow, RefTable};
