@@ -1,0 +1,7 @@
+mod ExampleItems
+mod ReplicaExamples
+mod RefusedExamples
+mod EntryExamples
+mod SiteExamples
+mod JoinedExamples
+mod SessionExamples

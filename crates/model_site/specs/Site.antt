@@ -1,0 +1,107 @@
+-- One site: what it edits, takes back and sends.
+use Rattle.std.specs.Prelude.{ℕ, ◌+◌, ◌==◌, if◌then◌else◌, List, [], ◌∷◌, ◌++◌, length, take, Option, Some, None, Result, Ok, Err}
+use Rattle.model_change.specs.Transaction.{Transaction}
+use Rattle.model_change.specs.Join.{Clash}
+use Rattle.model_change.specs.Replay.{revoke}
+use Rattle.model_edit.specs.declared.selection.Selection.{Selection}
+use Rattle.model_site.specs.declared.edit_fault.EditFault.{EditFault}
+use Rattle.model_site.specs.declared.site_fault.UndoFault.{UndoFault}
+use Rattle.model_site.specs.declared.site_fault.UndoFault.TheVariants.{NothingToUndo, AlreadyShared}
+use Rattle.model_site.specs.declared.site_fault.RedoFault.{RedoFault}
+use Rattle.model_site.specs.declared.site_fault.RedoFault.TheVariants.{NothingToRedo}
+use Rattle.model_site.specs.declared.site_fault.SendFault.{SendFault}
+use Rattle.model_site.specs.declared.site_fault.SendFault.TheVariants.{InFlight, NothingToSend}
+use Rattle.model_site.specs.Replica.{Replica, all_performed}
+use Rattle.model_site.specs.Refused.{edit_fault}
+use Rattle.model_site.specs.Entries.{Parcel, Entry, parcels, entry_of, reverted}
+
+pub record Site : Type 0 where
+  pub replica : Replica
+  -- how many committed entries its list has
+  pub seen : ℕ
+  -- its own entries that it sent and has no answer for, and those that it has not sent, oldest first
+  pub sent : List Entry
+  pub unsent : List Entry
+  -- what was undone, the last first
+  pub undone : List Parcel
+  -- how many entries it sent since the page was opened
+  pub shared : ℕ
+  -- how many entries the submission has that is not acknowledged, while there is one
+  pub in_flight : Option ℕ
+
+-- a site as it begins
+abbrev pub starting : Replica → Site
+starting r = record { replica = r; seen = 0; sent = []; unsent = []; undone = []; shared = 0; in_flight = None }
+
+-- the entries that are its own only: the sent ones and then the unsent
+abbrev pub pending : Site → List Entry
+pending site = site.sent ++ site.unsent
+
+abbrev pub with_selection : Selection → Site → Site
+with_selection selection site = record site { replica = record site.replica { selection = selection } }
+
+-- transactions performed as one new entry: a change, a batch, typing, or what takes another entry back
+abbrev pub with_entry : List Transaction → Site → Site
+with_entry ts site = record site {
+  replica = all_performed ts site.replica;
+  unsent = site.unsent ++ entry_of ts site.replica ∷ [];
+  undone = [];
+}
+
+abbrev pub edit_unless : Option EditFault → Transaction → Site → Result Site EditFault
+edit_unless (Some fault) t site = Err fault
+edit_unless None t site = Ok (with_entry (t ∷ []) site)
+
+abbrev pub edit : Transaction → Site → Result Site EditFault
+edit t site = edit_unless (edit_fault t site.replica) t site
+
+-- entries but for the last, and the last
+abbrev pub parted : Entry → List Entry → List Entry × Entry
+parted e [] = ([], e)
+parted e (f ∷ es) = let r = parted f es in (e ∷ r.0, r.1)
+
+abbrev pub undo_last : List Entry → Site → Result Site UndoFault
+undo_last [] site = Err (if site.shared == 0 then NothingToUndo else AlreadyShared site.shared)
+undo_last (e ∷ es) site = let p = parted e es in
+    Ok (record site { replica = reverted p.1 site.replica; unsent = p.0; undone = p.1.txs ∷ site.undone })
+
+-- the last unsent entry is taken back
+abbrev pub undo : Site → Result Site UndoFault
+undo site = undo_last site.unsent site
+
+abbrev pub redo_first : List Parcel → Site → Result Site RedoFault
+redo_first [] site = Err NothingToRedo
+redo_first (ts ∷ undone) site = Ok (record (with_entry ts site) { undone = undone })
+
+-- what was undone last is performed again, as a new entry
+abbrev pub redo : Site → Result Site RedoFault
+redo site = redo_first site.undone site
+
+-- what a site sends: its entries, made on the list with so many committed ones
+pub record Submission : Type 0 where
+  pub base : ℕ
+  pub entries : List Parcel
+
+abbrev pub send_unless : Option ℕ → List Entry → Site → Result (Site × Submission) SendFault
+send_unless (Some entries) unsent site = Err (InFlight entries)
+send_unless None [] site = Err NothingToSend
+send_unless None (e ∷ es) site = Ok (
+  record site { sent = site.sent ++ e ∷ es; unsent = []; shared = site.shared + length (e ∷ es); in_flight = Some (length (e ∷ es)) },
+  record { base = site.seen; entries = parcels (e ∷ es) },
+)
+
+-- all unsent entries are sent as one submission, where none is on its way
+abbrev pub send : Site → Result (Site × Submission) SendFault
+send site = send_unless site.in_flight site.unsent site
+
+-- the entries whose replay is the site's list: the committed ones that it has seen, and then its pending ones
+abbrev pub entries_of : (committed : List Parcel) → Site → List Parcel
+entries_of committed site = take site.seen committed ++ parcels (pending site)
+
+-- Entry i of these taken back under all later ones, as a new entry; or the first conflict. Only a committed one may be named, so i is below `seen`.
+abbrev pub revoke_by : Result (List Transaction) Clash → Site → Result Site Clash
+revoke_by (Err clash) site = Err clash
+revoke_by (Ok back) site = Ok (with_entry back site)
+
+abbrev pub revoke_entry : (committed : List Parcel) → ℕ → Site → Result Site Clash
+revoke_entry committed i site = revoke_by (revoke (entries_of committed site) i) site

@@ -1,0 +1,35 @@
+-- What a site takes: foreign entries, joined over its pending ones, and the answer to what it sent.
+use Rattle.std.specs.Prelude.{ℕ, suc, ◌+◌, List, [], ◌∷◌, length, map, take, drop, None}
+use Rattle.model_site.specs.Replica.{all_performed}
+use Rattle.model_site.specs.Entries.{Parcel, Entry, parcels, all_reverted}
+use Rattle.model_site.specs.Site.{Site, pending}
+use Rattle.model_site.specs.Joined.{Joined, join_entries}
+
+-- as entries, with one length of the store before and after, so that taking them back cuts nothing off
+abbrev pub noted : ℕ → List Parcel → List Entry
+noted stored = map (λ (p : Parcel). record { txs = p; store_before = stored; store_after = stored })
+
+-- The pending entries that are not kept are taken back, the last first; the foreign entry is performed over those kept; and these are joined over it.
+abbrev pub with_joined : Joined → Site → Site
+with_joined j site =
+    let replica = all_performed j.committed (all_reverted (drop (length j.kept) (pending site)) site.replica) in
+    let kept = noted (length replica.store) j.kept in
+    record site {
+      replica = replica;
+      seen = suc site.seen;
+      sent = take (length site.sent) kept;
+      unsent = drop (length site.sent) kept;
+      undone = [];
+    }
+
+abbrev pub take_entry : Parcel → Site → Site
+take_entry foreign site = with_joined (join_entries foreign (parcels (pending site))) site
+
+-- each in turn; nothing can be redone after a take
+abbrev pub take_foreign : List Parcel → Site → Site
+take_foreign [] site = record site { undone = [] }
+take_foreign (entry ∷ entries) site = take_foreign entries (take_entry entry site)
+
+-- the entries still held as sent are committed now
+abbrev pub take_ack : Site → Site
+take_ack site = record site { seen = site.seen + length site.sent; sent = []; undone = []; in_flight = None }

@@ -1,0 +1,24 @@
+//! Sites that edit one page apart, and the server that orders what they send: what each event makes of a site, of the committed entries and of the
+//! queues between them. There are definitions in specs/, and the types that they answer:
+//!
+//! - `Replica`: a site's list with its store and selection, and what performing a transaction and taking one back makes of them;
+//! - `Refused`: why a transaction is not performed;
+//! - `Entries`: transactions that are one change, and how the store goes back with them;
+//! - `Site`: edits, undo, redo, sending, and taking a known entry back;
+//! - `Joined`: entries joined one after the other over committed ones, up to the first conflict;
+//! - `Take`: what a site makes of foreign entries and of an acknowledgement;
+//! - `Session`: the sites with their queues and the committed entries, and the server's turn;
+//! - `Events`: what may happen in a session.
+//!
+//! Their laws are `model_site_law`'s.
+#![tactic(auto)]
+
+mod edit_fault;
+mod served;
+mod site_fault;
+mod taken;
+
+pub use edit_fault::EditFault;
+pub use served::{Clash, Served};
+pub use site_fault::{RedoFault, SendFault, UndoFault};
+pub use taken::Taken;

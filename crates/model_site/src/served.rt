@@ -1,0 +1,21 @@
+// What the server answers to a submission.
+
+/// Two active ranges that conflict, each from its first place to the place behind its last.
+#[derive(Clone, Copy, Debug, PartialEq, Eq)]
+pub struct Clash {
+    /// The committed transaction's, in the list that it applies to.
+    pub committed: (usize, usize),
+    /// The submitted transaction's, as joined so far, in the same list.
+    pub submitted: (usize, usize),
+}
+
+/// What became of a submission.
+#[derive(Clone, Copy, Debug, PartialEq, Eq)]
+pub struct Served {
+    /// How many entries were accepted: those before the first conflict, or all.
+    pub accepted: usize,
+    /// How many entries the submission has.
+    pub total: usize,
+    /// The first conflict, if there is one.
+    pub clash: Option<Clash>,
+}
