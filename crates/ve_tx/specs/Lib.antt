@@ -11,3 +11,4 @@ pub mod Operation
 pub mod Normal
 pub mod Range
 pub mod Turned
+pub mod Entry

@@ -1,6 +1,7 @@
 //! Edits as values: transactions of retain, replace and attribute operations along a list of items.
 #![tactic(auto)]
 
+mod entry;
 mod gathered;
 mod inverse;
 mod normal;
@@ -9,6 +10,9 @@ mod range;
 #[cfg(test)]
 mod tests;
 mod transaction;
+mod tx_list;
 
+pub use entry::{Entry, EntryList};
 pub use op::{Op, OpList};
 pub use transaction::Transaction;
+pub use tx_list::TxList;

@@ -1,0 +1,7 @@
+-- Entries: transactions that are one change, with the lengths of the store before and after them.
+use Rattle.std.specs.Prelude.{◌++◌}
+use Rattle.ve_tx.specs.declared.entry.Entry.{Entry}
+
+-- the entry and a later one as one
+abbrev pub appended : Entry → Entry → Entry
+appended entry later = record { txs = entry.txs ++ later.txs; store_before = entry.store_before; store_after = later.store_after }
