@@ -56,12 +56,12 @@ token_chars (Comment text) e = chars_append (comment_open ++ text) comment_close
 
 -- ---- steps
 
-abbrev Live : Mode → Type 0
+abbrev pub Live : Mode → Type 0
 Live Between = Unit {0}
 Live (After name) = is_tag_name name ≡ true
 Live (Failed f) = ⊥
 
-live_named : (m : Mode) → Live m → Named m
+pub live_named : (m : Mode) → Live m → Named m
 live_named Between l = tt
 live_named (After name) l = l
 live_named (Failed f) l = tt
@@ -70,7 +70,7 @@ live_start : (name : List ℕ) (b : Bool) → Named (cond b (After name) Between
 live_start name true n = n
 live_start name false n = tt
 
-live_after : (t : Token) → Named (mode_after t) → Live (mode_after t)
+pub live_after : (t : Token) → Named (mode_after t) → Live (mode_after t)
 live_after (Start name attrs slash) n = live_start name (is_raw name) n
 live_after (End name) n = tt
 live_after (Chars text) n = tt

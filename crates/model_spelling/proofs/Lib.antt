@@ -20,3 +20,6 @@ pub mod Utf
 pub mod BodyPlace
 pub mod Clean
 pub mod CleanTokens
+pub mod Settled
+pub mod Cut
+pub mod Goes

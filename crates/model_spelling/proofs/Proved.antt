@@ -6,7 +6,7 @@ use Rattle.model_spelling.specs.Faults.{fault_of}
 use Rattle.model_spelling.specs.Parsed.{ending, forest_of}
 use Rattle.model_spelling.specs.Laws.{BodyInside, PartsAreThePage, BodyIsFound}
 use Rattle.model_spelling.specs.Canonical.{WritesRight, CanWrite}
-use Rattle.model_spelling.specs.Standing.{FaultStands, UnclosedGoes}
+use Rattle.model_spelling.specs.Standing.{FaultStands, UnclosedGoes, StandsOrGoes, CutReferenceGoes, CutDoctypeGoes}
 use Rattle.model_spelling.specs.Utf8.{DecodesUtf8, ForestUtf8}
 use Rattle.model_spelling.specs.Laws.{ReadIsSpelled, SpelledIsRead, RawReadIsSpelled, RawSpelledIsRead, EmptyRawIsNoToken, FaultlessIsSpelled, SpelledIsFaultless, OneForestSpells, SpellingIsReadBack, ReadForestSpells}
 use Rattle.model_spelling.proofs.Only as only
@@ -19,6 +19,7 @@ use Rattle.model_spelling.proofs.Escape as escape
 use Rattle.model_spelling.proofs.CanWrite as canwrite
 use Rattle.model_spelling.proofs.StaysTokens as standing
 use Rattle.model_spelling.proofs.CleanTokens as clean
+use Rattle.model_spelling.proofs.Goes as going
 
 pub law_token_found : ReadIsSpelled
 law_token_found at text t to e = tokens.token_found at text t to e
@@ -82,3 +83,12 @@ law_parts_are_the_page page p e = body.parts_are_the_page page p e
 
 pub law_body_is_found : BodyIsFound
 law_body_is_found page from to whole e = body.body_is_found page from to whole e
+
+pub law_stands_or_goes : StandsOrGoes
+law_stands_or_goes text f e = going.stands_or_goes text f e
+
+pub law_cut_reference_goes : CutReferenceGoes
+law_cut_reference_goes text at e s = going.cut_reference_goes text at e s
+
+pub law_cut_doctype_goes : CutDoctypeGoes
+law_cut_doctype_goes text at e s = going.cut_doctype_goes text at e s

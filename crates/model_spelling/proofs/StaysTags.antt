@@ -301,7 +301,7 @@ doctype_taken : (a b : List ℕ) → take 7 a ≡ take 7 b → is_doctype a ≡ 
 unfolding is_doctype
 doctype_taken a b e = ap (λ (l : List ℕ). is_same_name (codes "doctype") (map to_ascii_lowercase l)) e
 
-front_is : (cs : List ℕ) → is_doctype_front (60 ∷ (33 ∷ cs)) ≡ begins_with (map to_ascii_lowercase cs) (codes "doctype")
+pub front_is : (cs : List ℕ) → is_doctype_front (60 ∷ (33 ∷ cs)) ≡ begins_with (map to_ascii_lowercase cs) (codes "doctype")
 unfolding begins_with
 front_is cs = refl
 
@@ -330,13 +330,13 @@ doctype_true cs more is =
 refused_barred : (at b : ℕ) (f g : ScanFault) → is_barred b ≡ true → refused at b f ≡ refused at b g
 refused_barred at b f g e = rw e refl
 
-refused_plain : (at b : ℕ) (f : ScanFault) → is_barred b ≡ false → refused at b f ≡ f
+pub refused_plain : (at b : ℕ) (f : ScanFault) → is_barred b ≡ false → refused at b f ≡ f
 refused_plain at b f e = rw e refl
 
-abbrev markup_fault : ℕ → List ℕ → ScanFault
+abbrev pub markup_fault : ℕ → List ℕ → ScanFault
 markup_fault tag cs = fault tag (cond (is_doctype cs) Doctype BadTag)
 
-markup_is : (tag c : ℕ) (cs : List ℕ) → (c == 45) ≡ false → markup_at tag (c ∷ cs) ≡ Err (refused (tag + 2) c (markup_fault tag (c ∷ cs)))
+pub markup_is : (tag c : ℕ) (cs : List ℕ) → (c == 45) ≡ false → markup_at tag (c ∷ cs) ≡ Err (refused (tag + 2) c (markup_fault tag (c ∷ cs)))
 unfolding markup_at
 markup_is tag c cs n = rw n refl
 

@@ -108,7 +108,7 @@ may_more (Raw text) rest more lt f = tt
 may_more (Comment text) rest more lt f = tt
 
 -- the token is no text
-abbrev IsMarkup : Token → Type 0
+abbrev pub IsMarkup : Token → Type 0
 IsMarkup (Start name attrs slash) = Unit {0}
 IsMarkup (End name) = Unit {0}
 IsMarkup (Chars text) = ⊥
@@ -122,7 +122,7 @@ may_always (Chars text) rest m = absurd m
 may_always (Raw text) rest m = tt
 may_always (Comment text) rest m = tt
 
-longer : (text front back more : List ℕ) → text ≡ front ++ back → text ++ more ≡ front ++ (back ++ more)
+pub longer : (text front back more : List ℕ) → text ≡ front ++ back → text ++ more ≡ front ++ (back ++ more)
 longer text front back more e = ap (λ (l : List ℕ). l ++ more) e ∙ append_assoc front back more
 
 raw_comes : (at : ℕ) (name inner rest : List ℕ) → 0 < length inner → is_verbatim (end_text name) inner ≡ true → token_at (After name) at (inner ++ (end_text name ++ rest)) ≡ Ok (Some (Raw inner, at + length inner))
@@ -132,7 +132,7 @@ raw_comes at name (b ∷ bs) rest lt fits = raw_only at name b bs rest fits
 raw_longer : (text inner close rest more : List ℕ) → text ≡ inner ++ (close ++ rest) → text ++ more ≡ inner ++ (close ++ (rest ++ more))
 raw_longer text inner close rest more e = longer text inner (close ++ rest) more e ∙ ap (λ (l : List ℕ). inner ++ l) (append_assoc close rest more)
 
-token_more : (m : Mode) (at : ℕ) (text more : List ℕ) (t : Token) (to : ℕ) → Named m → token_at m at text ≡ Ok (Some (t, to)) → ((rest : List ℕ) → text ≡ token_text t ++ rest → (0 < length rest) ⊎ IsMarkup t) → token_at m at (text ++ more) ≡ Ok (Some (t, to))
+pub token_more : (m : Mode) (at : ℕ) (text more : List ℕ) (t : Token) (to : ℕ) → Named m → token_at m at text ≡ Ok (Some (t, to)) → ((rest : List ℕ) → text ≡ token_text t ++ rest → (0 < length rest) ⊎ IsMarkup t) → token_at m at (text ++ more) ≡ Ok (Some (t, to))
 token_more Between at text more t to n e some =
     let f = token_found at text t to e in
     let follows : MayFollow t (f.rest ++ more) = elim (some f.rest f.text_is) [ inl lt ↦ may_more t f.rest more lt f.follows | inr m ↦ may_always t (f.rest ++ more) m ] in
@@ -189,11 +189,11 @@ faulty_markup (Chars text) from os e a = let h : Ok os ≡ Err e = a in absurd c
 faulty_markup (Raw text) from os e a = tt
 faulty_markup (Comment text) from os e a = tt
 
-end_step : (at : ℕ) → token_at Between at [] ≡ Ok None
+pub end_step : (at : ℕ) → token_at Between at [] ≡ Ok None
 unfolding token_at between_at
 end_step at = refl
 
-none_some : {A : Type 0} (x : A) (s : Step) (y : Token × ℕ) → s ≡ Ok None → s ≡ Ok (Some y) → ⊥
+pub none_some : {A : Type 0} (x : A) (s : Step) (y : Token × ℕ) → s ≡ Ok None → s ≡ Ok (Some y) → ⊥
 none_some x s y e f = let h : Ok None ≡ Ok (Some y) = sym e ∙ f in cc
 
 nothing_stands : (whole : List ℕ) (at : ℕ) (ts : List Placed) (last : Option ScanFault) (os : List Open) (e : ForestFault) → Runs Between at [] ts last → fault_in last os ts ≡ Some e → forest_stands whole e ≡ true → ⊥
@@ -211,7 +211,7 @@ behind_text (Comment inner) whole text rest at ts last os e r h s = inr tt
 behind_text (Chars inner) whole text (b ∷ bs) at ts last os e r h s = inl (omega arith)
 behind_text (Chars inner) whole text [] at ts last os e r h s = absurd (nothing_stands whole at ts last os e r h s)
 
-named_after : (m : Mode) (at : ℕ) (text : List ℕ) (t : Placed) → Named m → token_at m at text ≡ Ok (Some (t.token, t.to)) → Named (mode_after t.token)
+pub named_after : (m : Mode) (at : ℕ) (text : List ℕ) (t : Placed) → Named m → token_at m at text ≡ Ok (Some (t.token, t.to)) → Named (mode_after t.token)
 named_after m at text t n read = let p = part_of m at text t.token t.to n read in p.named
 
 comes_here : (m : Mode) (at : ℕ) (text more rest some : List ℕ) (t : Placed) (os : List Open) (e : ForestFault) → Named m → token_at m at text ≡ Ok (Some (t.token, t.to)) → t.from ≡ at → text ≡ some ++ rest → t.to ≡ at + length some → 0 < length some → after_token t.token t.from os ≡ Err e → Comes m at (text ++ more) os e
@@ -234,12 +234,12 @@ comes_later m at text more rest some t os os2 e read from parts to lt a c = reco
   same = ap (λ (x : Result (List Open) ForestFault). or_fault x (λ os. fault_in c.last os c.tokens)) a ∙ c.same;
 }
 
-drop_on : (at to : ℕ) (whole text some rest : List ℕ) → drop at whole ≡ text → text ≡ some ++ rest → to ≡ at + length some → drop to whole ≡ rest
+pub drop_on : (at to : ℕ) (whole text some rest : List ℕ) → drop at whole ≡ text → text ≡ some ++ rest → to ≡ at + length some → drop to whole ≡ rest
 drop_on at to whole text some rest here parts n =
     ap (λ (k : ℕ). drop k whole) n ∙ sym (drop-drop (length some) at whole) ∙ ap (drop (length some)) (here ∙ parts) ∙ drop-append_seam some rest
 
 -- the length of a token is that of its text
-token_len : (m : Mode) (at : ℕ) (text : List ℕ) (t : Token) (to : ℕ) → Named m → token_at m at text ≡ Ok (Some (t, to)) → to ≡ at + length (token_text t)
+pub token_len : (m : Mode) (at : ℕ) (text : List ℕ) (t : Token) (to : ℕ) → Named m → token_at m at text ≡ Ok (Some (t, to)) → to ≡ at + length (token_text t)
 token_len Between at text t to n e = let f = token_found at text t to e in f.to_is
 token_len (After name) at text t to n e =
     elim (raw_found at name text t to n e) [
@@ -252,7 +252,7 @@ kept_by : (t : Token) (rest other : List ℕ) → length rest ≡ length other �
 kept_by t rest other e (inl lt) = inl (omega (arith, e))
 kept_by t rest other e (inr m) = inr m
 
-kept : (t : Token) (text rest other some : List ℕ) (at to : ℕ) → text ≡ some ++ rest → to ≡ at + length some → text ≡ token_text t ++ other → to ≡ at + length (token_text t) → (0 < length rest) ⊎ IsMarkup t → (0 < length other) ⊎ IsMarkup t
+pub kept : (t : Token) (text rest other some : List ℕ) (at to : ℕ) → text ≡ some ++ rest → to ≡ at + length some → text ≡ token_text t ++ other → to ≡ at + length (token_text t) → (0 < length rest) ⊎ IsMarkup t → (0 < length other) ⊎ IsMarkup t
 kept t text rest other some at to parts n w m h = kept_by t rest other (omega (arith, n, m, ap length parts, ap length w, length-append some rest, length-append (token_text t) other)) h
 
 stay : (ts : List Placed) (last : Option ScanFault) (m : Mode) (at : ℕ) (text more whole : List ℕ) (os : List Open) (e : ForestFault) → Named m → drop at whole ≡ text → forest_stands whole e ≡ true → Runs m at text ts last → fault_in last os ts ≡ Some e → Comes m at (text ++ more) os e

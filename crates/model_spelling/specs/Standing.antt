@@ -1,11 +1,11 @@
 -- Which faults stand however the text goes on.
-use Rattle.std.specs.Prelude.{◌≡◌, ℕ, Bool, true, false, ◌&&◌, not, List, [], ◌∷◌, ◌++◌, length, drop, map, Some, nat_lt, codes}
+use Rattle.std.specs.Prelude.{◌≡◌, ℕ, Bool, true, false, ◌&&◌, not, List, [], ◌∷◌, ◌++◌, length, drop, map, Option, Some, None, nat_lt, codes, ◌⊎◌}
 use Rattle.std.specs.Char.{to_ascii_lowercase}
 use Rattle.model_spelling.specs.declared.scan_fault.ScanFault.{ScanFault}
 use Rattle.model_spelling.specs.declared.scan_fault.ScanWhat.{ScanWhat}
 use Rattle.model_spelling.specs.declared.scan_fault.ScanWhat.TheVariants.{BadTag, BadAttribute, DuplicateAttribute, TooManyAttributes, BadReference, BadChar, UnclosedTag, UnclosedComment, UnclosedRaw, Doctype, NoBody}
-use Rattle.model_spelling.specs.Grammar.{begins_with, references}
-use Rattle.model_spelling.specs.Reading.{longest_front}
+use Rattle.model_spelling.specs.Grammar.{begins_with, references, starts_reference}
+use Rattle.model_spelling.specs.Reading.{fault, longest_front}
 use Rattle.model_spelling.specs.Faults.{ForestFault, Scan, Mismatched, Unclosed, Stray, TooDeep, fault_of}
 
 -- the text is `<!` and then a front of `doctype`, in any case of its letters, or all of it
@@ -69,3 +69,36 @@ is_unclosed (TooDeep at) = false
 -- A fault of the unclosed kinds doesn't stand: with U+0000 behind the text it is another one.
 abbrev pub UnclosedGoes : Type 0
 UnclosedGoes = (text : List ℕ) (f : ForestFault) → is_unclosed f ≡ true → fault_of (text ++ (0 ∷ [])) ≡ Some f → ⊥
+
+-- ---- what is one of the end goes
+
+-- However the text goes on, this is its fault.
+abbrev pub Stands : List ℕ → ForestFault → Type 0
+Stands text f = (more : List ℕ) → fault_of (text ++ more) ≡ Some f
+
+-- With some text behind it, it has another fault, or none.
+abbrev pub Goes : List ℕ → ForestFault → Type 0
+Goes text f = (more : List ℕ) × (fault_of (text ++ more) ≡ Some f → ⊥)
+
+-- Each fault stands however the text goes on, or it is one of the text's end, and goes.
+abbrev pub StandsOrGoes : Type 0
+StandsOrGoes = (text : List ℕ) (f : ForestFault) → fault_of text ≡ Some f → ((forest_stands text f ≡ true) × Stands text f) ⊎ ((forest_stands text f ≡ false) × Goes text f)
+
+-- no fault, or only that an element isn't closed yet
+abbrev pub is_left_open : Option ForestFault → Bool
+is_left_open None = true
+is_left_open (Some (Scan f)) = false
+is_left_open (Some (Mismatched at)) = false
+is_left_open (Some (Unclosed at)) = true
+is_left_open (Some (Stray at)) = false
+is_left_open (Some (TooDeep at)) = false
+
+-- A cut reference can be completed: where the rest of a reference follows, no fault is left, or only that an element isn't closed yet.
+abbrev pub CutReferenceGoes : Type 0
+CutReferenceGoes = (text : List ℕ) (at : ℕ) → fault_of text ≡ Some (Scan (fault at BadReference)) → passes_reference (drop at text) ≡ false
+    → (more : List ℕ) × (starts_reference (drop at (text ++ more)) ≡ true) × (is_left_open (fault_of (text ++ more)) ≡ true)
+
+-- A cut doctype becomes a whole one: where its rest follows, the fault is that of a doctype.
+abbrev pub CutDoctypeGoes : Type 0
+CutDoctypeGoes = (text : List ℕ) (at : ℕ) → fault_of text ≡ Some (Scan (fault at BadTag)) → is_doctype_front (drop at text) ≡ true
+    → (more : List ℕ) × (fault_of (text ++ more) ≡ Some (Scan (fault at Doctype)))

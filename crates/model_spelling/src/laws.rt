@@ -1,7 +1,7 @@
 // The laws of the spelling of a page: they speak of the definitions alone.
 ghost use Rattle.model_spelling.specs.Canonical.{WritesRight, CanWrite};
 ghost use Rattle.model_spelling.specs.Laws.{ReadIsSpelled, SpelledIsRead, RawReadIsSpelled, RawSpelledIsRead, EmptyRawIsNoToken, FaultlessIsSpelled, SpelledIsFaultless, OneForestSpells, SpellingIsReadBack, ReadForestSpells, BodyInside, PartsAreThePage, BodyIsFound};
-ghost use Rattle.model_spelling.specs.Standing.{FaultStands, UnclosedGoes};
+ghost use Rattle.model_spelling.specs.Standing.{FaultStands, UnclosedGoes, StandsOrGoes, CutReferenceGoes, CutDoctypeGoes};
 ghost use Rattle.model_spelling.specs.Utf8.{DecodesUtf8, ForestUtf8};
 
 /// What is read as a token is spelled so, and what is spelled so is read.
@@ -24,11 +24,14 @@ pub fn forest_laws()
     ensures reads_right { ReadForestSpells }
 {}
 
-/// A fault that isn't one of the text's end stands however the text goes on, and an unclosed one doesn't.
-#[tactic(auto, using(crate::proofs::Proved::law_fault_stands, crate::proofs::Proved::law_unclosed_goes))]
+/// Each fault stands however the text goes on, or it is one of the text's end, and some text behind it makes it go: U+0000 where something is unclosed, the rest of a reference or a doctype where the end cuts it.
+#[tactic(auto, using(crate::proofs::Proved::law_fault_stands, crate::proofs::Proved::law_unclosed_goes, crate::proofs::Proved::law_stands_or_goes, crate::proofs::Proved::law_cut_reference_goes, crate::proofs::Proved::law_cut_doctype_goes))]
 pub fn prefix_laws()
     ensures stands { FaultStands }
     ensures goes { UnclosedGoes }
+    ensures each { StandsOrGoes }
+    ensures cut_reference { CutReferenceGoes }
+    ensures cut_doctype { CutDoctypeGoes }
 {}
 
 /// What the canonical writer spells is read back, with the decoded values that were written.
