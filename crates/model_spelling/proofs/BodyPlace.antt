@@ -229,7 +229,7 @@ start_whole attrs rest = simp append_assoc
 start_length : (attrs : List Attr) → length (start_text (codes "body") attrs false) ≡ 5 + length (flat_map attr_text attrs) + 1
 start_length attrs = omega (arith, length-append (60 ∷ codes "body" ++ flat_map attr_text attrs) (62 ∷ []), length-append (60 ∷ codes "body") (flat_map attr_text attrs))
 
-regroup : (a b c d e : List ℕ) → a ++ (b ++ (c ++ (d ++ e))) ≡ a ++ b ++ c ++ d ++ e
+pub regroup : (a b c d e : List ℕ) → a ++ (b ++ (c ++ (d ++ e))) ≡ a ++ b ++ c ++ d ++ e
 regroup a b c d e = simp append_assoc
 
 parted : (page before start body mark after rest inner : List ℕ) → page ≡ before ++ rest → rest ≡ start ++ inner → inner ≡ body ++ (mark ++ after) → page ≡ before ++ start ++ body ++ mark ++ after

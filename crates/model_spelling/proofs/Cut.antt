@@ -1,20 +1,20 @@
 -- A reference or a doctype that the text's end cuts, and what completes it.
-use Rattle.std.proofs.Common.{◌≡◌, ℕ, ◌+◌, ◌-◌, ◌<◌, ◌≤◌, Bool, true, false, cond, not, ◌&&◌, ◌||◌, eqb, List, [], ◌∷◌, ◌++◌, length, drop, take, map, Some, None, Result, Ok, Err, refl, sym, ap, ◌∙◌, arith, eq-eqb, eqb-true, nat_eq, inl, inr, ◌⊎◌}
+use Rattle.std.proofs.Common.{◌≡◌, ℕ, ◌+◌, ◌<◌, ◌≤◌, Bool, true, false, cond, not, ◌&&◌, ◌||◌, eqb, List, [], ◌∷◌, ◌++◌, length, drop, take, map, None, Result, Ok, Err, refl, sym, ap, ◌∙◌, arith, eq-eqb, eqb-true, nat_eq, inl, inr, ◌⊎◌}
 use Rattle.std.specs.Prelude.{◌==◌, slice_index, codes}
-use Rattle.std.proofs.lemmas.List.{length-append, length-drop, length-map, drop-append-le, drop-map, map-append, append-nil, take_all}
+use Rattle.std.proofs.lemmas.List.{length-drop, length-map, drop-append-le, drop-map, map-append, append-nil, take_all}
 use Rattle.std.proofs.lemmas.Bool.{cases_lt, cases_Bool}
 use Rattle.std.proofs.lemmas.Slice.Eq.{bytes_eq-Decides}
 use Rattle.std.specs.Char.{to_ascii_lowercase}
 use Rattle.std.specs.List.{common_prefix_len, list_all, list_any}
 use Rattle.model_spelling.specs.declared.scan_fault.ScanFault.{ScanFault}
 use Rattle.model_spelling.specs.declared.scan_fault.ScanWhat.TheVariants.{BadChar, BadTag, BadReference, Doctype, UnclosedComment, UnclosedTag, UnclosedRaw}
-use Rattle.model_spelling.specs.Grammar.{is_barred, is_letter, is_tag_name, is_same_name, begins_with, references, starts_reference, is_run, Token, Chars, end_text}
-use Rattle.model_spelling.specs.Reading.{◌>>=◌, fault, refused, longest_front, behind_front, reference_fault, run_end, verbatim_end, start_at, end_at, is_doctype, dash_at, markup_at, tag_at, some_token, between_at, token_at, Between, After, Failed}
+use Rattle.model_spelling.specs.Grammar.{is_barred, is_letter, is_tag_name, is_same_name, begins_with, references, starts_reference, is_run, end_text}
+use Rattle.model_spelling.specs.Reading.{◌>>=◌, fault, refused, longest_front, behind_front, reference_fault, run_end, verbatim_end, start_at, end_at, is_doctype, dash_at, markup_at, tag_at, some_token, between_at, token_at, Between, After}
 use Rattle.model_spelling.specs.Standing.{is_doctype_front}
 use Rattle.model_spelling.proofs.AttrReading.{and_left, and_right}
 use Rattle.model_spelling.proofs.TokenRuns.{begins_parts, begins_from_parts, reference_more, or_right}
 use Rattle.model_spelling.proofs.Only.{both}
-use Rattle.model_spelling.proofs.FoundTokens.{between_is, raw_fails}
+use Rattle.model_spelling.proofs.FoundTokens.{raw_fails}
 use Rattle.model_spelling.proofs.Stays.{err, err_same, fault_ways, past_one}
 use Rattle.model_spelling.proofs.StaysTags.{markup_fault, markup_is, refused_plain, front_is}
 use Rattle.model_spelling.proofs.StaysTokens.{token_fails, text_fails, as_text, raw_never}
@@ -69,7 +69,7 @@ completed_by : (at : ℕ) (whole text : List ℕ) (f : ScanFault) → drop at wh
 unfolding starts_reference
 completed_by at whole text f here is lt front =
     let there : drop f.at (whole ++ front.more) ≡ text ++ front.more =
-        ap (λ (g : ScanFault). drop g.at (whole ++ front.more)) (sym is) ∙ drop-append-le at whole front.more (omega (arith, lt, ap length here, length-drop at whole)) ∙ ap (λ (l : List ℕ). l ++ front.more) here in
+    ap (λ (g : ScanFault). drop g.at (whole ++ front.more)) (sym is) ∙ drop-append-le at whole front.more (omega (arith, lt, ap length here, length-drop at whole)) ∙ ap (λ (l : List ℕ). l ++ front.more) here in
     record {
       more = front.more;
       is = ap (λ (g : ScanFault). fault g.at BadReference) (sym is) ∙ is;
@@ -152,8 +152,8 @@ bang_first tag bs = refl
 completed_markup : (tag c : ℕ) (cs : List ℕ) → (c == 45) ≡ false → is_barred c ≡ false → begins_with (map to_ascii_lowercase (c ∷ cs)) (codes "doctype") ≡ true → between_at tag ((60 ∷ (33 ∷ (c ∷ cs))) ++ rest_of (c ∷ cs)) ≡ Err (fault tag Doctype)
 completed_markup tag c cs dash plain front =
     let read : markup_at tag (c ∷ (cs ++ rest_of (c ∷ cs))) ≡ Err (fault tag Doctype) =
-        markup_is tag c (cs ++ rest_of (c ∷ cs)) dash
-        ∙ ap err (refused_plain (tag + 2) c (markup_fault tag (c ∷ (cs ++ rest_of (c ∷ cs)))) plain ∙ ap (λ (x : Bool). fault tag (cond x Doctype BadTag)) (doctype_whole (c ∷ cs) front)) in
+    markup_is tag c (cs ++ rest_of (c ∷ cs)) dash
+    ∙ ap err (refused_plain (tag + 2) c (markup_fault tag (c ∷ (cs ++ rest_of (c ∷ cs)))) plain ∙ ap (λ (x : Bool). fault tag (cond x Doctype BadTag)) (doctype_whole (c ∷ cs) front)) in
     bang_first tag (c ∷ (cs ++ rest_of (c ∷ cs))) ∙ ap some_token read
 
 bad_markup : (tag c : ℕ) (cs : List ℕ) (f : ScanFault) → is_barred c ≡ false → is_doctype (c ∷ cs) ≡ false → refused (tag + 2) c (markup_fault tag (c ∷ cs)) ≡ f → fault tag BadTag ≡ f

@@ -1,12 +1,10 @@
 -- A fault of the text's end goes when the right text follows.
-use Rattle.std.proofs.Common.{◌≡◌, ℕ, ◌+◌, ◌<◌, Bool, true, false, cond, not, ◌&&◌, ◌||◌, List, [], ◌∷◌, ◌++◌, length, drop, Option, Some, None, Result, Ok, Err, refl, sym, ap, ◌∙◌, arith, subst, inl, inr, ◌⊎◌}
+use Rattle.std.proofs.Common.{◌≡◌, ℕ, ◌+◌, ◌<◌, Bool, true, false, cond, not, List, [], ◌∷◌, ◌++◌, length, drop, Option, Some, None, Result, Ok, Err, refl, sym, ap, ◌∙◌, arith, subst, inl, inr, ◌⊎◌}
 use Rattle.std.specs.Prelude.{◌==◌}
-use Rattle.std.proofs.lemmas.List.{length-append, append-nil}
-use Rattle.std.proofs.lemmas.Bool.{cases_Bool}
+use Rattle.std.proofs.lemmas.List.{append-nil}
 use Rattle.model_spelling.specs.declared.scan_fault.ScanFault.{ScanFault}
-use Rattle.model_spelling.specs.declared.scan_fault.ScanWhat.{ScanWhat}
 use Rattle.model_spelling.specs.declared.scan_fault.ScanWhat.TheVariants.{BadTag, BadReference, Doctype, UnclosedRaw}
-use Rattle.model_spelling.specs.Grammar.{begins_with, starts_reference, is_void, is_same_name, is_run, Token, Start, End, Chars, Raw, Comment, token_text, end_text}
+use Rattle.model_spelling.specs.Grammar.{begins_with, starts_reference, is_void, is_same_name, Token, Start, End, Chars, Raw, Comment, end_text}
 use Rattle.model_spelling.specs.Reading.{fault, verbatim_end, token_at, Mode, Between, After, Failed, mode_after}
 use Rattle.model_spelling.specs.Tokens.{Placed, Tokens, tokens_of, Runs}
 use Rattle.model_spelling.specs.Faults.{Open, ForestFault, Scan, Mismatched, Unclosed, Stray, TooDeep, fault_in, fault_at_end, fault_of, after_token, or_fault}

@@ -23,3 +23,4 @@ pub mod CleanTokens
 pub mod Settled
 pub mod Cut
 pub mod Goes
+pub mod BodyOnly

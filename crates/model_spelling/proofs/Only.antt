@@ -205,7 +205,7 @@ start_length name attrs slash = omega (arith, length-append (60 ∷ name ++ flat
 pub start_regrouped : (name : List ℕ) (attrs : List Attr) (slash : Bool) (rest : List ℕ) → start_text name attrs slash ++ rest ≡ 60 ∷ (name ++ (flat_map attr_text attrs ++ (close_text slash ++ rest)))
 start_regrouped name attrs slash rest = append_assoc (60 ∷ name ++ flat_map attr_text attrs) (close_text slash) rest ∙ append_assoc (60 ∷ name) (flat_map attr_text attrs) (close_text slash ++ rest)
 
-start_reads : (tag : ℕ) (name : List ℕ) (attrs : List Attr) (slash : Bool) (rest : List ℕ) → is_start name attrs slash ≡ true
+pub start_reads : (tag : ℕ) (name : List ℕ) (attrs : List Attr) (slash : Bool) (rest : List ℕ) → is_start name attrs slash ≡ true
     → start_at tag (name ++ (flat_map attr_text attrs ++ (close_text slash ++ rest))) ≡ Ok (Start name attrs slash, tag + length (start_text name attrs slash))
 unfolding start_at
 start_reads tag name attrs slash rest e =
@@ -230,7 +230,7 @@ pub letter_first : (tag b : ℕ) (bs : List ℕ) → is_letter b ≡ true → ta
 unfolding tag_at
 letter_first tag b bs e = rw e refl
 
-tag_named : (tag : ℕ) (name rest : List ℕ) → is_tag_name name ≡ true → tag_at tag (name ++ rest) ≡ start_at tag (name ++ rest)
+pub tag_named : (tag : ℕ) (name rest : List ℕ) → is_tag_name name ≡ true → tag_at tag (name ++ rest) ≡ start_at tag (name ++ rest)
 tag_named tag [] rest e = absurd cc
 tag_named tag (b ∷ bs) rest e = letter_first tag b (bs ++ rest) (and_left (is_letter b) (list_all is_name_byte bs) (and_left (is_letter b && list_all is_name_byte bs) (not (is_plaintext (b ∷ bs))) e))
 

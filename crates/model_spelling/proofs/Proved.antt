@@ -4,7 +4,7 @@ use Rattle.model_spelling.specs.Tokens.{tokens_of}
 use Rattle.model_spelling.specs.Forest.{Forest, Spells}
 use Rattle.model_spelling.specs.Faults.{fault_of}
 use Rattle.model_spelling.specs.Parsed.{ending, forest_of}
-use Rattle.model_spelling.specs.Laws.{BodyInside, PartsAreThePage, BodyIsFound}
+use Rattle.model_spelling.specs.Laws.{BodyInside, PartsAreThePage, BodyIsFound, BodyIsOnly}
 use Rattle.model_spelling.specs.Canonical.{WritesRight, CanWrite}
 use Rattle.model_spelling.specs.Standing.{FaultStands, UnclosedGoes, StandsOrGoes, CutReferenceGoes, CutDoctypeGoes}
 use Rattle.model_spelling.specs.Utf8.{DecodesUtf8, ForestUtf8}
@@ -15,6 +15,7 @@ use Rattle.model_spelling.proofs.Back as back
 use Rattle.model_spelling.proofs.Right as right
 use Rattle.model_spelling.proofs.Utf as utf
 use Rattle.model_spelling.proofs.BodyPlace as body
+use Rattle.model_spelling.proofs.BodyOnly as only_body
 use Rattle.model_spelling.proofs.Escape as escape
 use Rattle.model_spelling.proofs.CanWrite as canwrite
 use Rattle.model_spelling.proofs.StaysTokens as standing
@@ -92,3 +93,6 @@ law_cut_reference_goes text at e s = going.cut_reference_goes text at e s
 
 pub law_cut_doctype_goes : CutDoctypeGoes
 law_cut_doctype_goes text at e s = going.cut_doctype_goes text at e s
+
+pub law_body_is_only : BodyIsOnly
+law_body_is_only page from to whole b = only_body.body_only page from to whole b

@@ -1,22 +1,20 @@
 -- A fault stands, or it is of the unclosed kinds, or the text's end cuts a reference or a doctype.
-use Rattle.std.proofs.Common.{◌≡◌, ℕ, zero, suc, ◌+◌, ◌-◌, ◌<◌, ◌≤◌, Bool, true, false, cond, not, ◌&&◌, ◌||◌, eqb, List, [], ◌∷◌, ◌++◌, length, drop, take, map, Option, Some, None, Result, Ok, Err, refl, sym, ap, ◌∙◌, arith, eq-eqb, eqb-true, inl, inr}
-use Rattle.std.specs.Prelude.{◌==◌, slice_index, codes}
+use Rattle.std.proofs.Common.{◌≡◌, ℕ, zero, suc, ◌+◌, ◌-◌, ◌<◌, Bool, true, false, cond, not, ◌&&◌, ◌||◌, eqb, List, [], ◌∷◌, ◌++◌, length, drop, take, Some, Result, Ok, Err, refl, sym, ap, ◌∙◌, arith, eq-eqb, eqb-true, inl, inr}
+use Rattle.std.specs.Prelude.{◌==◌, slice_index}
 use Rattle.std.proofs.lemmas.List.{drop-drop, length-drop}
 use Rattle.std.proofs.Math.Seq.{drop-append_seam}
-use Rattle.std.proofs.lemmas.Bool.{cases_lt, cases_Bool, lt-ltb}
-use Rattle.std.specs.List.{prefix_len, flat_map}
+use Rattle.std.proofs.lemmas.Bool.{cases_Bool, lt-ltb}
+use Rattle.std.specs.List.{prefix_len}
 use Rattle.model_spelling.specs.declared.scan_fault.ScanFault.{ScanFault}
-use Rattle.model_spelling.specs.declared.scan_fault.ScanWhat.TheVariants.{BadChar, BadTag, BadAttribute, BadReference, Doctype, UnclosedComment, UnclosedTag, UnclosedRaw, TooManyAttributes, DuplicateAttribute}
-use Rattle.model_spelling.specs.Grammar.{is_barred, is_letter, is_name_byte, is_tag_name, is_plaintext, is_void, begins_with, references, starts_reference, has_name, Attr, attr_text, Token, Start, End, Comment, comment_close, end_text}
-use Rattle.model_spelling.specs.Reading.{◌>>=◌, fault, refused, longest_front, behind_front, reference_fault, run_end, value_end, verbatim_end, name_len_at, quote_at, head_at, attr_at, attrs_at, name_ends, tag_close, start_after, with_name, start_at, end_after, end_at, comment_at, is_doctype, dash_at, markup_at, tag_at, some_token, between_at, token_at, After}
-use Rattle.model_spelling.specs.Standing.{is_open, is_doctype_front, passes_reference, stands}
+use Rattle.model_spelling.specs.declared.scan_fault.ScanWhat.TheVariants.{BadChar, BadTag, BadAttribute, BadReference, UnclosedComment, UnclosedTag, TooManyAttributes, DuplicateAttribute}
+use Rattle.model_spelling.specs.Grammar.{is_barred, is_letter, is_name_byte, is_plaintext, is_void, begins_with, references, starts_reference, has_name, Attr, Start, End, Comment, comment_close}
+use Rattle.model_spelling.specs.Reading.{◌>>=◌, fault, refused, longest_front, behind_front, reference_fault, run_end, value_end, verbatim_end, name_len_at, quote_at, head_at, attr_at, attrs_at, name_ends, tag_close, start_after, with_name, start_at, end_after, end_at, comment_at, dash_at}
+use Rattle.model_spelling.specs.Standing.{is_open, passes_reference, stands}
 use Rattle.model_spelling.proofs.AttrReading.{attr_head_fault, attr_many, attr_twice, attr_value_fault, attr_whole, attrs_stop, attrs_fault, attrs_more}
 use Rattle.model_spelling.proofs.Stays.{err, err_same, fault_ways, past_one}
-use Rattle.model_spelling.proofs.StaysTags.{markup_fault, markup_is}
-use Rattle.model_spelling.proofs.StaysTokens.{token_fails, text_fails, as_text, raw_never}
-use Rattle.model_spelling.proofs.Only.{both, attr_regrouped}
-use Rattle.model_spelling.proofs.FoundTokens.{after_fails, after_fails_attrs, after_fails_close, after_is, start_is, comment_fails, comment_is, raw_fails}
-use Rattle.model_spelling.proofs.Found.{not_ok, split, named_as, pair_of, quoted, head_as, attr_found, attrs_found}
+use Rattle.model_spelling.proofs.Only.{both}
+use Rattle.model_spelling.proofs.FoundTokens.{after_fails, after_fails_attrs, after_fails_close, after_is, start_is, comment_fails, comment_is}
+use Rattle.model_spelling.proofs.Found.{not_ok, split, named_as, pair_of, quoted, head_as, attr_found}
 
 -- of the unclosed kinds, or none of the text's end
 abbrev pub settled : List ℕ → ScanFault → Bool

@@ -2,12 +2,12 @@
 use Rattle.std.proofs.Common.{◌≡◌, ℕ, List, [], ◌∷◌, Option, Some, None, refl, Bool, true, false, map}
 use Rattle.std.specs.Prelude.{codes}
 use Rattle.std.specs.List.{repeat}
-use Rattle.model_spelling.specs.declared.scan_fault.ScanWhat.TheVariants.{Doctype}
+use Rattle.model_spelling.specs.declared.scan_fault.ScanWhat.TheVariants.{BadReference, BadTag, Doctype}
 use Rattle.model_spelling.specs.Grammar.{is_letter, is_plaintext, is_same_name, is_barred, begins_with, is_void, is_raw, starts_reference}
 use Rattle.model_spelling.specs.Reading.{fault, reference_fault, run_end, verbatim_end, head_at, attr_at, attrs_at, start_after, end_at, comment_at, is_doctype, dash_at, markup_at, start_at, tag_at, between_at, token_at}
 use Rattle.model_spelling.specs.Tokens.{tokens_from}
 use Rattle.model_spelling.specs.Faults.{ForestFault, Scan, fault_of}
-use Rattle.model_spelling.specs.Standing.{forest_stands}
+use Rattle.model_spelling.specs.Standing.{forest_stands, is_left_open}
 
 -- whether the first fault of a text stands
 abbrev fault_stands : List ℕ → Option ForestFault → Option Bool
@@ -61,3 +61,13 @@ gone_on :
     ≡ None ∷ None ∷ None ∷ None ∷ None ∷ Some (Scan (fault 0 Doctype)) ∷ []
 unfolding fault_of tokens_from token_at between_at tag_at start_at markup_at dash_at is_doctype comment_at end_at start_after attrs_at attr_at head_at verbatim_end run_end reference_fault starts_reference is_letter is_plaintext is_same_name is_barred begins_with is_void is_raw
 gone_on = refl
+
+abbrev left_open : List ℕ → Bool
+left_open text = is_left_open (fault_of text)
+
+-- faults that the end cuts, and what is left open where more follows
+completed :
+    (map fault_of (codes "a&am" ∷ codes "<p>a&am" ∷ codes "<!d" ∷ []) ≡ Some (Scan (fault 1 BadReference)) ∷ Some (Scan (fault 4 BadReference)) ∷ Some (Scan (fault 0 BadTag)) ∷ [])
+    × (map left_open (codes "a&amp;" ∷ codes "<p>a&amp;" ∷ codes "a&am" ∷ codes "<p>a&ax;" ∷ codes "<p" ∷ codes "</p>" ∷ codes "<!doctype" ∷ []) ≡ true ∷ true ∷ false ∷ false ∷ false ∷ false ∷ false ∷ [])
+unfolding fault_of tokens_from token_at between_at tag_at start_at markup_at dash_at is_doctype comment_at end_at start_after attrs_at attr_at head_at verbatim_end run_end reference_fault starts_reference is_letter is_plaintext is_same_name is_barred begins_with is_void is_raw
+completed = (refl, refl)

@@ -65,3 +65,7 @@ PartsAreThePage = (page : List ℕ) (p : Parts) → parts page ≡ Ok p → p.he
 -- What is found as the body of a whole page is its body.
 abbrev pub BodyIsFound : Type 0
 BodyIsFound = (page : List ℕ) (from to : ℕ) → is_whole page ≡ true → body_at page ≡ Ok (from, to) → IsBody page from to
+
+-- What is its body in these words is found; so a whole page has at most one body.
+abbrev pub BodyIsOnly : Type 0
+BodyIsOnly = (page : List ℕ) (from to : ℕ) → is_whole page ≡ true → IsBody page from to → body_at page ≡ Ok (from, to)

@@ -1,6 +1,6 @@
 // The laws of the spelling of a page: they speak of the definitions alone.
 ghost use Rattle.model_spelling.specs.Canonical.{WritesRight, CanWrite};
-ghost use Rattle.model_spelling.specs.Laws.{ReadIsSpelled, SpelledIsRead, RawReadIsSpelled, RawSpelledIsRead, EmptyRawIsNoToken, FaultlessIsSpelled, SpelledIsFaultless, OneForestSpells, SpellingIsReadBack, ReadForestSpells, BodyInside, PartsAreThePage, BodyIsFound};
+ghost use Rattle.model_spelling.specs.Laws.{ReadIsSpelled, SpelledIsRead, RawReadIsSpelled, RawSpelledIsRead, EmptyRawIsNoToken, FaultlessIsSpelled, SpelledIsFaultless, OneForestSpells, SpellingIsReadBack, ReadForestSpells, BodyInside, PartsAreThePage, BodyIsFound, BodyIsOnly};
 ghost use Rattle.model_spelling.specs.Standing.{FaultStands, UnclosedGoes, StandsOrGoes, CutReferenceGoes, CutDoctypeGoes};
 ghost use Rattle.model_spelling.specs.Utf8.{DecodesUtf8, ForestUtf8};
 
@@ -41,12 +41,13 @@ pub fn canonical_laws()
     ensures can_write { CanWrite }
 {}
 
-/// The body of a page lies in it, the three parts are the page, and in a whole page the body is what stands between its first body start tag and the last `</body>` behind that.
+/// The body of a page lies in it, the three parts are the page, and in a whole page the body is what stands between its first body start tag and the last `</body>` behind that, and nothing else.
 #[tactic(auto, using(crate::proofs::Proved::law_body_inside, crate::proofs::Proved::law_parts_are_the_page, crate::proofs::Proved::law_body_is_found))]
 pub fn page_laws()
     ensures inside { BodyInside }
     ensures parts { PartsAreThePage }
     ensures found { BodyIsFound }
+    ensures only { BodyIsOnly }
 {}
 
 /// What is decoded from a UTF-8 text, and each node of it, is UTF-8.
