@@ -1,0 +1,13 @@
+pub mod ReplayLemmas
+pub mod RevertLemmas
+pub mod JoinedLemmas
+pub mod StoreLemmas
+pub mod PerformLemmas
+pub mod NeedLemmas
+pub mod AcceptLemmas
+pub mod ChainLemmas
+pub mod SiteLemmas
+pub mod MemberLemmas
+pub mod SessionLemmas
+pub mod ServeLemmas
+pub mod LawLemmas

@@ -1,0 +1,89 @@
+-- The laws of sites and server, over every list of events.
+use Rattle.std.specs.Prelude.{◌≡◌, ◌<◌, ℕ, Bool, true, false, List, [], ◌∷◌, length, take, slice_get, Some, Ok}
+use Rattle.model_items.specs.declared.plain_item.PlainItem.{PlainItem}
+use Rattle.model_change.specs.Transaction.{Transaction}
+use Rattle.model_change.specs.Store.{cited}
+use Rattle.model_change.specs.Join.{join_list}
+use Rattle.model_change.specs.Replay.{replay, AllRun, reversal, flattened, entry_at, made_before, made_after}
+use Rattle.model_site.specs.Replica.{Replica}
+use Rattle.model_site.specs.Entries.{Parcel}
+use Rattle.model_site.specs.Site.{Site, pending, entries_of, revoke_entry}
+use Rattle.model_site.specs.Joined.{Joined, join_entries}
+use Rattle.model_site.specs.Session.{Feed, Ack, Member, Session, started}
+use Rattle.model_site.specs.Events.{Event, Undo, Redo, run}
+use Rattle.model_site_law.specs.Sound.{Sound, AllIn, Opens}
+use Rattle.model_site_law.specs.MayHappen.{AllMayHappen}
+
+-- Entries over one foreign entry, as they are joined: those kept run after it, it runs, joined, after those kept, and one list comes of both.
+pub record AreJoined (foreign : Parcel) (entries : List Parcel) (items : List PlainItem) (j : Joined) : Type 0 where
+  pub kept_run : AllRun (flattened j.kept) (replay foreign items)
+  pub committed_run : AllRun j.committed (replay (flattened (take (length j.kept) entries)) items)
+  pub one_list : replay j.committed (replay (flattened (take (length j.kept) entries)) items) ≡ replay (flattened j.kept) (replay foreign items)
+
+abbrev pub EntriesJoin : Type 0
+EntriesJoin = (foreign : Parcel) (entries : List Parcel) (items : List PlainItem) → Sound items → AllRun foreign items → AllRun (flattened entries) items →
+    AreJoined foreign entries items (join_entries foreign entries)
+
+-- what holds of a base, the session and one of its members, whatever happened
+abbrev pub Always : ((base : Replica) (w : Session) (m : Member) → Type 0) → Type 0
+Always P = (base : Replica) (sites : ℕ) (events : List Event) (k : ℕ) (m : Member) → Opens base → AllMayHappen (started base sites) events →
+    slice_get (run (started base sites) events).members k ≡ Some m → P base (run (started base sites) events) m
+
+-- A site's list is the replay of the committed entries that it has seen, then of those sent, and then of those unsent.
+abbrev pub ListIsReplay : Type 0
+ListIsReplay = Always (λ base w m. m.site.replica.items ≡ replay (flattened (entries_of w.committed m.site)) base.items)
+
+-- Each of these is reduced, applies to what those before it give, leaves a lawful list, and can be undone.
+abbrev pub EntriesRun : Type 0
+EntriesRun = Always (λ base w m. AllRun (flattened (entries_of w.committed m.site)) base.items)
+
+-- So do the committed entries, though the server asks neither.
+abbrev pub CommittedRun : Type 0
+CommittedRun = (base : Replica) (sites : ℕ) (events : List Event) → Opens base → AllMayHappen (started base sites) events →
+    AllRun (flattened (run (started base sites) events).committed) base.items
+
+abbrev pub ListIsSound : Type 0
+ListIsSound = Always (λ base w m. Sound m.site.replica.items)
+
+-- The number acknowledged is the number of entries that the site still holds as sent when it takes the answer.
+abbrev pub AckCounts : Type 0
+AckCounts = Always (λ base w m. (accepted : ℕ) (later : List Feed) → m.feeds ≡ Ack accepted ∷ later → accepted ≡ length m.site.sent)
+
+-- Sites that have seen as much, and have nothing pending, have one list.
+abbrev pub OneList : Type 0
+OneList = (base : Replica) (sites : ℕ) (events : List Event) (k l : ℕ) (m n : Member) → Opens base → AllMayHappen (started base sites) events →
+    slice_get (run (started base sites) events).members k ≡ Some m → slice_get (run (started base sites) events).members l ≡ Some n →
+    m.site.seen ≡ n.site.seen → pending m.site ≡ [] → pending n.site ≡ [] → m.site.replica.items ≡ n.site.replica.items
+
+-- Every value that a site's list cites is in its store.
+abbrev pub StoreHolds : Type 0
+StoreHolds = Always (λ base w m. AllIn m.site.replica.store (cited m.site.replica.items))
+
+-- A site's list after it took entry i back: the one that the later entries give without it, joined over its reversal.
+pub record IsWithout (entries : List Parcel) (i : ℕ) (base now : List PlainItem) : Type 0 where
+  pub later : List Transaction
+  pub back : List Transaction
+  pub joined : join_list (made_after entries i) (reversal (entry_at entries i)) ≡ Ok (later, back)
+  pub run : AllRun later (replay (made_before entries i) base)
+  pub list : now ≡ replay later (replay (made_before entries i) base)
+
+abbrev pub RevokeLeavesOut : Type 0
+RevokeLeavesOut = Always (λ base w m. (i : ℕ) (next : Site) → i < length (entries_of w.committed m.site) → revoke_entry w.committed i m.site ≡ Ok next →
+    IsWithout (entries_of w.committed m.site) i base.items next.replica.items)
+
+-- A site that has taken nothing and has nothing pending has the first list and the first store.
+abbrev pub UndoneIsFirst : Type 0
+UndoneIsFirst = Always (λ base w m. m.site.seen ≡ 0 → pending m.site ≡ [] → (m.site.replica.items ≡ base.items) × (m.site.replica.store ≡ base.store))
+
+-- undoing and redoing at one site
+abbrev pub turns : ℕ → List Bool → List Event
+turns k [] = []
+turns k (true ∷ more) = Undo k ∷ turns k more
+turns k (false ∷ more) = Redo k ∷ turns k more
+
+-- A site that has taken nothing and has nothing undone undoes and redoes, in any order, until nothing is undone again: its list and its store are as before.
+abbrev pub RedoneIsAsBefore : Type 0
+RedoneIsAsBefore = (base : Replica) (sites : ℕ) (events : List Event) (k : ℕ) (m n : Member) (order : List Bool) → Opens base → AllMayHappen (started base sites) events →
+    slice_get (run (started base sites) events).members k ≡ Some m → m.site.seen ≡ 0 → m.site.undone ≡ [] →
+    slice_get (run (run (started base sites) events) (turns k order)).members k ≡ Some n → n.site.undone ≡ [] →
+    (n.site.replica.items ≡ m.site.replica.items) × (n.site.replica.store ≡ m.site.replica.store)

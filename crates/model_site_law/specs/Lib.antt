@@ -1,0 +1,7 @@
+pub mod Sound
+pub mod MayHappen
+pub mod Laws
+pub mod Chain
+pub mod Holds
+pub mod Protocol
+pub mod KeptLaws
