@@ -1,3 +1,4 @@
 pub mod NormalLemmas
 pub mod RangeLemmas
 pub mod TurnedLemmas
+pub mod EndsLemmas

@@ -12,3 +12,5 @@ pub mod Normal
 pub mod Range
 pub mod Turned
 pub mod Entry
+pub mod Cites
+pub mod Ends

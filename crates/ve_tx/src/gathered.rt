@@ -1,5 +1,6 @@
 // Operations as they are put together.
 ghost use Rattle.std.specs.Prelude.{◌≡◌, ◌≤◌, ◌++◌, ◌∷◌, [], None, IfOk, OnOk, vec_len};
+ghost use Rattle.ve_tx.specs.Ends.{retain_of};
 ghost use Rattle.ve_tx.specs.Operation.{with_position, with_positions};
 ghost use Rattle.ve_tx.specs.Turned.{inserted_at};
 
@@ -39,6 +40,29 @@ impl Gathered {
         Ok(())
     }
 
+    /// Puts an operation behind the others.
+    pub fn push(&mut self, op: Op, kept: Option<usize>) -> Result<(), Memory>
+        requires even { vec_len self.old.ops ≡ vec_len self.old.kept }
+        ensures even { OnOk result (vec_len self.new.ops ≡ vec_len self.new.kept) }
+        ensures ok { OnOk result (with_positions self.new.ops.items self.new.kept.items ≡ with_positions self.old.ops.items self.old.kept.items ++ with_position op kept ∷ []) }
+    {
+        self.ops.push(op)?;
+        self.kept.push(kept)?;
+        Ok(())
+    }
+
+    /// Puts a retain behind the others; one of nothing is left out.
+    pub fn retain(&mut self, count: usize) -> Result<(), Memory>
+        requires even { vec_len self.old.ops ≡ vec_len self.old.kept }
+        ensures even { OnOk result (vec_len self.new.ops ≡ vec_len self.new.kept) }
+        ensures ok { OnOk result (with_positions self.new.ops.items self.new.kept.items ≡ with_positions self.old.ops.items self.old.kept.items ++ retain_of count) }
+    {
+        if count > 0 {
+            self.push(Op::Retain(count), None)?;
+        }
+        Ok(())
+    }
+
     /// Puts an operation that keeps no position behind the others. The result is how many there are then.
     pub fn append(&mut self, op: Op) -> Result<usize, Memory>
         requires even { vec_len self.old.ops ≡ vec_len self.old.kept }
@@ -46,8 +70,7 @@ impl Gathered {
         ensures len { IfOk result (λ len. len ≡ vec_len self.new.ops) }
         ensures ok { OnOk result (with_positions self.new.ops.items self.new.kept.items ≡ with_positions self.old.ops.items self.old.kept.items ++ with_position op None ∷ []) }
     {
-        self.ops.push(op)?;
-        self.kept.push(None)?;
+        self.push(op, None)?;
         Ok(self.ops.len())
     }
 }

@@ -26,7 +26,8 @@ fn undoing(alloc: Global, op: &Op) -> Result<Op, Memory>
     }
 }
 
-fn position_at(kept: &[Option<usize>], i: usize) -> Option<usize>
+/// The position beside an operation; none where there is none beside it.
+pub fn position_at(kept: &[Option<usize>], i: usize) -> Option<usize>
     ensures { result ≡ slice_index_or kept.now i None }
 {
     if i < kept.len() { kept[i] } else { None }

@@ -1,12 +1,14 @@
 // Transactions in normal form.
-ghost use Rattle.std.specs.Prelude.{◌≡◌, map, is_ok, IfOk, IfErr};
+ghost use Rattle.std.specs.Prelude.{◌≡◌, true, map, is_ok, IfOk, IfErr};
 ghost use Rattle.model_change.specs.Attributes.{AllNamesApart};
 ghost use Rattle.model_change.specs.Fault.{Applies};
 ghost use Rattle.model_change.specs.Inverse.{inverse, IsRestorable, IsUndoneBy};
-ghost use Rattle.model_change.specs.Join.{active_range};
+ghost use Rattle.model_change.specs.Join.{active_range, core, with_ends};
 ghost use Rattle.model_change.specs.Transaction.{is_normal};
+ghost use Rattle.ve_tx.specs.Cites.{TxCites};
 ghost use Rattle.ve_tx.specs.Operation.{unkept, bare, by_value};
 
+use crate::ends::with_ends;
 use crate::inverse::inverted;
 use crate::normal::is_normal;
 use crate::op::copy_all;
@@ -89,6 +91,26 @@ impl Transaction {
         Ok(Transaction {
             ops: back.ops,
             kept: back.kept,
+        })
+    }
+
+    /// The same operations between a first retain of `first` and a last retain of `last` items, in place of those that
+    /// it has; a retain of 0 is left out. All positions are kept.
+    pub fn with_ends(&self, alloc: Global, first: usize, last: usize) -> Result<Transaction, Memory>
+        requires normal { (values : _) → is_normal (with_ends first (core (by_value values self.now)) last) ≡ true }
+        ensures ends { IfOk result (λ tx. (values : _) → by_value values tx ≡ with_ends first (core (by_value values self.now)) last) }
+        ensures cites { IfOk result (λ tx. (values : _) → TxCites values self.now → TxCites values tx) }
+    {
+        let made = with_ends(
+            alloc,
+            first,
+            self.ops.as_slice(),
+            self.kept.as_slice(),
+            last,
+        )?;
+        Ok(Transaction {
+            ops: made.ops,
+            kept: made.kept,
         })
     }
 
