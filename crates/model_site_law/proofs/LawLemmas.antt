@@ -3,6 +3,7 @@ use Rattle.std.proofs.Common.{◌≡◌, ℕ, List, [], ◌∷◌, ◌++◌, tak
 use Rattle.model_items.specs.declared.plain_item.PlainItem.{PlainItem}
 use Rattle.model_change.specs.Join.{Clash}
 use Rattle.model_change.specs.Replay.{AllRun, flattened, made_before, replay, revoke}
+use Rattle.model_change.specs.Store.{cited}
 use Rattle.model_change.specs.Transaction.{Transaction}
 use Rattle.model_change.proofs.ReversalLaw.{revoke_takes_back}
 use Rattle.model_site.specs.Entries.{parcels}
@@ -11,7 +12,7 @@ use Rattle.model_site.specs.Replica.{Replica}
 use Rattle.model_site.specs.Session.{Feed, Member, Session, serve_first, started, take_first}
 use Rattle.model_site.specs.Site.{Site, Submission, entries_of, redo, revoke_by, revoke_entry, send, undo, with_entry}
 use Rattle.model_site_law.specs.KeptLaws.{HoldsAtFirst}
-use Rattle.model_site_law.specs.Laws.{AckCounts, CommittedRun, EntriesRun, IsWithout, ListIsReplay, ListIsSound, OneList, RevokeLeavesOut, StoreHolds}
+use Rattle.model_site_law.specs.Laws.{AckCounts, CommittedRun, EntriesRun, FirstReplicaOpens, IsWithout, ListIsReplay, ListIsSound, OneList, RevokeLeavesOut, StoreHolds}
 use Rattle.model_site_law.specs.MayHappen.{AllMayHappen}
 use Rattle.model_site_law.specs.Protocol.{MemberHolds, SessionHolds}
 use Rattle.model_site_law.specs.Sound.{Opens, Sound}
@@ -21,6 +22,7 @@ use Rattle.model_site_law.proofs.RevertLemmas.{items_performed}
 use Rattle.model_site_law.proofs.ServeLemmas.{run_holds, start_holds}
 use Rattle.model_site_law.proofs.SessionLemmas.{every_get, seen_runs}
 use Rattle.model_site_law.proofs.SiteLemmas.{entries_run, list_is}
+use Rattle.model_site_law.proofs.StoreLemmas.{fill_has}
 
 -- ---- the base stays
 
@@ -138,3 +140,6 @@ revoke_leaves_out base sites events k m opens may e i next inside done =
 
 pub holds_at_first : HoldsAtFirst
 holds_at_first base sites opens = start_holds base sites opens.sound opens.stored
+
+pub first_replica_opens : FirstReplicaOpens
+first_replica_opens items sound = record { sound = sound; stored = fill_has [] (cited items) }

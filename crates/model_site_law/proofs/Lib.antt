@@ -11,3 +11,6 @@ pub mod MemberLemmas
 pub mod SessionLemmas
 pub mod ServeLemmas
 pub mod LawLemmas
+pub mod FreshLemmas
+pub mod FreshSessionLemmas
+pub mod RedoLemmas

@@ -5,7 +5,7 @@ use Rattle.model_change.specs.Transaction.{Transaction}
 use Rattle.model_change.specs.Store.{cited}
 use Rattle.model_change.specs.Join.{join_list}
 use Rattle.model_change.specs.Replay.{replay, AllRun, reversal, flattened, entry_at, made_before, made_after}
-use Rattle.model_site.specs.Replica.{Replica}
+use Rattle.model_site.specs.Replica.{Replica, opened_with}
 use Rattle.model_site.specs.Entries.{Parcel}
 use Rattle.model_site.specs.Site.{Site, pending, entries_of, revoke_entry}
 use Rattle.model_site.specs.Joined.{Joined, join_entries}
@@ -13,6 +13,10 @@ use Rattle.model_site.specs.Session.{Feed, Ack, Member, Session, started}
 use Rattle.model_site.specs.Events.{Event, Undo, Redo, run}
 use Rattle.model_site_law.specs.Sound.{Sound, AllIn, Opens}
 use Rattle.model_site_law.specs.MayHappen.{AllMayHappen}
+
+-- The replica that a sound list is opened with is one of those of which the laws speak.
+abbrev pub FirstReplicaOpens : Type 0
+FirstReplicaOpens = (items : List PlainItem) → Sound items → Opens (opened_with items)
 
 -- Entries over one foreign entry, as they are joined: those kept run after it, it runs, joined, after those kept, and one list comes of both.
 pub record AreJoined (foreign : Parcel) (entries : List Parcel) (items : List PlainItem) (j : Joined) : Type 0 where

@@ -5,7 +5,7 @@
 //! attributes of one name; what is taken back is to be seen; all else may happen at any time. No limit on items or values is among the premises.
 #![tactic(auto)]
 
-ghost use Rattle.model_site_law.specs.Laws.{AckCounts, CommittedRun, EntriesJoin, EntriesRun, ListIsReplay, ListIsSound, OneList, RevokeLeavesOut, StoreHolds};
+ghost use Rattle.model_site_law.specs.Laws.{AckCounts, CommittedRun, EntriesJoin, EntriesRun, FirstReplicaOpens, ListIsReplay, ListIsSound, OneList, RedoneIsAsBefore, RevokeLeavesOut, StoreHolds, UndoneIsFirst};
 ghost use Rattle.model_site_law.specs.KeptLaws.{EventsKeep, HoldsAtFirst};
 
 /// Entries joined over a foreign one, up to the first conflict: those kept run after it, it runs, joined, after those kept, and either way gives one
@@ -33,14 +33,22 @@ pub fn sites_meet()
     ensures { OneList }
 {}
 
-/// A site's store has every value that its list cites, also after an undo that follows a take.
+/// A site's store has every value that its list cites, also after an undo that follows a take. The store that a list is opened with has them.
 pub fn stores_hold()
-    ensures { StoreHolds }
+    ensures first { FirstReplicaOpens }
+    ensures always { StoreHolds }
 {}
 
 /// After an entry is taken back the list is the one that the later entries give without it, joined over its reversal.
 pub fn revokes_leave_out()
     ensures { RevokeLeavesOut }
+{}
+
+/// A site that has taken nothing and has nothing pending has its first list and its first store. One that has taken nothing and has nothing undone
+/// may undo and redo, in any order; once nothing is undone again, its list and its store are as before.
+pub fn undo_gives_back()
+    ensures undone { UndoneIsFirst }
+    ensures redone { RedoneIsAsBefore }
 {}
 
 /// What always holds of sites, queues and server together, in the terms that the code keeps: it holds at first, and each event keeps it.

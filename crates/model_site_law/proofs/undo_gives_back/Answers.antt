@@ -1,0 +1,9 @@
+use Rattle.model_site_law.proofs.FreshSessionLemmas.{undone_is_first}
+use Rattle.model_site_law.proofs.RedoLemmas.{redone_is_as_before}
+use Rattle.model_site_law.proofs.undo_gives_back.Goals as goal
+
+pub returns-clause-undone : goal.returns-clause-undone
+returns-clause-undone c = undone_is_first
+
+pub returns-clause-redone : goal.returns-clause-redone
+returns-clause-redone c = redone_is_as_before
