@@ -1,19 +1,25 @@
 //! Edits as values: transactions of retain, replace and attribute operations along a list of items.
 #![tactic(auto)]
 
+mod draft;
 mod ends;
 mod entry;
 mod gathered;
 mod inverse;
 mod normal;
 mod op;
+mod parcel;
 mod range;
 #[cfg(test)]
 mod tests;
 mod transaction;
 mod tx_list;
+mod value_list;
 
+pub use draft::Draft;
 pub use entry::{Entry, EntryList};
 pub use op::{Op, OpList};
+pub use parcel::{Parcel, ParcelList};
 pub use transaction::Transaction;
 pub use tx_list::TxList;
+pub use value_list::ValueList;
