@@ -26,3 +26,4 @@ mod ReplayExamples
 mod StoreExamples
 mod TouchExamples
 pub mod TouchLemmas
+pub mod BroughtLemmas

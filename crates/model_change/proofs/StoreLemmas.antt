@@ -12,7 +12,7 @@ use Rattle.model_items.specs.Plain.{AreDistinct}
 contains_first : (v : Value) (vs : List Value) → Contains (v ∷ vs) v
 contains_first v vs = (0, omega arith, refl)
 
-contains_none : (v : Value) → ¬ Contains [] v
+pub contains_none : (v : Value) → ¬ Contains [] v
 contains_none v within = absurd (let below = within.1 in omega arith)
 
 contains_one : (v w : Value) → Contains (v ∷ []) w → v ≡ w

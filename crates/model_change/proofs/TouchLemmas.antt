@@ -24,7 +24,7 @@ pub nodes_are_counted : NodesAreCounted
 nodes_are_counted items = ap suc (count-nodes_from (tree_of items) TheRoot 0)
 
 -- an item of a list in two parts
-get-behind : (xs ys : List PlainItem) (i : ℕ) → slice_get (xs ++ ys) (length xs + i) ≡ slice_get ys i
+pub get-behind : (xs ys : List PlainItem) (i : ℕ) → slice_get (xs ++ ys) (length xs + i) ≡ slice_get ys i
 get-behind [] ys i = ap (slice_get ys) (omega arith)
 get-behind (x ∷ xs) ys i = let e : suc (length xs) + i ≡ suc (length xs + i) = omega arith in ap (slice_get (x ∷ (xs ++ ys))) e ∙ get-behind xs ys i
 
@@ -59,7 +59,7 @@ record StandsAt (new : List PlainItem) (to : ℕ) (old : PlainItem) : Type 0 whe
   shape : shape_of item ≡ shape_of old
 
 -- in a list that begins with part of another
-get-take-append : (n : ℕ) (xs ys : List PlainItem) (i : ℕ) → i < n → i < length xs → slice_get (take n xs ++ ys) i ≡ slice_get xs i
+pub get-take-append : (n : ℕ) (xs ys : List PlainItem) (i : ℕ) → i < n → i < length xs → slice_get (take n xs ++ ys) i ≡ slice_get xs i
 get-take-append zero xs ys i h k = absurd (omega arith)
 get-take-append (suc n) [] ys i h k = absurd (omega arith)
 get-take-append (suc n) (x ∷ xs) ys zero h k = refl

@@ -1,5 +1,5 @@
 -- The values that items cite, and the list of distinct values that changes fill.
-use Rattle.std.specs.Prelude.{◌≡◌, ℕ, Bool, true, false, if◌then◌else◌, List, [], ◌∷◌, ◌++◌, length, drop, flat_map, Contains}
+use Rattle.std.specs.Prelude.{◌≡◌, ℕ, ◌≤◌, Bool, true, false, if◌then◌else◌, List, [], ◌∷◌, ◌++◌, length, drop, flat_map, slice_get, Some, Contains, ◌⊎◌, ◌↔◌}
 use Rattle.std.specs.List.{list_any}
 use Rattle.ve_base.specs.declared.head.Head.{Head}
 use Rattle.ve_base.specs.declared.marks.Mark.{Mark}
@@ -10,8 +10,8 @@ use Rattle.model_items.specs.declared.plain_item.PlainItem.{PlainItem}
 use Rattle.model_items.specs.declared.plain_item.PlainItem.TheVariants.{Char, Opening, Closing}
 use Rattle.model_items.specs.Plain.{AreDistinct}
 use Rattle.model_items.specs.Same.{head_same, value_same}
-use Rattle.model_change.specs.Attributes.{item_changed}
-use Rattle.model_change.specs.Transaction.{Retain, Replace, Attribute, Transaction, on_first, all_inserted}
+use Rattle.model_change.specs.Attributes.{AttrChange, item_changed}
+use Rattle.model_change.specs.Transaction.{Retain, Replace, Attribute, Transaction, on_first, all_inserted, old_length, new_length, edited, is_reduced}
 
 -- what is empty cites no value
 abbrev pub white_cited : List ℕ → List Value
@@ -65,6 +65,34 @@ changed_heads = heads_from false
 -- what performing a transaction on a list fills the values with: what its inserted items cite, and then the changed heads
 abbrev pub brought : Transaction → List PlainItem → List Value
 brought t items = cited (all_inserted t) ++ changed_heads t items
+
+-- The value is cited by an item that the transaction inserts.
+abbrev pub IsInserted : Transaction → Value → Type 0
+IsInserted t v = (item : PlainItem) × Contains (all_inserted t) item × Contains (cited_by item) v
+
+-- what the head of an item cites
+abbrev pub cited_head : PlainItem → List Value
+cited_head (Opening kind head marks pre origin generated) = head_cited head
+cited_head (Char c marks) = []
+cited_head (Closing kind pre) = []
+
+-- The value is the head that an opening has in the new list, of which an attribute operation speaks. It stands behind what the operations before that one give.
+pub record IsChangedHead (t : Transaction) (items : List PlainItem) (v : Value) : Type 0 where
+  pub before : Transaction
+  pub change : AttrChange
+  pub after : Transaction
+  pub parts : t ≡ before ++ Attribute change ∷ after
+  pub opening : PlainItem
+  pub there : slice_get (edited t items) (new_length before) ≡ Some opening
+  pub cites : Contains (cited_head opening) v
+
+-- The changed heads are the heads in the new list of the openings whose attributes it changes, and no others.
+abbrev pub HeadsAreChanged : Type 0
+HeadsAreChanged = (t : Transaction) (items : List PlainItem) (v : Value) → is_reduced t ≡ true → old_length t ≤ length items → Contains (changed_heads t items) v ↔ IsChangedHead t items v
+
+-- What a transaction brings is what its inserted items cite, and these heads, and nothing else.
+abbrev pub BroughtIsNew : Type 0
+BroughtIsNew = (t : Transaction) (items : List PlainItem) (v : Value) → is_reduced t ≡ true → old_length t ≤ length items → Contains (brought t items) v ↔ (IsInserted t v ⊎ IsChangedHead t items v)
 
 -- Filling appends values, each one of those that were to be put in, and then all of these are there; distinct values stay distinct.
 pub record IsFilled (values vs filled : List Value) : Type 0 where

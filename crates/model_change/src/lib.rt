@@ -10,7 +10,7 @@ ghost use Rattle.model_change.specs.Fault.{FaultIsFirst, FaultIsOnly, GivesNewLe
 ghost use Rattle.model_change.specs.Inverse.{InverseUndoes, InverseIsReduced, InverseIsNormal, FillingIsNeutral};
 ghost use Rattle.model_change.specs.Join.{OnlyActiveChanges, ConflictIsSymmetric, JoinsAgree, JoinsLawful, JoinsReduced, JoinsLengths, JoinsNormal, JoinsRestorable, JoinsApart};
 ghost use Rattle.model_change.specs.Replay.{JoinListsAgree, JoinListsWithin, ReversalUndoes, RevokeTakesBack, RevokeOfLast, RevokeIsWithin};
-ghost use Rattle.model_change.specs.Store.{FillAppends};
+ghost use Rattle.model_change.specs.Store.{FillAppends, HeadsAreChanged, BroughtIsNew};
 ghost use Rattle.model_change.specs.Touch.{NodesAreCounted, RetainedStays};
 
 mod tx_fault;
@@ -75,9 +75,12 @@ pub fn histories_agree()
     ensures short { RevokeIsWithin }
 {}
 
-/// Filling a list of values appends those that are new, each once, and then holds all of them.
+/// Filling a list of values appends those that are new, each once, and then holds all of them. What a reduced transaction brings, on a list that
+/// is long enough, is what its inserted items cite, and the heads in the new list of the openings whose attributes it changes, and nothing else.
 pub fn values_are_filled()
-    ensures { FillAppends }
+    ensures filled { FillAppends }
+    ensures heads { HeadsAreChanged }
+    ensures brought { BroughtIsNew }
 {}
 
 /// Touched nodes are found by retained places: what is retained stands at its new place as it was but for attributes, and the inverse leads
