@@ -1,4 +1,5 @@
 mod IsTreeExamples
+pub mod LentLemmas
 pub mod GrownLemmas
 pub mod ReadLemmas
 pub mod ReachedLemmas

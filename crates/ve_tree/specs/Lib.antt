@@ -1,5 +1,6 @@
 pub mod Links
 pub mod Named
 pub mod IsTree
+pub mod Lent
 pub mod Grown
 pub mod Places

@@ -1,15 +1,16 @@
 // Building the tree of a list, from the list's end to its start, so that each node is made at its end and becomes the first child of its parent.
-ghost use Rattle.std.specs.Prelude.{◌≡◌, ◌≢◌, ◌+◌, ◌*◌, ◌≤◌, ◌<◌, None, IfOk, IfSome, length};
+ghost use Rattle.std.specs.Prelude.{◌≡◌, ◌≢◌, ◌+◌, ◌*◌, ◌-◌, ◌≤◌, ◌<◌, None, IfOk, OnOk, IfSome, length};
 ghost use Rattle.model_items.specs.Law.{Lawful};
 ghost use Rattle.model_items.specs.Tree as forest;
 ghost use Rattle.ve_arena.specs.Arena.{slot_at, IsLive};
 ghost use Rattle.ve_tree.specs.IsTree.{unvalued};
 ghost use Rattle.ve_tree.specs.Grown.{IsChildless, MadeFirst, first_in, reading_from, count_from, ReadChildren, IsRunFrom};
 
+use crate::unread::Unread;
 use std::sync::ledger::Ledger;
 use ve_arena::{Arena, NodeId, NodeWhat};
 use ve_base::{Memory, Steps};
-use ve_items::{Item, Linear};
+use ve_items::Item;
 
 /// Makes a node, the first child of its parent, in at most five steps.
 fn make_first<L: Ledger>(
@@ -37,55 +38,56 @@ fn make_first<L: Ledger>(
     Ok(n)
 }
 
-/// Where the run of characters that ends at `to` begins.
-fn run_start(list: &Linear, to: usize) -> usize
-    requires { to ≤ length list.now.items }
-    ensures { IsRunFrom list.now.items result to }
+/// Passes the run of characters that comes next, and says how many they are.
+fn pass_run(rest: &mut Unread<'_>) -> usize
+    ensures items { rest.new.items ≡ rest.old.items }
+    ensures run { IsRunFrom rest.old.items rest.new.left rest.old.left }
+    ensures count { result ≡ rest.old.left - rest.new.left }
 {
-    let mut from = to;
-    while from > 0 {
-        let Item::Char { .. } = list.get(from - 1) else {
-            return from;
+    let end = rest.left();
+    'run: while rest.left() > 0 {
+        let Item::Char { .. } = rest.last() else {
+            break;
         };
-        from -= 1;
+        rest.pass();
     }
-    from
+    end - rest.left()
 }
 
-/// Reads the siblings that end at `to`, makes them the children of their parent, which has none yet, and gives the place where they begin.
+/// Reads the siblings that come next, and makes them the children of their parent, which has none yet. What is left ends with the parent's opening, or is
+/// nothing.
 pub fn read_children<L: Ledger>(
     arena: &mut Arena,
-    list: &Linear,
-    to: usize,
+    rest: &mut Unread<'_>,
     parent: NodeId,
     steps: &mut Steps<L>,
-) -> Result<usize, Memory>
+) -> Result<(), Memory>
     requires childless { IsChildless arena.old parent.0 }
-    requires within { to ≤ length list.now.items }
-    requires lawful { Lawful (unvalued list.now.items) }
-    requires begun { (reading_from list.now.items to).here ≡ forest.Empty }
-    ensures read { IfOk result (λ from. ReadChildren arena.old arena.new parent.0 list.now.items from to) }
-    ensures steps_ok { IfOk result (λ from. steps.new + 6 * count_from list.now.items to ≤ steps.old + 6 * count_from list.now.items from) }
-    ensures steps { steps.new + 6 * count_from list.now.items to ≤ steps.old + 6 * count_from list.now.items 0 }
+    requires within { rest.old.left ≤ length rest.old.items }
+    requires lawful { Lawful (unvalued rest.old.items) }
+    requires begun { (reading_from rest.old.items rest.old.left).here ≡ forest.Empty }
+    ensures items { OnOk result (rest.new.items ≡ rest.old.items) }
+    ensures read { OnOk result (ReadChildren arena.old arena.new parent.0 rest.old.items rest.new.left rest.old.left) }
+    ensures steps_ok { OnOk result (steps.new + 6 * count_from rest.old.items rest.old.left ≤ steps.old + 6 * count_from rest.old.items rest.new.left) }
+    ensures steps { steps.new + 6 * count_from rest.old.items rest.old.left ≤ steps.old + 6 * count_from rest.old.items 0 }
 {
-    let mut at = to;
-    while at > 0 {
-        match list.get(at - 1) {
-            Item::Opening { .. } => return Ok(at),
+    'sibling: while rest.left() > 0 {
+        let end = rest.left();
+        match rest.last() {
+            Item::Opening { .. } => break,
             Item::Char { .. } => {
                 let run = make_first(arena, NodeWhat::Run, parent, steps)?;
-                let from = run_start(list, at);
-                arena.set_len(run, at - from, steps);
-                at = from;
+                let count = pass_run(rest);
+                arena.set_len(run, count, steps);
             }
             Item::Closing { kind, .. } => {
                 let node = make_first(arena, NodeWhat::Node(kind), parent, steps)?;
-                let from = read_children(arena, list, at - 1, node, steps)?;
-                let opening = from - 1;
-                arena.set_len(node, at - opening, steps);
-                at = opening;
+                rest.pass();
+                read_children(arena, rest, node, steps)?;
+                rest.pass(); // the opening
+                arena.set_len(node, end - rest.left(), steps);
             }
         }
     }
-    Ok(at)
+    Ok(())
 }

@@ -6,6 +6,7 @@ mod build;
 #[cfg(test)]
 mod tests;
 mod tree;
+mod unread;
 
 pub use tree::Tree;
 pub use ve_arena::{Arena, ArenaNode, NodeId, NodeWhat};

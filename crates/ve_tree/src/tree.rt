@@ -10,6 +10,7 @@ ghost use Rattle.ve_tree.specs.IsTree.{IsTree, unvalued};
 ghost use Rattle.ve_tree.specs.Places.{NodePlace, tree_places, IsNodeAt, HoldsOffset, IsInTree, sort_of, IsBranch};
 
 use crate::build::read_children;
+use crate::unread::Unread;
 use crate::{Arena, NodeId, NodeWhat};
 use std::alloc::Global;
 use std::sync::ledger::Ledger;
@@ -39,7 +40,7 @@ impl Tree {
         let mut arena = Arena::new(alloc);
         let root = arena.make(NodeWhat::Node(Kind::Root), steps)?;
         arena.set_len(root, list.len(), steps);
-        read_children(&mut arena, list, list.len(), root, steps)?;
+        read_children(&mut arena, &mut Unread::new(list), root, steps)?;
         Ok(Tree { arena, root })
     }
 

@@ -1,17 +1,25 @@
+use Rattle.std.proofs.Common.{◌≡◌, ◌≤◌, ◌+◌, ◌*◌, subst}
+use Rattle.ve_tree.specs.Grown.{ReadChildren, count_from}
 use Rattle.ve_tree.proofs.BuildLemmas.{built_is_tree, steps_built}
 use Rattle.ve_tree.proofs.tree.Tree.build.Goals as goal
 
 pub returns-in_err-read_children-clause-steps : goal.returns-in_err-read_children-clause-steps
 returns-in_err-read_children-clause-steps g c =
-    steps_built c.args.steps.now c.make.new.steps c.set_len.new.steps c.read_children.new.steps c.args.list.now.items c.len-2.result c.requires
-    c.in_ok-root.ensures.step c.set_len.ensures.step c.in_err-read_children.ensures.steps
+    steps_built c.args.steps.now c.make.new.steps c.set_len.new.steps c.read_children.new.steps c.args.list.now.items c.new.result.left c.requires
+    c.in_ok-root.ensures.step c.set_len.ensures.step
+    (subst (λ items. c.read_children.new.steps + 6 * count_from items c.new.result.left ≤ c.set_len.new.steps + 6 * count_from items 0) c.new.ensures.items
+    c.in_err-read_children.ensures.steps)
 
 pub returns-clause-tree : goal.returns-clause-tree
 returns-clause-tree g c =
-    built_is_tree c.new-arena.result c.make.new.self c.set_len.new.self c.read_children.new.arena c.in_ok-root.root c.args.list.now.items c.len.result c.len-2.result
-    c.in_ok-read_children.field-0 c.new-arena.ensures c.len.ensures c.len-2.ensures c.in_ok-root.ensures.made c.set_len.ensures.write c.in_ok-read_children.ensures.read c.requires
+    built_is_tree c.new-arena.result c.make.new.self c.set_len.new.self c.read_children.new.arena c.in_ok-root.root c.args.list.now.items c.len.result c.new.result.left
+    c.read_children.new.rest.left c.new-arena.ensures c.len.ensures c.new.ensures.left c.in_ok-root.ensures.made c.set_len.ensures.write
+    (subst (λ items. ReadChildren c.set_len.new.self c.read_children.new.arena c.in_ok-root.root.0 items c.read_children.new.rest.left c.new.result.left) c.new.ensures.items
+    c.in_ok-read_children.ensures.read) c.requires
 
 pub returns-clause-steps : goal.returns-clause-steps
 returns-clause-steps g c =
-    steps_built c.args.steps.now c.make.new.steps c.set_len.new.steps c.read_children.new.steps c.args.list.now.items c.len-2.result c.requires
-    c.in_ok-root.ensures.step c.set_len.ensures.step c.in_ok-read_children.ensures.steps
+    steps_built c.args.steps.now c.make.new.steps c.set_len.new.steps c.read_children.new.steps c.args.list.now.items c.new.result.left c.requires
+    c.in_ok-root.ensures.step c.set_len.ensures.step
+    (subst (λ items. c.read_children.new.steps + 6 * count_from items c.new.result.left ≤ c.set_len.new.steps + 6 * count_from items 0) c.new.ensures.items
+    c.in_ok-read_children.ensures.steps)
