@@ -8,12 +8,19 @@ use Rattle.model_items.specs.declared.item.Item.TheVariants.{Char, Opening, Clos
 use Rattle.model_items.specs.declared.law_fault.LawFault.{LawFault}
 use Rattle.model_items.specs.Plain.{plain}
 use Rattle.model_items.specs.Law.{State, start, finish, top, step, after}
-use Rattle.model_items.specs.Tree.{Open, opens_after}
+use Rattle.model_items.specs.declared.plain_item.PlainItem.{PlainItem}
+use Rattle.model_items.specs.Tree.{Open, opens_with, opens_after}
 use Rattle.model_items.proofs.LawLemmas.{if_ok, Ok-same, opened_before, closed_before, joined-ok, after_parts, after_from_Lawful}
 use Rattle.model_items.proofs.NodeAtLemmas.{open_is_stack}
 use Rattle.ve_tree.specs.IsTree.{unvalued}
-use Rattle.ve_tree.proofs.SeekLemmas.{opens-append}
 use Rattle.ve_offsets.specs.Unmatched.{unmatched_after, opens_at, AllBegin, UnmatchedAreOpen}
+
+opens_append : (opens : List Open) (at : ℕ) (xs ys : List PlainItem) → opens_after opens at (xs ++ ys) ≡ opens_after (opens_after opens at xs) (at + length xs) ys
+opens_append opens at [] ys = let n : at ≡ at + 0 = omega arith in ap (λ n. opens_after opens n ys) n
+opens_append opens at (x ∷ xs) ys =
+    let n : suc at + length xs ≡ at + suc (length xs) = omega arith in
+    opens_append (opens_with x at opens) (suc at) xs ys
+    ∙ ap (λ n. opens_after (opens_after (opens_with x at opens) (suc at) xs) n ys) n
 
 -- after some items, of the nodes that were open `closed` are closed, and the begun ones are open
 record Went (items : List Item) (from at : ℕ) (base begun : List Open) (closed : ℕ) : Type 0 where
@@ -82,7 +89,7 @@ unmatched_are_open items from to lawful order within =
       open_at_end =
           ap (λ n. opens_after [] 0 (take n all)) whole
           ∙ ap (opens_after [] 0) (take-add from span all)
-          ∙ opens-append [] 0 (take from all) (take span (drop from all))
+          ∙ opens_append [] 0 (take from all) (take span (drop from all))
           ∙ (λ i. opens_after base (at i) (is_part i))
           ∙ w.open_at_end;
     }

@@ -17,7 +17,7 @@ use Rattle.ve_tree.specs.Links.{link_in}
 use Rattle.ve_tree.specs.Named.{Named, NoNode, NamedRun, NamedBranch, bare}
 use Rattle.ve_tree.specs.IsTree.{IsTree, unvalued}
 use Rattle.ve_tree.proofs.WalkLemmas.{Slots}
-use Rattle.ve_tree.proofs.SeekLemmas.{tree-long}
+use Rattle.model_items.proofs.NodeAtLemmas.{count_all}
 use Rattle.ve_offsets.specs.Levels.{levels_in, IsRow, IsParting}
 use Rattle.ve_offsets.proofs.StateLemmas.{IsNext, is_next, same_number, shown_live, length-shapes}
 use Rattle.ve_offsets.proofs.LevelLemmas.{count_after, count-shapes, count-append, count-letters, count-front, count-back, take-front, take-back, take-letters, drop-front, drop-letters}
@@ -208,7 +208,7 @@ parting_start {root = root} items tree from span node here within = record {
   rest = [];
   whole = ap (λ f. shapes f ++ []) tree.is_tree ∙ append-nil (shapes (tree_of (unvalued items))) ∙ tree_spells (unvalued items) tree.lawful;
   sum = omega arith;
-  room = omega (arith, within, ap item_count tree.is_tree, tree-long (unvalued items) tree.lawful, length-map items (plain []));
+  room = omega (arith, within, ap item_count tree.is_tree, count_all (unvalued items) tree.lawful, length-map items (plain []));
 }
 
 pub parting_live : (slots : Slots) (items : List Item) (from span : ℕ) (child : NodeId) (left : ℕ) → PartingOn slots items from span (Some child) left → IsSome (slot_at slots child.0)

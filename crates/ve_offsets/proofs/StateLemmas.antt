@@ -19,7 +19,7 @@ use Rattle.ve_tree.specs.Links.{number_of, link_in, links_of, first_or, Row}
 use Rattle.ve_tree.specs.Named.{Named, NoNode, NamedRun, NamedBranch, bare, heads, IsShown, Shows}
 use Rattle.ve_tree.specs.IsTree.{IsTree, unvalued}
 use Rattle.ve_tree.proofs.WalkLemmas.{Slots, NoEmptyRun, tree-runs}
-use Rattle.ve_tree.proofs.SeekLemmas.{tree-long}
+use Rattle.model_items.proofs.NodeAtLemmas.{count_all}
 use Rattle.ve_offsets.specs.States.{IsStateAt}
 use Rattle.ve_offsets.proofs.ShapeLemmas.{after_by, after-shapes, by_whole, by_one, pass, enters, reached}
 
@@ -67,7 +67,7 @@ way_start {slots = slots} {root = root} {items = items} tree o node here within 
     whole = ap (λ f. shapes f ++ []) tree.is_tree ∙ append-nil (shapes (tree_of items)) ∙ tree_spells items tree.lawful;
     sum = omega arith;
     before = refl;
-    room = omega (arith, within, ap item_count tree.is_tree, tree-long items tree.lawful);
+    room = omega (arith, within, ap item_count tree.is_tree, count_all items tree.lawful);
     next_is = sym (ap (link_in (λ node. node.first)) here) ∙ tree.root_shown.children.first;
     inner = root.0;
     edge = None;

@@ -3,6 +3,7 @@ use Rattle.std.proofs.Common.{◌≡◌, ◌≢◌, ◌≤◌, ◌<◌, ◌+◌,
 use Rattle.std.proofs.lemmas.List.Elements.{Contains-append_left, Contains-append_right, Contains-append_cases}
 use Rattle.model_items.specs.declared.plain_item.PlainItem.{PlainItem}
 use Rattle.model_items.specs.Tree.{item_count}
+use Rattle.model_items.proofs.NodeAtLemmas.{count_all}
 use Rattle.ve_arena.specs.declared.node.NodeId.{NodeId}
 use Rattle.ve_arena.specs.declared.node.NodeWhat.{NodeWhat}
 use Rattle.ve_arena.specs.declared.node.NodeWhat.TheVariants as what
@@ -12,7 +13,6 @@ use Rattle.ve_tree.specs.Links.{number_of, link_in, links_of, Row}
 use Rattle.ve_tree.specs.Named.{Named, NoNode, NamedRun, NamedBranch, bare, heads, Shows}
 use Rattle.ve_tree.specs.IsTree.{IsTree}
 use Rattle.ve_tree.specs.Places.{NodePlace, places, tree_places}
-use Rattle.ve_tree.proofs.SeekLemmas.{tree-long}
 use Rattle.ve_tree.proofs.WalkLemmas.{Slots, NoEmptyRun, contains-here, contains-later, tree-runs}
 
 contains_cases : {X : Type 0} (y x : X) (xs : List X) → Contains (y ∷ xs) x → (y ≡ x) ⊎ Contains xs x
@@ -157,7 +157,7 @@ tree_listed {slots = slots} {root = root} {items = items} tree y c =
             len = a.placed.len;
             len_is = a.placed.len_is;
             ends = a.placed.ends;
-            below_end = omega (arith, a.below_end, ap item_count tree.is_tree, tree-long items tree.lawful);
+            below_end = omega (arith, a.below_end, ap item_count tree.is_tree, count_all items tree.lawful);
           }
     ]
 

@@ -1,5 +1,5 @@
 -- What is left of a list, block by block.
-use Rattle.std.proofs.Common.{◌≡◌, ◌≢◌, ◌≤◌, ◌<◌, ◌+◌, ◌-◌, ℕ, zero, suc, Some, List, [], ◌∷◌, ◌++◌, take, length, refl, sym, ap, ◌∙◌, arith, slice_get, append-nil, length-append}
+use Rattle.std.proofs.Common.{◌≡◌, ◌≤◌, ◌<◌, ◌+◌, ◌-◌, ℕ, zero, suc, Some, List, [], ◌∷◌, ◌++◌, take, length, sym, ap, ◌∙◌, arith, slice_get, append-nil, length-append}
 use Rattle.std.proofs.lemmas.List.{take-take, take_all, length-take-le, nil_from_length}
 use Rattle.std.proofs.lemmas.Option.{slice_get_within, get_or_from_slice_get}
 use Rattle.model_items.specs.declared.item.Item.{Item}

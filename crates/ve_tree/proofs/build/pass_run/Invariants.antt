@@ -1,4 +1,4 @@
-use Rattle.std.proofs.Common.{◌≡◌, ◌≤◌}
+use Rattle.std.proofs.Common.{◌≡◌}
 use Rattle.ve_tree.proofs.ReadLemmas.{IsRunSoFar}
 use Rattle.ve_tree.proofs.build.pass_run.Given as goal
 

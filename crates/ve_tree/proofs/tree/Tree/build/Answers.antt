@@ -1,4 +1,4 @@
-use Rattle.std.proofs.Common.{◌≡◌, ◌≤◌, ◌+◌, ◌*◌, subst}
+use Rattle.std.proofs.Common.{◌≤◌, ◌+◌, ◌*◌, subst}
 use Rattle.ve_tree.specs.Grown.{ReadChildren, count_from}
 use Rattle.ve_tree.proofs.BuildLemmas.{built_is_tree, steps_built}
 use Rattle.ve_tree.proofs.tree.Tree.build.Goals as goal

@@ -1,4 +1,4 @@
-use Rattle.std.proofs.Common.{arith, rules, ◌<◌}
+use Rattle.std.proofs.Common.{rules, ◌<◌}
 use Rattle.ve_tree.proofs.LentLemmas.{lent_new}
 use Rattle.ve_tree.proofs.unread.Unread.new.Goals as goal
 

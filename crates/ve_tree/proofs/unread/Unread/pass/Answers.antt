@@ -1,5 +1,4 @@
 use Rattle.std.proofs.Common.{◌≡◌, ◌<◌, ◌-◌, take, length, rules}
-use Rattle.ve_tree.specs.Lent.{Rest}
 use Rattle.ve_tree.proofs.LentLemmas.{lent_passed, lent_next}
 use Rattle.ve_tree.proofs.unread.Unread.pass.Goals as goal
 
