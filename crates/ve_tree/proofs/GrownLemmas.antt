@@ -60,7 +60,7 @@ disjoint-cons : (ns : List ℕ) (m : ℕ) (ms : List ℕ) → Apart m ns → Dis
 disjoint-cons [] m ms a d = tt
 disjoint-cons (n ∷ ns) m ms a d = ((λ e. a.0 (sym e), d.0), disjoint-cons ns m ms a.1 d.1)
 
-disjoint-swap : (ns ms : List ℕ) → Disjoint ns ms → Disjoint ms ns
+pub disjoint-swap : (ns ms : List ℕ) → Disjoint ns ms → Disjoint ms ns
 disjoint-swap ns [] d = tt
 disjoint-swap ns (m ∷ ms) d = (apart-turned m ns (disjoint-first ns m ms d), disjoint-swap ns ms (rest ns d))
   where

@@ -7,3 +7,5 @@ pub mod BuildLemmas
 pub mod SeekLemmas
 pub mod WalkLemmas
 pub mod ClimbLemmas
+pub mod ReadsLemmas
+pub mod FitsLemmas

@@ -4,3 +4,5 @@ pub mod IsTree
 pub mod Lent
 pub mod Grown
 pub mod Places
+pub mod Reads
+pub mod Fits

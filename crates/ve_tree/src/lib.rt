@@ -3,10 +3,12 @@
 #![tactic(auto)]
 
 mod build;
+mod laws;
 #[cfg(test)]
 mod tests;
 mod tree;
 mod unread;
 
+pub use laws::{children_lists_fit, links_are_read};
 pub use tree::Tree;
 pub use ve_arena::{Arena, ArenaNode, NodeId, NodeWhat};

@@ -1,0 +1,18 @@
+// What it means that links are a tree, in other words. Each function does nothing, and its contract is a law that is proved.
+ghost use Rattle.ve_tree.specs.Fits.{TreeFits, FitsAreTree};
+ghost use Rattle.ve_tree.specs.Reads.{TreeIsRead, OneIsRead, OneNumbering};
+
+/// The tree that linked nodes are is what is read from the root on, by first child and next sibling, and from one node on nothing else is read. So the
+/// links decide which node is which of the tree's, and the list but for its characters, heads and marks.
+pub fn links_are_read()
+    ensures tree { TreeIsRead }
+    ensures one { OneIsRead }
+    ensures numbering { OneNumbering }
+{}
+
+/// Linked nodes are the tree of a list exactly where the links of each node fit a list of its children: from such lists, however they are kept, the tree
+/// is known, and of each tree there are such lists.
+pub fn children_lists_fit()
+    ensures tree { TreeFits }
+    ensures lists { FitsAreTree }
+{}
