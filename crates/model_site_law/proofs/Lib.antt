@@ -1,6 +1,7 @@
 pub mod ReplayLemmas
 pub mod RevertLemmas
 pub mod JoinedLemmas
+pub mod UntilConflictLemmas
 pub mod StoreLemmas
 pub mod PerformLemmas
 pub mod NeedLemmas
@@ -14,3 +15,7 @@ pub mod LawLemmas
 pub mod FreshLemmas
 pub mod FreshSessionLemmas
 pub mod RedoLemmas
+pub mod ReplicaLemmas
+pub mod ReplicaSessionLemmas
+pub mod SelectionLemmas
+pub mod KeptLemmas

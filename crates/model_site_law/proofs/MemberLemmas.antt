@@ -130,24 +130,38 @@ turn_after_foreign base committed rest later ps m next feeds f f' q g e split (S
 turn_after_foreign base committed rest later ps m next feeds f f' q g e split (Answered k a b n) =
     Answered k (g ∙ a) (q ∙ b) (subst OneAck (sym f') (subst OneAck f n))
 
-pub foreign_feed_holds : (base : List PlainItem) (committed : List Parcel) (ps : List Parcel) (feeds : List Feed) (m : Member) →
-    Sound base → AllRun (flattened committed) base → m.feeds ≡ Foreign ps ∷ feeds → MemberHolds base committed m →
-    MemberHolds base committed (record m { site = take_foreign ps m.site; feeds = feeds })
-foreign_feed_holds base committed ps feeds m sound runs f h =
+-- the ground is sound, and what is fed runs from it
+pub record Feeds (base : List PlainItem) (before ps : List Parcel) : Type 0 where
+  pub sound : Sound (ground base before)
+  pub runs : AllRun (flattened ps) (ground base before)
+
+pub feeds_run : (base : List PlainItem) (committed : List Parcel) (ps : List Parcel) (feeds : List Feed) (m : Member) → Sound base → AllRun (flattened committed) base →
+    m.feeds ≡ Foreign ps ∷ feeds → (h : MemberHolds base committed m) → Feeds base h.before ps
+feeds_run base committed ps feeds m sound runs f h =
     let step = subst (InStep h.rest (parcels m.site.sent)) f h.in_step in
     let later = step.0 in
     let whole : h.before ++ (ps ++ later) ≡ committed = ap (λ r. h.before ++ r) (sym step.1) ∙ h.split in
     let flat : flattened committed ≡ flattened h.before ++ (flattened ps ++ flattened later) =
     ap flattened (sym whole) ∙ flattened-append h.before (ps ++ later) ∙ ap (λ r. flattened h.before ++ r) (flattened-append ps later) in
     let first = AllRun-parts (flattened h.before) (flattened ps ++ flattened later) base (subst (λ us. AllRun us base) flat runs) in
-    let floor = ground base h.before in
-    let mine = (AllRun-parts (flattened ps) (flattened later) floor first.1).0 in
-    let taken = foreign_taken base h.before ps m.site (sound_after (flattened h.before) base sound first.0) mine h.site in
+    record {
+      sound = sound_after (flattened h.before) base sound first.0;
+      runs = (AllRun-parts (flattened ps) (flattened later) (ground base h.before) first.1).0;
+    }
+
+pub foreign_feed_holds : (base : List PlainItem) (committed : List Parcel) (ps : List Parcel) (feeds : List Feed) (m : Member) →
+    Sound base → AllRun (flattened committed) base → m.feeds ≡ Foreign ps ∷ feeds → MemberHolds base committed m →
+    MemberHolds base committed (record m { site = take_foreign ps m.site; feeds = feeds })
+foreign_feed_holds base committed ps feeds m sound runs f h =
+    let step = subst (InStep h.rest (parcels m.site.sent)) f h.in_step in
+    let later = step.0 in
+    let fed = feeds_run base committed ps feeds m sound runs f h in
+    let taken = foreign_taken base h.before ps m.site fed.sound fed.runs h.site in
     let next : Member = record m { site = take_foreign ps m.site; feeds = feeds } in
     record {
       before = h.before ++ ps;
       rest = later;
-      split = append_assoc h.before ps later ∙ whole;
+      split = append_assoc h.before ps later ∙ ap (λ r. h.before ++ r) (sym step.1) ∙ h.split;
       site = taken.holds;
       in_step = subst (λ r. InStep later r feeds) (sym taken.sent) step.2;
       turn = turn_after_foreign base committed h.rest later ps m next feeds f refl refl taken.in_flight taken.sent step.1 h.turn;
@@ -201,19 +215,19 @@ nil_from_parcels [] h = refl
 nil_from_parcels (e ∷ es) h = cc
 
 -- the site after it sent, and its submission
-record Sends (s : Site) (r : Site × Submission) : Type 0 where
-  idle : s.in_flight ≡ None
-  sent : r.0.sent ≡ s.sent ++ s.unsent
-  unsent : r.0.unsent ≡ []
-  replica : r.0.replica ≡ s.replica
-  seen : r.0.seen ≡ s.seen
-  undone : r.0.undone ≡ s.undone
-  count : ℕ
-  in_flight : r.0.in_flight ≡ Some count
-  base : r.1.base ≡ s.seen
-  entries : r.1.entries ≡ parcels s.unsent
+pub record Sends (s : Site) (r : Site × Submission) : Type 0 where
+  pub idle : s.in_flight ≡ None
+  pub sent : r.0.sent ≡ s.sent ++ s.unsent
+  pub unsent : r.0.unsent ≡ []
+  pub replica : r.0.replica ≡ s.replica
+  pub seen : r.0.seen ≡ s.seen
+  pub undone : r.0.undone ≡ s.undone
+  pub count : ℕ
+  pub in_flight : r.0.in_flight ≡ Some count
+  pub base : r.1.base ≡ s.seen
+  pub entries : r.1.entries ≡ parcels s.unsent
 
-sends : (s : Site) (r : Site × Submission) → send s ≡ Ok r → Sends s r
+pub sends : (s : Site) (r : Site × Submission) → send s ≡ Ok r → Sends s r
 sends s r done = by_state s.in_flight s.unsent refl refl done
   where
     by_state : (f : Option ℕ) (es : List Entry) → f ≡ s.in_flight → es ≡ s.unsent → send_unless f es s ≡ Ok r → Sends s r

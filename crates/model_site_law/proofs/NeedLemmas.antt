@@ -79,17 +79,17 @@ removed-join a b = by_both (both_attributes a b)
         let both : Transaction × Transaction = if not (is_active b) then (a, retained (new_length a)) else left in
         by_first (is_active a) both (by_second (is_active b) refl left (by_left (nat_le (end_of a) (start_of b))))
 
-row_with-ok : (one : Transaction) (r : Result (List Transaction × Transaction) Clash) (row : List Transaction × Transaction) → row_with one r ≡ Ok row →
+pub row_with-ok : (one : Transaction) (r : Result (List Transaction × Transaction) Clash) (row : List Transaction × Transaction) → row_with one r ≡ Ok row →
     (rest : List Transaction × Transaction) × (r ≡ Ok rest) × ((one ∷ rest.0, rest.1) ≡ row)
 row_with-ok one (Err clash) row h = cc
 row_with-ok one (Ok rest) row h = let e : ◌≡◌ {A = List Transaction × Transaction} (one ∷ rest.0, rest.1) row = cc in (rest, refl, e)
 
-list_with-ok : (one : Transaction) (r : Result (List Transaction × List Transaction) Clash) (joined : List Transaction × List Transaction) → list_with one r ≡ Ok joined →
+pub list_with-ok : (one : Transaction) (r : Result (List Transaction × List Transaction) Clash) (joined : List Transaction × List Transaction) → list_with one r ≡ Ok joined →
     (rest : List Transaction × List Transaction) × (r ≡ Ok rest) × ((rest.0, one ∷ rest.1) ≡ joined)
 list_with-ok one (Err clash) joined h = cc
 list_with-ok one (Ok rest) joined h = let e : ◌≡◌ {A = List Transaction × List Transaction} (rest.0, one ∷ rest.1) joined = cc in (rest, refl, e)
 
-after_row-ok : (r : Result (List Transaction × Transaction) Clash) (f : List Transaction → Result (List Transaction × List Transaction) Clash)
+pub after_row-ok : (r : Result (List Transaction × Transaction) Clash) (f : List Transaction → Result (List Transaction × List Transaction) Clash)
     (joined : List Transaction × List Transaction) → after_row r f ≡ Ok joined →
     (row : List Transaction × Transaction) × (r ≡ Ok row) × (list_with row.1 (f row.0) ≡ Ok joined)
 after_row-ok (Err clash) f joined h = cc

@@ -1,5 +1,5 @@
 -- What always holds of sites and server together is kept by each event.
-use Rattle.std.proofs.Common.{◌≡◌, ℕ, zero, suc, List, [], ◌∷◌, ◌++◌, slice_get, Option, Some, None, Result, Ok, Err, ◌<◌, refl, sym, ap, ◌∙◌, subst, arith}
+use Rattle.std.proofs.Common.{◌≡◌, ℕ, zero, suc, List, [], ◌∷◌, ◌++◌, slice_get, Option, Some, None, Result, Ok, Err, ◌<◌, refl, sym, ap, ◌∙◌, subst}
 use Rattle.model_items.specs.declared.plain_item.PlainItem.{PlainItem}
 use Rattle.model_change.specs.Join.{Clash}
 use Rattle.model_change.specs.Replay.{AllRun, flattened, revoke}
@@ -18,7 +18,7 @@ use Rattle.model_site_law.specs.Protocol.{Answered, AtRest, Every, InStep, Membe
 use Rattle.model_site_law.specs.Sound.{Sound}
 use Rattle.model_site_law.proofs.MemberLemmas.{ack_holds, foreign_feed_holds, send_holds}
 use Rattle.model_site_law.proofs.ReplayLemmas.{AllRun-parts, flattened-append, sound_after}
-use Rattle.model_site_law.proofs.SiteLemmas.{edit_holds, redo_holds, revoke_holds, seen_within, undo_holds}
+use Rattle.model_site_law.proofs.SiteLemmas.{edit_holds, redo_holds, revoke_holds, undo_holds}
 
 -- ---- members by their numbers
 
@@ -151,9 +151,8 @@ revoke_in w k i h may = by_site (slice_get w.members k) refl
     by_result m p below (Err clash) e = h
     by_result m p below (Ok site) e =
         let same = revoke_keeps w.committed i m.site site e in
-        let within = seen_within w.base.items p.before p.rest w.committed m.site p.split p.site in
         put_holds w k (record m { site = site }) h (with_same w.base.items w.committed m site p
-        (revoke_holds w.base.items p.before p.rest w.committed i m.site site h.sound (seen_runs w.base.items w.committed m h.committed p) p.split p.site (omega arith) e) same.0 same.1)
+        (revoke_holds w.base.items p.before p.rest w.committed i m.site site h.sound (seen_runs w.base.items w.committed m h.committed p) p.split p.site below e) same.0 same.1)
 
     by_site : (o : Option Member) → slice_get w.members k ≡ o → SessionHolds (at_member w o (λ m. with_site_of k m (revoke_entry w.committed i m.site) w))
     by_site None e = h

@@ -154,17 +154,23 @@ seen_within base before rest committed s split h =
     let seen = h.seen in
     omega arith
 
+-- what takes a seen entry back may be performed on the site's list
+pub revoked_may : (base : List PlainItem) (before rest committed : List Parcel) (i : ℕ) (s : Site) (back : List Transaction) → Sound base → AllRun (flattened before) base → before ++ rest ≡ committed →
+    Holds base before s → i < s.seen → revoke (entries_of committed s) i ≡ Ok back → AllMayRun back s.replica.items
+revoked_may base before rest committed i s back sound runs split h below e =
+    let within = seen_within base before rest committed s split h in
+    let taken = revoke_takes_back (entries_of committed s) i back base (omega arith) sound.lawful sound.apart (entries_run base before rest committed s split runs h) e in
+    AllMayRun_from_runs back s.replica.items (subst (AllRun back) (sym (list_is base before rest committed s split h)) taken.runs)
+
 pub revoke_holds : (base : List PlainItem) (before rest committed : List Parcel) (i : ℕ) (s next : Site) → Sound base → AllRun (flattened before) base → before ++ rest ≡ committed →
-    Holds base before s → i < length (entries_of committed s) → revoke_entry committed i s ≡ Ok next → Holds base before next
-revoke_holds base before rest committed i s next sound runs split h inside done = by_result (revoke (entries_of committed s) i) refl done
+    Holds base before s → i < s.seen → revoke_entry committed i s ≡ Ok next → Holds base before next
+revoke_holds base before rest committed i s next sound runs split h below done = by_result (revoke (entries_of committed s) i) refl done
   where
     by_result : (r : Result (List Transaction) Clash) → revoke (entries_of committed s) i ≡ r → revoke_by r s ≡ Ok next → Holds base before next
     by_result (Err clash) e done = cc
     by_result (Ok back) e done =
-        let taken = revoke_takes_back (entries_of committed s) i back base inside sound.lawful sound.apart (entries_run base before rest committed s split runs h) e in
-        let may = AllMayRun_from_runs back s.replica.items (subst (AllRun back) (sym (list_is base before rest committed s split h)) taken.runs) in
         let same : with_entry back s ≡ next = cc in
-        subst (Holds base before) same (edit_holds base before back s h may)
+        subst (Holds base before) same (edit_holds base before back s h (revoked_may base before rest committed i s back sound runs split h below e))
 
 -- ---- a foreign entry
 

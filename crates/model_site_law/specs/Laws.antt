@@ -1,9 +1,10 @@
 -- The laws of sites and server, over every list of events.
-use Rattle.std.specs.Prelude.{◌≡◌, ◌<◌, ℕ, Bool, true, false, List, [], ◌∷◌, length, take, slice_get, Some, Ok}
+use Rattle.std.specs.Prelude.{◌≡◌, ◌<◌, ℕ, suc, Bool, true, false, List, [], ◌∷◌, length, map, take, slice_get, Option, Some, None, Ok, Err}
 use Rattle.model_items.specs.declared.plain_item.PlainItem.{PlainItem}
+use Rattle.model_items.specs.Plain.{AreDistinct}
 use Rattle.model_change.specs.Transaction.{Transaction}
 use Rattle.model_change.specs.Store.{cited}
-use Rattle.model_change.specs.Join.{join_list}
+use Rattle.model_change.specs.Join.{Clash, join_list}
 use Rattle.model_change.specs.Replay.{replay, AllRun, reversal, flattened, entry_at, made_before, made_after}
 use Rattle.model_site.specs.Replica.{Replica, opened_with}
 use Rattle.model_site.specs.Entries.{Parcel}
@@ -17,6 +18,19 @@ use Rattle.model_site_law.specs.MayHappen.{AllMayHappen}
 -- The replica that a sound list is opened with is one of those of which the laws speak.
 abbrev pub FirstReplicaOpens : Type 0
 FirstReplicaOpens = (items : List PlainItem) → Sound items → Opens (opened_with items)
+
+-- Which entries are joined over committed transactions, in words of whole lists: the transactions of those kept, joined as one list, are the kept ones; each entry keeps the number of its transactions; and either all are kept, or the list with the next entry has the conflict.
+abbrev pub IsNextInConflict : List Transaction → List Parcel → ℕ → Option Clash → Type 0
+IsNextInConflict committed entries n None = n ≡ length entries
+IsNextInConflict committed entries n (Some clash) = (n < length entries) × (join_list committed (flattened (take (suc n) entries)) ≡ Err clash)
+
+pub record AreFirst (committed : List Transaction) (entries : List Parcel) (j : Joined) : Type 0 where
+  pub one_list : join_list committed (flattened (take (length j.kept) entries)) ≡ Ok (j.committed, flattened j.kept)
+  pub sizes : map (λ (p : Parcel). length p) j.kept ≡ map (λ (p : Parcel). length p) (take (length j.kept) entries)
+  pub next : IsNextInConflict committed entries (length j.kept) j.clash
+
+abbrev pub JoinedUntilConflict : Type 0
+JoinedUntilConflict = (committed : List Transaction) (entries : List Parcel) → AreFirst committed entries (join_entries committed entries)
 
 -- Entries over one foreign entry, as they are joined: those kept run after it, it runs, joined, after those kept, and one list comes of both.
 pub record AreJoined (foreign : Parcel) (entries : List Parcel) (items : List PlainItem) (j : Joined) : Type 0 where
@@ -62,6 +76,14 @@ OneList = (base : Replica) (sites : ℕ) (events : List Event) (k l : ℕ) (m n 
 -- Every value that a site's list cites is in its store.
 abbrev pub StoreHolds : Type 0
 StoreHolds = Always (λ base w m. AllIn m.site.replica.store (cited m.site.replica.items))
+
+abbrev pub FirstStoreIsDistinct : Type 0
+FirstStoreIsDistinct = (items : List PlainItem) → AreDistinct (opened_with items).store
+
+-- The values of a site's store are distinct, if those of the first one are.
+abbrev pub StoreIsDistinct : Type 0
+StoreIsDistinct = (base : Replica) (sites : ℕ) (events : List Event) (k : ℕ) (m : Member) → Opens base → AreDistinct base.store → AllMayHappen (started base sites) events →
+    slice_get (run (started base sites) events).members k ≡ Some m → AreDistinct m.site.replica.store
 
 -- A site's list after it took entry i back: the one that the later entries give without it, joined over its reversal.
 pub record IsWithout (entries : List Parcel) (i : ℕ) (base now : List PlainItem) : Type 0 where

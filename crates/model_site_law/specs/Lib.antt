@@ -4,4 +4,5 @@ pub mod Laws
 pub mod Chain
 pub mod Holds
 pub mod Protocol
+pub mod SelectionLaws
 pub mod KeptLaws

@@ -5,13 +5,17 @@
 //! attributes of one name; what is taken back is to be seen; all else may happen at any time. No limit on items or values is among the premises.
 #![tactic(auto)]
 
-ghost use Rattle.model_site_law.specs.Laws.{AckCounts, CommittedRun, EntriesJoin, EntriesRun, FirstReplicaOpens, ListIsReplay, ListIsSound, OneList, RedoneIsAsBefore, RevokeLeavesOut, StoreHolds, UndoneIsFirst};
+ghost use Rattle.model_site_law.specs.Laws.{AckCounts, CommittedRun, EntriesJoin, EntriesRun, FirstReplicaOpens, FirstStoreIsDistinct, JoinedUntilConflict, ListIsReplay, ListIsSound, OneList, RedoneIsAsBefore, RevokeLeavesOut, StoreHolds, StoreIsDistinct, UndoneIsFirst};
+ghost use Rattle.model_site_law.specs.SelectionLaws.{FirstSelectionStands, MovedStands, SelectionStands};
 ghost use Rattle.model_site_law.specs.KeptLaws.{EventsKeep, HoldsAtFirst};
 
-/// Entries joined over a foreign one, up to the first conflict: those kept run after it, it runs, joined, after those kept, and either way gives one
-/// list. "Runs" is said of transactions that are reduced, apply one after the other, each leave a lawful list, and can be undone.
+/// Entries are joined over committed transactions up to the first conflict: the transactions of those kept join as one list, and with the next entry's
+/// they have that conflict. So an entry is refused or dropped exactly where it or an earlier one conflicts. Those kept run after a foreign entry, it
+/// runs, joined, after those kept, and either way gives one list. "Runs" is said of transactions that are reduced, apply one after the other, each
+/// leave a lawful list, and can be undone.
 pub fn entries_join()
-    ensures { EntriesJoin }
+    ensures first { JoinedUntilConflict }
+    ensures agree { EntriesJoin }
 {}
 
 /// A site's list is the replay of the committed entries that it has seen, of those it has sent and of those unsent, in this order. All of these run
@@ -33,10 +37,20 @@ pub fn sites_meet()
     ensures { OneList }
 {}
 
-/// A site's store has every value that its list cites, also after an undo that follows a take. The store that a list is opened with has them.
+/// A site's store has every value that its list cites, also after an undo that follows a take, and has each once. The store that a list is opened with
+/// has them.
 pub fn stores_hold()
     ensures first { FirstReplicaOpens }
     ensures always { StoreHolds }
+    ensures distinct { FirstStoreIsDistinct }
+    ensures once { StoreIsDistinct }
+{}
+
+/// A selection that has moved through a transaction stands in the new list, with no end inside a leaf; so a site's selection always stands in its list.
+pub fn selections_stand()
+    ensures first { FirstSelectionStands }
+    ensures moved { MovedStands }
+    ensures always { SelectionStands }
 {}
 
 /// After an entry is taken back the list is the one that the later entries give without it, joined over its reversal.

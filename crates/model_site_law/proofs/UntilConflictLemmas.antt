@@ -1,0 +1,75 @@
+-- Entries that are joined one after the other are the first of those that join as one list.
+use Rattle.std.proofs.Common.{◌≡◌, suc, List, [], ◌∷◌, ◌++◌, length, take, Option, Some, None, Result, Ok, Err, refl, sym, ap, ◌∙◌, append-nil, arith}
+use Rattle.model_change.specs.Transaction.{Transaction}
+use Rattle.model_change.specs.Join.{Clash, list_with, join_row, after_row, join_list}
+use Rattle.model_change.specs.Replay.{flattened}
+use Rattle.model_site.specs.Joined.{joined_first, join_entries}
+use Rattle.model_site_law.specs.Laws.{IsNextInConflict, AreFirst, JoinedUntilConflict}
+use Rattle.model_site_law.proofs.NeedLemmas.{list_with-ok, after_row-ok}
+
+abbrev Lists : Type 0
+Lists = List Transaction × List Transaction
+
+-- ---- mine in two parts
+
+abbrev behind : List Transaction → Result Lists Clash → Result Lists Clash
+behind front (Ok r) = Ok (r.0, front ++ r.1)
+behind front (Err clash) = Err clash
+
+abbrev and_then : Result Lists Clash → (List Transaction → Result Lists Clash) → Result Lists Clash
+and_then (Ok r) rest = behind r.1 (rest r.0)
+and_then (Err clash) rest = Err clash
+
+join_list-parts : (committed front rest : List Transaction) → join_list committed (front ++ rest) ≡ and_then (join_list committed front) (λ over. join_list over rest)
+join_list-parts committed [] rest = by_rest (join_list committed rest)
+  where
+    by_rest : (r : Result Lists Clash) → r ≡ behind [] r
+    by_rest (Ok r) = refl
+    by_rest (Err clash) = refl
+join_list-parts committed (t ∷ front) rest = by_row (λ c. join_list-parts c front rest) (join_row committed t)
+  where
+    by_row : ((c : List Transaction) → join_list c (front ++ rest) ≡ and_then (join_list c front) (λ over. join_list over rest)) → (r : Result (List Transaction × Transaction) Clash) →
+        after_row r (λ over. join_list over (front ++ rest)) ≡ and_then (after_row r (λ over. join_list over front)) (λ over. join_list over rest)
+    by_row ih (Err clash) = refl
+    by_row ih (Ok row) = ap (list_with row.1) (ih row.0) ∙ by_front (join_list row.0 front)
+      where
+        by_front : (r : Result Lists Clash) → list_with row.1 (and_then r (λ over. join_list over rest)) ≡ and_then (list_with row.1 r) (λ over. join_list over rest)
+        by_front (Err clash) = refl
+        by_front (Ok r) = by_rest (join_list r.0 rest)
+          where
+            by_rest : (q : Result Lists Clash) → list_with row.1 (behind r.1 q) ≡ behind (row.1 ∷ r.1) q
+            by_rest (Ok q) = refl
+            by_rest (Err clash) = refl
+
+-- as many of mine as before
+length-joined : (committed mine : List Transaction) (r : Lists) → join_list committed mine ≡ Ok r → length r.1 ≡ length mine
+length-joined committed [] r h = let e : ◌≡◌ {A = Lists} (committed, []) r = cc in ap (λ (q : Lists). length q.1) (sym e)
+length-joined committed (t ∷ mine) r h =
+    let p = after_row-ok (join_row committed t) (λ over. join_list over mine) r h in
+    let q = list_with-ok p.0.1 (join_list p.0.0 mine) r p.2 in
+    ap (λ (u : Lists). length u.1) (sym q.2) ∙ ap (λ n. suc n) (length-joined p.0.0 mine q.0 q.1)
+
+-- ---- entry by entry
+
+pub joined_until_conflict : JoinedUntilConflict
+joined_until_conflict committed [] = record { one_list = refl; sizes = refl; next = refl }
+joined_until_conflict committed (e ∷ es) = by_first (λ c. joined_until_conflict c es) (join_list committed e) refl
+  where
+    by_first : ((c : List Transaction) → AreFirst c es (join_entries c es)) → (r : Result Lists Clash) → join_list committed e ≡ r →
+        AreFirst committed (e ∷ es) (joined_first committed r (λ over. join_entries over es))
+    by_first ih (Err clash) h = record { one_list = refl; sizes = refl; next = (omega arith, ap (join_list committed) (append-nil e) ∙ h) }
+    by_first ih (Ok r) h =
+        let j = join_entries r.0 es in
+        let rest = ih r.0 in
+        record {
+          one_list = both (flattened (take (length j.kept) es)) ∙ ap (behind r.1) rest.one_list;
+          sizes = λ i. length-joined committed e r h i ∷ rest.sizes i;
+          next = by_clash j.clash rest.next;
+        }
+      where
+        both : (mine : List Transaction) → join_list committed (e ++ mine) ≡ behind r.1 (join_list r.0 mine)
+        both mine = join_list-parts committed e mine ∙ ap (λ x. and_then x (λ over. join_list over mine)) h
+
+        by_clash : (o : Option Clash) → IsNextInConflict r.0 es (length (join_entries r.0 es).kept) o → IsNextInConflict committed (e ∷ es) (suc (length (join_entries r.0 es).kept)) o
+        by_clash None n = ap (λ k. suc k) n
+        by_clash (Some clash) n = let below = n.0 in (omega arith, both (flattened (take (suc (length (join_entries r.0 es).kept)) es)) ∙ ap (behind r.1) n.1)
