@@ -1,6 +1,7 @@
 pub mod Steps
 pub mod TagSteps
 pub mod AttrSteps
+pub mod NameOrder
 pub mod AttrWalk
 pub mod AttrIterator
 pub mod Lent

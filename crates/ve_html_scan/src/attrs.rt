@@ -2,13 +2,13 @@
 
 ghost use Rattle.std.specs.Prelude.{◌≡◌, ◌≤◌, ◌<◌, ◌+◌, ◌-◌, ◌++◌, ◌==◌, ◌||◌, ℕ, List, [], not, length, drop, slice_range, slice_index, IfOk};
 ghost use Rattle.std.specs.List.{flat_map, prefix_len};
-ghost use Rattle.model_spelling.specs.Grammar.{is_name_byte, Attr, attr_text, has_name};
+ghost use Rattle.model_spelling.specs.Grammar.{is_name_byte, attr_text};
 ghost use Rattle.model_spelling.specs.Reading.{fault, refused, head_at, value_end, attrs_at, attrs_from, tag_close};
 ghost use Rattle.ve_html_scan.specs.Parts.{Finds, AreSpelled, IsQuote, close_text};
 
+use crate::attr_names::AttrNames;
 use crate::fault::{fault_at, refusal};
-use crate::names::is_name;
-use crate::runs::{characters_end, name_end, next_place_of};
+use crate::runs::{characters_end, name_end};
 use model_spelling::{ScanFault, ScanWhat};
 
 /// Where the name ends of the attribute that begins after the space at `place`.
@@ -88,30 +88,6 @@ pub fn tag_end(bytes: &[u8], tag: usize, void: bool, at: usize) -> Result<(bool,
     Ok((true, at + 2))
 }
 
-/// Whether an attribute between these places has that name.
-fn has_attr(bytes: &[u8], from: usize, to: usize, name: &[u8]) -> bool
-    requires from { from ≤ to }
-    requires to { to ≤ length bytes.now }
-    ensures { (before : List Attr) → AreSpelled before → drop from bytes.now ≡ flat_map attr_text before ++ drop to bytes.now → result ≡ has_name name.now before }
-{
-    let mut at = from;
-    while at < to {
-        let name_to = name_end(bytes, at + 1);
-        if is_name(name, &bytes[at + 1..name_to]) {
-            return true;
-        }
-        if name_to + 1 >= to {
-            return false;
-        }
-        let value_to = next_place_of(bytes, name_to + 2, bytes[name_to + 1]);
-        if value_to >= to {
-            return false;
-        }
-        at = value_to + 1;
-    }
-    false
-}
-
 /// `"` or `'`.
 pub fn is_quote(b: u8) -> bool
     ensures { result ≡ (b == 34 || b == 39) }
@@ -119,8 +95,13 @@ pub fn is_quote(b: u8) -> bool
     b == b'"' || b == b'\''
 }
 
-/// Where the attributes end that begin at that place, just after the tag's name.
-pub fn attrs_end(bytes: &[u8], tag: usize, from: usize) -> Result<usize, ScanFault>
+/// Where the attributes end that begin at that place, just after the tag's name. `names` is room for their names.
+pub fn attrs_end<'a>(
+    bytes: &'a [u8],
+    tag: usize,
+    from: usize,
+    names: &mut AttrNames<'a>,
+) -> Result<usize, ScanFault>
     requires { from ≤ length bytes.now }
     ensures read { Finds (λ to. (attrs_from tag from bytes.now, to)) result (attrs_at 256 tag [] from (drop from bytes.now)) }
     ensures bound { IfOk result (λ to. (from ≤ to) × (to ≤ length bytes.now)) }
@@ -128,18 +109,17 @@ pub fn attrs_end(bytes: &[u8], tag: usize, from: usize) -> Result<usize, ScanFau
     ensures spelled { IfOk result (λ to. AreSpelled (attrs_from tag from bytes.now)) }
     ensures text { IfOk result (λ to. drop from bytes.now ≡ flat_map attr_text (attrs_from tag from bytes.now) ++ drop to bytes.now) }
 {
+    names.clear();
     let mut at = from;
-    let mut count: usize = 0;
     while at < bytes.len() && bytes[at] == b' ' {
         let name_to = attr_name(bytes, tag, at)?;
-        if count == 256 {
+        if names.is_full() {
             return Err(fault_at(at + 1, ScanWhat::TooManyAttributes));
         }
-        if has_attr(bytes, from, at, &bytes[at + 1..name_to]) {
+        if !names.insert(&bytes[at + 1..name_to]) {
             return Err(fault_at(at + 1, ScanWhat::DuplicateAttribute));
         }
         at = attr_value(bytes, tag, name_to + 2)? + 1;
-        count += 1;
     }
     Ok(at)
 }

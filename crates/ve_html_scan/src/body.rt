@@ -4,6 +4,7 @@ ghost use Rattle.std.specs.Prelude.{◌≡◌, ◌≤◌, length, drop, IsCharBo
 ghost use Rattle.model_spelling.specs.Page.{is_whole, starts_body, ends_body, first_place, last_place, body_at};
 ghost use Rattle.ve_html_scan.specs.Parts.{Finds};
 
+use crate::attr_names::AttrNames;
 use crate::fault::fault_at;
 use crate::runs::{begins, rest};
 use crate::tags::start_tag;
@@ -70,7 +71,7 @@ pub fn body_of(text: &str) -> Result<Span, ScanFault>
         Some(tag) => tag,
         None => return Err(fault_at(0, ScanWhat::NoBody)),
     };
-    let from = start_tag(page, tag)?.to;
+    let from = start_tag(page, tag, &mut AttrNames::new())?.to;
     match last_body_end(page, from) {
         Some(to) => Ok(Span { from, to }),
         None => Err(fault_at(from, ScanWhat::NoBody)),

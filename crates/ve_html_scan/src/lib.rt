@@ -1,6 +1,7 @@
 //! Tokens of a page, lent from its text.
 #![tactic(auto)]
 
+mod attr_names;
 mod attr_tokens;
 mod attrs;
 mod body;

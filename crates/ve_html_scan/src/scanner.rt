@@ -6,6 +6,7 @@ ghost use Rattle.model_spelling.specs.Reading.{some_token, Between, start_at, en
 ghost use Rattle.ve_html_scan.specs.Shown.{Gives, mode_after, next_of, place_after};
 ghost use Rattle.ve_html_scan.specs.Scanned.{shown_mode};
 
+use crate::attr_names::AttrNames;
 use crate::attr_tokens::AttrTokens;
 use crate::fault::{fault_at, refusal};
 use crate::names::is_raw_name;
@@ -25,12 +26,16 @@ pub enum Mode<'a> {
 }
 
 #[tactic(auto, using(crate::proofs::Lent::lent_steps))]
-fn start_token<'a>(text: &'a str, tag: usize) -> Result<Option<Token<'a>>, ScanFault>
+fn start_token<'a>(
+    text: &'a str,
+    tag: usize,
+    names: &mut AttrNames<'a>,
+) -> Result<Option<Token<'a>>, ScanFault>
     requires room { tag + 1 < length text.now }
     requires letter { is_letter (slice_index text.now (tag + 1)) ≡ true }
     ensures { Gives text.now tag result (some_token (start_at tag (drop (tag + 1) text.now))) }
 {
-    let places = start_tag(text.as_bytes(), tag)?;
+    let places = start_tag(text.as_bytes(), tag, names)?;
     Ok(Some(Token::StartTag {
         name: &text[tag + 1..places.name_to],
         attrs: AttrTokens {
@@ -76,7 +81,11 @@ fn comment_token<'a>(text: &'a str, tag: usize) -> Result<Option<Token<'a>>, Sca
 
 /// The token that begins with the `<` at `tag`.
 #[tactic(auto, using(crate::proofs::TagSteps::tag_steps))]
-fn tag_token<'a>(text: &'a str, tag: usize) -> Result<Option<Token<'a>>, ScanFault>
+fn tag_token<'a>(
+    text: &'a str,
+    tag: usize,
+    names: &mut AttrNames<'a>,
+) -> Result<Option<Token<'a>>, ScanFault>
     requires { tag + 1 ≤ length text.now }
     ensures { Gives text.now tag result (some_token (tag_at tag (drop (tag + 1) text.now))) }
 {
@@ -86,7 +95,7 @@ fn tag_token<'a>(text: &'a str, tag: usize) -> Result<Option<Token<'a>>, ScanFau
     }
     let first = bytes[tag + 1];
     if is_tag_letter(first) {
-        return start_token(text, tag);
+        return start_token(text, tag, names);
     }
     if first == b'/' {
         return end_token(text, tag);
@@ -98,7 +107,11 @@ fn tag_token<'a>(text: &'a str, tag: usize) -> Result<Option<Token<'a>>, ScanFau
 }
 
 /// The token that begins at `at`, between two tokens.
-fn token_between<'a>(text: &'a str, at: usize) -> Result<Option<Token<'a>>, ScanFault>
+fn token_between<'a>(
+    text: &'a str,
+    at: usize,
+    names: &mut AttrNames<'a>,
+) -> Result<Option<Token<'a>>, ScanFault>
     requires { IsCharBoundary text.now at }
     ensures { Gives text.now at result (between_at at (drop at text.now)) }
 {
@@ -107,7 +120,7 @@ fn token_between<'a>(text: &'a str, at: usize) -> Result<Option<Token<'a>>, Scan
         return Ok(None);
     }
     if bytes[at] == b'<' {
-        return tag_token(text, at);
+        return tag_token(text, at, names);
     }
     let to = characters_end(bytes, at, b'<', None)?;
     Ok(Some(Token::Chars {
@@ -116,13 +129,18 @@ fn token_between<'a>(text: &'a str, at: usize) -> Result<Option<Token<'a>>, Scan
     }))
 }
 
-fn next_token<'a>(text: &'a str, at: usize, mode: Mode<'a>) -> Result<Option<Token<'a>>, ScanFault>
+fn next_token<'a>(
+    text: &'a str,
+    at: usize,
+    mode: Mode<'a>,
+    names: &mut AttrNames<'a>,
+) -> Result<Option<Token<'a>>, ScanFault>
     requires { IsCharBoundary text.now at }
     ensures { Gives text.now at result (token_at (shown_mode mode.entry) at (drop at text.now)) }
 {
     match mode {
         Mode::Failed(fault) => Err(fault),
-        Mode::Between => token_between(text, at),
+        Mode::Between => token_between(text, at, names),
         Mode::After(name) => {
             let to = closing_at(
                 text.as_bytes(),
@@ -131,7 +149,7 @@ fn next_token<'a>(text: &'a str, at: usize, mode: Mode<'a>) -> Result<Option<Tok
                 fault_at(at, ScanWhat::UnclosedRaw),
             )?;
             if to == at {
-                return token_between(text, at);
+                return token_between(text, at, names);
             }
             Ok(Some(Token::Raw {
                 text: &text[at..to],
@@ -162,6 +180,8 @@ pub struct Scanner<'a> {
     text: &'a str,
     at: usize,
     mode: Mode<'a>,
+    /// Room for the names of a start tag's attributes.
+    names: AttrNames<'a>,
 }
 
 impl<'a> Model for Scanner<'a> {
@@ -185,6 +205,7 @@ impl<'a> Scanner<'a> {
             text,
             at: 0,
             mode: Mode::Between,
+            names: AttrNames::new(),
         }
     }
 
@@ -195,7 +216,7 @@ impl<'a> Scanner<'a> {
         // The scanner stands behind the token, or at its fault.
         ensures place { self.new ≡ place_after result self.old }
     {
-        match next_token(self.text, self.at, self.mode) {
+        match next_token(self.text, self.at, self.mode, &mut self.names) {
             Ok(None) => Ok(None),
             Ok(Some(token)) => {
                 self.at = token.span().to;

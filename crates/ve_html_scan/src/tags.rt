@@ -6,6 +6,7 @@ ghost use Rattle.model_spelling.specs.Grammar.{is_barred, begins_with, is_letter
 ghost use Rattle.model_spelling.specs.Reading.{fault, refused, attrs_from, start_at, end_at, is_doctype, comment_at, markup_at};
 ghost use Rattle.ve_html_scan.specs.Parts.{Finds, start_view, close_text, AreSpelled};
 
+use crate::attr_names::AttrNames;
 use crate::attrs::{attrs_end, tag_end};
 use crate::fault::{fault_at, refusal};
 use crate::names::{is_plaintext_name, is_void_name};
@@ -102,7 +103,11 @@ pub struct StartPlaces {
 }
 
 #[tactic(auto, using(crate::proofs::TagSteps::start_steps))]
-pub fn start_tag(bytes: &[u8], tag: usize) -> Result<StartPlaces, ScanFault>
+pub fn start_tag<'a>(
+    bytes: &'a [u8],
+    tag: usize,
+    names: &mut AttrNames<'a>,
+) -> Result<StartPlaces, ScanFault>
     requires { tag + 1 ≤ length bytes.now }
     ensures read { Finds (start_view bytes.now tag) result (start_at tag (drop (tag + 1) bytes.now)) }
     ensures bound { IfOk result (λ p. (tag + 1 ≤ p.name_to) × (p.name_to < p.to) × (p.to ≤ length bytes.now)) }
@@ -120,7 +125,7 @@ pub fn start_tag(bytes: &[u8], tag: usize) -> Result<StartPlaces, ScanFault>
     if is_plaintext_name(name) {
         return Err(refusal(name_to, bytes[name_to], fault_at(tag, ScanWhat::BadTag)));
     }
-    let close = attrs_end(bytes, tag, name_to)?;
+    let close = attrs_end(bytes, tag, name_to, names)?;
     let (slash, to) = tag_end(bytes, tag, is_void_name(name), close)?;
     Ok(StartPlaces { name_to, slash, to })
 }
