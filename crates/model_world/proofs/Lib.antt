@@ -1,0 +1,2 @@
+mod LineExamples
+mod ReplyExamples

@@ -1,0 +1,10 @@
+pub mod Names
+pub mod Values
+pub mod Members
+pub mod Attributes
+pub mod ItemWords
+pub mod Operations
+pub mod Changes
+pub mod Commands
+pub mod Shown
+pub mod Spelled

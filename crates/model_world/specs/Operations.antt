@@ -1,0 +1,58 @@
+-- The operations of a transaction, as a line writes them. What they remove, and the old values of attributes, are the list's.
+use Rattle.std.specs.Prelude.{◌+◌, Bool, true, false, not, ◌&&◌, nat_lt, List, [], ◌∷◌, length, codes, Option, Some, None, option_map}
+use Rattle.serde_json.specs.Data.{Data, Members}
+use Rattle.serde_json.specs.Find.{get_member, as_object}
+use Rattle.model_items.specs.Same.{text_same}
+use Rattle.model_world.specs.declared.change.OpWords.{OpWords}
+use Rattle.model_world.specs.declared.change.OpWords.TheVariants.{Retain, Remove, Attr}
+use Rattle.model_world.specs.Values.{◌>>=◌, such_that, number_in, text_or_null_in, list_in, member_in}
+use Rattle.model_world.specs.Attributes.{name_in}
+use Rattle.model_world.specs.ItemWords.{all_items_in}
+
+-- `{"remove":n,"insert":items}`
+abbrev pub removal_in : Members → Data → Option OpWords
+removal_in members counted = do
+  count ← number_in counted
+  insert ← member_in (codes "insert") all_items_in members
+  Some (Remove count insert)
+
+-- `{"attr":name,"to":text or null}`
+abbrev pub setting_in : Members → Option OpWords
+setting_in members = do
+  name ← member_in (codes "attr") name_in members
+  to ← member_in (codes "to") text_or_null_in members
+  Some (Attr name to)
+
+-- by the first of `retain`, `remove` and `attr` that is there
+abbrev pub op_by : Members → Option Data → Option Data → Option OpWords
+op_by written (Some retained) removed = option_map (λ count. Retain count) (number_in retained)
+op_by written None (Some removed) = removal_in written removed
+op_by written None None = setting_in written
+
+abbrev pub op_in : Data → Option OpWords
+op_in json = do
+  members ← as_object json
+  op_by members (get_member (codes "retain") members) (get_member (codes "remove") members)
+
+-- The normal form, as of transactions: no two retains or removals are neighbours, and the attributes set at one place have different names and are followed by a retain.
+abbrev pub may_precede : OpWords → List OpWords → Bool
+may_precede (Retain count) (Retain other ∷ ops) = false
+may_precede (Retain count) _ = true
+may_precede (Remove count insert) (Remove other others ∷ ops) = false
+may_precede (Remove count insert) _ = true
+may_precede (Attr name to) (Retain count ∷ ops) = true
+may_precede (Attr name to) (Attr other value ∷ ops) = not (text_same name other) && may_precede (Attr name to) ops
+may_precede (Attr name to) _ = false
+
+-- it passes, removes or inserts something, or sets an attribute
+abbrev pub is_something : OpWords → Bool
+is_something (Retain count) = nat_lt 0 count
+is_something (Remove count insert) = nat_lt 0 (count + length insert)
+is_something (Attr name to) = true
+
+abbrev pub is_normal : List OpWords → Bool
+is_normal [] = true
+is_normal (op ∷ ops) = is_something op && (may_precede op ops && is_normal ops)
+
+abbrev pub ops_in : Data → Option (List OpWords)
+ops_in json = such_that is_normal (list_in op_in json)
