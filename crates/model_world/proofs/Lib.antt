@@ -1,2 +1,11 @@
 mod LineExamples
 mod ReplyExamples
+pub mod Scripts
+mod FirstScripts
+mod EditScripts
+mod CaretScripts
+mod ReferenceScripts
+mod PeopleScripts
+mod RevokeScripts
+mod TableScripts
+pub mod Unchanged

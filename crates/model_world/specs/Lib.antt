@@ -8,3 +8,9 @@ pub mod Changes
 pub mod Commands
 pub mod Shown
 pub mod Spelled
+pub mod Refusals
+pub mod Edits
+pub mod Opening
+pub mod Answers
+pub mod World
+pub mod Laws

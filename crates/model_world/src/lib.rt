@@ -1,14 +1,21 @@
 //! The plain machine: what a line of a script asks, what it is answered, and the world that the lines change. There are definitions in specs/, and the
 //! types that they speak of:
 //!
-//! - `Members`, `Attributes`, `Items`, `Operations`: the members of a line, and what they mean;
-//! - `Commands`: the command that a line is, or the first member that is missing or ill-formed;
-//! - `Shown`, `Spelled`: items, references and grids as JSON, and the text of a reply.
+//! - `Values`, `Attributes`, `ItemWords`, `Operations`: what a JSON value is read as;
+//! - `Members`, `Changes`, `Commands`: the command that a line is, or the first member that is missing or ill-formed;
+//! - `Names`, `Shown`, `Spelled`: the words of a script, items and tables as JSON, and the text of a reply;
+//! - `Edits`: the transaction that a change is, and batches;
+//! - `Refusals`: the refusal that each fault is answered by;
+//! - `Opening`, `Answers`: a page opened, and what a site's request is answered;
+//! - `World`: the world, the reply to a line, and the output of a script.
+//!
+//! A law is a function that does nothing: its contract is what is proved.
 #![tactic(auto)]
 
 mod change;
 mod command;
 mod field;
+mod laws;
 mod refusal;
 mod reply;
 mod shown;
@@ -18,6 +25,7 @@ mod tests;
 pub use change::{Change, ChangeList, OpWordList, OpWords, TextMarks};
 pub use command::{Command, Request};
 pub use field::Field;
+pub use laws::refusals_change_nothing;
 pub use refusal::{HtmlWord, Refusal};
 pub use reply::Reply;
 pub use shown::{GridCells, PlainList, TreeWord, TreeWords};

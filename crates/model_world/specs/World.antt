@@ -1,0 +1,97 @@
+-- The world, the reply to a line, and the output of a script.
+use Rattle.std.specs.Prelude.{ℕ, ◌==◌, nat_lt, true, false, List, [], ◌∷◌, ◌++◌, length, slice_get, Option, Some, None, Result, Ok, Err}
+use Rattle.model_page.specs.PageItems.{Opened}
+use Rattle.model_site.specs.Session.{Session, Member}
+use Rattle.model_world.specs.declared.command.Request.{Request}
+use Rattle.model_world.specs.declared.command.Command.{Command}
+use Rattle.model_world.specs.declared.command.Command.TheVariants.{OpenPage, Ask}
+use Rattle.model_world.specs.declared.refusal.Refusal.{Refusal}
+use Rattle.model_world.specs.declared.refusal.Refusal.TheVariants.{LineTooLong, NotOpen, BadSite}
+use Rattle.model_world.specs.declared.reply.Reply.{Reply}
+use Rattle.model_world.specs.declared.reply.Reply.TheVariants.{Length, No}
+use Rattle.model_world.specs.Commands.{command}
+use Rattle.model_world.specs.Spelled.{reply_text}
+use Rattle.model_world.specs.Opening.{open_page, session_of}
+use Rattle.model_world.specs.Answers.{Outcome, asked}
+
+-- without a page, or with the page as it was first read and the sites that edit it
+pub data World : Type 0 where
+  Closed : World
+  Open : (page : Opened) (session : Session) → World
+
+-- the reply and the world after it, or the refusal
+abbrev pub Answer : Type 0
+Answer = Result (Reply × World) Reply
+
+-- ---- the answer to a line. The causes of a refusal come in this order: the line's length, JSON, the first bad member, no page, no such site, and then those of the request.
+
+abbrev pub opened_or_no : ℕ → Result Opened Refusal → Answer
+opened_or_no sites (Err refusal) = Err (No refusal)
+opened_or_no sites (Ok page) = Ok (Length (length page.items), Open page (session_of page sites))
+
+abbrev pub on_page : Opened → Outcome → Answer
+on_page page (Err refused) = Err refused
+on_page page (Ok (reply, session)) = Ok (reply, Open page session)
+
+abbrev pub asked_of : Opened → Session → Request → ℕ → Option Member → Answer
+asked_of page session request k None = Err (No (BadSite (length session.members)))
+asked_of page session request k (Some member) =
+    on_page page (asked (record { page = page; session = session; k = k; member = member }) request)
+
+abbrev pub answered : World → Command → Answer
+answered w (OpenPage page sites) = opened_or_no sites (open_page page)
+answered Closed (Ask request k) = Err (No NotOpen)
+answered (Open page session) (Ask request k) = asked_of page session request k (slice_get session.members k)
+
+abbrev pub answered_if : World → Result Command Refusal → Answer
+answered_if w (Err refusal) = Err (No refusal)
+answered_if w (Ok command) = answered w command
+
+-- how long a line may be, in bytes
+abbrev pub longest_line : ℕ
+longest_line = 8388608
+
+abbrev pub answer : World → List ℕ → Answer
+answer w line = elim (nat_lt longest_line (length line)) [
+  | true ↦ Err (No (LineTooLong (length line)))
+  | false ↦ answered_if w (command line)
+]
+
+-- a refusal leaves the world as it is
+abbrev pub settled : World → Answer → Reply × World
+settled w (Ok both) = both
+settled w (Err refused) = (refused, w)
+
+-- the reply to a line, and the world after it
+abbrev pub reply : World → List ℕ → Reply × World
+reply w line = settled w (answer w line)
+
+-- ---- scripts
+
+-- the replies to these lines, in order
+abbrev pub replies : World → List (List ℕ) → List Reply
+replies w [] = []
+replies w (line ∷ lines) = let r = reply w line in r.0 ∷ replies r.1 lines
+
+-- the world after them
+abbrev pub world_after : World → List (List ℕ) → World
+world_after w [] = w
+world_after w (line ∷ lines) = world_after (reply w line).1 lines
+
+abbrev pub onto_first : ℕ → List (List ℕ) → List (List ℕ)
+onto_first b [] = (b ∷ []) ∷ []
+onto_first b (line ∷ lines) = (b ∷ line) ∷ lines
+
+-- a script is cut at its newlines, and a rest that is not empty is a line
+abbrev pub lines_of : List ℕ → List (List ℕ)
+lines_of [] = []
+lines_of (b ∷ bs) = elim (b == 10) [ true ↦ [] ∷ lines_of bs | false ↦ onto_first b (lines_of bs) ]
+
+-- each reply as a line
+abbrev pub reply_lines : List Reply → List ℕ
+reply_lines [] = []
+reply_lines (r ∷ rs) = reply_text r ++ 10 ∷ reply_lines rs
+
+-- what is written for a script
+abbrev pub output : World → List ℕ → List ℕ
+output w script = reply_lines (replies w (lines_of script))
