@@ -1,12 +1,17 @@
 -- Two sites and the server.
-use Rattle.std.proofs.Common.{◌≡◌, ℕ, List, [], ◌∷◌, map, slice_get, Option, Some, None, codes, refl}
+use Rattle.std.proofs.Common.{◌≡◌, ℕ, List, [], ◌∷◌, ◌++◌, length, map, slice_get, Option, Some, None, option_map, Result, Ok, Err, codes, refl}
+use Rattle.ve_base.specs.declared.value.Value.{Value}
+use Rattle.ve_base.specs.declared.value.Value.TheVariants as value
 use Rattle.model_items.specs.declared.plain_item.PlainItem.{PlainItem}
 use Rattle.model_site.specs.declared.served.Served.{Served}
 use Rattle.model_site.specs.declared.taken.Taken.{Taken}
 use Rattle.model_site.specs.declared.taken.Taken.TheVariants as taken
+use Rattle.model_site.specs.declared.site_fault.SendFault.{SendFault}
+use Rattle.model_site.specs.declared.site_fault.SendFault.TheVariants.{InFlight}
+use Rattle.model_site.specs.Site.{Site, send, Submission}
 use Rattle.model_site.specs.Session.{Member, Session, started, serve_next, take_next}
-use Rattle.model_site.specs.Events.{Perform, Revoke, Send, Serve, Take, run}
-use Rattle.model_site.proofs.ExampleItems.{chars_, page, opened, inserts, removes}
+use Rattle.model_site.specs.Events.{Perform, Undo, Revoke, Send, Serve, Take, run}
+use Rattle.model_site.proofs.ExampleItems.{bold, italic, marked, chars_, page, page_of, opened, inserts, removes}
 
 abbrev lists : Session → List (List PlainItem)
 lists w = map (λ (m : Member). m.site.replica.items) w.members
@@ -66,6 +71,9 @@ in_conflict = run (started (opened (codes "abcd")) 2)
 one_of_three : serves in_conflict 1 ≡ Some (record { accepted = 1; total = 3; clash = Some (record { committed = (2, 4); submitted = (3, 3) }) })
 one_of_three = refl
 
+one_is_committed : length (run in_conflict (Serve 1 ∷ [])).committed ≡ 2
+one_is_committed = refl
+
 -- and at the site Y, Z and W, which was not sent, are dropped
 three_dropped : takes (run in_conflict (Serve 1 ∷ [])) 1 ≡ Some (taken.Foreign 1 3)
 three_dropped = refl
@@ -79,3 +87,37 @@ again_one_list = refl
 -- site 0 takes its committed entry back under site 1's
 revoked : lists (run both_insert (Serve 0 ∷ Serve 1 ∷ Take 0 ∷ Take 0 ∷ Revoke 0 0 ∷ [])) ≡ page (codes "B") ∷ page (codes "B") ∷ []
 revoked = refl
+
+-- what a send answers: the base and the number of entries, or why not
+abbrev sent_as : Result (Site × Submission) SendFault → Result (ℕ × ℕ) SendFault
+sent_as (Ok r) = Ok (r.1.base, length r.1.entries)
+sent_as (Err fault) = Err fault
+
+abbrev sends : Session → ℕ → Option (Result (ℕ × ℕ) SendFault)
+sends w k = option_map (λ (m : Member). sent_as (send m.site)) (slice_get w.members k)
+
+-- the number submitted, though two of the three were dropped; and nothing is unsent
+still_on_its_way : sends (run in_conflict (Serve 1 ∷ Take 1 ∷ [])) 1 ≡ Some (Err (InFlight 3))
+still_on_its_way = refl
+
+-- the next submission is made on what was committed since
+next_base : sends (run in_conflict (Serve 1 ∷ Take 1 ∷ Take 1 ∷ Perform 1 (inserts 1 (chars_ (codes "V")) 7 ∷ []) ∷ [])) 1 ≡ Some (Ok (2, 1))
+next_base = refl
+
+abbrev stores : Session → List (List Value)
+stores w = map (λ (m : Member). m.site.replica.store) w.members
+
+-- site 0 inserts an italic A, and site 1 a bold B
+abbrev two_marks : Session
+two_marks = run (started (opened []) 2)
+    (Perform 0 (inserts 1 (marked italic (codes "A")) 4 ∷ []) ∷ Send 0 ∷ Serve 0 ∷ Perform 1 (inserts 1 (marked bold (codes "B")) 4 ∷ []) ∷ Take 1 ∷ [])
+
+both_values : stores two_marks ≡ (value.Marks italic ∷ []) ∷ (value.Marks bold ∷ value.Marks italic ∷ []) ∷ []
+both_values = refl
+
+-- after the take the store is not cut, since A cites its last value
+undone_after : lists (run two_marks (Undo 1 ∷ [])) ≡ page_of (marked italic (codes "A")) ∷ page_of (marked italic (codes "A")) ∷ []
+undone_after = refl
+
+values_stay : stores (run two_marks (Undo 1 ∷ [])) ≡ (value.Marks italic ∷ []) ∷ (value.Marks bold ∷ value.Marks italic ∷ []) ∷ []
+values_stay = refl
