@@ -14,3 +14,5 @@ pub mod Turned
 pub mod Entry
 pub mod Cites
 pub mod Ends
+pub mod Parcel
+pub mod Copied

@@ -1,6 +1,7 @@
 //! Edits as values: transactions of retain, replace and attribute operations along a list of items.
 #![tactic(auto)]
 
+mod copies;
 mod draft;
 mod ends;
 mod entry;

@@ -1,13 +1,17 @@
 // Transactions in normal form.
-ghost use Rattle.std.specs.Prelude.{◌≡◌, true, map, is_ok, IfOk, IfErr};
+ghost use Rattle.std.specs.Prelude.{◌≡◌, true, map, is_ok, IfOk, IfErr, OnOk};
 ghost use Rattle.model_change.specs.Attributes.{AllNamesApart};
 ghost use Rattle.model_change.specs.Fault.{Applies};
 ghost use Rattle.model_change.specs.Inverse.{inverse, IsRestorable, IsUndoneBy};
 ghost use Rattle.model_change.specs.Join.{active_range, core, with_ends};
+ghost use Rattle.model_change.specs.Store.{fill};
 ghost use Rattle.model_change.specs.Transaction.{is_normal};
 ghost use Rattle.ve_tx.specs.Cites.{TxCites};
+ghost use Rattle.ve_tx.specs.Copied.{AreCopied, ReadsAlike};
 ghost use Rattle.ve_tx.specs.Operation.{unkept, bare, by_value};
+ghost use Rattle.ve_tx.specs.Parcel.{transaction_cited};
 
+use crate::copies::Copies;
 use crate::ends::with_ends;
 use crate::inverse::inverted;
 use crate::normal::is_normal;
@@ -17,6 +21,7 @@ use crate::{Op, OpList};
 use std::alloc::Global;
 use std::marker::Model;
 use ve_base::Memory;
+use ve_store::Store;
 
 /// Operations along a list in normal form: no retain of 0, no replace with both sides empty, no two neighbouring
 /// retains or replaces, attribute operations of one place with distinct names and followed by a retain; and all
@@ -77,6 +82,26 @@ impl Transaction {
         Ok(Transaction {
             ops: copy_all(alloc, self.ops.as_slice())?,
             kept: Vec::from_slice(alloc, self.kept.as_slice())?,
+        })
+    }
+
+    /// The same transaction, citing copies of what it cites in the store.
+    pub(crate) fn recited(
+        &self,
+        alloc: Global,
+        store: &Store,
+        copies: &mut Copies,
+    ) -> Result<Transaction, Memory>
+        requires copied { AreCopied store.now copies.old.places.keys copies.old.values }
+        requires cites { TxCites store.now self.now }
+        ensures copied { OnOk result (AreCopied store.now copies.new.places.keys copies.new.values) }
+        ensures filled { OnOk result (copies.new.values ≡ fill copies.old.values (transaction_cited (by_value store.now self.now))) }
+        ensures alike { IfOk result (ReadsAlike by_value TxCites store.now copies.new.values self.now) }
+    {
+        let made = copies.ops(alloc, store, self.ops.as_slice(), self.kept.as_slice())?;
+        Ok(Transaction {
+            ops: made.ops,
+            kept: made.kept,
         })
     }
 
