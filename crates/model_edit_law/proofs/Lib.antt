@@ -2,6 +2,9 @@ pub mod EditLemmas
 mod RestorableLemmas
 pub mod OrderLemmas
 mod FineLemmas
+pub mod ApartLemmas
+pub mod ApartEditLemmas
+mod ApartExamples
 pub mod BracketLemmas
 pub mod NodeLemmas
 pub mod InsertLemmas

@@ -2,6 +2,7 @@
 //! proved of every list.
 #![tactic(auto)]
 
+ghost use Rattle.model_edit_law.specs.ApartLaws.{AttributeIsApart, ColInIsApart, ColOutIsApart, ConvertIsApart, EditsAreApart, EditsInsertPieces, EditsStayApart, FineStaysApart, IndentIsApart, InsertionIsApart, MarkingIsApart, OutdentIsApart, PlainTypingIsApart, RemovalIsApart, RowInIsApart, RowOutIsApart, SplitIsApart, TypingIsApart, UnmarkingIsApart, WrapIsApart};
 ghost use Rattle.model_edit_law.specs.Fine.{EditsAreFine, EditsSubstitute, FineIsNormal};
 ghost use Rattle.model_edit_law.specs.InsertLaws.{FragmentStaysLawful, InsertionIsFine, SplitIsFine, SplitStaysLawful, TypingStaysLawful};
 ghost use Rattle.model_edit_law.specs.ListLaws.{IndentIsFine, IndentIsUndone, IndentKeepsText, IndentStaysLawful, OutdentIsFine, OutdentKeepsText, OutdentStaysLawful};
@@ -132,4 +133,33 @@ pub fn col_in_stays_lawful()
 pub fn grids_lay()
     ensures grid { GridLays }
     ensures row_out { RowOutLays }
+{}
+
+/// The one transaction of edits inserts their pieces, one after the other. Where these have names apart, so has what it inserts; and edits in order
+/// leave names of the list apart, as each transaction does that is fine and inserts names apart.
+pub fn edits_stay_apart()
+    ensures pieces { EditsInsertPieces }
+    ensures inserted { EditsAreApart }
+    ensures list { EditsStayApart }
+    ensures fine { FineStaysApart }
+{}
+
+/// What an edit inserts has names apart, where the list has, and the pieces or nodes that are given.
+pub fn inserted_names_are_apart()
+    ensures insertion { InsertionIsApart }
+    ensures typing { TypingIsApart }
+    ensures plain_typing { PlainTypingIsApart }
+    ensures split { SplitIsApart }
+    ensures removal { RemovalIsApart }
+    ensures marking { MarkingIsApart }
+    ensures unmarking { UnmarkingIsApart }
+    ensures convert { ConvertIsApart }
+    ensures attribute { AttributeIsApart }
+    ensures wrap { WrapIsApart }
+    ensures indent { IndentIsApart }
+    ensures outdent { OutdentIsApart }
+    ensures row_in { RowInIsApart }
+    ensures col_in { ColInIsApart }
+    ensures row_out { RowOutIsApart }
+    ensures col_out { ColOutIsApart }
 {}
