@@ -12,7 +12,7 @@ use Rattle.ve_tree.proofs.GrownLemmas.{apart-ls, apart-rs, apart-join, all-ls, a
 abbrev Slots : Type 0
 Slots = List (Option ArenaNode)
 
-same_or_not : (q n : ℕ) → (q ≡ n) ⊎ (q ≢ n)
+pub same_or_not : (q n : ℕ) → (q ≡ n) ⊎ (q ≢ n)
 same_or_not q n =
     elim (cases_Bool (nat_eq q n)) [
       | inl same ↦ inl (eqb-true q n same)

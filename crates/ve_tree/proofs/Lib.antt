@@ -9,3 +9,4 @@ pub mod WalkLemmas
 pub mod ClimbLemmas
 pub mod ReadsLemmas
 pub mod FitsLemmas
+pub mod NodesLemmas

@@ -100,7 +100,7 @@ walk_start {slots = slots} {root = root} {items = items} tree o node here = reco
 same_number : (child : NodeId) (n : ℕ) → option_map number_of (Some child) ≡ Some n → child.0 ≡ n
 same_number child n h = cc
 
-shown_live : (slots : Slots) (n : ℕ) (sort : NodeWhat) (len : ℕ) (kids : List ℕ) → IsShown slots n sort len kids → IsSome (slot_at slots n)
+pub shown_live : (slots : Slots) (n : ℕ) (sort : NodeWhat) (len : ℕ) (kids : List ℕ) → IsShown slots n sort len kids → IsSome (slot_at slots n)
 shown_live slots n sort len kids s = by_slot (slot_at slots n) s.sort_is
   where
     by_slot : (o : Option ArenaNode) → option_map (λ node. node.what) o ≡ Some sort → IsSome o

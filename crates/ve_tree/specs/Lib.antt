@@ -6,3 +6,4 @@ pub mod Grown
 pub mod Places
 pub mod Reads
 pub mod Fits
+pub mod Nodes

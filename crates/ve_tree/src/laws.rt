@@ -1,5 +1,6 @@
 // What it means that links are a tree, in other words. Each function does nothing, and its contract is a law that is proved.
 ghost use Rattle.ve_tree.specs.Fits.{TreeFits, FitsAreTree};
+ghost use Rattle.ve_tree.specs.Nodes.{LinksLeadToNodes, NodesAreInTree};
 ghost use Rattle.ve_tree.specs.Reads.{TreeIsRead, OneIsRead, OneNumbering};
 
 /// The tree that linked nodes are is what is read from the root on, by first child and next sibling, and from one node on nothing else is read. So the
@@ -15,4 +16,11 @@ pub fn links_are_read()
 pub fn children_lists_fit()
     ensures tree { TreeFits }
     ensures lists { FitsAreTree }
+{}
+
+/// In a tree every link of a node leads to a node, and every node of the arena is one of the tree's. So who asks for the range of a node has to know only
+/// that it is there.
+pub fn nodes_are_linked()
+    ensures links { LinksLeadToNodes }
+    ensures nodes { NodesAreInTree }
 {}

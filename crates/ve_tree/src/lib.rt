@@ -9,6 +9,6 @@ mod tests;
 mod tree;
 mod unread;
 
-pub use laws::{children_lists_fit, links_are_read};
+pub use laws::{children_lists_fit, links_are_read, nodes_are_linked};
 pub use tree::Tree;
 pub use ve_arena::{Arena, ArenaNode, NodeId, NodeWhat};
