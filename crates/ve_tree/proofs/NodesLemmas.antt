@@ -6,7 +6,7 @@ use Rattle.model_items.specs.Tree.{item_count}
 use Rattle.ve_arena.specs.declared.node.NodeId.{NodeId}
 use Rattle.ve_arena.specs.declared.node.ArenaNode.{ArenaNode}
 use Rattle.ve_arena.specs.Arena.{slot_at}
-use Rattle.ve_tree.specs.Links.{link_in, links_of, first_or, last_of, last_or, Row, Children, Apart}
+use Rattle.ve_tree.specs.Links.{number_of, link_in, links_of, first_or, last_of, last_or, Row, Children, Apart}
 use Rattle.ve_tree.specs.Named.{Named, NoNode, NamedRun, NamedBranch, bare, heads, numbers, Shows}
 use Rattle.ve_tree.specs.IsTree.{IsTree}
 use Rattle.ve_tree.specs.Places.{NodePlace, places, tree_places}
@@ -140,3 +140,8 @@ nodes_are_in_tree slots root n items tree live =
     not_live : (o : Option ArenaNode) → IsSome o → o ≢ None
     not_live None l e = absurd (cc)
     not_live (Some node) l e = cc
+
+-- the same of the link of a node that was lent
+pub link_live : (slots : Slots) (link : ArenaNode → Option NodeId) (n m : NodeId) (node : ArenaNode) → slot_at slots n.0 ≡ Some node →
+    LeadsToNode slots (link_in link (slot_at slots n.0)) → link node ≡ Some m → IsSome (slot_at slots m.0)
+link_live slots link n m node here lead is = subst (LeadsToNode slots) (ap (link_in link) here ∙ ap (option_map number_of) is) lead
