@@ -10,3 +10,4 @@ pub mod ClimbLemmas
 pub mod ReadsLemmas
 pub mod FitsLemmas
 pub mod NodesLemmas
+pub mod PageLemmas

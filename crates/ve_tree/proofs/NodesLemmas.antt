@@ -1,15 +1,13 @@
 -- In a tree the links lead to nodes, and the nodes are the tree's.
-use Rattle.std.proofs.Common.{◌≡◌, ◌≢◌, ◌⊎◌, inl, inr, ℕ, suc, ◌+◌, Option, Some, None, IsSome, IfSome, List, [], ◌∷◌, ◌++◌, option_map, refl, sym, ap, ◌∙◌, subst, Contains}
+use Rattle.std.proofs.Common.{◌≡◌, ◌≢◌, ◌⊎◌, inl, inr, ℕ, suc, ◌+◌, Option, Some, None, IsSome, List, [], ◌∷◌, ◌++◌, option_map, sym, ap, ◌∙◌, subst, Contains}
 use Rattle.std.proofs.lemmas.List.Elements.{Contains-append_left, Contains-append_right}
-use Rattle.model_items.specs.declared.plain_item.PlainItem.{PlainItem}
 use Rattle.model_items.specs.Tree.{item_count}
 use Rattle.ve_arena.specs.declared.node.NodeId.{NodeId}
 use Rattle.ve_arena.specs.declared.node.ArenaNode.{ArenaNode}
 use Rattle.ve_arena.specs.Arena.{slot_at}
-use Rattle.ve_tree.specs.Links.{number_of, link_in, links_of, first_or, last_of, last_or, Row, Children, Apart}
+use Rattle.ve_tree.specs.Links.{number_of, link_in, links_of, first_or, last_of, last_or, Row, Apart}
 use Rattle.ve_tree.specs.Named.{Named, NoNode, NamedRun, NamedBranch, bare, heads, numbers, Shows}
-use Rattle.ve_tree.specs.IsTree.{IsTree}
-use Rattle.ve_tree.specs.Places.{NodePlace, places, tree_places}
+use Rattle.ve_tree.specs.Places.{NodePlace, places}
 use Rattle.ve_tree.specs.Nodes.{LeadsToNode, LinksLead, LinksLeadToNodes, NodesAreInTree}
 use Rattle.ve_tree.proofs.GrownLemmas.{apart-join}
 use Rattle.ve_tree.proofs.FitsLemmas.{same_or_not}
@@ -47,24 +45,24 @@ row_leads slots NoNode p start row s top before q = inl tt
 row_leads slots (NamedRun n count later) p start row s top before q =
     elim (same_or_not q n) [
       | inl same ↦ inr (subst (LinksLead slots) (sym same) (record {
-          parent = leads slots _ _ row.0 top;
-          first = leads slots _ _ s.0.children.first tt;
-          last = leads slots _ _ s.0.children.last tt;
-          before = leads slots _ _ row.1 before;
-          after = leads slots _ _ row.2 (first_live slots (heads later) (heads_live slots later s.1));
-        }))
+        parent = leads slots _ _ row.0 top;
+        first = leads slots _ _ s.0.children.first tt;
+        last = leads slots _ _ s.0.children.last tt;
+        before = leads slots _ _ row.1 before;
+        after = leads slots _ _ row.2 (first_live slots (heads later) (heads_live slots later s.1));
+      }))
       | inr ne ↦ elim (row_leads slots later p (Some n) row.3 s.1 top (shown_live slots n _ _ _ s.0) q) [ inl none ↦ inl (ne, none) | inr all ↦ inr all ]
     ]
 row_leads slots (NamedBranch n kind inside later) p start row s top before q =
     let here = shown_live slots n _ _ _ s.0 in
     elim (same_or_not q n) [
       | inl same ↦ inr (subst (LinksLead slots) (sym same) (record {
-          parent = leads slots _ _ row.0 top;
-          first = leads slots _ _ s.0.children.first (first_live slots (heads inside) (heads_live slots inside s.1));
-          last = leads slots _ _ s.0.children.last (ends_live slots (heads inside) (heads_live slots inside s.1));
-          before = leads slots _ _ row.1 before;
-          after = leads slots _ _ row.2 (first_live slots (heads later) (heads_live slots later s.2));
-        }))
+        parent = leads slots _ _ row.0 top;
+        first = leads slots _ _ s.0.children.first (first_live slots (heads inside) (heads_live slots inside s.1));
+        last = leads slots _ _ s.0.children.last (ends_live slots (heads inside) (heads_live slots inside s.1));
+        before = leads slots _ _ row.1 before;
+        after = leads slots _ _ row.2 (first_live slots (heads later) (heads_live slots later s.2));
+      }))
       | inr ne ↦ elim (row_leads slots inside n None s.0.children.row s.1 here tt q) [
         | inr all ↦ inr all
         | inl none ↦ elim (row_leads slots later p (Some n) row.3 s.2 top here q) [
@@ -89,12 +87,12 @@ links_lead_to_nodes slots root items n tree =
     let top = shown_live slots root.0 _ _ _ tree.root_shown in
     elim (same_or_not n root.0) [
       | inl same ↦ subst (LinksLead slots) (sym same) (record {
-          parent = leads slots _ None tree.root_alone.no_parent tt;
-          first = leads slots _ _ tree.root_shown.children.first (first_live slots (heads f) (heads_live slots f tree.shown));
-          last = leads slots _ _ tree.root_shown.children.last (ends_live slots (heads f) (heads_live slots f tree.shown));
-          before = leads slots _ None tree.root_alone.no_before tt;
-          after = leads slots _ None tree.root_alone.no_after tt;
-        })
+        parent = leads slots _ None tree.root_alone.no_parent tt;
+        first = leads slots _ _ tree.root_shown.children.first (first_live slots (heads f) (heads_live slots f tree.shown));
+        last = leads slots _ _ tree.root_shown.children.last (ends_live slots (heads f) (heads_live slots f tree.shown));
+        before = leads slots _ None tree.root_alone.no_before tt;
+        after = leads slots _ None tree.root_alone.no_after tt;
+      })
       | inr ne ↦ elim (row_leads slots f root.0 None tree.root_shown.children.row tree.shown top tt n) [
         | inr all ↦ all
         | inl none ↦ no_links slots n (tree.only n (ne, none))

@@ -1,5 +1,5 @@
 -- Where the links of a tree's nodes lead.
-use Rattle.std.specs.Prelude.{◌≡◌, ℕ, Option, IsSome, IfSome, List}
+use Rattle.std.specs.Prelude.{ℕ, Option, IsSome, IfSome, List}
 use Rattle.model_items.specs.declared.plain_item.PlainItem.{PlainItem}
 use Rattle.ve_arena.specs.declared.node.NodeId.{NodeId}
 use Rattle.ve_arena.specs.declared.node.ArenaNode.{ArenaNode}

@@ -107,17 +107,54 @@ fn rows_of_page<L: Ledger>(
     rows_of(rt.alloc(), &tree)
 }
 
-fn row(depth: usize, what: NodeWhat, from: usize, to: usize) -> NodeRow {
+fn node(depth: usize, kind: Kind, from: usize, to: usize) -> NodeRow {
     NodeRow {
         depth,
-        what,
+        what: NodeWhat::Node(kind),
+        range: (from, to),
+    }
+}
+
+fn text(depth: usize, from: usize, to: usize) -> NodeRow {
+    NodeRow {
+        depth,
+        what: NodeWhat::Run,
         range: (from, to),
     }
 }
 
 #[test]
-fn bare_runs_stand_in_paragraphs_of_their_own(rt: HostRuntime) -> Result<(), Fail> {
-    let page = [
+fn pages_have_their_trees(rt: HostRuntime) -> Result<(), Fail> {
+    let empty = [opening(Kind::InternalList), closing(Kind::InternalList)];
+    assert_eq!(rt;
+        rows_of_page::<Brand>(&rt, Blank::new(1), &empty)?.as_slice(),
+        [
+            node(0, Kind::Root, 0, 2),
+            node(1, Kind::InternalList, 0, 2),
+        ]
+        .as_slice()
+    );
+    let group = [
+        opening(Kind::P),
+        letter('a'),
+        closing(Kind::P),
+        opening(Kind::TransBlock),
+        closing(Kind::TransBlock),
+        opening(Kind::InternalList),
+        closing(Kind::InternalList),
+    ];
+    assert_eq!(rt;
+        rows_of_page::<Brand>(&rt, Blank::new(1), &group)?.as_slice(),
+        [
+            node(0, Kind::Root, 0, 7),
+            node(1, Kind::P, 0, 3),
+            text(2, 1, 2),
+            node(1, Kind::TransBlock, 3, 5),
+            node(1, Kind::InternalList, 5, 7),
+        ]
+        .as_slice()
+    );
+    let bare_runs = [
         opening(Kind::Ul),
         opening(Kind::Li),
         opening(Kind::P),
@@ -134,19 +171,139 @@ fn bare_runs_stand_in_paragraphs_of_their_own(rt: HostRuntime) -> Result<(), Fai
         opening(Kind::InternalList),
         closing(Kind::InternalList),
     ];
-    let rows = rows_of_page::<Brand>(&rt, Blank::new(1), &page)?;
-    let expected = [
-        row(0, NodeWhat::Node(Kind::Root), 0, 15),
-        row(1, NodeWhat::Node(Kind::Ul), 0, 13),
-        row(2, NodeWhat::Node(Kind::Li), 1, 12),
-        row(3, NodeWhat::Node(Kind::P), 2, 5),
-        row(4, NodeWhat::Run, 3, 4),
-        row(3, NodeWhat::Node(Kind::P), 5, 8),
-        row(4, NodeWhat::Run, 6, 7),
-        row(3, NodeWhat::Node(Kind::P), 8, 11),
-        row(4, NodeWhat::Run, 9, 10),
-        row(1, NodeWhat::Node(Kind::InternalList), 13, 15),
+    assert_eq!(rt;
+        rows_of_page::<Brand>(&rt, Blank::new(1), &bare_runs)?.as_slice(),
+        [
+            node(0, Kind::Root, 0, 15),
+            node(1, Kind::Ul, 0, 13),
+            node(2, Kind::Li, 1, 12),
+            node(3, Kind::P, 2, 5),
+            text(4, 3, 4),
+            node(3, Kind::P, 5, 8),
+            text(4, 6, 7),
+            node(3, Kind::P, 8, 11),
+            text(4, 9, 10),
+            node(1, Kind::InternalList, 13, 15),
+        ]
+        .as_slice()
+    );
+    let leaf = [
+        opening(Kind::P),
+        letter('a'),
+        letter('b'),
+        opening(Kind::Br),
+        closing(Kind::Br),
+        letter('c'),
+        closing(Kind::P),
+        opening(Kind::InternalList),
+        closing(Kind::InternalList),
     ];
-    assert_eq!(rt; rows.as_slice(), expected.as_slice());
+    assert_eq!(rt;
+        rows_of_page::<Brand>(&rt, Blank::new(1), &leaf)?.as_slice(),
+        [
+            node(0, Kind::Root, 0, 9),
+            node(1, Kind::P, 0, 7),
+            text(2, 1, 3),
+            node(2, Kind::Br, 3, 5),
+            text(2, 5, 6),
+            node(1, Kind::InternalList, 7, 9),
+        ]
+        .as_slice()
+    );
+    Ok(())
+}
+
+/// The list of `<p>a</p>` so many times, with the internal list.
+fn paragraphs(alloc: Global, many: usize) -> Result<Linear, Memory>
+    ensures lawful { IfOk result (λ list. Lawful (unvalued list.items)) }
+    ensures nodes { IfOk result (λ list. node_count (tree_of (unvalued list.items)) ≡ 2 * many + 1) }
+{
+    let paragraph = [opening(Kind::P), letter('a'), closing(Kind::P)];
+    let end = [opening(Kind::InternalList), closing(Kind::InternalList)];
+    let mut list = Linear::new(alloc);
+    list.splice(0, 0, &end)?;
+    for k in 0..many {
+        list.splice(0, 0, &paragraph)?;
+    }
+    Ok(list)
+}
+
+/// The tree of that list. It has two nodes for each paragraph, the internal list and the root.
+fn tree_of_paragraphs<L: Ledger>(
+    alloc: Global,
+    many: usize,
+    steps: &mut Steps<L>,
+) -> Result<Tree, Memory>
+    ensures tree { IfOk result (λ tree. HoldsOffset tree.arena tree.root 0) }
+    ensures steps { steps.new ≤ steps.old + 8 * (2 * many + 3) }
+{
+    let list = paragraphs(alloc, many)?;
+    Tree::build(alloc, &list, steps)
+}
+
+/// What a walk over the tree of paragraphs finds.
+#[derive(Clone, Copy, Debug, PartialEq, Eq)]
+struct Walked {
+    nodes: usize,
+    paragraphs: usize,
+    texts: usize,
+    misplaced: usize,
+}
+
+/// Counts the nodes, and asks for the range of some: the nodes behind the root are a paragraph and its text by turns, and a paragraph takes three items.
+fn walk(tree: &Tree) -> Walked
+    requires { HoldsOffset tree.now.arena tree.now.root 0 }
+{
+    let mut seen = Walked {
+        nodes: 0,
+        paragraphs: 0,
+        texts: 0,
+        misplaced: 0,
+    };
+    let mut next = Some((tree.root, 0));
+    'nodes: for k in 0..1_000_000usize {
+        let Some((n, depth)) = next else {
+            break;
+        };
+        let node = tree.arena.node(n);
+        seen.nodes = seen.nodes.saturating_add(1);
+        if node.what == NodeWhat::Node(Kind::P) && node.len == 3 && depth == 1 {
+            seen.paragraphs = seen.paragraphs.saturating_add(1);
+            let from = k / 2 * 3;
+            if k % 1000 == 1 && tree.range_of(n) != (from, from + 3) {
+                seen.misplaced = seen.misplaced.saturating_add(1);
+            }
+        }
+        if node.what == NodeWhat::Run && node.len == 1 && depth == 2 {
+            seen.texts = seen.texts.saturating_add(1);
+        }
+        next = next_node(tree, n, depth);
+    }
+    seen
+}
+
+/// The walk over the tree of so many paragraphs, which is built in at most 8 steps for each node and 16 more.
+fn walk_paragraphs<L: Ledger>(rt: &HostRuntime, blank: Blank, many: usize) -> Result<Walked, Memory>
+    requires name { blank.name ≡ L.name }
+    requires parts { blank.parts ≡ L.parts }
+    requires one { blank.parts ≡ 1 }
+{
+    let mut steps = Steps::<L>::start(rt, blank);
+    let tree = tree_of_paragraphs(rt.alloc(), many, &mut steps)?;
+    Ok(walk(&tree))
+}
+
+#[test]
+fn a_large_page_has_its_tree(rt: HostRuntime) -> Result<(), Fail> {
+    let expected = Walked {
+        nodes: 40_002,
+        paragraphs: 20_000,
+        texts: 20_000,
+        misplaced: 0,
+    };
+    assert_eq!(rt;
+        walk_paragraphs::<Brand>(&rt, Blank::new(1), 20_000)?,
+        expected
+    );
     Ok(())
 }
