@@ -1,11 +1,12 @@
 // What the server answers to a submission.
 
-/// Two active ranges that conflict, each from its first place to the place behind its last.
+/// Two active ranges that conflict, each from its first place to the place behind its last, in the list that both transactions apply to as they
+/// are joined so far.
 #[derive(Clone, Copy, Debug, PartialEq, Eq)]
 pub struct Clash {
-    /// The committed transaction's, in the list that it applies to.
+    /// The committed transaction's.
     pub committed: (usize, usize),
-    /// The submitted transaction's, as joined so far, in the same list.
+    /// The submitted transaction's.
     pub submitted: (usize, usize),
 }
 

@@ -18,7 +18,7 @@ pub enum UndoFault {
 /// Why nothing is redone. Nothing has changed then.
 #[derive(Clone, Copy, Debug, PartialEq, Eq, Error)]
 pub enum RedoFault {
-    /// Nothing was undone since the last edit or take.
+    /// Since the last edit or take nothing was undone that was not redone.
     #[error("there is nothing to redo")]
     NothingToRedo,
     /// There is no memory for it.

@@ -18,15 +18,15 @@ use Rattle.model_site.specs.declared.site_fault.SendFault.{SendFault}
 use Rattle.model_site.specs.declared.site_fault.UndoFault.{UndoFault}
 use Rattle.model_site_law.specs.Chain.{Fresh, Numbered, stored}
 use Rattle.model_site_law.specs.Holds.{ground}
-use Rattle.model_site_law.specs.Laws.{UndoneIsFirst}
+use Rattle.model_site_law.specs.Laws.{UndoneAtOnce, UndoneIsFirst}
 use Rattle.model_site_law.specs.MayHappen.{AllMayHappen, MayHappen}
 use Rattle.model_site_law.specs.Protocol.{Every, MemberHolds, SessionHolds}
 use Rattle.model_site_law.specs.Sound.{AllIn, AllMayRun, Sound}
 use Rattle.model_site_law.proofs.FreshLemmas.{store_performed, stored-append, stored-filled, undone_store}
-use Rattle.model_site_law.proofs.LawLemmas.{base_stays, list_is_replay}
+use Rattle.model_site_law.proofs.LawLemmas.{at_end, base_stays, list_is_replay, list_is_sound}
 use Rattle.model_site_law.proofs.PerformLemmas.{all_performed_held}
-use Rattle.model_site_law.proofs.ReplayLemmas.{AllMayRun_from_runs, AllRun-parts, replay-append, sound_after}
-use Rattle.model_site_law.proofs.RevertLemmas.{items_performed}
+use Rattle.model_site_law.proofs.ReplayLemmas.{AllMayRun_from_runs, AllRun-filled, AllRun-parts, replay-append, replay-filled, sound_after}
+use Rattle.model_site_law.proofs.RevertLemmas.{items_performed, items_reverted}
 use Rattle.model_site_law.proofs.ServeLemmas.{event_holds, start_holds}
 use Rattle.model_site_law.proofs.SessionLemmas.{every_get, every_put}
 use Rattle.model_site_law.proofs.SiteLemmas.{parted_is, pending_more}
@@ -307,3 +307,35 @@ undone_is_first base sites events k m opens may e low none = (
       ∙ ap (λ n. replay (flattened (take n (run (started base sites) events).committed ++ [])) base.items) low,
   (end_fresh base sites events k m opens.sound opens.stored may e low).store ∙ ap (λ es. stored (flattened (parcels es)) base.items base.store) none,
 )
+
+-- ---- undone at once
+
+undo_last-more : (s : Site) (es : List Entry) (e : Entry) → undo_last (es ++ e ∷ []) s ≡ Ok (record s { replica = reverted e s.replica; unsent = es; undone = e.txs ∷ s.undone })
+undo_last-more s [] e = refl
+undo_last-more s (x ∷ es) e = ap (λ (p : List Entry × Entry). Ok (record s { replica = reverted p.1 s.replica; unsent = p.0; undone = p.1.txs ∷ s.undone })) (parted-more x es)
+  where
+    parted-more : (y : Entry) (es : List Entry) → parted y (es ++ e ∷ []) ≡ (y ∷ es, e)
+    parted-more y [] = refl
+    parted-more y (z ∷ es) = ap (λ (p : List Entry × Entry). (y ∷ p.0, p.1)) (parted-more z es)
+
+undone_entry_leaves : (ts : List Transaction) (r : Replica) → Sound r.items → AllIn r.store (cited r.items) → AllMayRun ts r.items →
+    ((reverted (entry_of ts r) (all_performed ts r)).items ≡ r.items) × ((reverted (entry_of ts r) (all_performed ts r)).store ≡ r.store)
+undone_entry_leaves ts r sound held may =
+    let e = entry_of ts r in
+    let new = all_performed ts r in
+    let runs = AllRun-filled ts r.items may in
+    let list : new.items ≡ replay e.txs r.items = items_performed ts r ∙ sym (replay-filled ts r.items may) in
+    let store : new.store ≡ stored e.txs r.items r.store = store_performed ts r ∙ sym (stored-filled ts r.items r.store may) in (
+      items_reverted e new r.items sound runs list,
+      undone_store e r.items r.store new sound runs held list store refl (ap length store),
+    )
+
+pub undone_at_once : UndoneAtOnce
+undone_at_once base sites events k m opens may e ts next may_run done =
+    let s = with_entry ts m.site in
+    let leaves = undone_entry_leaves ts m.site.replica (list_is_sound base sites events k m opens may e) (at_end base sites events k m opens may e).member.site.held may_run in
+    let same : record s { replica = reverted (entry_of ts m.site.replica) s.replica; unsent = m.site.unsent; undone = all_filled ts m.site.replica.items ∷ [] } ≡ next =
+    (let both = sym (undo_last-more s m.site.unsent (entry_of ts m.site.replica)) ∙ done in cc) in (
+      sym (ap (λ (t : Site). t.replica.items) same) ∙ leaves.0,
+      sym (ap (λ (t : Site). t.replica.store) same) ∙ leaves.1,
+    )

@@ -19,3 +19,5 @@ pub mod ReplicaLemmas
 pub mod ReplicaSessionLemmas
 pub mod SelectionLemmas
 pub mod KeptLemmas
+pub mod EditLemmas
+mod LawExamples

@@ -8,11 +8,11 @@ use Rattle.model_change.specs.Join.{Clash, join_list}
 use Rattle.model_change.specs.Replay.{replay, AllRun, reversal, flattened, entry_at, made_before, made_after}
 use Rattle.model_site.specs.Replica.{Replica, opened_with}
 use Rattle.model_site.specs.Entries.{Parcel}
-use Rattle.model_site.specs.Site.{Site, pending, entries_of, revoke_entry}
+use Rattle.model_site.specs.Site.{Site, pending, with_entry, undo, entries_of, revoke_entry}
 use Rattle.model_site.specs.Joined.{Joined, join_entries}
 use Rattle.model_site.specs.Session.{Feed, Ack, Member, Session, started}
 use Rattle.model_site.specs.Events.{Event, Undo, Redo, run}
-use Rattle.model_site_law.specs.Sound.{Sound, AllIn, Opens}
+use Rattle.model_site_law.specs.Sound.{Sound, AllIn, Opens, AllMayRun}
 use Rattle.model_site_law.specs.MayHappen.{AllMayHappen}
 
 -- The replica that a sound list is opened with is one of those of which the laws speak.
@@ -96,6 +96,11 @@ pub record IsWithout (entries : List Parcel) (i : ℕ) (base now : List PlainIte
 abbrev pub RevokeLeavesOut : Type 0
 RevokeLeavesOut = Always (λ base w m. (i : ℕ) (next : Site) → i < length (entries_of w.committed m.site) → revoke_entry w.committed i m.site ≡ Ok next →
     IsWithout (entries_of w.committed m.site) i base.items next.replica.items)
+
+-- What is undone at once leaves list and store as they were, whatever happened before.
+abbrev pub UndoneAtOnce : Type 0
+UndoneAtOnce = Always (λ base w m. (ts : List Transaction) (next : Site) → AllMayRun ts m.site.replica.items → undo (with_entry ts m.site) ≡ Ok next →
+    (next.replica.items ≡ m.site.replica.items) × (next.replica.store ≡ m.site.replica.store))
 
 -- A site that has taken nothing and has nothing pending has the first list and the first store.
 abbrev pub UndoneIsFirst : Type 0

@@ -5,8 +5,9 @@
 //! attributes of one name; what is taken back is to be seen; all else may happen at any time. No limit on items or values is among the premises.
 #![tactic(auto)]
 
-ghost use Rattle.model_site_law.specs.Laws.{AckCounts, CommittedRun, EntriesJoin, EntriesRun, FirstReplicaOpens, FirstStoreIsDistinct, JoinedUntilConflict, ListIsReplay, ListIsSound, OneList, RedoneIsAsBefore, RevokeLeavesOut, StoreHolds, StoreIsDistinct, UndoneIsFirst};
+ghost use Rattle.model_site_law.specs.Laws.{AckCounts, CommittedRun, EntriesJoin, EntriesRun, FirstReplicaOpens, FirstStoreIsDistinct, JoinedUntilConflict, ListIsReplay, ListIsSound, OneList, RedoneIsAsBefore, RevokeLeavesOut, StoreHolds, StoreIsDistinct, UndoneAtOnce, UndoneIsFirst};
 ghost use Rattle.model_site_law.specs.SelectionLaws.{FirstSelectionStands, MovedStands, SelectionStands};
+ghost use Rattle.model_site_law.specs.MayHappen.{EditMayRun};
 ghost use Rattle.model_site_law.specs.KeptLaws.{EventsKeep, HoldsAtFirst};
 
 /// Entries are joined over committed transactions up to the first conflict: the transactions of those kept join as one list, and with the next entry's
@@ -58,15 +59,19 @@ pub fn revokes_leave_out()
     ensures { RevokeLeavesOut }
 {}
 
+/// What is undone at once leaves list and store as they were, whatever happened before.
 /// A site that has taken nothing and has nothing pending has its first list and its first store. One that has taken nothing and has nothing undone
 /// may undo and redo, in any order; once nothing is undone again, its list and its store are as before.
 pub fn undo_gives_back()
+    ensures once { UndoneAtOnce }
     ensures undone { UndoneIsFirst }
     ensures redone { RedoneIsAsBefore }
 {}
 
-/// What always holds of sites, queues and server together, in the terms that the code keeps: it holds at first, and each event keeps it.
+/// What always holds of sites, queues and server together, in the terms that the code keeps: it holds at first, and each event that may happen keeps
+/// it. A transaction that a site does not refuse may be performed, if it is reduced and inserts names apart, as all transactions of that type are.
 pub fn events_keep()
     ensures first { HoldsAtFirst }
     ensures then { EventsKeep }
+    ensures edits { EditMayRun }
 {}

@@ -1,0 +1,41 @@
+-- The words of the laws, at work.
+use Rattle.std.proofs.Common.{◌≡◌, ℕ, true, false, List, [], ◌∷◌, codes, refl}
+use Rattle.ve_base.specs.declared.marks.Mark.{Mark}
+use Rattle.ve_base.specs.declared.value.Value.TheVariants as value
+use Rattle.model_items.specs.declared.plain_item.PlainItem.TheVariants.{Char}
+use Rattle.model_change.specs.Transaction.{Retain, Replace, Transaction}
+use Rattle.model_site.specs.Session.{Foreign, Ack}
+use Rattle.model_site.specs.Events.{Undo, Redo}
+use Rattle.model_site_law.specs.Chain.{needed, stored}
+use Rattle.model_site_law.specs.Protocol.{InStep, kept_under}
+use Rattle.model_site_law.specs.Laws.{turns}
+
+abbrev bold : List Mark
+bold = record { tag = codes "b"; attrs = [] } ∷ []
+
+abbrev italic : List Mark
+italic = record { tag = codes "i"; attrs = [] } ∷ []
+
+-- of <p>ab</p>, its b bold, the two letters go
+abbrev removal : Transaction
+removal = Retain 1 ∷ Replace (Char 97 [] ∷ Char 98 bold ∷ []) [] ∷ Retain 3 ∷ []
+
+-- an italic X before, between or behind them
+abbrev insertion : ℕ → ℕ → Transaction
+insertion before behind = Retain before ∷ Replace [] (Char 88 italic ∷ []) ∷ Retain behind ∷ []
+
+to_come_back : needed (removal ∷ insertion 1 3 ∷ []) ≡ value.Marks bold ∷ []
+to_come_back = refl
+
+in_the_end : stored (removal ∷ insertion 1 3 ∷ []) [] (value.Marks bold ∷ []) ≡ value.Marks bold ∷ value.Marks italic ∷ []
+in_the_end = refl
+
+one_of_two : kept_under ((removal ∷ []) ∷ []) ((insertion 1 5 ∷ []) ∷ (insertion 3 4 ∷ []) ∷ []) ≡ (insertion 1 3 ∷ []) ∷ []
+one_of_two = refl
+
+-- the removal is fed, and then the answer that one of two was accepted
+in_step : InStep ((removal ∷ []) ∷ (insertion 1 3 ∷ []) ∷ []) ((insertion 1 5 ∷ []) ∷ (insertion 3 4 ∷ []) ∷ []) (Foreign ((removal ∷ []) ∷ []) ∷ Ack 1 ∷ [])
+in_step = ((insertion 1 3 ∷ []) ∷ [], refl, ([], refl, refl, refl))
+
+back_and_forth : turns 2 (true ∷ true ∷ false ∷ []) ≡ Undo 2 ∷ Undo 2 ∷ Redo 2 ∷ []
+back_and_forth = refl
