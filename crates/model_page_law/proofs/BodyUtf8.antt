@@ -83,10 +83,10 @@ body-ends text h = begins-tag (codes "/body>") text h
 
 -- ---- what ends with `>`
 
-abbrev EndsTag : List ℕ → Type 0
+abbrev pub EndsTag : List ℕ → Type 0
 EndsTag text = (front : List ℕ) × (text ≡ front ++ (62 ∷ []))
 
-start-ends : (name : List ℕ) (attrs : List Attr) (slash : Bool) → EndsTag (start_text name attrs slash)
+pub start-ends : (name : List ℕ) (attrs : List Attr) (slash : Bool) → EndsTag (start_text name attrs slash)
 start-ends name attrs true = ((60 ∷ name ++ flat_map attr_text attrs) ++ (47 ∷ []), sym (append_assoc (60 ∷ name ++ flat_map attr_text attrs) (47 ∷ []) (62 ∷ [])))
 start-ends name attrs false = (60 ∷ name ++ flat_map attr_text attrs, refl)
 
@@ -141,7 +141,7 @@ body_behind page head = or_no_body head.1 (last_place ends_body head.1 (drop hea
 abbrev body_from : List ℕ → ℕ → Result (ℕ × ℕ) ScanFault
 body_from page tag = tag_at tag (drop (tag + 1) page) >>= body_behind page
 
-abbrev Cut : List ℕ → ℕ → ℕ → Type 0
+abbrev pub Cut : List ℕ → ℕ → ℕ → Type 0
 Cut page from to = IsCharBoundary page from × IsCharBoundary page to
 
 -- the page up to the end of the body's start tag, and the rest
@@ -187,7 +187,7 @@ page-cut page from to false u e =
     let same = ok_same {A = ℕ × ℕ} (0, length page) (from, to) e in
     (subst (IsCharBoundary page) (ap (λ (x : ℕ × ℕ). x.0) same) (IsCharBoundary-start page u), subst (IsCharBoundary page) (ap (λ (x : ℕ × ℕ). x.1) same) (IsCharBoundary-end page))
 
-body_cut : (page : List ℕ) (from to : ℕ) → IsUtf8 page → body_at page ≡ Ok (from, to) → Cut page from to
+pub body_cut : (page : List ℕ) (from to : ℕ) → IsUtf8 page → body_at page ≡ Ok (from, to) → Cut page from to
 unfolding body_at
 body_cut page from to u e = page-cut page from to (is_whole page) u e
 

@@ -34,6 +34,10 @@ pub mod NestLemmas
 pub mod LawfulLemmas
 pub mod OpenPageLemmas
 pub mod OriginLemmas
+pub mod SpanLemmas
+pub mod SpanCuts
+pub mod OriginPlaces
 pub mod MadeRefers
 pub mod PageRefers
 mod FormCases
+mod SpanExamples

@@ -44,7 +44,7 @@ before_byte a b c small u =
     subst IsUtf8 (take-append_seam a (c ∷ b))
     (IsUtf8-take (a ++ (c ∷ b)) (length a) u (IsCharBoundary-before_ascii (a ++ (c ∷ b)) (length a) (omega (arith, length-append a (c ∷ b))) (omega (arith, at_seam a (c ∷ b), small))))
 
-after_byte : (a b : List ℕ) (c : ℕ) → c < 128 → IsUtf8 (a ++ (c ∷ b)) → IsUtf8 b
+pub after_byte : (a b : List ℕ) (c : ℕ) → c < 128 → IsUtf8 (a ++ (c ∷ b)) → IsUtf8 b
 after_byte a b c small u =
     let front : List ℕ = a ++ (c ∷ []) in
     let whole : a ++ (c ∷ b) ≡ front ++ b = sym (append_assoc a (c ∷ []) b) in

@@ -1,7 +1,7 @@
 -- The parts of a UTF-8 text are UTF-8, and so is what they stand for.
 use Rattle.std.proofs.Common.{◌≡◌, ℕ, Bool, true, false, ◌&&◌, if◌then◌else◌, List, ◌++◌, Option, refl, sym, ap, subst, IsUtf8}
 use Rattle.std.proofs.lemmas.Str.{IsUtf8-append, IsUtf8-nil}
-use Rattle.model_spelling.specs.Grammar.{start_text, end_text}
+use Rattle.model_spelling.specs.Grammar.{Comment, token_text, start_text, end_text}
 use Rattle.model_spelling.specs.Forest.{Forest, Nothing, Text, Remark, Void, RawElement, Element, spelling, is_forest}
 use Rattle.model_spelling.specs.Utf8.{NodesUtf8}
 use Rattle.model_spelling.proofs.Proved.{law_decodes_utf8, law_forest_utf8}
@@ -12,10 +12,10 @@ use Rattle.model_page_law.proofs.Premises.{AllUtf8}
 use Rattle.model_page_law.proofs.SourceLemmas.{Front, parts_of-source}
 
 -- each text and each source is UTF-8
-abbrev PartsUtf8 : Parts → Type 0
+abbrev pub PartsUtf8 : Parts → Type 0
 PartsUtf8 Ended = Unit {0}
 PartsUtf8 (Words text later) = IsUtf8 text × PartsUtf8 later
-PartsUtf8 (Note text later) = PartsUtf8 later
+PartsUtf8 (Note text later) = IsUtf8 (token_text (Comment text)) × PartsUtf8 later
 PartsUtf8 (Group nodes later) = IsUtf8 (spelling nodes) × PartsUtf8 later
 PartsUtf8 (Single name attrs source later) = IsUtf8 source × PartsUtf8 later
 PartsUtf8 (Parent name attrs children later) = IsUtf8 (element_source name attrs children) × PartsUtf8 children × PartsUtf8 later
@@ -48,10 +48,10 @@ PartsUtf8-with_held about element source h u (Group nodes later) p =
 PartsUtf8-with_held about element source h u (Single name attrs text later) p = (alone element source h u, p)
 PartsUtf8-with_held about element source h u (Parent name attrs children later) p = (alone element source h u, p)
 
-PartsUtf8-parts_of : (f : Forest) → NodesUtf8 f → PartsUtf8 (parts_of f)
+pub PartsUtf8-parts_of : (f : Forest) → NodesUtf8 f → PartsUtf8 (parts_of f)
 PartsUtf8-parts_of Nothing u = tt
 PartsUtf8-parts_of (Text text rest) u = (u.0, PartsUtf8-parts_of rest u.1)
-PartsUtf8-parts_of (Remark text rest) u = PartsUtf8-parts_of rest u.1
+PartsUtf8-parts_of (Remark text rest) u = (u.0, PartsUtf8-parts_of rest u.1)
 PartsUtf8-parts_of (Void name attrs slash rest) u =
     let later = PartsUtf8-parts_of rest u.1 in
     chosen (is_held attrs) _ _
@@ -72,7 +72,7 @@ PartsUtf8-parts_of (Element name attrs children rest) u =
 AllUtf8-PartsUtf8 : (parts : Parts) → PartsUtf8 parts → AllUtf8 parts
 AllUtf8-PartsUtf8 Ended p = tt
 AllUtf8-PartsUtf8 (Words text later) p = (law_decodes_utf8 text p.0, AllUtf8-PartsUtf8 later p.1)
-AllUtf8-PartsUtf8 (Note text later) p = AllUtf8-PartsUtf8 later p
+AllUtf8-PartsUtf8 (Note text later) p = AllUtf8-PartsUtf8 later p.1
 AllUtf8-PartsUtf8 (Group nodes later) p = (p.0, AllUtf8-PartsUtf8 later p.1)
 AllUtf8-PartsUtf8 (Single name attrs source later) p = (p.0, AllUtf8-PartsUtf8 later p.1)
 AllUtf8-PartsUtf8 (Parent name attrs children later) p = (p.0, AllUtf8-PartsUtf8 children p.1, AllUtf8-PartsUtf8 later p.2)

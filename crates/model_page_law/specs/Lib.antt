@@ -5,3 +5,4 @@ pub mod WritesFresh
 pub mod Lawful
 pub mod Origins
 pub mod Referring
+pub mod Spans

@@ -6,6 +6,7 @@ ghost use Rattle.model_page_law.specs.Lawful.{BadPageHasFault, LimitedIsLawful, 
 ghost use Rattle.model_page_law.specs.Origins.{OriginsNumberSpans};
 ghost use Rattle.model_page_law.specs.ReadBack.{FreshIsReadBack, FreshOpensAsItself};
 ghost use Rattle.model_page_law.specs.Referring.{OpenedRefers, SpelledRefers};
+ghost use Rattle.model_page_law.specs.Spans.{BodyIsCut, OriginsStand, SpansAreParts};
 ghost use Rattle.model_page_law.specs.WritesFresh.{WritesFresh};
 ghost use Rattle.model_page_law.specs.WrittenBack.{FaultlessOpens, OpenedIsFaultless, OpenedIsWrittenBack, OpensAsItsForest, SpelledIsWrittenBack};
 
@@ -31,6 +32,17 @@ pub fn page_is_read()
 #[tactic(auto, using(crate::proofs::OriginLemmas::origins_number_spans))]
 pub fn origins_number_spans()
     ensures { OriginsNumberSpans }
+{}
+
+/// The body of an opened page is a range of its whole characters, and so is the span of each origin: a part of the body that is not empty.
+pub fn spans_are_parts()
+    ensures body { BodyIsCut }
+    ensures spans { SpansAreParts }
+{}
+
+/// The node of each origin stands in the list of the opened page, from its opening to the closing of that.
+pub fn origins_stand()
+    ensures { OriginsStand }
 {}
 
 /// Each reference of an opened page has its key and an editable `data-mw`, and each internal item has its key.

@@ -1,0 +1,214 @@
+-- A page that is UTF-8 is cut between characters around each part of its body; so the spans of its origins are parts of it.
+use Rattle.std.proofs.Common.{◌≡◌, ℕ, zero, suc, ◌+◌, ◌-◌, ◌<◌, ◌≤◌, Bool, true, false, if◌then◌else◌, ◌&&◌, List, [], ◌∷◌, ◌++◌, length, take, drop, Option, Some, None, Result, Ok, Err, refl, sym, ap, ◌∙◌, subst, append_assoc, arith, length-append, length-take-le, length-drop, IsUtf8, IsCharBoundary}
+use Rattle.std.specs.Prelude.{unwrap_or, All}
+use Rattle.std.proofs.lemmas.Str.{IsUtf8-append, IsUtf8-nil, IsUtf8-drop, IsUtf8-between, IsCharBoundary-at_seam, IsCharBoundary-from_take}
+use Rattle.std.proofs.Math.Seq.{drop-append_seam, take-append_seam}
+use Rattle.model_spelling.specs.declared.scan_fault.ScanFault.{ScanFault}
+use Rattle.model_spelling.specs.Grammar.{Attr as Spelled, Comment, token_text, start_text, end_text}
+use Rattle.model_spelling.specs.Forest.{Forest, Nothing, Text, Remark, Void, RawElement, Element, spelling, is_forest}
+use Rattle.model_spelling.specs.Page.{body_at}
+use Rattle.model_spelling.specs.Parsed.{forest_of}
+use Rattle.model_spelling.proofs.Proved.{law_body_inside, law_reads_right, law_forest_utf8}
+use Rattle.ve_kinds.specs.declared.kind.Kind.TheVariants.{Root}
+use Rattle.model_page.specs.Elements.{is_white, about_of, is_held}
+use Rattle.model_page.specs.Parts.{Parts, Ended, Words, Note, Group, Single, Parent, about_in, is_shared, with_held, parts_of, source_of}
+use Rattle.model_page.specs.Pieces.{Span}
+use Rattle.model_page.specs.Convert.{element_source}
+use Rattle.model_page.specs.PageItems.{slice, Opened, opened_with, opened_forest, opened_body, page_made}
+use Rattle.model_page_law.specs.Spans.{IsCut, IsPart, BodyIsCut, SpansAreParts}
+use Rattle.model_page_law.proofs.SourceLemmas.{Front, parts_of-source}
+use Rattle.model_page_law.proofs.PartsUtf8.{PartsUtf8, PartsUtf8-parts_of}
+use Rattle.model_page_law.proofs.PageRefers.{after_byte}
+use Rattle.model_page_law.proofs.BodyUtf8.{body_cut, start-ends}
+use Rattle.model_page_law.proofs.KeptLemmas.{cut}
+use Rattle.model_page_law.proofs.SpanLemmas.{IsBetween, AreBetween, AreCut, Ranged-in_flow}
+
+-- ---- sources aren't empty
+
+-- groups, and elements without children
+abbrev AreSome : Parts → Type 0
+AreSome Ended = Unit {0}
+AreSome (Words text later) = AreSome later
+AreSome (Note text later) = AreSome later
+AreSome (Group nodes later) = (0 < length (spelling nodes)) × AreSome later
+AreSome (Single name attrs source later) = (0 < length source) × AreSome later
+AreSome (Parent name attrs children later) = AreSome children × AreSome later
+
+chosen : (c : Bool) (a b : Parts) → AreSome a → AreSome b → AreSome (if c then a else b)
+chosen true a b f g = f
+chosen false a b f g = g
+
+-- an element of this source in front of nodes
+led : (element : Forest → Forest) (source : List ℕ) → Front element source → 0 < length source → (nodes : Forest) → 0 < length (spelling (element nodes))
+led element source h some nodes = omega (arith, some, ap length (h nodes), length-append source (spelling nodes))
+
+AreSome-with_held : (about : Option (List ℕ)) (element : Forest → Forest) (source : List ℕ) → Front element source → 0 < length source → (parts : Parts) → AreSome parts → AreSome (with_held about element parts)
+AreSome-with_held about element source h s Ended p = (led element source h s Nothing, p)
+AreSome-with_held about element source h s (Words t Ended) p = (led element source h s Nothing, p)
+AreSome-with_held about element source h s (Words t (Words u later)) p = (led element source h s Nothing, p)
+AreSome-with_held about element source h s (Words t (Note u later)) p = (led element source h s Nothing, p)
+AreSome-with_held about element source h s (Words t (Group nodes later)) p =
+    chosen (is_white t && is_shared about (about_in nodes)) _ _ (led element source h s (Text t nodes), p.1) (led element source h s Nothing, p)
+AreSome-with_held about element source h s (Words t (Single name attrs text later)) p = (led element source h s Nothing, p)
+AreSome-with_held about element source h s (Words t (Parent name attrs children later)) p = (led element source h s Nothing, p)
+AreSome-with_held about element source h s (Note t later) p = (led element source h s Nothing, p)
+AreSome-with_held about element source h s (Group nodes later) p =
+    chosen (is_shared about (about_in nodes)) _ _ (led element source h s nodes, p.1) (led element source h s Nothing, p)
+AreSome-with_held about element source h s (Single name attrs text later) p = (led element source h s Nothing, p)
+AreSome-with_held about element source h s (Parent name attrs children later) p = (led element source h s Nothing, p)
+
+AreSome-parts_of : (f : Forest) → AreSome (parts_of f)
+AreSome-parts_of Nothing = tt
+AreSome-parts_of (Text text rest) = AreSome-parts_of rest
+AreSome-parts_of (Remark text rest) = AreSome-parts_of rest
+AreSome-parts_of (Void name attrs slash rest) =
+    let some : 0 < length (start_text name attrs slash) = omega arith in
+    chosen (is_held attrs) _ _
+    (AreSome-with_held (about_of attrs) (Void name attrs slash) (start_text name attrs slash) (λ nodes. refl) some (parts_of rest) (AreSome-parts_of rest))
+    (some, AreSome-parts_of rest)
+AreSome-parts_of (RawElement name attrs text rest) =
+    let some : 0 < length (start_text name attrs false ++ text ++ end_text name) = omega arith in
+    chosen (is_held attrs) _ _
+    (AreSome-with_held (about_of attrs) (RawElement name attrs text) (start_text name attrs false ++ text ++ end_text name) (λ nodes. refl) some (parts_of rest) (AreSome-parts_of rest))
+    (some, AreSome-parts_of rest)
+AreSome-parts_of (Element name attrs children rest) =
+    chosen (is_held attrs) _ _
+    (AreSome-with_held (about_of attrs) (Element name attrs children) (start_text name attrs false ++ spelling children ++ end_text name) (λ nodes. refl) (omega arith) (parts_of rest) (AreSome-parts_of rest))
+    (AreSome-parts_of children, AreSome-parts_of rest)
+
+-- ---- cuts
+
+source-utf8 : (parts : Parts) → PartsUtf8 parts → IsUtf8 (source_of parts)
+source-utf8 Ended p = IsUtf8-nil
+source-utf8 (Words text later) p = IsUtf8-append text (source_of later) p.0 (source-utf8 later p.1)
+source-utf8 (Note text later) p = IsUtf8-append (token_text (Comment text)) (source_of later) p.0 (source-utf8 later p.1)
+source-utf8 (Group nodes later) p = IsUtf8-append (spelling nodes) (source_of later) p.0 (source-utf8 later p.1)
+source-utf8 (Single name attrs source later) p = IsUtf8-append source (source_of later) p.0 (source-utf8 later p.1)
+source-utf8 (Parent name attrs children later) p = IsUtf8-append (element_source name attrs children) (source_of later) p.0 (source-utf8 later p.2)
+
+-- what follows a UTF-8 text in a UTF-8 text
+behind-utf8 : (a b : List ℕ) → IsUtf8 (a ++ b) → IsUtf8 a → IsUtf8 b
+behind-utf8 a b u v =
+    subst IsUtf8 (drop-append_seam a b)
+    (IsUtf8-drop (a ++ b) (length a) u (IsCharBoundary-from_take (a ++ b) (length a) u (omega (arith, length-append a b)) (subst IsUtf8 (sym (take-append_seam a b)) v)))
+
+tag-regrouped : (a b c : List ℕ) → (a ++ (62 ∷ [])) ++ b ++ c ≡ a ++ (62 ∷ (b ++ c))
+tag-regrouped a b c = simp append_assoc
+
+-- the end tag of an element
+end-utf8 : (name : List ℕ) (attrs : List Spelled) (children : Parts) → IsUtf8 (element_source name attrs children) → IsUtf8 (source_of children) → IsUtf8 (end_text name)
+end-utf8 name attrs children u v =
+    let t = start-ends name attrs false in
+    let whole : element_source name attrs children ≡ t.0 ++ (62 ∷ (source_of children ++ end_text name)) = ap (λ s. s ++ source_of children ++ end_text name) t.1 ∙ tag-regrouped t.0 (source_of children) (end_text name) in
+    behind-utf8 (source_of children) (end_text name) (after_byte t.0 (source_of children ++ end_text name) 62 (omega arith) (subst IsUtf8 whole u)) v
+
+ahead : (front part rest behind : List ℕ) → front ++ ((part ++ rest) ++ behind) ≡ (front ++ part) ++ (rest ++ behind)
+ahead front part rest behind = simp append_assoc
+
+inside : (front start children end rest behind : List ℕ) → front ++ ((start ++ children ++ end ++ rest) ++ behind) ≡ (front ++ start) ++ (children ++ (end ++ (rest ++ behind)))
+inside front start children end rest behind = simp append_assoc
+
+-- a cut before UTF-8
+cut-before : (page front part more : List ℕ) → page ≡ (front ++ part) ++ more → IsUtf8 more → IsCharBoundary page (length front + length part)
+cut-before page front part more e u = subst (IsCharBoundary page) (length-append front part) (IsCharBoundary-at_seam page (front ++ part) more e u)
+
+-- what stands behind a place of the page, where this follows it
+abbrev CutFrom : List ℕ → List ℕ → Parts → Type 0
+CutFrom page behind parts = (front : List ℕ) → page ≡ front ++ (source_of parts ++ behind) → AreCut (IsCharBoundary page) (length front) parts
+
+-- behind a part
+rest-cut : (page front part behind : List ℕ) (later : Parts) → page ≡ front ++ ((part ++ source_of later) ++ behind) → IsUtf8 (source_of later) → IsUtf8 behind → CutFrom page behind later →
+    IsCharBoundary page (length front + length part) × AreCut (IsCharBoundary page) (length front + length part) later
+rest-cut page front part behind later e p u rec =
+    let whole : page ≡ (front ++ part) ++ (source_of later ++ behind) = e ∙ ahead front part (source_of later) behind in (
+      cut-before page front part (source_of later ++ behind) whole (IsUtf8-append (source_of later) behind p u),
+      subst (λ n. AreCut (IsCharBoundary page) n later) (length-append front part) (rec (front ++ part) whole),
+    )
+
+-- behind a start tag
+inner-cut : (page front : List ℕ) (name : List ℕ) (attrs : List Spelled) (children later : Parts) (behind : List ℕ) → page ≡ front ++ (source_of (Parent name attrs children later) ++ behind) →
+    IsUtf8 (element_source name attrs children) → IsUtf8 (source_of children) → IsUtf8 (source_of later) → IsUtf8 behind → CutFrom page (end_text name ++ (source_of later ++ behind)) children →
+    IsCharBoundary page (length front + length (start_text name attrs false)) × AreCut (IsCharBoundary page) (length front + length (start_text name attrs false)) children
+inner-cut page front name attrs children later behind e p q r u rec =
+    let start : List ℕ = start_text name attrs false in
+    let more : List ℕ = end_text name ++ (source_of later ++ behind) in
+    let whole : page ≡ (front ++ start) ++ (source_of children ++ more) = e ∙ inside front start (source_of children) (end_text name) (source_of later) behind in
+    let m : IsUtf8 more = IsUtf8-append (end_text name) (source_of later ++ behind) (end-utf8 name attrs children p q) (IsUtf8-append (source_of later) behind r u) in (
+      cut-before page front start (source_of children ++ more) whole (IsUtf8-append (source_of children) more q m),
+      subst (λ n. AreCut (IsCharBoundary page) n children) (length-append front start) (rec (front ++ start) whole),
+    )
+
+AreCut-from : (page behind : List ℕ) (parts : Parts) → PartsUtf8 parts → AreSome parts → IsUtf8 behind → CutFrom page behind parts
+AreCut-from page behind Ended p s u front e = tt
+AreCut-from page behind (Words text later) p s u front e =
+    rest-cut page front text behind later e (source-utf8 later p.1) u (AreCut-from page behind later p.1 s u)
+AreCut-from page behind (Note text later) p s u front e =
+    rest-cut page front (token_text (Comment text)) behind later e (source-utf8 later p.1) u (AreCut-from page behind later p.1 s u)
+AreCut-from page behind (Group nodes later) p s u front e =
+    let r = rest-cut page front (spelling nodes) behind later e (source-utf8 later p.1) u (AreCut-from page behind later p.1 s.1 u) in
+    (s.0, r.0, r.1)
+AreCut-from page behind (Single name attrs source later) p s u front e =
+    let r = rest-cut page front source behind later e (source-utf8 later p.1) u (AreCut-from page behind later p.1 s.1 u) in
+    (s.0, r.0, r.1)
+AreCut-from page behind (Parent name attrs children later) p s u front e =
+    let more : List ℕ = end_text name ++ (source_of later ++ behind) in
+    let q = source-utf8 children p.1 in
+    let v = source-utf8 later p.2 in
+    let m : IsUtf8 more = IsUtf8-append (end_text name) (source_of later ++ behind) (end-utf8 name attrs children p.0 q) (IsUtf8-append (source_of later) behind v u) in
+    let i = inner-cut page front name attrs children later behind e p.0 q v u (AreCut-from page more children p.1 s.0 m) in
+    let r = rest-cut page front (element_source name attrs children) behind later e v u (AreCut-from page behind later p.2 s.1 u) in
+    (i.0, i.1, r.0, r.1)
+
+-- ---- an opened page
+
+part_of : (page : List ℕ) (body s : Span) → IsBetween (IsCharBoundary page) body.from body.to s → IsPart page body s
+part_of page body s b = record { cut = record { rises = omega (arith, b.some); first = b.first; last = b.last }; some = b.some; from = b.from; to = b.to }
+
+parts_of_body : (page : List ℕ) (body : Span) (spans : List Span) → AreBetween (IsCharBoundary page) body.from body.to spans → All (IsPart page body) spans
+parts_of_body page body [] h k d l = absurd (omega arith)
+parts_of_body page body (s ∷ spans) h zero d l = part_of page body s h.0
+parts_of_body page body (s ∷ spans) h (suc k) d l = parts_of_body page body spans h.1 k d (omega (arith, l))
+
+made-between : (page : List ℕ) (from to : ℕ) (f : Forest) → IsUtf8 page → IsCharBoundary page from → IsCharBoundary page to → from ≤ to → to ≤ length page →
+    spelling f ≡ slice page from to → is_forest 200 f ≡ true → AreBetween (IsCharBoundary page) from to (page_made from f).later.spans
+made-between page from to f u first last le fits e h =
+    let parts : Parts = parts_of f in
+    let front : List ℕ = take from page in
+    let source : source_of parts ≡ slice page from to = parts_of-source f ∙ e in
+    let body : IsUtf8 (spelling f) = subst IsUtf8 (sym e) (IsUtf8-between page from to u le first last) in
+    let at : length front ≡ from = length-take-le from page (omega (arith, le, fits)) in
+    let long : length (source_of parts) ≡ to - from = ap length source ∙ length-take-le (to - from) (drop from page) (let d = length-drop from page in omega (arith, d, le, fits)) in
+    let whole : page ≡ front ++ (source_of parts ++ drop to page) = sym (cut page from to le) ∙ ap (λ s. front ++ (s ++ drop to page)) (sym source) in
+    let cuts = AreCut-from page (drop to page) parts (PartsUtf8-parts_of f (law_forest_utf8 200 f h body)) (AreSome-parts_of f) (IsUtf8-drop page to u last) front whole in
+    Ranged-in_flow (IsCharBoundary page) to Root (refl, refl, refl, refl) parts (record { at = from; owners = []; editable = true }) (omega (arith, long, le)) first
+    (subst (λ n. AreCut (IsCharBoundary page) n parts) at cuts)
+
+-- what is said of an opened page
+record Cutting (o : Opened) : Type 0 where
+  body : IsCut o.page o.body
+  spans : All (IsPart o.page o.body) o.spans
+
+forest-cutting : (page : List ℕ) (from to : ℕ) → IsUtf8 page → body_at page ≡ Ok (from, to) → (r : Option Forest) → forest_of (slice page from to) ≡ r → (o : Opened) →
+    opened_forest page (record { from = from; to = to }) r ≡ Some o → Cutting o
+forest-cutting page from to u b None e o h = cc
+forest-cutting page from to u b (Some f) e o h =
+    let inside = law_body_inside page from to b in
+    let c = body_cut page from to u b in
+    let s = law_reads_right (slice page from to) f e in
+    let body : Span = record { from = from; to = to } in
+    let first : Opened = opened_with page body (page_made from f) in
+    let is : first ≡ o = let p : ◌≡◌ {A = Option Opened} (Some first) (Some o) = h in ap (λ x. unwrap_or x first) p in
+    subst Cutting is (record {
+      body = record { rises = inside.0; first = c.0; last = c.1 };
+      spans = parts_of_body page body first.spans (made-between page from to f u c.0 c.1 inside.0 inside.1 s.0 s.1);
+    })
+
+body-cutting : (page : List ℕ) → IsUtf8 page → (body : Result (ℕ × ℕ) ScanFault) → body_at page ≡ body → (o : Opened) → opened_body page body ≡ Some o → Cutting o
+body-cutting page u (Err f) b o h = cc
+body-cutting page u (Ok body) b o h = forest-cutting page body.0 body.1 u b (forest_of (slice page body.0 body.1)) refl o h
+
+pub body_is_cut : BodyIsCut
+body_is_cut page o u h = (body-cutting page u (body_at page) refl o h).body
+
+pub spans_are_parts : SpansAreParts
+spans_are_parts page o u h = (body-cutting page u (body_at page) refl o h).spans
