@@ -6,6 +6,8 @@ mod doc;
 mod nearest;
 mod range;
 mod state;
+#[cfg(test)]
+mod tests;
 
 pub use class::{is_content, is_inside_leaf, is_structural};
 pub use doc::Doc;

@@ -1,16 +1,12 @@
 -- The tree of a list, and the children lists of its nodes.
-use Rattle.std.proofs.Common.{◌≡◌, ◌≢◌, ◌⊎◌, inl, inr, ℕ, nat_eq, if◌then◌else◌, Option, None, List, [], ◌∷◌, ◌++◌, refl, sym, ap, ◌∙◌, subst, append-nil}
+use Rattle.std.proofs.Common.{◌≡◌, ◌≢◌, ◌⊎◌, inl, inr, ℕ, nat_eq, if◌then◌else◌, None, List, [], ◌∷◌, ◌++◌, refl, sym, ap, ◌∙◌, subst, append-nil}
 use Rattle.std.proofs.lemmas.Bool.{cases_Bool, eqb-true, eqb-false, eq-eqb, ne_eqb}
 use Rattle.ve_arena.specs.declared.node.NodeWhat.{NodeWhat}
-use Rattle.ve_arena.specs.declared.node.ArenaNode.{ArenaNode}
 use Rattle.ve_arena.specs.Arena.{slot_at}
 use Rattle.ve_tree.specs.Links.{link_in, links_of, Children, Apart, AllApart}
 use Rattle.ve_tree.specs.Named.{Named, NoNode, NamedRun, NamedBranch, heads, numbers, IsShown, Shows}
 use Rattle.ve_tree.specs.Fits.{Fits, HaveKids, kids_in, kids_of, IsLabelled, AreLabelled, TreeFits, FitsAreTree}
-use Rattle.ve_tree.proofs.GrownLemmas.{apart-ls, apart-rs, apart-join, all-ls, all-rs, Disjoint, disjoint-swap}
-
-abbrev Slots : Type 0
-Slots = List (Option ArenaNode)
+use Rattle.ve_tree.proofs.GrownLemmas.{Slots, apart-ls, apart-rs, apart-join, all-ls, all-rs, Disjoint, disjoint-swap}
 
 pub same_or_not : (q n : ℕ) → (q ≡ n) ⊎ (q ≢ n)
 same_or_not q n =

@@ -8,7 +8,7 @@ use Rattle.ve_tree.specs.Links.{number_of, link_in, links_of, first_or, last_or,
 use Rattle.ve_tree.specs.Named.{Named, NoNode, NamedRun, NamedBranch, heads, numbers, IsShown, Shows}
 use Rattle.ve_tree.specs.Grown.{id_of, with_ends, with_children, IsChildless, AllVacant, Grown, first_in, MadeOnly, MadeBefore, MadeFirst}
 
-abbrev Slots : Type 0
+abbrev pub Slots : Type 0
 Slots = List (Option ArenaNode)
 
 none_or_some : {A B : Type 0} (f : A → B) (o : Option A) (b : B) → option_map f o ≡ Some b → o ≢ None
@@ -40,7 +40,7 @@ abbrev pub Disjoint : List ℕ → List ℕ → Type 0
 Disjoint [] ms = Unit {0}
 Disjoint (n ∷ ns) ms = Apart n ms × Disjoint ns ms
 
-all-join : (ls rs : List ℕ) → AllApart ls → AllApart rs → Disjoint ls rs → AllApart (ls ++ rs)
+pub all-join : (ls rs : List ℕ) → AllApart ls → AllApart rs → Disjoint ls rs → AllApart (ls ++ rs)
 all-join [] rs l r d = r
 all-join (n ∷ ls) rs l r d = (apart-join n ls rs l.0 d.0, all-join ls rs l.1 r d.1)
 

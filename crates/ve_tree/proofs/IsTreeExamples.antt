@@ -1,5 +1,5 @@
 -- The nodes of `<p>ab</p>` and its internal list, as `build` makes them: the root 0, the internal list 1, the paragraph 2, its text 3.
-use Rattle.std.proofs.Common.{◌≡◌, ℕ, zero, suc, false, Option, Some, None, List, [], ◌∷◌, refl, arith}
+use Rattle.std.proofs.Common.{◌≡◌, ℕ, zero, suc, false, Option, Some, None, List, [], ◌∷◌, take, refl, arith}
 use Rattle.ve_kinds.specs.declared.kind.Kind.TheVariants.{Root, P, InternalList}
 use Rattle.model_items.specs.declared.item.Item.{Item}
 use Rattle.model_items.specs.declared.item.Item.TheVariants.{Char, Opening, Closing}
@@ -10,6 +10,9 @@ use Rattle.ve_arena.specs.Arena.{slot_at, new_node}
 use Rattle.ve_tree.specs.Links.{Apart}
 use Rattle.ve_tree.specs.Named.{Named, NoNode, NamedRun, NamedBranch}
 use Rattle.ve_tree.specs.IsTree.{unvalued, IsTree}
+use Rattle.ve_tree.specs.Lent.{IsLent}
+use Rattle.ve_tree.specs.Fits.{kids_of}
+use Rattle.ve_tree.specs.Reads.{IsReadUnder}
 
 abbrev page : List Item
 page = Opening P false None None None None ∷ Char 97 None ∷ Char 98 None ∷ Closing P None ∷ Opening InternalList false None None None None ∷ Closing InternalList None ∷ []
@@ -49,4 +52,37 @@ is_tree = record {
   root_shown = record { sort_is = refl; len_is = refl; children = record { first = refl; last = refl; row = (refl, refl, refl, (refl, refl, refl, tt)) } };
   root_alone = record { no_parent = refl; no_before = refl; no_after = refl };
   only = no_more;
+}
+
+-- the same, read from the root by first child and next sibling
+is_read : IsReadUnder slots (record { 0 = 0 }) nodes
+is_read = (
+  refl,
+  record { sort_is = refl; len_is = refl; parent_is = refl; before_is = refl },
+  (refl, record { sort_is = refl; len_is = refl; parent_is = refl; before_is = refl }, (refl, refl), (refl, refl)),
+  (refl, record { sort_is = refl; len_is = refl; parent_is = refl; before_is = refl }, (refl, refl), (refl, refl)),
+)
+
+-- and by children lists
+under_the_root : kids_of 0 nodes 0 ≡ 2 ∷ 1 ∷ []
+under_the_root = refl
+
+in_the_paragraph : kids_of 0 nodes 2 ≡ 3 ∷ []
+in_the_paragraph = refl
+
+in_the_internal_list : kids_of 0 nodes 1 ≡ []
+in_the_internal_list = refl
+
+no_node : kids_of 0 nodes 7 ≡ []
+no_node = refl
+
+-- the page in one block, of which the internal list is read
+two_read : IsLent (page ∷ []) 0 (take 4 page) (record { items = page; left = 4 })
+two_read = record {
+  whole = refl;
+  rule = ((omega arith, omega arith), tt, tt);
+  among = omega arith;
+  within = omega arith;
+  items = refl;
+  some = λ l. omega arith;
 }

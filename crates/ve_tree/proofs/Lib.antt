@@ -9,5 +9,6 @@ pub mod WalkLemmas
 pub mod ClimbLemmas
 pub mod ReadsLemmas
 pub mod FitsLemmas
+pub mod DistinctLemmas
 pub mod NodesLemmas
 pub mod PageLemmas

@@ -1,18 +1,18 @@
 -- The tree that links are is what is read from them, and nothing else is.
 use Rattle.std.proofs.Common.{◌≡◌, ℕ, Option, Some, None, List, [], ◌∷◌, option_map, refl, sym, ap, ◌∙◌, subst}
+use Rattle.model_items.specs.declared.plain_item.PlainItem.{PlainItem}
 use Rattle.model_items.specs.Tree.{shapes}
 use Rattle.model_items.proofs.TreeLemmas.{tree_spells}
+use Rattle.ve_arena.specs.declared.node.NodeId.{NodeId}
 use Rattle.ve_arena.specs.declared.node.NodeWhat.{NodeWhat}
-use Rattle.ve_arena.specs.declared.node.ArenaNode.{ArenaNode}
 use Rattle.ve_arena.specs.Arena.{slot_at}
 use Rattle.ve_tree.specs.Links.{links_of, first_or, last_or, Row}
 use Rattle.ve_tree.specs.Named.{Named, NoNode, NamedRun, NamedBranch, bare, heads, Shows}
-use Rattle.ve_tree.specs.Reads.{IsReadAs, IsRead, TreeIsRead, OneIsRead, OneNumbering}
+use Rattle.ve_tree.specs.IsTree.{IsTree}
+use Rattle.ve_tree.specs.Reads.{IsReadAs, IsRead, IsReadUnder, TreeIsRead, OneIsRead, OneNumbering}
+use Rattle.ve_tree.proofs.GrownLemmas.{Slots}
 
-abbrev Slots : Type 0
-Slots = List (Option ArenaNode)
-
-last_or-cons : (before : Option ℕ) (n : ℕ) (ns : List ℕ) → last_or before (n ∷ ns) ≡ last_or (Some n) ns
+pub last_or-cons : (before : Option ℕ) (n : ℕ) (ns : List ℕ) → last_or before (n ∷ ns) ≡ last_or (Some n) ns
 last_or-cons before n [] = refl
 last_or-cons before n (m ∷ ns) = refl
 
@@ -36,12 +36,22 @@ row_is_read slots (NamedBranch n kind inside later) p before row last shown = (
       (row_is_read slots later p (Some n) row.3 (last ∙ last_or-cons before n (heads later)) shown.2),
 )
 
-pub tree_is_read : TreeIsRead
-tree_is_read slots root items tree =
+tree_read : (slots : Slots) (root : NodeId) (items : List PlainItem) (tree : IsTree slots root items) → IsReadUnder slots root tree.named
+tree_read slots root items tree =
     subst (λ here. IsRead slots root.0 None here tree.named) (sym tree.root_shown.children.first)
     (row_is_read slots tree.named root.0 None tree.root_shown.children.row tree.root_shown.children.last tree.shown)
 
-one_number : (here : Option ℕ) (n m : ℕ) → here ≡ Some n → here ≡ Some m → n ≡ m
+pub tree_is_read : TreeIsRead
+tree_is_read slots root items tree = record {
+  lawful = tree.lawful;
+  is_tree = tree.is_tree;
+  root_labelled = record { sort_is = tree.root_shown.sort_is; len_is = tree.root_shown.len_is };
+  root_alone = tree.root_alone;
+  read = tree_read slots root items tree;
+  only = tree.only;
+}
+
+pub one_number : (here : Option ℕ) (n m : ℕ) → here ≡ Some n → here ≡ Some m → n ≡ m
 one_number here n m h k = let both : ◌≡◌ {A = Option ℕ} (Some n) (Some m) = sym h ∙ k in cc
 
 one_len : (slots : Slots) (n m p : ℕ) (before : Option ℕ) (a b : NodeWhat) (k l : ℕ) → n ≡ m → IsReadAs slots n p before a k → IsReadAs slots m p before b l → (a ≡ b) × (k ≡ l)
@@ -77,5 +87,5 @@ one_is_read slots p before here (NamedBranch n kind inside later) (NamedBranch m
 
 pub one_numbering : OneNumbering
 one_numbering slots root items others tree other =
-    let same = one_is_read slots root.0 None ((links_of slots).first root.0) tree.named other.named (tree_is_read slots root items tree) (tree_is_read slots root others other) in
+    let same = one_is_read slots root.0 None ((links_of slots).first root.0) tree.named other.named (tree_read slots root items tree) (tree_read slots root others other) in
     (same, sym (tree_spells items tree.lawful) ∙ ap shapes (sym tree.is_tree ∙ ap bare same ∙ other.is_tree) ∙ tree_spells others other.lawful)

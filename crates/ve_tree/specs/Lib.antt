@@ -4,6 +4,6 @@ pub mod IsTree
 pub mod Lent
 pub mod Grown
 pub mod Places
-pub mod Reads
 pub mod Fits
+pub mod Reads
 pub mod Nodes

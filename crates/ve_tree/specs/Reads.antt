@@ -1,15 +1,18 @@
 -- The nodes of an arena as they are read from a node on: by first child and next sibling.
-use Rattle.std.specs.Prelude.{◌≡◌, ℕ, ◌+◌, Option, Some, None, List, map, option_map}
+use Rattle.std.specs.Prelude.{◌≡◌, ℕ, ◌+◌, Option, Some, None, List, ◌∷◌, length, map, option_map}
+use Rattle.ve_kinds.specs.declared.kind.Kind.TheVariants.{Root}
 use Rattle.model_items.specs.declared.plain_item.PlainItem.{PlainItem}
-use Rattle.model_items.specs.Tree.{item_count, shape_of}
+use Rattle.model_items.specs.Law.{Lawful}
+use Rattle.model_items.specs.Tree.{item_count, tree_of, shape_of}
 use Rattle.ve_arena.specs.declared.node.NodeId.{NodeId}
 use Rattle.ve_arena.specs.declared.node.NodeWhat.{NodeWhat}
 use Rattle.ve_arena.specs.declared.node.NodeWhat.TheVariants as what
 use Rattle.ve_arena.specs.declared.node.ArenaNode.{ArenaNode}
 use Rattle.ve_arena.specs.Arena.{slot_at}
-use Rattle.ve_tree.specs.Links.{links_of}
-use Rattle.ve_tree.specs.Named.{Named, NoNode, NamedRun, NamedBranch, bare}
-use Rattle.ve_tree.specs.IsTree.{IsTree}
+use Rattle.ve_tree.specs.Links.{links_of, Apart}
+use Rattle.ve_tree.specs.Named.{Named, NoNode, NamedRun, NamedBranch, bare, numbers}
+use Rattle.ve_tree.specs.IsTree.{IsAlone, IsTree}
+use Rattle.ve_tree.specs.Fits.{IsLabelled}
 
 -- the node says what it is, how long it is, and which node it stands in and behind
 pub record IsReadAs (slots : List (Option ArenaNode)) (n p : ℕ) (before : Option ℕ) (sort : NodeWhat) (len : ℕ) : Type 0 where
@@ -35,9 +38,22 @@ IsRead slots p before here (NamedBranch n kind inside later) =
 abbrev pub IsReadUnder : List (Option ArenaNode) → NodeId → Named → Type 0
 IsReadUnder slots root f = IsRead slots root.0 None ((links_of slots).first root.0) f
 
--- What is read under the root of a tree is the tree, with the numbers that its nodes have.
+-- A lawful list's tree is read under a root that is as long as the list and stands alone, and no node stands besides.
+pub record IsTreeRead (slots : List (Option ArenaNode)) (root : NodeId) (items : List PlainItem) (f : Named) : Type 0 where
+  pub lawful : Lawful items
+  pub is_tree : bare f ≡ tree_of items
+  pub root_labelled : IsLabelled slots root.0 (what.Node Root) (length items)
+  pub root_alone : IsAlone slots root.0
+  pub read : IsReadUnder slots root f
+  pub only : (q : ℕ) → Apart q (root.0 ∷ numbers f) → slot_at slots q ≡ None
+
+-- Of the tree of a list, the tree is read, with the numbers that its nodes have,
 abbrev pub TreeIsRead : Type 0
-TreeIsRead = (slots : List (Option ArenaNode)) (root : NodeId) (items : List PlainItem) (tree : IsTree slots root items) → IsReadUnder slots root tree.named
+TreeIsRead = (slots : List (Option ArenaNode)) (root : NodeId) (items : List PlainItem) (tree : IsTree slots root items) → IsTreeRead slots root items tree.named
+
+-- and where the tree is read, the nodes are the tree of the list: no number occurs twice.
+abbrev pub ReadIsTree : Type 0
+ReadIsTree = (slots : List (Option ArenaNode)) (root : NodeId) (items : List PlainItem) (f : Named) → IsTreeRead slots root items f → IsTree slots root items
 
 -- From one node on one forest is read.
 abbrev pub OneIsRead : Type 0

@@ -1,12 +1,14 @@
 // What it means that links are a tree, in other words. Each function does nothing, and its contract is a law that is proved.
 ghost use Rattle.ve_tree.specs.Fits.{TreeFits, FitsAreTree};
 ghost use Rattle.ve_tree.specs.Nodes.{LinksLeadToNodes, NodesAreInTree};
-ghost use Rattle.ve_tree.specs.Reads.{TreeIsRead, OneIsRead, OneNumbering};
+ghost use Rattle.ve_tree.specs.Reads.{TreeIsRead, ReadIsTree, OneIsRead, OneNumbering};
 
-/// The tree that linked nodes are is what is read from the root on, by first child and next sibling, and from one node on nothing else is read. So the
-/// links decide which node is which of the tree's, and the list but for its characters, heads and marks.
+/// Linked nodes are the tree of a list exactly where the list's tree is read under the root, by first child and next sibling, with parent, sibling before,
+/// last child and length agreeing, and no node stands besides. From one node on one forest is read. So the links decide which node is which of the
+/// tree's, and the list but for its characters, heads and marks.
 pub fn links_are_read()
     ensures tree { TreeIsRead }
+    ensures read { ReadIsTree }
     ensures one { OneIsRead }
     ensures numbering { OneNumbering }
 {}

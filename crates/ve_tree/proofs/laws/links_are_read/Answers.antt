@@ -1,3 +1,4 @@
+use Rattle.ve_tree.proofs.DistinctLemmas as distinct
 use Rattle.ve_tree.proofs.ReadsLemmas as law
 use Rattle.ve_tree.proofs.laws.links_are_read.Goals as goal
 
@@ -9,3 +10,6 @@ returns-clause-one c = law.one_is_read
 
 pub returns-clause-numbering : goal.returns-clause-numbering
 returns-clause-numbering c = law.one_numbering
+
+pub returns-clause-read : goal.returns-clause-read
+returns-clause-read c = distinct.read_is_tree
