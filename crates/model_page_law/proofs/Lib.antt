@@ -34,6 +34,8 @@ pub mod NestLemmas
 pub mod LawfulLemmas
 pub mod OpenPageLemmas
 pub mod OriginLemmas
+pub mod JsonLemmas
+pub mod ComposedLemmas
 pub mod SpanLemmas
 pub mod SpanCuts
 pub mod OriginPlaces
@@ -41,3 +43,4 @@ pub mod MadeRefers
 pub mod PageRefers
 mod FormCases
 mod SpanExamples
+mod ComposedExamples

@@ -6,3 +6,4 @@ pub mod Lawful
 pub mod Origins
 pub mod Referring
 pub mod Spans
+pub mod Composed

@@ -2,6 +2,7 @@
 //! law that is proved of every page and every list.
 #![tactic(auto)]
 
+ghost use Rattle.model_page_law.specs.Composed.{ComposedIsBarred, ComposedIsRead, ComposedKeepsBody, ComposedKeepsMembers, ComposedOwns, ComposedReuses};
 ghost use Rattle.model_page_law.specs.Lawful.{BadPageHasFault, LimitedIsLawful, ReadIsLawful, ReadIsWithin, WithinIsRead};
 ghost use Rattle.model_page_law.specs.Origins.{OriginsNumberSpans};
 ghost use Rattle.model_page_law.specs.ReadBack.{FreshIsReadBack, FreshOpensAsItself};
@@ -50,6 +51,16 @@ pub fn origins_stand()
 pub fn references_are_editable()
     ensures opened { OpenedRefers }
     ensures spelled { SpelledRefers }
+{}
+
+/// A `data-mw` that is composed with another body is read as what it was with that body; so it is editable, of the same group and name, and has that body, where a forest spells the body's text.
+pub fn composed_reads_back()
+    ensures value { ComposedIsRead }
+    ensures members { ComposedKeepsMembers }
+    ensures body { ComposedKeepsBody }
+    ensures owns { ComposedOwns }
+    ensures barred { ComposedIsBarred }
+    ensures reuses { ComposedReuses }
 {}
 
 /// A page that opens, and is written with the items that it has, is that page, byte for byte.

@@ -1,0 +1,20 @@
+use Rattle.model_page_law.proofs.ComposedLemmas.{composed_is_read, composed_keeps_members, composed_keeps_body, composed_owns, composed_is_barred, composed_reuses}
+use Rattle.model_page_law.proofs.composed_reads_back.Goals as goal
+
+pub returns-clause-value : goal.returns-clause-value
+returns-clause-value c = composed_is_read
+
+pub returns-clause-members : goal.returns-clause-members
+returns-clause-members c = composed_keeps_members
+
+pub returns-clause-body : goal.returns-clause-body
+returns-clause-body c = composed_keeps_body
+
+pub returns-clause-owns : goal.returns-clause-owns
+returns-clause-owns c = composed_owns
+
+pub returns-clause-barred : goal.returns-clause-barred
+returns-clause-barred c = composed_is_barred
+
+pub returns-clause-reuses : goal.returns-clause-reuses
+returns-clause-reuses c = composed_reuses
