@@ -10,19 +10,19 @@ pub mod NodeLemmas
 pub mod InsertLemmas
 pub mod TypingLemmas
 mod FragmentLemmas
-mod RemoveLemmas
+pub mod RemoveLemmas
 mod RemoveKeptLemmas
 mod RemoveLawfulLemmas
 pub mod ShapeLemmas
-mod WrapLemmas
+pub mod WrapLemmas
 mod NeutralLemmas
 mod MarkedLemmas
 mod ListLemmas
-mod IndentLemmas
-mod OutdentLemmas
+pub mod IndentLemmas
+pub mod OutdentLemmas
 mod TablePlaceLemmas
 mod SpanLemmas
-mod TableFineLemmas
+pub mod TableFineLemmas
 mod TableLawfulLemmas
 mod TableGrowLemmas
 mod LeastLemmas

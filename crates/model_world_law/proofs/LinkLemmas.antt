@@ -1,0 +1,313 @@
+-- Each accepted request is some events of the session.
+use Rattle.std.proofs.Common.{◌≡◌, ◌<◌, ℕ, zero, suc, nat_lt, Bool, true, false, List, [], ◌∷◌, length, slice_get, slice_range, ◌||◌, Option, Some, None, Result, Ok, Err, if◌then◌else◌, unwrap_or, refl, sym, ap, ◌∙◌, subst}
+use Rattle.std.proofs.lemmas.Bool.{ltb-true}
+use Rattle.model_items.specs.declared.plain_item.PlainItem.{PlainItem}
+use Rattle.model_items.specs.declared.law_fault.LawFault.{LawFault}
+use Rattle.model_items.specs.declared.law_fault.LawFault.TheVariants as law
+use Rattle.model_items.specs.Law.{Lawful, verdict}
+use Rattle.model_change.specs.declared.tx_fault.TxFault.{TxFault}
+use Rattle.model_change.specs.declared.tx_fault.TxFault.TheVariants as tx
+use Rattle.model_change.specs.Transaction.{Transaction, edited}
+use Rattle.model_change.specs.Fault.{Applies, fault, or_else}
+use Rattle.model_change.proofs.FilledLemmas.{names_stay_apart}
+use Rattle.model_edit.specs.declared.selection.Selection.{Selection}
+use Rattle.model_edit.specs.declared.table_fault.TableFault.{TableFault}
+use Rattle.model_edit.specs.declared.list_fault.ListFault.{ListFault}
+use Rattle.model_edit.specs.Translate.{between}
+use Rattle.model_edit.specs.Grid.{Grid, grid}
+use Rattle.model_edit.specs.Tables.{row_in, row_out, col_in, col_out}
+use Rattle.model_edit.specs.Lists.{indent, outdent}
+use Rattle.model_site.specs.declared.edit_fault.EditFault.{EditFault}
+use Rattle.model_site.specs.declared.site_fault.UndoFault.{UndoFault}
+use Rattle.model_site.specs.declared.site_fault.RedoFault.{RedoFault}
+use Rattle.model_site.specs.declared.site_fault.SendFault.{SendFault}
+use Rattle.model_site.specs.declared.served.Served.{Served}
+use Rattle.model_site.specs.declared.taken.Taken.{Taken}
+use Rattle.model_site.specs.Replica.{Replica, performed}
+use Rattle.model_site.specs.Refused.{transaction_fault, law_fault, edit_fault}
+use Rattle.model_change.specs.Join.{Clash}
+use Rattle.model_site.specs.Site.{Site, Submission, with_entry, with_selection, undo, redo, send, revoke_entry}
+use Rattle.model_site.specs.Session.{Session, Member, put_at, with_member, serve_next, take_next}
+use Rattle.model_site.specs.Events.{Event, Perform, Select, Undo, Redo, Revoke, Send, Serve, Take, at_member, with_site_of, with_sent, after_turn, happens}
+use Rattle.model_site.specs.Events as events
+use Rattle.model_site_law.specs.Sound.{Sound, MayRun, AllMayRun}
+use Rattle.model_site_law.specs.MayHappen.{MayHappen}
+use Rattle.model_world.specs.declared.change.TextMarks.TheVariants.{Left}
+use Rattle.model_world.specs.declared.change.Change.{Change}
+use Rattle.model_world.specs.declared.change.Change.TheVariants as change
+use Rattle.model_world.specs.declared.command.Request.{Request}
+use Rattle.model_world.specs.declared.command.Request.TheVariants as request
+use Rattle.model_world.specs.declared.refusal.Refusal.{Refusal}
+use Rattle.model_world.specs.declared.refusal.Refusal.TheVariants.{BadRange, BadOffset, BadEntry}
+use Rattle.model_world.specs.declared.reply.Reply.TheVariants as reply
+use Rattle.model_world.specs.Refusals.{refused_as, undo_refusal, redo_refusal, send_refusal, revoke_refusal, table_refusal, list_refusal}
+use Rattle.model_world.specs.Edits.{BatchRefusal, allowed, unless_faulty, change_of, change_on, batch_from, batch_on}
+use Rattle.model_world.specs.Answers.{Outcome, Asked, asked, with_site, site_of, replica_of, items_of, told, refused, changed_or_no, performed_or_no, batch_or_no, selected, is_no_end, select_between, next_place, moved_or_no, lower, higher, is_collapsed, to_erase, erased_or_no, typing, behind_text, typed_or_no, items_shown_or_no, node_told, node_or_no, grid_or_no, table_changed, list_changed, sent_or_no, served_or_no, taken_or_no, revoked_or_no}
+use Rattle.model_world_law.specs.Fit.{Fit, IsWritten, AllWritten, RequestWritten, LayersFit}
+use Rattle.model_world_law.specs.Reached.{Becomes}
+
+-- ---- what may be performed
+
+or_else_none : {A : Type 0} (o p : Option A) → or_else o p ≡ None → (o ≡ None) × (p ≡ None)
+or_else_none None p h = (refl, h)
+or_else_none (Some x) p h = cc
+
+no_transaction_fault : (o : Option TxFault) → transaction_fault o ≡ None → o ≡ None
+no_transaction_fault None h = refl
+no_transaction_fault (Some (tx.BadLength has needs)) h = cc
+no_transaction_fault (Some (tx.Mismatch at)) h = cc
+no_transaction_fault (Some (tx.BadAttr at)) h = cc
+no_transaction_fault (Some tx.Memory) h = cc
+
+no_law_fault : (o : Option LawFault) → law_fault o ≡ None → o ≡ None
+no_law_fault None h = refl
+no_law_fault (Some (law.Unlawful at)) h = cc
+no_law_fault (Some (law.TooDeep at)) h = cc
+
+-- a transaction that is allowed applies and leaves a lawful list
+pub record IsAllowed (r : Replica) (result : Result Transaction Refusal) (t : Transaction) : Type 0 where
+  pub given : result ≡ Ok t
+  pub applies : Applies t r.items
+  pub lawful : Lawful (edited t r.items)
+
+allowed_runs : (r : Replica) (result : Result Transaction Refusal) (t : Transaction) → allowed r result ≡ Ok t → IsAllowed r result t
+allowed_runs r (Err refusal) t h = cc
+allowed_runs r (Ok u) t h = by_fault (edit_fault u r) refl h
+  where
+    by_fault : (o : Option EditFault) → edit_fault u r ≡ o → unless_faulty o u ≡ Ok t → IsAllowed r (Ok u) t
+    by_fault (Some f) e h = cc
+    by_fault None e h =
+        let first = or_else_none (transaction_fault (fault u r.items)) _ e in
+        let second = or_else_none (law_fault (verdict (edited u r.items))) _ first.1 in
+        let same : u ≡ t = cc in
+        record {
+          given = ap (λ v. Ok v) same;
+          applies = subst (λ v. Applies v r.items) same (no_transaction_fault (fault u r.items) first.0);
+          lawful = subst (λ v. Lawful (edited v r.items)) same (no_law_fault (verdict (edited u r.items)) second.0);
+        }
+
+may_run : (r : Replica) (result : Result Transaction Refusal) (t : Transaction) → ((u : Transaction) → result ≡ Ok u → Fit u) → allowed r result ≡ Ok t → MayRun t r.items
+may_run r result t fit h =
+    let a = allowed_runs r result t h in
+    let f = fit t a.given in
+    record { reduced = f.reduced; applies = a.applies; lawful = a.lawful; apart = f.apart }
+
+sound_next : (t : Transaction) (items : List PlainItem) → Sound items → MayRun t items → Sound (edited t items)
+sound_next t items s m = record { lawful = m.lawful; apart = names_stay_apart t items m.applies m.apart s.apart }
+
+batch_may : LayersFit → (i : ℕ) (cs : List Change) (r : Replica) (ts : List Transaction) → AllWritten cs → Sound r.items → batch_from i cs r ≡ Ok ts → AllMayRun ts r.items
+batch_may fit i [] r ts written sound h = let e : ◌≡◌ {A = List Transaction} [] ts = cc in subst (λ us. AllMayRun us r.items) e tt
+batch_may fit i (c ∷ cs) r ts written sound h = by_first (λ j s us. batch_may fit j cs s us written.1) (change_on r c) refl h
+  where
+    by_first : ((j : ℕ) (s : Replica) (us : List Transaction) → Sound s.items → batch_from j cs s ≡ Ok us → AllMayRun us s.items) →
+        (first : Result Transaction Refusal) → change_on r c ≡ first →
+        (elim first as (λ _. Result (List Transaction) BatchRefusal) [
+          | Err f ↦ Err (record { at = i; refusal = f })
+          | Ok t ↦ elim (batch_from (suc i) cs (performed t r)) as (λ _. Result (List Transaction) BatchRefusal) [ Err f ↦ Err f | Ok us ↦ Ok (t ∷ us) ]
+        ]) ≡ Ok ts → AllMayRun ts r.items
+    by_first rest_may (Err f) e h = cc
+    by_first rest_may (Ok t) e h = by_rest (batch_from (suc i) cs (performed t r)) refl h
+      where
+        by_rest : (rest : Result (List Transaction) BatchRefusal) → batch_from (suc i) cs (performed t r) ≡ rest →
+            (elim rest as (λ _. Result (List Transaction) BatchRefusal) [ Err f ↦ Err f | Ok us ↦ Ok (t ∷ us) ]) ≡ Ok ts → AllMayRun ts r.items
+        by_rest (Err f) d h = cc
+        by_rest (Ok us) d h =
+            let may = may_run r (change_of r.items c) t (λ u k. fit.changes r.items c u written.0 sound k) e in
+            let same : t ∷ us ≡ ts = cc in
+            subst (λ vs. AllMayRun vs r.items) same (may, rest_may (suc i) (performed t r) us (sound_next t r.items sound may) d)
+
+typing_written : (s : Selection) (text : List ℕ) → AllWritten (typing s text)
+typing_written s text = by_test (is_collapsed s)
+  where
+    by_test : (b : Bool) → AllWritten (if b then change.Text (lower s) text Left ∷ [] else change.Remove (lower s) (higher s) ∷ change.Text (lower s) text Left ∷ [])
+    by_test true = (tt, tt)
+    by_test false = (tt, (tt, tt))
+
+-- ---- members put in their places
+
+get_put : (k : ℕ) (m n : Member) (ms : List Member) → slice_get ms k ≡ Some n → slice_get (put_at k m ms) k ≡ Some m
+get_put k m n [] h = cc
+get_put zero m n (x ∷ ms) h = refl
+get_put (suc k) m n (x ∷ ms) h = get_put k m n ms h
+
+put_put : (k : ℕ) (m n : Member) (ms : List Member) → put_at k m (put_at k n ms) ≡ put_at k m ms
+put_put k m n [] = refl
+put_put zero m n (x ∷ ms) = refl
+put_put (suc k) m n (x ∷ ms) = ap (λ r. x ∷ r) (put_put k m n ms)
+
+-- ---- requests
+
+-- the site is there, and its list is sound
+pub record Stands (a : Asked) : Type 0 where
+  pub there : slice_get a.session.members a.k ≡ Some a.member
+  pub sound : Sound (items_of a)
+
+abbrev pub Leads : Asked → Outcome → Type 0
+Leads a (Ok r) = Becomes a.session r.1
+Leads a (Err r) = Unit {0}
+
+stays : (a : Asked) → Becomes a.session a.session
+stays a = record { events = []; may = tt; same = refl }
+
+one_event : (a : Asked) (e : Event) (next : Session) → MayHappen a.session e → next ≡ happens a.session e → Becomes a.session next
+one_event a e next may same = record { events = e ∷ []; may = (may, tt); same = same }
+
+same_member : (a : Asked) → Stands a → (m : Member) → slice_get a.session.members a.k ≡ Some m → a.member ≡ m
+same_member a s m e = let f : Some a.member ≡ Some m = sym s.there ∙ e in cc
+
+-- an event of the site that is asked
+of_member : (a : Asked) → Stands a → (f : Member → Session) → f a.member ≡ at_member a.session (slice_get a.session.members a.k) f
+of_member a s f = ap (λ o. at_member a.session o f) (sym s.there)
+
+perform_same : (a : Asked) → Stands a → (ts : List Transaction) → with_site a (with_entry ts (site_of a)) ≡ happens a.session (Perform a.k ts)
+perform_same a s ts = of_member a s (λ m. events.with_site a.k m (with_entry ts m.site) a.session)
+
+performs : (a : Asked) → Stands a → (ts : List Transaction) → AllMayRun ts (items_of a) → Becomes a.session (with_site a (with_entry ts (site_of a)))
+performs a s ts may = one_event a (Perform a.k ts) _ (λ m e. subst (λ n. AllMayRun ts n.site.replica.items) (same_member a s m e) may) (perform_same a s ts)
+
+performed_leads : (a : Asked) → Stands a → (r : Result Transaction Refusal) → ((t : Transaction) → r ≡ Ok t → MayRun t (items_of a)) → Leads a (performed_or_no a r)
+performed_leads a s (Err refusal) may = tt
+performed_leads a s (Ok t) may = performs a s (t ∷ []) (may t refl, tt)
+
+allowed_leads : (a : Asked) → Stands a → (r : Result Transaction Refusal) → ((u : Transaction) → r ≡ Ok u → Fit u) → Leads a (performed_or_no a (allowed (replica_of a) r))
+allowed_leads a s r fit = performed_leads a s (allowed (replica_of a) r) (λ t e. may_run (replica_of a) r t fit e)
+
+batch_leads : (a : Asked) → Stands a → (r : Result (List Transaction) BatchRefusal) → ((ts : List Transaction) → r ≡ Ok ts → AllMayRun ts (items_of a)) → Leads a (batch_or_no a r)
+batch_leads a s (Err f) may = tt
+batch_leads a s (Ok ts) may = performs a s ts (may ts refl)
+
+selects : (a : Asked) → Stands a → (sel : Selection) → Leads a (selected a sel)
+selects a s sel = one_event a (Select a.k sel) _ tt (of_member a s (λ m. events.with_site a.k m (with_selection sel m.site) a.session))
+
+typed_leads : (a : Asked) → Stands a → (r : Result (List Transaction) BatchRefusal) → ((ts : List Transaction) → r ≡ Ok ts → AllMayRun ts (items_of a)) → Leads a (typed_or_no a r)
+typed_leads a s (Err f) may = tt
+typed_leads a s (Ok ts) may =
+    let sel = between (behind_text ts) (behind_text ts) in
+    let middle : Member = record a.member { site = with_entry ts (site_of a) } in
+    let last : Member = record a.member { site = with_selection sel (with_entry ts (site_of a)) } in
+    let w = with_member a.k middle a.session in
+    record {
+      events = Perform a.k ts ∷ Select a.k sel ∷ [];
+      may = ((λ m e. subst (λ n. AllMayRun ts n.site.replica.items) (same_member a s m e) (may ts refl)), (tt, tt));
+      same = ap (λ ms. record a.session { members = ms }) (sym (put_put a.k last middle a.session.members))
+          ∙ ap (λ o. at_member w o (λ m. events.with_site a.k m (with_selection sel m.site) w)) (sym (get_put a.k middle a.member a.session.members s.there))
+          ∙ ap (λ v. happens v (Select a.k sel)) (perform_same a s ts);
+    }
+
+moved_leads : (a : Asked) → Stands a → (keep : Bool) (r : Result ℕ Refusal) → Leads a (moved_or_no a keep r)
+moved_leads a s keep (Err refusal) = tt
+moved_leads a s keep (Ok at) = selects a s (between (if keep then (replica_of a).selection.anchor else at) at)
+
+either : (a : Asked) (b : Bool) (x y : Outcome) → Leads a x → Leads a y → Leads a (if b then x else y)
+either a true x y p q = p
+either a false x y p q = q
+
+grid_leads : (a : Asked) (r : Result Grid TableFault) → Leads a (grid_or_no a r)
+grid_leads a (Ok g) = stays a
+grid_leads a (Err f) = tt
+
+undo_leads : (a : Asked) → Stands a → (r : Result Site UndoFault) → undo (site_of a) ≡ r → Leads a (changed_or_no a (refused_as undo_refusal r))
+undo_leads a s (Err f) e = tt
+undo_leads a s (Ok site) e = one_event a (Undo a.k) _ tt
+    (ap (λ r. with_site_of a.k a.member r a.session) (sym e) ∙ of_member a s (λ m. with_site_of a.k m (undo m.site) a.session))
+
+redo_leads : (a : Asked) → Stands a → (r : Result Site RedoFault) → redo (site_of a) ≡ r → Leads a (changed_or_no a (refused_as redo_refusal r))
+redo_leads a s (Err f) e = tt
+redo_leads a s (Ok site) e = one_event a (Redo a.k) _ tt
+    (ap (λ r. with_site_of a.k a.member r a.session) (sym e) ∙ of_member a s (λ m. with_site_of a.k m (redo m.site) a.session))
+
+revoke_leads : (a : Asked) → Stands a → (i : ℕ) → i < (site_of a).seen → (r : Result Site Clash) → revoke_entry a.session.committed i (site_of a) ≡ r →
+    Leads a (changed_or_no a (refused_as revoke_refusal r))
+revoke_leads a s i seen (Err f) e = tt
+revoke_leads a s i seen (Ok site) e = one_event a (Revoke a.k i) _
+    (λ m there. subst (λ n. i < n.site.seen) (same_member a s m there) seen)
+    (ap (λ r. with_site_of a.k a.member r a.session) (sym e) ∙ of_member a s (λ m. with_site_of a.k m (revoke_entry a.session.committed i m.site) a.session))
+
+revoked_leads : (a : Asked) → Stands a → (i : ℕ) → Leads a (revoked_or_no a i)
+revoked_leads a s i = by_seen (nat_lt i (site_of a).seen) refl
+  where
+    by_seen : (b : Bool) → nat_lt i (site_of a).seen ≡ b → Leads a (elim b as (λ _. Outcome) [
+      | false ↦ refused (BadEntry i (site_of a).seen)
+      | true ↦ changed_or_no a (refused_as revoke_refusal (revoke_entry a.session.committed i (site_of a)))
+    ])
+    by_seen false e = tt
+    by_seen true e = revoke_leads a s i (ltb-true i (site_of a).seen e) (revoke_entry a.session.committed i (site_of a)) refl
+
+send_leads : (a : Asked) → Stands a → (r : Result (Site × Submission) SendFault) → send (site_of a) ≡ r → Leads a (sent_or_no a (refused_as send_refusal r))
+send_leads a s (Err f) e = tt
+send_leads a s (Ok r) e = one_event a (Send a.k) _ tt
+    (ap (λ x. with_sent a.k a.member x a.session) (sym e) ∙ of_member a s (λ m. with_sent a.k m (send m.site) a.session))
+
+serve_leads : (a : Asked) → Stands a → (o : Option (Session × Served)) → serve_next a.k a.member a.session ≡ o → Leads a (served_or_no o)
+serve_leads a s None e = tt
+serve_leads a s (Some r) e = one_event a (Serve a.k) _ tt
+    (ap (after_turn a.session) (sym e) ∙ of_member a s (λ m. after_turn a.session (serve_next a.k m a.session)))
+
+take_leads : (a : Asked) → Stands a → (o : Option (Session × Taken)) → take_next a.k a.member a.session ≡ o → Leads a (taken_or_no o)
+take_leads a s None e = tt
+take_leads a s (Some r) e = one_event a (Take a.k) _ tt
+    (ap (after_turn a.session) (sym e) ∙ of_member a s (λ m. after_turn a.session (take_next a.k m a.session)))
+
+table_leads : (a : Asked) → Stands a → (r : Result Transaction TableFault) → ((t : Transaction) → r ≡ Ok t → Fit t) → Leads a (table_changed a r)
+table_leads a s r fit = allowed_leads a s (refused_as table_refusal r) (by_result r fit)
+  where
+    by_result : (r : Result Transaction TableFault) → ((t : Transaction) → r ≡ Ok t → Fit t) → (u : Transaction) → refused_as table_refusal r ≡ Ok u → Fit u
+    by_result (Ok t) fit u e = let same : t ≡ u = cc in subst Fit same (fit t refl)
+    by_result (Err f) fit u e = cc
+
+list_leads : (a : Asked) → Stands a → (r : Result Transaction ListFault) → ((t : Transaction) → r ≡ Ok t → Fit t) → Leads a (list_changed a r)
+list_leads a s r fit = allowed_leads a s (refused_as list_refusal r) (by_result r fit)
+  where
+    by_result : (r : Result Transaction ListFault) → ((t : Transaction) → r ≡ Ok t → Fit t) → (u : Transaction) → refused_as list_refusal r ≡ Ok u → Fit u
+    by_result (Ok t) fit u e = let same : t ≡ u = cc in subst Fit same (fit t refl)
+    by_result (Err f) fit u e = cc
+
+change_leads : LayersFit → (a : Asked) → Stands a → (c : Change) → IsWritten c → Leads a (performed_or_no a (change_on (replica_of a) c))
+change_leads fit a s c written = allowed_leads a s (change_of (items_of a) c) (λ u e. fit.changes (items_of a) c u written s.sound e)
+
+erased_leads : LayersFit → (a : Asked) → Stands a → (r : Result Selection Refusal) → Leads a (erased_or_no a r)
+erased_leads fit a s (Err refusal) = tt
+erased_leads fit a s (Ok sel) = change_leads fit a s (change.Remove (lower sel) (higher sel)) tt
+
+show_leads : (a : Asked) (from to : ℕ) → Leads a (items_shown_or_no a from to)
+show_leads a from to =
+    either a (nat_lt to from || nat_lt (length (items_of a)) to) (refused (BadRange from to)) (told a (reply.Items (slice_range (items_of a) from to))) tt (stays a)
+
+node_leads : (a : Asked) (at : ℕ) → Leads a (node_or_no a at)
+node_leads a at = either a (nat_lt (length (items_of a)) at) (refused (BadOffset at)) (node_told a at) tt (stays a)
+
+select_leads : (a : Asked) → Stands a → (anchor focus : ℕ) → Leads a (select_between a anchor focus)
+select_leads a s anchor focus =
+    let sel = between anchor focus in
+    let second = if is_no_end (items_of a) focus then refused (BadOffset focus) else selected a sel in
+    either a (is_no_end (items_of a) anchor) (refused (BadOffset anchor)) second tt
+    (either a (is_no_end (items_of a) focus) (refused (BadOffset focus)) (selected a sel) tt (selects a s sel))
+
+pub asked_leads : LayersFit → (a : Asked) → Stands a → (r : Request) → RequestWritten r → Leads a (asked a r)
+asked_leads fit a s request.Html o = stays a
+asked_leads fit a s request.Tree o = stays a
+asked_leads fit a s request.Refs o = stays a
+asked_leads fit a s request.Caret o = stays a
+asked_leads fit a s request.Undo o = undo_leads a s (undo (site_of a)) refl
+asked_leads fit a s request.Redo o = redo_leads a s (redo (site_of a)) refl
+asked_leads fit a s request.Send o = send_leads a s (send (site_of a)) refl
+asked_leads fit a s request.Serve o = serve_leads a s (serve_next a.k a.member a.session) refl
+asked_leads fit a s request.Take o = take_leads a s (take_next a.k a.member a.session) refl
+asked_leads fit a s (request.ShowItems from to) o = show_leads a from (unwrap_or to (length (items_of a)))
+asked_leads fit a s (request.At at) o = node_leads a at
+asked_leads fit a s (request.Edit c) o = change_leads fit a s c o
+asked_leads fit a s (request.Batch cmds) o = batch_leads a s (batch_on (replica_of a) cmds) (λ ts e. batch_may fit 0 cmds (replica_of a) ts o s.sound e)
+asked_leads fit a s (request.Select anchor focus) o = select_leads a s anchor focus
+asked_leads fit a s (request.Move dir by keep) o = moved_leads a s keep (next_place (items_of a) (replica_of a).selection.focus dir by)
+asked_leads fit a s (request.TypeText text) o =
+    let cmds = typing (replica_of a).selection text in
+    typed_leads a s (batch_on (replica_of a) cmds) (λ ts e. batch_may fit 0 cmds (replica_of a) ts (typing_written (replica_of a).selection text) s.sound e)
+asked_leads fit a s (request.Erase dir by) o = erased_leads fit a s (to_erase (replica_of a) dir by)
+asked_leads fit a s (request.Grid at) o = grid_leads a (grid (items_of a) at)
+asked_leads fit a s (request.RowIn at row) o = table_leads a s (row_in (items_of a) at row) (λ t e. fit.moves.row_in (items_of a) at row t s.sound e)
+asked_leads fit a s (request.RowOut at row) o = table_leads a s (row_out (items_of a) at row) (λ t e. fit.moves.row_out (items_of a) at row t s.sound e)
+asked_leads fit a s (request.ColIn at column) o = table_leads a s (col_in (items_of a) at column) (λ t e. fit.moves.col_in (items_of a) at column t s.sound e)
+asked_leads fit a s (request.ColOut at column) o = table_leads a s (col_out (items_of a) at column) (λ t e. fit.moves.col_out (items_of a) at column t s.sound e)
+asked_leads fit a s (request.Indent at) o = list_leads a s (indent (items_of a) at) (λ t e. fit.moves.indent (items_of a) at t s.sound e)
+asked_leads fit a s (request.Outdent at) o = list_leads a s (outdent (items_of a) at) (λ t e. fit.moves.outdent (items_of a) at t s.sound e)
+asked_leads fit a s (request.Revoke entry) o = revoked_leads a s entry

@@ -1,0 +1,83 @@
+-- What the layers below the world make sure of: lines are read as written, what they ask gives transactions that are reduced and put in names apart, and pages open as sound lists.
+use Rattle.std.specs.Prelude.{◌≡◌, ℕ, true, List, [], ◌∷◌, Ok}
+use Rattle.ve_base.specs.Names.{NamesApart}
+use Rattle.model_items.specs.declared.plain_item.PlainItem.{PlainItem}
+use Rattle.model_change.specs.Attributes.{AllNamesApart}
+use Rattle.model_change.specs.Transaction.{Transaction, is_reduced, InsertedApart}
+use Rattle.model_page.specs.PageItems.{Opened}
+use Rattle.model_edit.specs.declared.wrap_plan.Shape.{Shape}
+use Rattle.model_edit.specs.Tables.{row_in, row_out, col_in, col_out}
+use Rattle.model_edit.specs.Lists.{indent, outdent}
+use Rattle.model_site_law.specs.Sound.{Sound}
+use Rattle.model_world.specs.declared.change.OpWords.{OpWords}
+use Rattle.model_world.specs.declared.change.OpWords.TheVariants as op
+use Rattle.model_world.specs.declared.change.Change.{Change}
+use Rattle.model_world.specs.declared.change.Change.TheVariants as change
+use Rattle.model_world.specs.declared.command.Request.{Request}
+use Rattle.model_world.specs.declared.command.Request.TheVariants as request
+use Rattle.model_world.specs.declared.command.Command.TheVariants.{Ask}
+use Rattle.model_world.specs.Operations.{is_normal}
+use Rattle.model_world.specs.Commands.{command}
+use Rattle.model_world.specs.Edits.{change_of}
+use Rattle.model_world.specs.Opening.{open_page}
+
+-- ---- what reading a line makes sure of
+
+-- no inserted opening has two attributes of one name
+abbrev pub OpsApart : List OpWords → Type 0
+OpsApart [] = Unit {0}
+OpsApart (op.Retain count ∷ ops) = OpsApart ops
+OpsApart (op.Remove count insert ∷ ops) = AllNamesApart insert × OpsApart ops
+OpsApart (op.Attr name to ∷ ops) = OpsApart ops
+
+abbrev pub ShapesApart : List Shape → Type 0
+ShapesApart [] = Unit {0}
+ShapesApart (s ∷ shapes) = NamesApart s.attrs × ShapesApart shapes
+
+-- operations are in normal form, and what is put in has distinct names
+abbrev pub IsWritten : Change → Type 0
+IsWritten (change.Apply ops) = (is_normal ops ≡ true) × OpsApart ops
+IsWritten (change.Wrap from to plan) = ShapesApart plan.wrap_outer × ShapesApart plan.wrap_each
+IsWritten _ = Unit {0}
+
+abbrev pub AllWritten : List Change → Type 0
+AllWritten [] = Unit {0}
+AllWritten (c ∷ cs) = IsWritten c × AllWritten cs
+
+abbrev pub RequestWritten : Request → Type 0
+RequestWritten (request.Edit c) = IsWritten c
+RequestWritten (request.Batch cmds) = AllWritten cmds
+RequestWritten _ = Unit {0}
+
+abbrev pub LinesAreWritten : Type 0
+LinesAreWritten = (line : List ℕ) (asked : Request) (k : ℕ) → command line ≡ Ok (Ask asked k) → RequestWritten asked
+
+-- ---- what the layers below make of it
+
+pub record Fit (t : Transaction) : Type 0 where
+  pub reduced : is_reduced t ≡ true
+  pub apart : InsertedApart t
+
+-- a change that was read gives such a transaction on every sound list
+abbrev pub ChangesFit : Type 0
+ChangesFit = (items : List PlainItem) (c : Change) (t : Transaction) → IsWritten c → Sound items → change_of items c ≡ Ok t → Fit t
+
+-- so do rows, columns and moved list items
+pub record MovesFit : Type 0 where
+  pub row_in : (items : List PlainItem) (at row : ℕ) (t : Transaction) → Sound items → row_in items at row ≡ Ok t → Fit t
+  pub row_out : (items : List PlainItem) (at row : ℕ) (t : Transaction) → Sound items → row_out items at row ≡ Ok t → Fit t
+  pub col_in : (items : List PlainItem) (at column : ℕ) (t : Transaction) → Sound items → col_in items at column ≡ Ok t → Fit t
+  pub col_out : (items : List PlainItem) (at column : ℕ) (t : Transaction) → Sound items → col_out items at column ≡ Ok t → Fit t
+  pub indent : (items : List PlainItem) (at : ℕ) (t : Transaction) → Sound items → indent items at ≡ Ok t → Fit t
+  pub outdent : (items : List PlainItem) (at : ℕ) (t : Transaction) → Sound items → outdent items at ≡ Ok t → Fit t
+
+-- and a page that opens gives a sound list
+abbrev pub PagesAreSound : Type 0
+PagesAreSound = (page : List ℕ) (o : Opened) → open_page page ≡ Ok o → Sound o.items
+
+-- all of this
+pub record LayersFit : Type 0 where
+  pub lines : LinesAreWritten
+  pub changes : ChangesFit
+  pub moves : MovesFit
+  pub pages : PagesAreSound

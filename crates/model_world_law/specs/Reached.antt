@@ -1,0 +1,53 @@
+-- What always holds of a world, whatever lines it was given: the laws of sites and server hold of it.
+use Rattle.std.specs.Prelude.{◌≡◌, ℕ, List, [], ◌∷◌, length, slice_get, Some}
+use Rattle.model_change.specs.Store.{cited}
+use Rattle.model_change.specs.Replay.{replay, AllRun, flattened}
+use Rattle.model_page.specs.PageItems.{Opened}
+use Rattle.model_site.specs.Replica.{Replica, opened_with}
+use Rattle.model_site.specs.Site.{pending, entries_of}
+use Rattle.model_site.specs.Session.{Feed, Ack, Member, Session, started}
+use Rattle.model_site.specs.Events.{Event, run}
+use Rattle.model_site_law.specs.Sound.{Sound, AllIn, Opens}
+use Rattle.model_site_law.specs.MayHappen.{AllMayHappen}
+use Rattle.model_world.specs.World.{World, Closed, Open, world_after}
+
+-- some events lead from one session to the other
+pub record Becomes (w next : Session) : Type 0 where
+  pub events : List Event
+  pub may : AllMayHappen w events
+  pub same : next ≡ run w events
+
+-- the session is what some events make of sites that began with the page's items
+pub record IsReached (page : Opened) (w : Session) : Type 0 where
+  pub sites : ℕ
+  pub events : List Event
+  pub opens : Opens (opened_with page.items)
+  pub may : AllMayHappen (started (opened_with page.items) sites) events
+  pub same : w ≡ run (started (opened_with page.items) sites) events
+
+abbrev pub WorldReached : World → Type 0
+WorldReached Closed = Unit {0}
+WorldReached (Open page session) = IsReached page session
+
+-- Over every list of lines: each world that they lead to is what some events make of freshly started sites. So what holds of sites and server over every list of events holds of every world.
+abbrev pub EveryWorldIsReached : Type 0
+EveryWorldIsReached = (lines : List (List ℕ)) → WorldReached (world_after Closed lines)
+
+-- ---- so the laws of sites and server hold of every site of every world
+
+pub record SiteHolds (base : Replica) (w : Session) (m : Member) : Type 0 where
+  -- its list is lawful, and no opening has two attributes of one name
+  pub sound : Sound m.site.replica.items
+  -- it is the replay of the committed entries that it has seen, of those sent and of those unsent, each of which can be performed and undone
+  pub list : m.site.replica.items ≡ replay (flattened (entries_of w.committed m.site)) base.items
+  pub runs : AllRun (flattened (entries_of w.committed m.site)) base.items
+  -- its store has every value that its list cites
+  pub stored : AllIn m.site.replica.store (cited m.site.replica.items)
+  -- the answer that it takes next counts the entries that it still holds as sent
+  pub acknowledged : (accepted : ℕ) (later : List Feed) → m.feeds ≡ Ack accepted ∷ later → accepted ≡ length m.site.sent
+  -- having taken nothing and with nothing pending, it has the first list and the first store
+  pub undone : m.site.seen ≡ 0 → pending m.site ≡ [] → (m.site.replica.items ≡ base.items) × (m.site.replica.store ≡ base.store)
+
+abbrev pub EverySiteHolds : Type 0
+EverySiteHolds = (lines : List (List ℕ)) (page : Opened) (w : Session) (k : ℕ) (m : Member) → world_after Closed lines ≡ Open page w → slice_get w.members k ≡ Some m →
+    SiteHolds (opened_with page.items) w m

@@ -1,0 +1,28 @@
+//! What always holds of a world, whatever lines it was given. Definitions of these laws stand in specs/; each public function here does nothing, and its
+//! contract is a law that is proved.
+#![tactic(auto)]
+
+ghost use Rattle.model_world_law.specs.Fit.{LinesAreWritten, ChangesFit, MovesFit, PagesAreSound};
+ghost use Rattle.model_world_law.specs.Reached.{EveryWorldIsReached, EverySiteHolds};
+
+/// A line that is read asks for operations in normal form, and for no opening with two attributes of one name. On a sound list, one that is lawful and
+/// has names apart, every change that was read gives a reduced transaction that puts in names apart, and so do rows, columns and moved list items.
+/// Every page that opens is a sound list.
+pub fn layers_fit()
+    ensures lines { LinesAreWritten }
+    ensures changes { ChangesFit }
+    ensures moves { MovesFit }
+    ensures pages { PagesAreSound }
+{}
+
+/// Whatever lines a world is given, it is what some events make of the sites that began on its page, events that the laws of sites and server speak of.
+#[tactic(auto, using(crate::proofs::ReachLemmas::every_world_is_reached))]
+pub fn every_world_is_reached()
+    ensures { EveryWorldIsReached }
+{}
+
+/// So each site of every world has a sound list, the replay of what it has seen and made; its store has what the list cites; the server's answers count
+/// what it still holds as sent; and with everything undone, and nothing taken, it has the page's items and the first store.
+pub fn every_site_holds()
+    ensures { EverySiteHolds }
+{}
