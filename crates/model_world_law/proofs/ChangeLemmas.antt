@@ -34,9 +34,8 @@ use Rattle.model_world.specs.Operations as operations
 use Rattle.model_world.specs.Refusals.{refused_as, html_refusal, build_refusal, open_refusal}
 use Rattle.model_world.specs.Edits.{built, forest_inserted, text_inserted, fragment_inserted, needs, ops_on, applied, text_typed}
 use Rattle.model_world_law.specs.Fit.{Fit, OpsApart, ChangesFit, PagesAreSound}
-use Rattle.model_world_law.proofs.ApartLemmas.{apart-chars}
 use Rattle.model_world_law.proofs.BuilderLemmas.{insertion_fits, split_fits, removal_fits, marking_fits, unmarking_fits, wrap_fits, convert_fits, attribute_fits}
-use Rattle.model_world_law.proofs.MadeLemmas.{ForestApart, forest_apart, read_apart, fragment_apart, page_apart}
+use Rattle.model_world_law.proofs.MadeLemmas.{apart-chars, ForestApart, forest_apart, read_apart, fragment_apart, page_apart}
 
 given : {A E : Type 0} (named : E → Refusal) (r : Result A E) (x : A) → refused_as named r ≡ Ok x → r ≡ Ok x
 given named (Ok y) x h = ap (λ z. Ok z) (Ok-same {E = Refusal} y x h)
@@ -168,7 +167,7 @@ changes_fit items (change.Remove from to) t w s h = removal_fits items from to t
 changes_fit items (change.Split at depth) t w s h = split_fits items at depth t s (given build_refusal _ t h)
 changes_fit items (change.Mark from to mark) t w s h = marking_fits items from to mark t s (given build_refusal _ t h)
 changes_fit items (change.Unmark from to mark) t w s h = unmarking_fits items from to mark t s (given build_refusal _ t h)
-changes_fit items (change.Wrap from to plan) t w s h = wrap_fits items from to plan t w.0 w.1 s (given build_refusal _ t h)
+changes_fit items (change.Wrap from to plan) t w s h = wrap_fits items from to plan t w s (given build_refusal _ t h)
 changes_fit items (change.Convert at kind) t w s h = convert_fits items at kind t s (given build_refusal _ t h)
 changes_fit items (change.Attr at name to) t w s h = attribute_fits items at name to t (given build_refusal _ t h)
 changes_fit items (change.Apply ops) t w s h = applied_fits items ops t w.0 w.1 h

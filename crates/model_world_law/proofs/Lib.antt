@@ -1,8 +1,7 @@
-pub mod LinkLemmas
-pub mod ReachLemmas
-pub mod ApartLemmas
 pub mod BuilderLemmas
 pub mod NameLemmas
 pub mod MadeLemmas
 pub mod ChangeLemmas
 pub mod WrittenLemmas
+pub mod LinkLemmas
+pub mod ReachLemmas

@@ -2,13 +2,7 @@
 use Rattle.std.proofs.Common.{◌≡◌, ◌<◌, ℕ, zero, suc, nat_lt, Bool, true, false, List, [], ◌∷◌, length, slice_get, slice_range, ◌||◌, Option, Some, None, Result, Ok, Err, if◌then◌else◌, unwrap_or, refl, sym, ap, ◌∙◌, subst}
 use Rattle.std.proofs.lemmas.Bool.{ltb-true}
 use Rattle.model_items.specs.declared.plain_item.PlainItem.{PlainItem}
-use Rattle.model_items.specs.declared.law_fault.LawFault.{LawFault}
-use Rattle.model_items.specs.declared.law_fault.LawFault.TheVariants as law
-use Rattle.model_items.specs.Law.{Lawful, verdict}
-use Rattle.model_change.specs.declared.tx_fault.TxFault.{TxFault}
-use Rattle.model_change.specs.declared.tx_fault.TxFault.TheVariants as tx
 use Rattle.model_change.specs.Transaction.{Transaction, edited}
-use Rattle.model_change.specs.Fault.{Applies, fault, or_else}
 use Rattle.model_change.proofs.FilledLemmas.{names_stay_apart}
 use Rattle.model_edit.specs.declared.selection.Selection.{Selection}
 use Rattle.model_edit.specs.declared.table_fault.TableFault.{TableFault}
@@ -24,7 +18,7 @@ use Rattle.model_site.specs.declared.site_fault.SendFault.{SendFault}
 use Rattle.model_site.specs.declared.served.Served.{Served}
 use Rattle.model_site.specs.declared.taken.Taken.{Taken}
 use Rattle.model_site.specs.Replica.{Replica, performed}
-use Rattle.model_site.specs.Refused.{transaction_fault, law_fault, edit_fault}
+use Rattle.model_site.specs.Refused.{edit_fault}
 use Rattle.model_change.specs.Join.{Clash}
 use Rattle.model_site.specs.Site.{Site, Submission, with_entry, with_selection, undo, redo, send, revoke_entry}
 use Rattle.model_site.specs.Session.{Session, Member, put_at, with_member, serve_next, take_next}
@@ -32,6 +26,7 @@ use Rattle.model_site.specs.Events.{Event, Perform, Select, Undo, Redo, Revoke, 
 use Rattle.model_site.specs.Events as events
 use Rattle.model_site_law.specs.Sound.{Sound, MayRun, AllMayRun}
 use Rattle.model_site_law.specs.MayHappen.{MayHappen}
+use Rattle.model_site_law.proofs.EditLemmas.{edit_may_run}
 use Rattle.model_world.specs.declared.change.TextMarks.TheVariants.{Left}
 use Rattle.model_world.specs.declared.change.Change.{Change}
 use Rattle.model_world.specs.declared.change.Change.TheVariants as change
@@ -48,49 +43,26 @@ use Rattle.model_world_law.specs.Reached.{Becomes}
 
 -- ---- what may be performed
 
-or_else_none : {A : Type 0} (o p : Option A) → or_else o p ≡ None → (o ≡ None) × (p ≡ None)
-or_else_none None p h = (refl, h)
-or_else_none (Some x) p h = cc
-
-no_transaction_fault : (o : Option TxFault) → transaction_fault o ≡ None → o ≡ None
-no_transaction_fault None h = refl
-no_transaction_fault (Some (tx.BadLength has needs)) h = cc
-no_transaction_fault (Some (tx.Mismatch at)) h = cc
-no_transaction_fault (Some (tx.BadAttr at)) h = cc
-no_transaction_fault (Some tx.Memory) h = cc
-
-no_law_fault : (o : Option LawFault) → law_fault o ≡ None → o ≡ None
-no_law_fault None h = refl
-no_law_fault (Some (law.Unlawful at)) h = cc
-no_law_fault (Some (law.TooDeep at)) h = cc
-
--- a transaction that is allowed applies and leaves a lawful list
+-- a transaction that is allowed is the one that was given, and the site does not refuse it
 pub record IsAllowed (r : Replica) (result : Result Transaction Refusal) (t : Transaction) : Type 0 where
   pub given : result ≡ Ok t
-  pub applies : Applies t r.items
-  pub lawful : Lawful (edited t r.items)
+  pub faultless : edit_fault t r ≡ None
 
-allowed_runs : (r : Replica) (result : Result Transaction Refusal) (t : Transaction) → allowed r result ≡ Ok t → IsAllowed r result t
-allowed_runs r (Err refusal) t h = cc
-allowed_runs r (Ok u) t h = by_fault (edit_fault u r) refl h
+allowed_is : (r : Replica) (result : Result Transaction Refusal) (t : Transaction) → allowed r result ≡ Ok t → IsAllowed r result t
+allowed_is r (Err refusal) t h = cc
+allowed_is r (Ok u) t h = by_fault (edit_fault u r) refl h
   where
     by_fault : (o : Option EditFault) → edit_fault u r ≡ o → unless_faulty o u ≡ Ok t → IsAllowed r (Ok u) t
     by_fault (Some f) e h = cc
     by_fault None e h =
-        let first = or_else_none (transaction_fault (fault u r.items)) _ e in
-        let second = or_else_none (law_fault (verdict (edited u r.items))) _ first.1 in
         let same : u ≡ t = cc in
-        record {
-          given = ap (λ v. Ok v) same;
-          applies = subst (λ v. Applies v r.items) same (no_transaction_fault (fault u r.items) first.0);
-          lawful = subst (λ v. Lawful (edited v r.items)) same (no_law_fault (verdict (edited u r.items)) second.0);
-        }
+        record { given = ap (λ v. Ok v) same; faultless = subst (λ v. edit_fault v r ≡ None) same e }
 
 may_run : (r : Replica) (result : Result Transaction Refusal) (t : Transaction) → ((u : Transaction) → result ≡ Ok u → Fit u) → allowed r result ≡ Ok t → MayRun t r.items
 may_run r result t fit h =
-    let a = allowed_runs r result t h in
+    let a = allowed_is r result t h in
     let f = fit t a.given in
-    record { reduced = f.reduced; applies = a.applies; lawful = a.lawful; apart = f.apart }
+    edit_may_run t r f.reduced f.apart a.faultless
 
 sound_next : (t : Transaction) (items : List PlainItem) → Sound items → MayRun t items → Sound (edited t items)
 sound_next t items s m = record { lawful = m.lawful; apart = names_stay_apart t items m.applies m.apart s.apart }

@@ -27,7 +27,11 @@ use Rattle.model_page.specs.Convert.{marks_at, marked_around, element_source, in
 use Rattle.model_page.specs.PageItems.{with_origins, body_made, or_nothing, internal_item, internal_list, page_made, items_of}
 use Rattle.model_page.specs.Fragment.{context_of, item_unmade, pieces_in, pieces_of}
 use Rattle.model_world_law.proofs.NameLemmas.{start_apart}
-use Rattle.model_world_law.proofs.ApartLemmas.{apart-append, apart-chars}
+use Rattle.model_edit_law.proofs.ApartLemmas.{AllNamesApart-append as apart-append}
+
+pub apart-chars : (marks : List Mark) (text : List ℕ) → AllNamesApart (map (λ c. Char c marks) text)
+apart-chars marks [] = tt
+apart-chars marks (c ∷ text) = (tt, apart-chars marks text)
 
 -- ---- forests and parts
 

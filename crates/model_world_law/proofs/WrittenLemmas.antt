@@ -36,8 +36,10 @@ use Rattle.model_world.specs.ItemWords.{white_in, may_open, opening_with, openin
 use Rattle.model_world.specs.Operations.{removal_in, setting_in, op_by, op_in, is_normal, ops_in}
 use Rattle.model_world.specs.Changes.{some_text_in, some_source_in, text_marks_in, text_read, insert_read, remove_read, split_read, mark_read, wrap_read, convert_read, attr_read, apply_read, changes, reader_in, if_well_formed, change_with, change_in}
 use Rattle.model_world.specs.Commands.{some_number_in, dir_in, by_in, at_read, table_read, show_read, is_batch, batch_read, select_read, move_read, type_read, erase_read, revoke_read, requests, ask_read, open_read, commands, or_bad_command, read_by, command_in, command_or_refusal, json_in}
-use Rattle.model_world_law.specs.Fit.{OpsApart, ShapesApart, IsWritten, AllWritten, RequestWritten, LinesAreWritten}
-use Rattle.model_world_law.proofs.ApartLemmas.{apart-append, apart-chars}
+use Rattle.model_world_law.specs.Fit.{OpsApart, IsWritten, AllWritten, RequestWritten, LinesAreWritten}
+use Rattle.model_edit_law.specs.ApartLaws.{ShapesApart}
+use Rattle.model_edit_law.proofs.ApartLemmas.{AllNamesApart-append as apart-append}
+use Rattle.model_world_law.proofs.MadeLemmas.{apart-chars}
 
 -- ---- what holds of whatever is read
 

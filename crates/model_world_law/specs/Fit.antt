@@ -1,13 +1,12 @@
 -- What the layers below the world make sure of: lines are read as written, what they ask gives transactions that are reduced and put in names apart, and pages open as sound lists.
 use Rattle.std.specs.Prelude.{◌≡◌, ℕ, true, List, [], ◌∷◌, Ok}
-use Rattle.ve_base.specs.Names.{NamesApart}
 use Rattle.model_items.specs.declared.plain_item.PlainItem.{PlainItem}
 use Rattle.model_change.specs.Attributes.{AllNamesApart}
 use Rattle.model_change.specs.Transaction.{Transaction, is_reduced, InsertedApart}
 use Rattle.model_page.specs.PageItems.{Opened}
-use Rattle.model_edit.specs.declared.wrap_plan.Shape.{Shape}
 use Rattle.model_edit.specs.Tables.{row_in, row_out, col_in, col_out}
 use Rattle.model_edit.specs.Lists.{indent, outdent}
+use Rattle.model_edit_law.specs.ApartLaws.{PlanApart}
 use Rattle.model_site_law.specs.Sound.{Sound}
 use Rattle.model_world.specs.declared.change.OpWords.{OpWords}
 use Rattle.model_world.specs.declared.change.OpWords.TheVariants as op
@@ -30,14 +29,10 @@ OpsApart (op.Retain count ∷ ops) = OpsApart ops
 OpsApart (op.Remove count insert ∷ ops) = AllNamesApart insert × OpsApart ops
 OpsApart (op.Attr name to ∷ ops) = OpsApart ops
 
-abbrev pub ShapesApart : List Shape → Type 0
-ShapesApart [] = Unit {0}
-ShapesApart (s ∷ shapes) = NamesApart s.attrs × ShapesApart shapes
-
 -- operations are in normal form, and what is put in has distinct names
 abbrev pub IsWritten : Change → Type 0
 IsWritten (change.Apply ops) = (is_normal ops ≡ true) × OpsApart ops
-IsWritten (change.Wrap from to plan) = ShapesApart plan.wrap_outer × ShapesApart plan.wrap_each
+IsWritten (change.Wrap from to plan) = PlanApart plan
 IsWritten _ = Unit {0}
 
 abbrev pub AllWritten : List Change → Type 0
