@@ -8,7 +8,7 @@ use Rattle.model_spelling.specs.Rows.{Row, count, leaf, rows}
 use Rattle.model_spelling.proofs.AttrReading.{and_left, and_right}
 use Rattle.model_spelling.proofs.ForestLaws.{placed, tokens_in, length_rows, raw_not_void}
 use Rattle.model_spelling.proofs.Back.{element_parts, raw_parts}
-use Rattle.ve_html_tree.specs.Building.{Built, built, row_of, closed, closed_at, ended, taken}
+use Rattle.ve_html_tree.specs.Building.{Built, built, row_of, closed, closed_at, around, ended, taken}
 
 -- what these tokens make
 abbrev pub taken_all : List Placed → Built → Built
@@ -46,48 +46,48 @@ same_row rs more r s ks e = ap (λ (x : Row). built (rs ++ (x ∷ more)) ks) e
 
 -- ---- the rows of leaves
 
-text_row : (text : List ℕ) (at n : ℕ) → row_of (Chars text) at (at + length text) n ≡ leaf (Chars text) n at 0 (length text)
+text_row : (text : List ℕ) (at n : ℕ) → row_of (Chars text) at (at + length text) (n + 1) ≡ leaf (Chars text) n at 0 (length text)
 text_row text at n = rw (add-zero at) refl
 
-raw_row : (text : List ℕ) (at n : ℕ) → row_of (Raw text) at (at + length text) n ≡ leaf (Raw text) n at 0 (length text)
+raw_row : (text : List ℕ) (at n : ℕ) → row_of (Raw text) at (at + length text) (n + 1) ≡ leaf (Raw text) n at 0 (length text)
 raw_row text at n = rw (add-zero at) refl
 
-comment_row : (text : List ℕ) (at n : ℕ) → row_of (Comment text) at (at + length (token_text (Comment text))) n ≡ leaf (Comment text) n at 4 (length text)
+comment_row : (text : List ℕ) (at n : ℕ) → row_of (Comment text) at (at + length (token_text (Comment text))) (n + 1) ≡ leaf (Comment text) n at 4 (length text)
 comment_row text at n =
     let inner : at + length (token_text (Comment text)) - 3 ≡ at + 4 + length text = omega (arith, length-append (60 ∷ 33 ∷ 45 ∷ 45 ∷ text) (45 ∷ 45 ∷ 62 ∷ [])) in
     ap (λ (k : ℕ). record { token = Comment text; from = at; to = at + length (token_text (Comment text)); inner_from = at + 4; inner_to = k; next = n + 1 }) inner
 
-void_row : (name : List ℕ) (attrs : List Attr) (slash : Bool) (at n : ℕ) → row_of (Start name attrs slash) at (at + length (start_text name attrs slash)) n ≡ leaf (Start name attrs slash) n at (length (start_text name attrs slash)) 0
+void_row : (name : List ℕ) (attrs : List Attr) (slash : Bool) (at n : ℕ) → row_of (Start name attrs slash) at (at + length (start_text name attrs slash)) (n + 1) ≡ leaf (Start name attrs slash) n at (length (start_text name attrs slash)) 0
 void_row name attrs slash at n = rw (add-zero (at + length (start_text name attrs slash))) refl
 
 -- ---- start tags
 
 opened_void : (name : List ℕ) (attrs : List Attr) (slash : Bool) (from to : ℕ) (rs : List Row) (ks : List ℕ) → is_void name ≡ true
-    → taken (Start name attrs slash) from to (built rs ks) ≡ built (rs ++ (row_of (Start name attrs slash) from to (length rs) ∷ [])) ks
+    → taken (Start name attrs slash) from to (built rs ks) ≡ built (rs ++ (row_of (Start name attrs slash) from to (length rs + 1) ∷ [])) ks
 opened_void name attrs slash from to rs ks v = rw v refl
 
 opened_element : (name : List ℕ) (attrs : List Attr) (slash : Bool) (from to : ℕ) (rs : List Row) (ks : List ℕ) → is_void name ≡ false
-    → taken (Start name attrs slash) from to (built rs ks) ≡ built (rs ++ (row_of (Start name attrs slash) from to (length rs) ∷ [])) (length rs ∷ ks)
+    → taken (Start name attrs slash) from to (built rs ks) ≡ built (rs ++ (row_of (Start name attrs slash) from to (around ks) ∷ [])) (length rs ∷ ks)
 opened_element name attrs slash from to rs ks v = rw v refl
 
 -- the tokens of a forest, that may be spelled, make its rows
 pub makes : (f : Forest) (room at : ℕ) (rs : List Row) (ks : List ℕ) → is_forest room f ≡ true → taken_all (tokens_in at f) (built rs ks) ≡ built (rs ++ rows (length rs) at f) ks
 makes Nothing room at rs ks e = ap (λ (l : List Row). built l ks) (sym (append-nil rs))
 makes (Text text f) room at rs ks e =
-    let r : Row = row_of (Chars text) at (at + length text) (length rs) in
+    let r : Row = row_of (Chars text) at (at + length text) (length rs + 1) in
     makes f room (at + length text) (rs ++ (r ∷ [])) ks (and_right (is_text text && not (starts_with_text f)) (is_forest room f) e)
     ∙ after rs (r ∷ []) (length rs + 1) (at + length text) f ks refl
     ∙ same_row rs (rows (length rs + 1) (at + length text) f) r (leaf (Chars text) (length rs) at 0 (length text)) ks (text_row text at (length rs))
 makes (Remark text f) room at rs ks e =
     let to : ℕ = at + length (token_text (Comment text)) in
-    let r : Row = row_of (Comment text) at to (length rs) in
+    let r : Row = row_of (Comment text) at to (length rs + 1) in
     makes f room to (rs ++ (r ∷ [])) ks (and_right (is_verbatim comment_close text) (is_forest room f) e)
     ∙ after rs (r ∷ []) (length rs + 1) to f ks refl
     ∙ same_row rs (rows (length rs + 1) to f) r (leaf (Comment text) (length rs) at 4 (length text)) ks (comment_row text at (length rs))
 makes (Void name attrs slash f) zero at rs ks e = absurd cc
 makes (Void name attrs slash f) (suc room) at rs ks e =
     let to : ℕ = at + length (start_text name attrs slash) in
-    let r : Row = row_of (Start name attrs slash) at to (length rs) in
+    let r : Row = row_of (Start name attrs slash) at to (length rs + 1) in
     let p = and_left (is_void name && is_start name attrs slash) (is_forest (suc room) f) e in
     ap (taken_all (tokens_in to f)) (opened_void name attrs slash at to rs ks (and_left (is_void name) (is_start name attrs slash) p))
     ∙ makes f (suc room) to (rs ++ (r ∷ [])) ks (and_right (is_void name && is_start name attrs slash) (is_forest (suc room) f) e)
@@ -99,7 +99,7 @@ makes (RawElement name attrs [] f) (suc room) at rs ks e =
     let p = raw_parts room name attrs [] f e in
     let from : ℕ = at + length (start_text name attrs false) in
     let to : ℕ = from + length (end_text name) in
-    let r : Row = row_of (Start name attrs false) at from (length rs) in
+    let r : Row = row_of (Start name attrs false) at from (around ks) in
     let n : length rs + 1 ≡ length rs + 1 + 0 = omega arith in
     ap (λ (b : Built). taken_all (tokens_in to f) (taken (End name) from to b)) (opened_element name attrs false at from rs ks (raw_not_void name p.raw))
     ∙ ap (λ (l : List Row). taken_all (tokens_in to f) (ended from to l (length rs ∷ ks))) (sym (append-nil (rs ++ (r ∷ []))))
@@ -111,11 +111,11 @@ makes (RawElement name attrs (b ∷ bs) f) (suc room) at rs ks e =
     let from : ℕ = at + length (start_text name attrs false) in
     let end : ℕ = from + length (b ∷ bs) in
     let to : ℕ = end + length (end_text name) in
-    let r : Row = row_of (Start name attrs false) at from (length rs) in
-    let inner : Row = row_of (Raw (b ∷ bs)) from end (length (rs ++ (r ∷ []))) in
+    let r : Row = row_of (Start name attrs false) at from (around ks) in
+    let inner : Row = row_of (Raw (b ∷ bs)) from end (length (rs ++ (r ∷ [])) + 1) in
     let leaf_is : Row = leaf (Raw (b ∷ bs)) (length rs + 1) from 0 (length (b ∷ bs)) in
     let number : length (rs ++ (r ∷ [])) ≡ length rs + 1 = length-append rs (r ∷ []) in
-    let same : inner ≡ leaf_is = ap (λ (k : ℕ). row_of (Raw (b ∷ bs)) from end k) number ∙ raw_row (b ∷ bs) from (length rs + 1) in
+    let same : inner ≡ leaf_is = ap (λ (k : ℕ). row_of (Raw (b ∷ bs)) from end (k + 1)) number ∙ raw_row (b ∷ bs) from (length rs + 1) in
     let n : length rs + 2 ≡ length rs + 1 + 1 = omega arith in
     ap (λ (x : Built). taken_all (tokens_in to f) (taken (End name) end to (taken (Raw (b ∷ bs)) from end x))) (opened_element name attrs false at from rs ks (raw_not_void name p.raw))
     ∙ ap (taken_all (tokens_in to f)) (closing rs (inner ∷ []) r end to (length rs + 2) ks n)
@@ -128,7 +128,7 @@ makes (Element name attrs children f) (suc room) at rs ks e =
     let from : ℕ = at + length (start_text name attrs false) in
     let end : ℕ = from + length (spelling children) in
     let to : ℕ = end + length (end_text name) in
-    let r : Row = row_of (Start name attrs false) at from (length rs) in
+    let r : Row = row_of (Start name attrs false) at from (around ks) in
     let next : ℕ = length rs + 1 + count children in
     let inner : List Row = rows (length rs + 1) from children in
     let number : length (rs ++ (r ∷ [])) ≡ length rs + 1 = length-append rs (r ∷ []) in

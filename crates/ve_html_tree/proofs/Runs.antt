@@ -2,7 +2,7 @@
 use Rattle.ve_html_tree.specs.Nodes.{HasText}
 use Rattle.model_spelling.proofs.FoundTokens.{VerbatimFound, verbatim_parts}
 use Rattle.std.proofs.Common.{take}
-use Rattle.std.proofs.Common.{◌≡◌, ℕ, zero, suc, ◌+◌, ◌-◌, ◌<◌, ◌≤◌, Bool, true, false, cond, List, [], ◌∷◌, length, take, drop, map, reverse, Option, Some, None, Result, Ok, Err, refl, sym, ap, ◌∙◌, subst, arith}
+use Rattle.std.proofs.Common.{◌≡◌, ℕ, zero, suc, ◌+◌, ◌-◌, ◌<◌, ◌≤◌, Bool, true, false, cond, List, [], ◌∷◌, length, take, drop, map, Option, Some, None, Result, Ok, Err, refl, sym, ap, ◌∙◌, subst, arith}
 use Rattle.std.specs.Prelude.{◌==◌}
 use Rattle.std.proofs.lemmas.List.{drop-drop, length-append}
 use Rattle.model_spelling.specs.declared.scan_fault.ScanFault.{ScanFault}
@@ -22,11 +22,12 @@ use Rattle.model_spelling.proofs.TokenRuns.{same_step}
 use Rattle.ve_html_scan.specs.Shown.{Place, next_of, place_after, span_of, IsFound, Shows}
 use Rattle.ve_html_scan.specs.declared.token.Token.{Token}
 use Rattle.ve_html_scan.specs.declared.token.Token.TheVariants as lent
-use Rattle.ve_html_tree.specs.Seen.{open_of, opens, numbers, IsFault, met}
-use Rattle.ve_html_tree.specs.Building.{Built, built, taken, AllBelow}
+use Rattle.ve_html_tree.specs.Seen.{IsFault, met}
+use Rattle.ve_html_tree.specs.declared.open.Opened.{Opened}
+use Rattle.ve_html_tree.specs.Opened.{open_at, opens, numbers, AreLinked}
+use Rattle.ve_html_tree.specs.Building.{Built, built, taken}
 use Rattle.ve_html_tree.specs.Nodes.{HasRoom, ShowRows}
 use Rattle.ve_html_tree.specs.declared.node.Node.{Node}
-use Rattle.ve_html_tree.specs.declared.open.OpenElement.{OpenElement}
 use Rattle.ve_html_tree.specs.declared.fault.HtmlFault.{HtmlFault}
 use Rattle.ve_html_tree.specs.declared.fault.HtmlFault.TheVariants as faults
 use Rattle.ve_html_tree.proofs.Making.{taken_all, makes}
@@ -77,18 +78,21 @@ abbrev pub from_place : ℕ → Place → Tokens
 from_place n p = tokens_from n p.mode p.at (drop p.at p.text)
 
 -- The nodes are rows, which the tokens that are left make those of the text; the first fault from here on, with these elements open, is that of the text.
-pub record SoFar (text : List ℕ) (p : Place) (nodes : List Node) (opened : List OpenElement) : Type 0 where
+pub record SoFar (text : List ℕ) (p : Place) (nodes : List Node) (opened : Opened) : Type 0 where
   pub count : ℕ
   pub enough : length p.text - p.at < count
   pub rows : List Row
   pub shows : ShowRows nodes rows
-  pub below : AllBelow (length nodes) (numbers opened)
-  pub same : fault_with (from_place count p) (opens opened) ≡ fault_of text
-  pub made : taken_all (from_place count p).tokens (built rows (numbers opened)) ≡ taken_all (tokens_of text).tokens (built [] [])
+  pub linked : AreLinked nodes opened
+  pub same : fault_with (from_place count p) (opens nodes opened) ≡ fault_of text
+  pub made : taken_all (from_place count p).tokens (built rows (numbers nodes opened)) ≡ taken_all (tokens_of text).tokens (built [] [])
 
-pub begins : (text : List ℕ) → SoFar text (start_of text) [] []
+abbrev pub none_open : Opened
+none_open = record { count = 0; innermost = 0 }
+
+pub begins : (text : List ℕ) → SoFar text (start_of text) [] none_open
 unfolding fault_of
-begins text = record { count = length text + 1; enough = omega arith; rows = []; shows = tt; below = tt; same = refl; made = refl }
+begins text = record { count = length text + 1; enough = omega arith; rows = []; shows = tt; linked = refl; same = refl; made = refl }
 
 -- ---- the end
 
@@ -99,22 +103,22 @@ some_left p (suc k) lt = (k, refl)
 nothing_left : (p : Place) (n : ℕ) → length p.text - p.at < n → next_of p ≡ Ok None → from_place n p ≡ record { tokens = []; fault = None }
 nothing_left p n lt e = let k = some_left p n lt in ap (λ (m : ℕ). from_place m p) k.1 ∙ stop_at_end k.0 p e
 
-pub at_end : (text : List ℕ) (p : Place) (ns : List Node) (os : List OpenElement) → SoFar text p ns os → next_of p ≡ Ok None → fault_at_end (opens os) None ≡ fault_of text
-at_end text p ns os s e = sym (ap (λ (ts : Tokens). fault_with ts (opens os)) (nothing_left p s.count s.enough e)) ∙ s.same
+pub at_end : (text : List ℕ) (p : Place) (ns : List Node) (os : Opened) → SoFar text p ns os → next_of p ≡ Ok None → fault_at_end (opens ns os) None ≡ fault_of text
+at_end text p ns os s e = sym (ap (λ (ts : Tokens). fault_with ts (opens ns os)) (nothing_left p s.count s.enough e)) ∙ s.same
 
-none_open_by : (l : List OpenElement) → fault_at_end (map open_of l) None ≡ None → map (λ (o : OpenElement). o.node) l ≡ []
-none_open_by [] e = refl
-none_open_by (o ∷ l) e = absurd cc
+none_open_by : (ns : List Node) (ks : List ℕ) → fault_at_end (map (open_at ns) ks) None ≡ None → ks ≡ []
+none_open_by ns [] e = refl
+none_open_by ns (k ∷ ks) e = absurd cc
 
 -- where the text may end, the nodes are the rows of the forest that spells it
-pub spelled_so : (text : List ℕ) (p : Place) (ns : List Node) (os : List OpenElement) → SoFar text p ns os → next_of p ≡ Ok None → fault_at_end (opens os) None ≡ None → (f : Forest) × Spells text f × ShowRows ns (rows 0 0 f)
+pub spelled_so : (text : List ℕ) (p : Place) (ns : List Node) (os : Opened) → SoFar text p ns os → next_of p ≡ Ok None → fault_at_end (opens ns os) None ≡ None → (f : Forest) × Spells text f × ShowRows ns (rows 0 0 f)
 spelled_so text p ns os s e ends =
     let found = law_found text (sym (at_end text p ns os s e) ∙ ends) in
     let f = found.0 in
-    let none : numbers os ≡ [] = none_open_by (reverse os) ends in
-    let here : built s.rows (numbers os) ≡ taken_all (tokens_of text).tokens (built [] []) = sym (ap (λ (ts : Tokens). taken_all ts.tokens (built s.rows (numbers os))) (nothing_left p s.count s.enough e)) ∙ s.made in
+    let none : numbers ns os ≡ [] = none_open_by ns (numbers ns os) ends in
+    let here : built s.rows (numbers ns os) ≡ taken_all (tokens_of text).tokens (built [] []) = sym (ap (λ (ts : Tokens). taken_all ts.tokens (built s.rows (numbers ns os))) (nothing_left p s.count s.enough e)) ∙ s.made in
     let tokens : tokens_of text ≡ record { tokens = tokens_in 0 f; fault = None } = ap tokens_of found.1.text_is ∙ tokens_read f found.1.allowed in
-    let all : built s.rows (numbers os) ≡ built (rows 0 0 f) [] = here ∙ ap (λ (ts : Tokens). taken_all ts.tokens (built [] [])) tokens ∙ makes f 200 0 [] [] found.1.allowed in
+    let all : built s.rows (numbers ns os) ≡ built (rows 0 0 f) [] = here ∙ ap (λ (ts : Tokens). taken_all ts.tokens (built [] [])) tokens ∙ makes f 200 0 [] [] found.1.allowed in
     (f, found.1, subst (λ (l : List Row). ShowRows ns l) (ap (λ (b : Built). b.rows) all) s.shows)
 
 -- ---- faults
@@ -126,8 +130,8 @@ scan_stands (o ∷ os) s = refl
 fault_left : (p : Place) (n : ℕ) (f : ScanFault) → length p.text - p.at < n → next_of p ≡ Err f → from_place n p ≡ record { tokens = []; fault = Some f }
 fault_left p n f lt e = let k = some_left p n lt in ap (λ (m : ℕ). from_place m p) k.1 ∙ stop_at_fault k.0 p f e
 
-pub at_fault : (text : List ℕ) (p : Place) (ns : List Node) (os : List OpenElement) (f : ScanFault) → SoFar text p ns os → next_of p ≡ Err f → fault_of text ≡ Some (Scan f)
-at_fault text p ns os f s e = sym s.same ∙ ap (λ (ts : Tokens). fault_with ts (opens os)) (fault_left p s.count f s.enough e) ∙ scan_stands (opens os) f
+pub at_fault : (text : List ℕ) (p : Place) (ns : List Node) (os : Opened) (f : ScanFault) → SoFar text p ns os → next_of p ≡ Err f → fault_of text ≡ Some (Scan f)
+at_fault text p ns os f s e = sym s.same ∙ ap (λ (ts : Tokens). fault_with ts (opens ns os)) (fault_left p s.count f s.enough e) ∙ scan_stands (opens ns os) f
 
 -- the token that is found at p
 abbrev pub found_placed : (p : Place) (t : Token) → IsFound p.text p.at (next_of p) t → Placed
@@ -140,9 +144,9 @@ found_comes p t f = record { is = f.is; from = f.from; some = f.some; within = f
 one_left : (p : Place) (n : ℕ) (t : Placed) → length p.text - p.at < n → Comes p t → (k : ℕ) × (n ≡ suc k) × (from_place n p ≡ with_placed t (from_place k (behind t.token t.to p)))
 one_left p n t lt c = let k = some_left p n lt in (k.0, k.1, ap (λ (m : ℕ). from_place m p) k.1 ∙ step_on k.0 p t c)
 
-goes_by : (text : List ℕ) (p : Place) (ns : List Node) (os : List OpenElement) (t : Placed) (s : SoFar text p ns os) → (c : Comes p t)
-    → or_fault (after_token t.token t.from (opens os)) (λ more. fault_with (from_place (one_left p s.count t s.enough c).0 (behind t.token t.to p)) more) ≡ fault_of text
-goes_by text p ns os t s c = sym (ap (λ (ts : Tokens). fault_with ts (opens os)) (one_left p s.count t s.enough c).2) ∙ s.same
+goes_by : (text : List ℕ) (p : Place) (ns : List Node) (os : Opened) (t : Placed) (s : SoFar text p ns os) → (c : Comes p t)
+    → or_fault (after_token t.token t.from (opens ns os)) (λ more. fault_with (from_place (one_left p s.count t s.enough c).0 (behind t.token t.to p)) more) ≡ fault_of text
+goes_by text p ns os t s c = sym (ap (λ (ts : Tokens). fault_with ts (opens ns os)) (one_left p s.count t s.enough c).2) ∙ s.same
 
 same_fault : (g f : ForestFault) → Some g ≡ Some f → g ≡ f
 same_fault g f e = cc
@@ -151,10 +155,10 @@ met_err : (r : Result (List Open) ForestFault) (f : ForestFault) → met r ≡ S
 met_err (Ok x) f e = absurd cc
 met_err (Err g) f e = ap (λ (x : ForestFault). Err x) (same_fault g f e)
 
-stops_by : (text : List ℕ) (p : Place) (ns : List Node) (os : List OpenElement) (t : Placed) (f : ForestFault) → SoFar text p ns os → Comes p t → met (after_token t.token t.from (opens os)) ≡ Some f → fault_of text ≡ Some f
+stops_by : (text : List ℕ) (p : Place) (ns : List Node) (os : Opened) (t : Placed) (f : ForestFault) → SoFar text p ns os → Comes p t → met (after_token t.token t.from (opens ns os)) ≡ Some f → fault_of text ≡ Some f
 stops_by text p ns os t f s c m =
     sym (goes_by text p ns os t s c)
-    ∙ ap (λ (r : Result (List Open) ForestFault). or_fault r (λ more. fault_with (from_place (one_left p s.count t s.enough c).0 (behind t.token t.to p)) more)) (met_err (after_token t.token t.from (opens os)) f m)
+    ∙ ap (λ (r : Result (List Open) ForestFault). or_fault r (λ more. fault_with (from_place (one_left p s.count t s.enough c).0 (behind t.token t.to p)) more)) (met_err (after_token t.token t.from (opens ns os)) f m)
 
 fault_by : (e : HtmlFault) (read first : Option ForestFault) → ((f : ForestFault) → read ≡ Some f → first ≡ Some f) → IsFault e read → IsFault e first
 fault_by (faults.Scan f) read first h e = h (Scan f) e
@@ -165,34 +169,34 @@ fault_by (faults.TooDeep at) read first h e = h (TooDeep at) e
 fault_by faults.Memory read first h e = tt
 
 -- a token that has a fault
-pub stops : (text : List ℕ) (p : Place) (ns : List Node) (os : List OpenElement) (t : Token) (e : HtmlFault) → SoFar text p ns os → (f : IsFound p.text p.at (next_of p) t) → IsFault e (met (after_token f.token (span_of t).from (opens os))) → IsFault e (fault_of text)
+pub stops : (text : List ℕ) (p : Place) (ns : List Node) (os : Opened) (t : Token) (e : HtmlFault) → SoFar text p ns os → (f : IsFound p.text p.at (next_of p) t) → IsFault e (met (after_token f.token (span_of t).from (opens ns os))) → IsFault e (fault_of text)
 stops text p ns os t e s f h =
-    fault_by e (met (after_token f.token (span_of t).from (opens os))) (fault_of text) (λ x m. stops_by text p ns os (found_placed p t f) x s (found_comes p t f) m) h
+    fault_by e (met (after_token f.token (span_of t).from (opens ns os))) (fault_of text) (λ x m. stops_by text p ns os (found_placed p t f) x s (found_comes p t f) m) h
 
 -- ---- going on
 
-on_by : (text : List ℕ) (p : Place) (ns : List Node) (os : List OpenElement) (t : Placed) (ms : List Node) (more : List OpenElement) → (s : SoFar text p ns os) → Comes p t → after_token t.token t.from (opens os) ≡ Ok (opens more)
-    → ShowRows ms (taken t.token t.from t.to (built s.rows (numbers os))).rows → (taken t.token t.from t.to (built s.rows (numbers os))).open_ ≡ numbers more → AllBelow (length ms) (numbers more) → SoFar text (behind t.token t.to p) ms more
-on_by text p ns os t ms more s c a shows ks below =
+on_by : (text : List ℕ) (p : Place) (ns : List Node) (os : Opened) (t : Placed) (ms : List Node) (more : Opened) → (s : SoFar text p ns os) → Comes p t → after_token t.token t.from (opens ns os) ≡ Ok (opens ms more)
+    → ShowRows ms (taken t.token t.from t.to (built s.rows (numbers ns os))).rows → (taken t.token t.from t.to (built s.rows (numbers ns os))).open_ ≡ numbers ms more → AreLinked ms more → SoFar text (behind t.token t.to p) ms more
+on_by text p ns os t ms more s c a shows ks linked =
     let k = one_left p s.count t s.enough c in
-    let made : Built = taken t.token t.from t.to (built s.rows (numbers os)) in record {
+    let made : Built = taken t.token t.from t.to (built s.rows (numbers ns os)) in record {
       count = k.0;
       enough = omega (arith, s.enough, k.1, c.some, c.within);
       rows = made.rows;
       shows = shows;
-      below = below;
+      linked = linked;
       same = sym (ap (λ (r : Result (List Open) ForestFault). or_fault r (λ x. fault_with (from_place k.0 (behind t.token t.to p)) x)) a) ∙ goes_by text p ns os t s c;
       made = ap (λ (l : List ℕ). taken_all (from_place k.0 (behind t.token t.to p)).tokens (built made.rows l)) (sym ks)
-          ∙ sym (ap (λ (ts : Tokens). taken_all ts.tokens (built s.rows (numbers os))) k.2) ∙ s.made;
+          ∙ sym (ap (λ (ts : Tokens). taken_all ts.tokens (built s.rows (numbers ns os))) k.2) ∙ s.made;
     }
 
-pub goes_on : (text : List ℕ) (p q : Place) (ns : List Node) (os : List OpenElement) (t : Token) (ms : List Node) (more : List OpenElement) → (s : SoFar text p ns os) → (f : IsFound p.text p.at (next_of p) t) → q ≡ place_after (Ok (Some t)) p
-    → after_token f.token (span_of t).from (opens os) ≡ Ok (opens more) → ShowRows ms (taken f.token (span_of t).from (span_of t).to (built s.rows (numbers os))).rows
-    → (taken f.token (span_of t).from (span_of t).to (built s.rows (numbers os))).open_ ≡ numbers more → AllBelow (length ms) (numbers more) → SoFar text q ms more
-goes_on text p q ns os t ms more s f e a shows ks below =
+pub goes_on : (text : List ℕ) (p q : Place) (ns : List Node) (os : Opened) (t : Token) (ms : List Node) (more : Opened) → (s : SoFar text p ns os) → (f : IsFound p.text p.at (next_of p) t) → q ≡ place_after (Ok (Some t)) p
+    → after_token f.token (span_of t).from (opens ns os) ≡ Ok (opens ms more) → ShowRows ms (taken f.token (span_of t).from (span_of t).to (built s.rows (numbers ns os))).rows
+    → (taken f.token (span_of t).from (span_of t).to (built s.rows (numbers ns os))).open_ ≡ numbers ms more → AreLinked ms more → SoFar text q ms more
+goes_on text p q ns os t ms more s f e a shows ks linked =
     let to = (span_of t).to in
     let stands : q ≡ behind f.token to p = e ∙ ap (λ (m : Mode). record { text = p.text; at = to; mode = m }) f.mode in
-    subst (λ (x : Place). SoFar text x ms more) (sym stands) (on_by text p ns os (found_placed p t f) ms more s (found_comes p t f) a shows ks below)
+    subst (λ (x : Place). SoFar text x ms more) (sym stands) (on_by text p ns os (found_placed p t f) ms more s (found_comes p t f) a shows ks linked)
 
 -- ---- the text of a token
 

@@ -1,16 +1,18 @@
 -- What the nodes show, as nodes are appended and ended.
+use Rattle.ve_html_tree.specs.declared.open.Opened.{Opened}
+use Rattle.ve_html_tree.specs.Opened.{numbers_from, numbers, opens, LinkedFrom, AreLinked}
+use Rattle.ve_html_tree.proofs.Links.{leaf_numbers, leaf_opens, leaf_links}
 use Rattle.std.proofs.Common.{IfErr}
 use Rattle.model_spelling.specs.Faults.{ForestFault}
 use Rattle.ve_html_tree.specs.Seen.{IsFault, met, Goes}
 use Rattle.ve_html_tree.specs.declared.fault.HtmlFault.{HtmlFault}
 use Rattle.ve_html_tree.specs.declared.fault.HtmlFault.TheVariants as faults
-use Rattle.std.proofs.Common.{Bor, cond, Bool, true, false, Result, Ok, Err, OnOk}
+use Rattle.std.proofs.Common.{Bor, cond, Bool, Result, Ok, Err, OnOk}
 use Rattle.model_spelling.specs.Faults.{Open, after_token}
 use Rattle.ve_html_scan.specs.declared.attr_tokens.AttrTokens.{AttrTokens}
 use Rattle.ve_html_scan.specs.declared.token.Span.{Span}
-use Rattle.ve_html_tree.specs.Building.{built, taken, AllBelow}
-use Rattle.std.proofs.Common.{◌≡◌, ℕ, zero, suc, ◌+◌, ◌<◌, List, [], ◌∷◌, ◌++◌, length, slice_set, refl, sym, ap, ◌∙◌, arith, subst}
-use Rattle.std.specs.Prelude.{slice_index_or}
+use Rattle.ve_html_tree.specs.Building.{Built, built, taken, around}
+use Rattle.std.proofs.Common.{◌≡◌, ℕ, zero, suc, ◌+◌, List, [], ◌∷◌, ◌++◌, length, refl, sym, ap, ◌∙◌, arith, subst}
 use Rattle.model_spelling.specs.Grammar as g
 use Rattle.model_spelling.specs.Rows.{Row}
 use Rattle.ve_html_scan.specs.Shown.{Shows, span_of}
@@ -18,7 +20,7 @@ use Rattle.ve_html_scan.specs.declared.token.Token.{Token}
 use Rattle.ve_html_scan.specs.declared.token.Token.TheVariants as lent
 use Rattle.ve_html_tree.specs.declared.node.Node.{Node}
 use Rattle.ve_html_tree.specs.Building.{row_of, closed, closed_at}
-use Rattle.ve_html_tree.specs.Nodes.{HasText, inner_span, ShowsRow, ShowRows}
+use Rattle.ve_html_tree.specs.Nodes.{HasText, ShowsRow, ShowRows, node_of, ended, ended_at}
 
 pub length_shows : (ns : List Node) (rs : List Row) → ShowRows ns rs → length ns ≡ length rs
 length_shows [] [] s = refl
@@ -26,26 +28,23 @@ length_shows [] (r ∷ rs) s = absurd s
 length_shows (n ∷ ns) [] s = absurd s
 length_shows (n ∷ ns) (r ∷ rs) s = omega (arith, length_shows ns rs s.1)
 
-pub push_shows : (ns : List Node) (rs : List Row) (n : Node) (r : Row) → ShowRows ns rs → ShowsRow n r → ShowRows (ns ++ n ∷ []) (rs ++ r ∷ [])
+push_shows : (ns : List Node) (rs : List Row) (n : Node) (r : Row) → ShowRows ns rs → ShowsRow n r → ShowRows (ns ++ n ∷ []) (rs ++ r ∷ [])
 push_shows [] [] n r s h = (h, tt)
 push_shows [] (q ∷ rs) n r s h = absurd s
 push_shows (m ∷ ns) [] n r s h = absurd s
 push_shows (m ∷ ns) (q ∷ rs) n r s h = (s.0, push_shows ns rs n r s.1 h)
 
--- a node that ends there
-abbrev pub closed_node : ℕ → ℕ → ℕ → Node → Node
-closed_node from to next n = record { token = n.token; span = record { from = n.span.from; to = to }; inner = record { from = n.inner.from; to = from }; next = next }
-
-end_shows : (n : Node) (r : Row) (from to next : ℕ) → ShowsRow n r → ShowsRow (closed_node from to next n) (closed from to next r)
+end_shows : (n : Node) (r : Row) (from to next : ℕ) → ShowsRow n r → ShowsRow (ended from to next n) (closed from to next r)
 end_shows n r from to next h = record { token = h.token; token_from = h.token_from; token_to = h.token_to; from = h.from; to = refl; inner_from = h.inner_from; inner_to = refl; next = refl }
 
-pub close_shows : (ns : List Node) (k : ℕ) (rs : List Row) (m : Node) (from to next : ℕ) → m ≡ slice_index_or ns k m → k < length ns → ShowRows ns rs → ShowRows (slice_set ns k (closed_node from to next m)) (closed_at k from to next rs)
-close_shows [] k rs m from to next e lt s = absurd (omega (arith, lt))
-close_shows (n ∷ ns) k [] m from to next e lt s = absurd s
-close_shows (n ∷ ns) zero (r ∷ rs) m from to next e lt s = (end_shows m r from to next (subst (λ (x : Node). ShowsRow x r) (sym e) s.0), s.1)
-close_shows (n ∷ ns) (suc k) (r ∷ rs) m from to next e lt s = (s.0, close_shows ns k rs m from to next e (omega (arith, lt)) s.1)
+close_shows : (ns : List Node) (rs : List Row) (k from to next : ℕ) → ShowRows ns rs → ShowRows (ended_at k from to next ns) (closed_at k from to next rs)
+close_shows [] [] k from to next s = s
+close_shows [] (r ∷ rs) k from to next s = absurd s
+close_shows (n ∷ ns) [] k from to next s = absurd s
+close_shows (n ∷ ns) (r ∷ rs) zero from to next s = (end_shows n r from to next s.0, s.1)
+close_shows (n ∷ ns) (r ∷ rs) (suc k) from to next s = (s.0, close_shows ns rs k from to next s.1)
 
-pub node_shows : (t : Token) (k : g.Token) (n : ℕ) → HasText t k → Shows t k → ShowsRow (record { token = t; span = span_of t; inner = inner_span t; next = n + 1 }) (row_of k (span_of t).from (span_of t).to n)
+node_shows : (t : Token) (k : g.Token) (next : ℕ) → HasText t k → Shows t k → ShowsRow (node_of t next) (row_of k (span_of t).from (span_of t).to next)
 node_shows (lent.StartTag name attrs span) (g.Start m attributes slash) number w h = record { token = h; token_from = refl; token_to = w; from = refl; to = refl; inner_from = refl; inner_to = refl; next = refl }
 node_shows (lent.StartTag name attrs span) (g.End m) number w h = absurd h
 node_shows (lent.StartTag name attrs span) (g.Chars x) number w h = absurd h
@@ -72,50 +71,86 @@ node_shows (lent.Comment text span) (g.Chars x) number w h = absurd h
 node_shows (lent.Comment text span) (g.Raw x) number w h = absurd h
 node_shows (lent.Comment text span) (g.Comment x) number w h = record { token = h; token_from = refl; token_to = w; from = refl; to = refl; inner_from = refl; inner_to = refl; next = refl }
 
--- the node that is appended for a token
-pub pushed_shows : (new old : List Node) (t : Token) (k : g.Token) (rs : List Row) (span inner : Span) (n : ℕ) → new ≡ old ++ (record { token = t; span = span; inner = inner; next = n + 1 } ∷ []) → span ≡ span_of t → inner ≡ inner_span t → n ≡ length old
-    → HasText t k → Shows t k → ShowRows old rs → ShowRows new (rs ++ row_of k (span_of t).from (span_of t).to (length rs) ∷ [])
-pushed_shows new old t k rs span inner n e s i len w h shows =
-    let number : n ≡ length rs = len ∙ length_shows old rs shows in
-    let whole : new ≡ old ++ (record { token = t; span = span_of t; inner = inner_span t; next = length rs + 1 } ∷ []) =
-    e ∙ ap (λ (x : Span). old ++ (record { token = t; span = x; inner = inner; next = n + 1 } ∷ [])) s ∙ ap (λ (x : Span). old ++ (record { token = t; span = span_of t; inner = x; next = n + 1 } ∷ [])) i
-    ∙ ap (λ (x : ℕ). old ++ (record { token = t; span = span_of t; inner = inner_span t; next = x + 1 } ∷ [])) number in
-    subst (λ (l : List Node). ShowRows l (rs ++ row_of k (span_of t).from (span_of t).to (length rs) ∷ [])) (sym whole) (push_shows old rs _ _ shows (node_shows t k (length rs) w h))
+-- ---- the rows after a step, where it was one
 
--- the node that is ended
-pub closed_shows : (old : List Node) (k : ℕ) (rs : List Row) (m : Node) (from to next : ℕ) → m ≡ slice_index_or old k m → k < length old → next ≡ length old → ShowRows old rs → ShowRows (slice_set old k (closed_node from to next m)) (closed_at k from to (length rs) rs)
-closed_shows old k rs m from to next e lt n s =
-    subst (λ (x : ℕ). ShowRows (slice_set old k (closed_node from to next m)) (closed_at k from to x rs)) (n ∙ length_shows old rs s) (close_shows old k rs m from to next e lt s)
+on_ok : {A E : Type 0} {P Q : Type 0} (r : Result A E) → OnOk r P → (P → Q) → OnOk r Q
+on_ok (Ok x) p f = f p
+on_ok (Err e) p f = tt
+
+on_ok2 : {A E : Type 0} (P Q : Type 0) (r : Result A E) → OnOk r P → OnOk r Q → OnOk r (P × Q)
+on_ok2 P Q (Ok x) p q = (p, q)
+on_ok2 P Q (Err e) p q = tt
+
+abbrev pub row_at : g.Token → Token → ℕ → Row
+row_at k t next = row_of k (span_of t).from (span_of t).to next
+
+pub pushed_shows : {A E : Type 0} (r : Result A E) (new old : List Node) (t : Token) (k : g.Token) (rs : List Row) (next : ℕ) → OnOk r (new ≡ old ++ node_of t next ∷ []) → HasText t k → Shows t k → ShowRows old rs → OnOk r (ShowRows new (rs ++ row_at k t next ∷ []))
+pushed_shows (Ok x) new old t k rs next is w h s = subst (λ (l : List Node). ShowRows l (rs ++ row_at k t next ∷ [])) (sym is) (push_shows old rs (node_of t next) (row_at k t next) s (node_shows t k next w h))
+pushed_shows (Err f) new old t k rs next is w h s = tt
+
+pub ended_shows : {A E : Type 0} (r : Result A E) (new old : List Node) (rs : List Row) (k from to : ℕ) → OnOk r (new ≡ ended_at k from to (length old) old) → ShowRows old rs → OnOk r (ShowRows new (closed_at k from to (length rs) rs))
+ended_shows (Ok x) new old rs k from to is s =
+    subst (λ (l : List Node). ShowRows l (closed_at k from to (length rs) rs)) (sym is)
+    (subst (λ (n : ℕ). ShowRows (ended_at k from to n old) (closed_at k from to (length rs) rs)) (sym (length_shows old rs s)) (close_shows old rs k from to (length rs) s))
+ended_shows (Err f) new old rs k from to is s = tt
 
 -- ---- what a start tag does
 
+around_by : (ns : List Node) (bound count k : ℕ) → LinkedFrom ns bound count k → around (numbers_from ns count k) ≡ k
+around_by ns bound zero k l = sym l
+around_by ns bound (suc count) k l = refl
+
+-- the link of a start tag's node
+abbrev pub link_of : Bool → ℕ → ℕ → ℕ
+link_of v n around = cond v (n + 1) around
+
 start_by : (name : Bor (List ℕ)) (attrs : AttrTokens) (span : Span) (k : g.Token) (from to : ℕ) (rs : List Row) (ks : List ℕ) → Shows (lent.StartTag name attrs span) k
-    → ((taken k from to (built rs ks)).rows ≡ rs ++ row_of k from to (length rs) ∷ []) × ((taken k from to (built rs ks)).open_ ≡ cond (g.is_void name.now) ks (length rs ∷ ks))
-start_by name attrs span (g.Start m attributes slash) from to rs ks h = (refl, ap (λ (x : List ℕ). cond (g.is_void x) ks (length rs ∷ ks)) (sym h.0))
+    → (rs ++ row_of k from to (link_of (g.is_void name.now) (length rs) (around ks)) ∷ [] ≡ (taken k from to (built rs ks)).rows) × ((taken k from to (built rs ks)).open_ ≡ cond (g.is_void name.now) ks (length rs ∷ ks))
+start_by name attrs span (g.Start m attributes slash) from to rs ks h =
+    (ap (λ (x : List ℕ). rs ++ row_of (g.Start m attributes slash) from to (link_of (g.is_void x) (length rs) (around ks)) ∷ []) h.0, ap (λ (x : List ℕ). cond (g.is_void x) ks (length rs ∷ ks)) (sym h.0))
 start_by name attrs span (g.End m) from to rs ks h = absurd h
 start_by name attrs span (g.Chars x) from to rs ks h = absurd h
 start_by name attrs span (g.Raw x) from to rs ks h = absurd h
 start_by name attrs span (g.Comment x) from to rs ks h = absurd h
 
-pub start_taken : (t : Token) (name : Bor (List ℕ)) (attrs : AttrTokens) (span : Span) (k : g.Token) (from to : ℕ) (rs : List Row) (ks : List ℕ) → t ≡ lent.StartTag name attrs span → Shows t k
-    → ((taken k from to (built rs ks)).rows ≡ rs ++ row_of k from to (length rs) ∷ []) × ((taken k from to (built rs ks)).open_ ≡ cond (g.is_void name.now) ks (length rs ∷ ks))
-start_taken t name attrs span k from to rs ks e h = start_by name attrs span k from to rs ks (subst (λ (x : Token). Shows x k) e h)
+module _ {A E : Type 0} (r : Result A E) (new old : List Node) (t : Token) (name : Bor (List ℕ)) (attrs : AttrTokens) (span : Span) (k : g.Token) (rs : List Row) (o : Opened) (is : t ≡ lent.StartTag name attrs span) (h : Shows t k) (s : ShowRows old rs) where
+  start_taken : (rs ++ row_at k t (link_of (g.is_void name.now) (length rs) (around (numbers old o))) ∷ [] ≡ (taken k (span_of t).from (span_of t).to (built rs (numbers old o))).rows)
+      × ((taken k (span_of t).from (span_of t).to (built rs (numbers old o))).open_ ≡ cond (g.is_void name.now) (numbers old o) (length rs ∷ numbers old o))
+  start_taken = start_by name attrs span k (span_of t).from (span_of t).to rs (numbers old o) (subst (λ (x : Token). Shows x k) is h)
 
-pub on_ok : {A E : Type 0} {P : Type 0} (r : Result A E) → P → OnOk r P
-on_ok (Ok x) p = p
-on_ok (Err e) p = tt
+  pub start_rows : AreLinked old o → HasText t k → OnOk r (new ≡ old ++ node_of t (link_of (g.is_void name.now) (length old) o.innermost) ∷ []) → OnOk r (ShowRows new (taken k (span_of t).from (span_of t).to (built rs (numbers old o))).rows)
+  start_rows l w e =
+      let link : link_of (g.is_void name.now) (length old) o.innermost ≡ link_of (g.is_void name.now) (length rs) (around (numbers old o)) =
+      ap (λ (n : ℕ). link_of (g.is_void name.now) n o.innermost) (length_shows old rs s) ∙ ap (link_of (g.is_void name.now) (length rs)) (sym (around_by old (length old) o.count o.innermost l)) in
+      subst (λ (l2 : List Row). OnOk r (ShowRows new l2)) (ap (λ (n : ℕ). rs ++ row_at k t n ∷ []) link ∙ start_taken.0) (pushed_shows r new old t k rs (link_of (g.is_void name.now) (length old) o.innermost) e w h s)
 
-pub below_more : (n : ℕ) (ks : List ℕ) → AllBelow n ks → AllBelow (n + 1) ks
-below_more n [] b = tt
-below_more n (k ∷ ks) b = (omega (arith, b.0), below_more n ks b.1)
+  pub start_numbers : (ks : List ℕ) → OnOk r (ks ≡ cond (g.is_void name.now) (numbers old o) (length old ∷ numbers old o)) → OnOk r ((taken k (span_of t).from (span_of t).to (built rs (numbers old o))).open_ ≡ ks)
+  start_numbers ks e = on_ok r e (λ x. start_taken.1 ∙ ap (λ (n : ℕ). cond (g.is_void name.now) (numbers old o) (n ∷ numbers old o)) (sym (length_shows old rs s)) ∙ sym x)
 
-below_by : (v : Bool) (n node : ℕ) (ks : List ℕ) → node ≡ n → AllBelow n ks → AllBelow (n + 1) (cond v ks (node ∷ ks))
-below_by true n node ks e b = below_more n ks b
-below_by false n node ks e b = (omega (arith, e), below_more n ks b)
+-- ---- what an end tag does
 
-pub below_start : {A E : Type 0} (r : Result A E) (new n node : ℕ) (ks more : List ℕ) (v : Bool) → OnOk r (new ≡ n + 1) → more ≡ cond v ks (node ∷ ks) → node ≡ n → AllBelow n ks → OnOk r (AllBelow new more)
-below_start (Ok x) new n node ks more v len e is b = subst (λ (l : List ℕ). AllBelow new l) (sym e) (subst (λ (m : ℕ). AllBelow m (cond v ks (node ∷ ks))) (sym len) (below_by v n node ks is b))
-below_start (Err f) new n node ks more v len e is b = tt
+end_by : (name : Bor (List ℕ)) (span : Span) (k : g.Token) (from to : ℕ) (rs : List Row) (j : ℕ) (ks : List ℕ) → Shows (lent.EndTag name span) k → taken k from to (built rs (j ∷ ks)) ≡ built (closed_at j from to (length rs) rs) ks
+end_by name span (g.Start m attributes slash) from to rs j ks h = absurd h
+end_by name span (g.End m) from to rs j ks h = refl
+end_by name span (g.Chars x) from to rs j ks h = absurd h
+end_by name span (g.Raw x) from to rs j ks h = absurd h
+end_by name span (g.Comment x) from to rs j ks h = absurd h
+
+module _ {A E : Type 0} (r : Result A E) (t : Token) (name : Bor (List ℕ)) (span : Span) (k : g.Token) (rs : List Row) (ks more : List ℕ) (j : ℕ) (is : t ≡ lent.EndTag name span) (h : Shows t k) (first : OnOk r (ks ≡ j ∷ more)) where
+  end_taken : ks ≡ j ∷ more → taken k (span_of t).from (span_of t).to (built rs ks) ≡ built (closed_at j span.from span.to (length rs) rs) more
+  end_taken e =
+      ap (λ (l : List ℕ). taken k (span_of t).from (span_of t).to (built rs l)) e
+      ∙ ap (λ (x : Token). taken k (span_of x).from (span_of x).to (built rs (j ∷ more))) is
+      ∙ end_by name span k span.from span.to rs j more (subst (λ (x : Token). Shows x k) is h)
+
+  pub end_rows : (new old : List Node) → ShowRows old rs → OnOk r (new ≡ ended_at j span.from span.to (length old) old) → OnOk r (ShowRows new (taken k (span_of t).from (span_of t).to (built rs ks)).rows)
+  end_rows new old s e =
+      on_ok r (on_ok2 (ks ≡ j ∷ more) (ShowRows new (closed_at j span.from span.to (length rs) rs)) r first (ended_shows r new old rs j span.from span.to e s)) (λ p. subst (λ (b : Built). ShowRows new b.rows) (sym (end_taken p.0)) p.1)
+
+  pub end_numbers : OnOk r ((taken k (span_of t).from (span_of t).to (built rs ks)).open_ ≡ more)
+  end_numbers = on_ok r first (λ e. ap (λ (b : Built). b.open_) (end_taken e))
+
+-- ---- what another token does
 
 -- a token that isn't a tag
 abbrev pub IsLeaf : Token → Type 0
@@ -125,8 +160,8 @@ IsLeaf (lent.Chars text span) = Unit {0}
 IsLeaf (lent.Raw text span) = Unit {0}
 IsLeaf (lent.Comment text span) = Unit {0}
 
-pub leaf_taken : (t : Token) (k : g.Token) (from to : ℕ) (rs : List Row) (ks : List ℕ) (os : List Open) → IsLeaf t → Shows t k
-    → (after_token k from os ≡ Ok os) × ((taken k from to (built rs ks)).rows ≡ rs ++ row_of k from to (length rs) ∷ []) × ((taken k from to (built rs ks)).open_ ≡ ks)
+leaf_taken : (t : Token) (k : g.Token) (from to : ℕ) (rs : List Row) (ks : List ℕ) (os : List Open) → IsLeaf t → Shows t k
+    → (after_token k from os ≡ Ok os) × ((taken k from to (built rs ks)).rows ≡ rs ++ row_of k from to (length rs + 1) ∷ []) × ((taken k from to (built rs ks)).open_ ≡ ks)
 leaf_taken (lent.StartTag name attrs span) k from to rs ks os l h = absurd l
 leaf_taken (lent.EndTag name span) k from to rs ks os l h = absurd l
 leaf_taken (lent.Chars text span) (g.Start m attributes slash) from to rs ks os l h = absurd h
@@ -152,10 +187,23 @@ leaf_is (lent.Chars text span) start end = tt
 leaf_is (lent.Raw text span) start end = tt
 leaf_is (lent.Comment text span) start end = tt
 
-pub below_leaf : {A E : Type 0} (r : Result A E) (new n : ℕ) (ks : List ℕ) → OnOk r (new ≡ n + 1) → AllBelow n ks → OnOk r (AllBelow new ks)
-below_leaf (Ok x) new n ks len b = subst (λ (m : ℕ). AllBelow m ks) (sym len) (below_more n ks b)
-below_leaf (Err f) new n ks len b = tt
+leaf_fault : {A : Type 0} (r : Result A HtmlFault) (os more : List Open) (read : Result (List Open) ForestFault) → read ≡ Ok os → OnOk r (more ≡ os) → IfErr r (λ e. e ≡ faults.Memory) → Goes r more read
+leaf_fault (Ok x) os more read e same m = e ∙ ap (λ (l : List Open). Ok l) (sym same)
+leaf_fault (Err f) os more read e same m = subst (λ (x : HtmlFault). IsFault x (met read)) (sym m) tt
 
-pub memory_goes : {A : Type 0} (r : Result A HtmlFault) (os : List Open) (read : Result (List Open) ForestFault) → read ≡ Ok os → IfErr r (λ e. e ≡ faults.Memory) → Goes r os read
-memory_goes (Ok x) os read e m = e
-memory_goes (Err f) os read e m = subst (λ (x : HtmlFault). IsFault x (met read)) (sym m) tt
+module _ {A : Type 0} (r : Result A HtmlFault) (new old : List Node) (t : Token) (o : Opened) (next : ℕ) (leaf : IsLeaf t) (l : AreLinked old o) (e : OnOk r (new ≡ old ++ node_of t next ∷ [])) where
+  pub leaf_goes : (k : g.Token) → Shows t k → IfErr r (λ e. e ≡ faults.Memory) → Goes r (opens new o) (after_token k (span_of t).from (opens old o))
+  leaf_goes k h m =
+      leaf_fault r (opens old o) (opens new o) (after_token k (span_of t).from (opens old o)) (leaf_taken t k (span_of t).from (span_of t).to [] [] (opens old o) leaf h).0
+      (on_ok r e (λ x. ap (λ (ns : List Node). opens ns o) x ∙ leaf_opens old (node_of t next) o l)) m
+
+  pub leaf_rows : (k : g.Token) (rs : List Row) → next ≡ length old + 1 → Shows t k → HasText t k → ShowRows old rs → OnOk r (ShowRows new (taken k (span_of t).from (span_of t).to (built rs (numbers old o))).rows)
+  leaf_rows k rs n h w s =
+      let link : next ≡ length rs + 1 = omega (arith, n, length_shows old rs s) in
+      subst (λ (l2 : List Row). OnOk r (ShowRows new l2)) (ap (λ (i : ℕ). rs ++ row_at k t i ∷ []) link ∙ sym (leaf_taken t k (span_of t).from (span_of t).to rs (numbers old o) [] leaf h).1) (pushed_shows r new old t k rs next e w h s)
+
+  pub leaf_built : (k : g.Token) (rs : List Row) → Shows t k → OnOk r ((taken k (span_of t).from (span_of t).to (built rs (numbers old o))).open_ ≡ numbers new o)
+  leaf_built k rs h = on_ok r e (λ x. (leaf_taken t k (span_of t).from (span_of t).to rs (numbers old o) [] leaf h).2 ∙ sym (leaf_numbers old (node_of t next) o l) ∙ ap (λ (ns : List Node). numbers ns o) (sym x))
+
+  pub leaf_linked : OnOk r (AreLinked new o)
+  leaf_linked = on_ok r e (λ x. subst (λ (ns : List Node). AreLinked ns o) (sym x) (leaf_links old (node_of t next) o l))

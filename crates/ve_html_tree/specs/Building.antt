@@ -1,5 +1,5 @@
 -- What the tokens that were read have made: rows, of which those of the open elements have no end yet.
-use Rattle.std.specs.Prelude.{ℕ, zero, suc, ◌+◌, ◌-◌, ◌<◌, List, [], ◌∷◌, ◌++◌, length, if◌then◌else◌}
+use Rattle.std.specs.Prelude.{ℕ, zero, suc, ◌+◌, ◌-◌, List, [], ◌∷◌, ◌++◌, length, if◌then◌else◌}
 use Rattle.model_spelling.specs.Grammar.{Token, Start, End, Chars, Raw, Comment, is_void}
 use Rattle.model_spelling.specs.Rows.{Row}
 
@@ -13,11 +13,11 @@ built rows open_ = record { rows = rows; open_ = open_ }
 
 -- the row that begins with a token from these bytes, where nothing is in it yet
 abbrev pub row_of : Token → ℕ → ℕ → ℕ → Row
-row_of (Start name attrs slash) from to n = record { token = Start name attrs slash; from = from; to = to; inner_from = to; inner_to = to; next = n + 1 }
-row_of (End name) from to n = record { token = End name; from = from; to = to; inner_from = from; inner_to = to; next = n + 1 }
-row_of (Chars text) from to n = record { token = Chars text; from = from; to = to; inner_from = from; inner_to = to; next = n + 1 }
-row_of (Raw text) from to n = record { token = Raw text; from = from; to = to; inner_from = from; inner_to = to; next = n + 1 }
-row_of (Comment text) from to n = record { token = Comment text; from = from; to = to; inner_from = from + 4; inner_to = to - 3; next = n + 1 }
+row_of (Start name attrs slash) from to next = record { token = Start name attrs slash; from = from; to = to; inner_from = to; inner_to = to; next = next }
+row_of (End name) from to next = record { token = End name; from = from; to = to; inner_from = from; inner_to = to; next = next }
+row_of (Chars text) from to next = record { token = Chars text; from = from; to = to; inner_from = from; inner_to = to; next = next }
+row_of (Raw text) from to next = record { token = Raw text; from = from; to = to; inner_from = from; inner_to = to; next = next }
+row_of (Comment text) from to next = record { token = Comment text; from = from; to = to; inner_from = from + 4; inner_to = to - 3; next = next }
 
 -- the row that an end tag from these bytes ends
 abbrev pub closed : ℕ → ℕ → ℕ → Row → Row
@@ -30,22 +30,22 @@ closed_at zero from to next (r ∷ rs) = closed from to next r ∷ rs
 closed_at (suc k) from to next (r ∷ rs) = r ∷ closed_at k from to next rs
 
 abbrev pub pushed : Token → ℕ → ℕ → Built → Built
-pushed t from to b = built (b.rows ++ row_of t from to (length b.rows) ∷ []) b.open_
+pushed t from to b = built (b.rows ++ row_of t from to (length b.rows + 1) ∷ []) b.open_
 
 abbrev pub ended : ℕ → ℕ → List Row → List ℕ → Built
 ended from to rows [] = built rows []
 ended from to rows (k ∷ ks) = built (closed_at k from to (length rows) rows) ks
 
--- what a token from these bytes makes of it
+-- the number of the innermost open element, or 0
+abbrev pub around : List ℕ → ℕ
+around [] = 0
+around (k ∷ ks) = k
+
+-- What a token from these bytes makes of it. Until an element is closed, its row's `next` is the number of the element around it.
 abbrev pub taken : Token → ℕ → ℕ → Built → Built
 taken (Start name attrs slash) from to b =
-    built (b.rows ++ row_of (Start name attrs slash) from to (length b.rows) ∷ []) (if is_void name then b.open_ else length b.rows ∷ b.open_)
+    built (b.rows ++ row_of (Start name attrs slash) from to (if is_void name then length b.rows + 1 else around b.open_) ∷ []) (if is_void name then b.open_ else length b.rows ∷ b.open_)
 taken (End name) from to b = ended from to b.rows b.open_
 taken (Chars text) from to b = pushed (Chars text) from to b
 taken (Raw text) from to b = pushed (Raw text) from to b
 taken (Comment text) from to b = pushed (Comment text) from to b
-
--- each of these numbers is below n
-abbrev pub AllBelow : ℕ → List ℕ → Type 0
-AllBelow n [] = Unit {0}
-AllBelow n (k ∷ ks) = (k < n) × AllBelow n ks

@@ -1,3 +1,4 @@
 pub mod Seen
 pub mod Building
 pub mod Nodes
+pub mod Opened

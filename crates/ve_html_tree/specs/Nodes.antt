@@ -1,7 +1,7 @@
 -- How the nodes show the rows of a forest.
 use Rattle.model_spelling.specs.Grammar as g
 use Rattle.model_spelling.specs.Grammar.{token_text}
-use Rattle.std.specs.Prelude.{◌≡◌, ◌+◌, ◌-◌, ◌≤◌, length, List, [], ◌∷◌}
+use Rattle.std.specs.Prelude.{ℕ, zero, suc, ◌≡◌, ◌+◌, ◌-◌, ◌≤◌, length, List, [], ◌∷◌}
 use Rattle.model_spelling.specs.Rows.{Row}
 use Rattle.ve_html_scan.specs.Shown.{Shows, span_of}
 use Rattle.ve_html_scan.specs.declared.token.Span.{Span}
@@ -46,3 +46,17 @@ ShowRows [] [] = Unit {0}
 ShowRows (n ∷ ns) (r ∷ rs) = ShowsRow n r × ShowRows ns rs
 ShowRows [] (r ∷ rs) = ⊥
 ShowRows (n ∷ ns) [] = ⊥
+
+-- the node that begins with a token, where nothing is in it yet
+abbrev pub node_of : Token → ℕ → Node
+node_of t next = record { token = t; span = span_of t; inner = inner_span t; next = next }
+
+-- the node that an end tag from these bytes ends
+abbrev pub ended : ℕ → ℕ → ℕ → Node → Node
+ended from to next n = record { token = n.token; span = record { from = n.span.from; to = to }; inner = record { from = n.inner.from; to = from }; next = next }
+
+-- the nodes, that of this number ended
+abbrev pub ended_at : ℕ → ℕ → ℕ → ℕ → List Node → List Node
+ended_at k from to next [] = []
+ended_at zero from to next (n ∷ ns) = ended from to next n ∷ ns
+ended_at (suc k) from to next (n ∷ ns) = n ∷ ended_at k from to next ns

@@ -1,20 +1,8 @@
--- What the reader keeps of the open elements, and what it answers, as the definitions have it.
-use Rattle.std.specs.Prelude.{◌≡◌, ℕ, List, map, reverse, Option, Some, None, Result, Ok, Err}
+-- What the reader answers, as the definitions have it.
+use Rattle.std.specs.Prelude.{◌≡◌, List, Option, Some, None, Result, Ok, Err}
 use Rattle.model_spelling.specs.Faults as g
-use Rattle.ve_html_tree.specs.declared.open.OpenElement.{OpenElement}
 use Rattle.ve_html_tree.specs.declared.fault.HtmlFault.{HtmlFault}
 use Rattle.ve_html_tree.specs.declared.fault.HtmlFault.TheVariants as lent
-
-abbrev pub open_of : OpenElement → g.Open
-open_of o = record { name = o.name.now; at = o.at }
-
--- the open elements, the innermost first
-abbrev pub opens : List OpenElement → List g.Open
-opens os = map open_of (reverse os)
-
--- the numbers of their nodes
-abbrev pub numbers : List OpenElement → List ℕ
-numbers os = map (λ (o : OpenElement). o.node) (reverse os)
 
 -- An answer that is the first fault, where it isn't a want of memory.
 abbrev pub IsFault : HtmlFault → Option g.ForestFault → Type 0

@@ -1,8 +1,10 @@
 // The nodes of a forest, in the order of their starts.
-ghost use Rattle.std.specs.Prelude.{◌≡◌, ◌<◌, length, slice_get, Some};
+ghost use Rattle.std.specs.Prelude.{◌≡◌, ◌<◌, ◌++◌, ◌∷◌, [], IfErr, OnOk, length, slice_get, Some};
 ghost use Rattle.ve_html_scan.specs.Shown.{span_of};
-ghost use Rattle.ve_html_tree.specs.Nodes.{inner_span, HasRoom};
+ghost use Rattle.ve_html_tree.specs.Nodes.{inner_span, HasRoom, node_of, ended_at};
+ghost use Rattle.ve_html_tree.specs.declared.fault.HtmlFault.TheVariants as faults;
 
+use crate::HtmlFault;
 use std::marker::Model;
 use ve_html_scan::{Span, Token};
 
@@ -63,4 +65,36 @@ pub fn inner_of(token: &Token<'_>) -> Span
         },
         _ => token.span(),
     }
+}
+
+/// Appends the node that begins with a token.
+pub fn push_node<'a>(
+    nodes: &mut Vec<Node<'a>>,
+    token: &Token<'a>,
+    next: usize,
+) -> Result<(), HtmlFault>
+    requires { HasRoom token.now }
+    ensures nodes { OnOk result (nodes.new.items ≡ nodes.old.items ++ node_of token.now next ∷ []) }
+    ensures fault { IfErr result (λ e. e ≡ faults.Memory) }
+{
+    let node = Node {
+        token: *token,
+        span: token.span(),
+        inner: inner_of(token),
+        next,
+    };
+    nodes.push(node)?;
+    Ok(())
+}
+
+/// Ends the element of that number by its end tag.
+pub fn end_node(nodes: &mut Vec<Node<'_>>, number: usize, end: Span)
+    requires { number < length nodes.old.items }
+    ensures { nodes.new.items ≡ ended_at number end.from end.to (length nodes.old.items) nodes.old.items }
+{
+    let next = nodes.len();
+    let node = &mut nodes[number];
+    node.span.to = end.to;
+    node.inner.to = end.from;
+    node.next = next;
 }

@@ -1,38 +1,52 @@
 // The elements that are open.
-ghost use Rattle.std.specs.Prelude.{◌≡◌, ◌∷◌, IfOk, OnOk, None, if◌then◌else◌};
+ghost use Rattle.std.specs.Prelude.{◌≡◌, ◌+◌, ◌++◌, ◌∷◌, [], OnOk, None, length, if◌then◌else◌};
 ghost use Rattle.model_spelling.specs.Faults.{after_start, after_end, fault_at_end};
 ghost use Rattle.model_spelling.specs.Grammar.{is_void, is_same_name};
-ghost use Rattle.ve_html_tree.specs.Seen.{opens, numbers, Goes, Ends};
+ghost use Rattle.ve_html_scan.specs.Shown.{span_of};
+ghost use Rattle.ve_html_tree.specs.Nodes.{HasRoom, node_of, ended_at};
+ghost use Rattle.ve_html_tree.specs.Opened.{start_name, opens, numbers, AreLinked};
+ghost use Rattle.ve_html_tree.specs.Seen.{Goes, Ends};
 
-use crate::HtmlFault;
-use ve_html_scan::is_void_name;
+use crate::node::{end_node, push_node};
+use crate::{HtmlFault, Node};
+use ve_html_scan::{Span, Token, is_void_name};
 
-/// An element that is open: its name, the byte of its `<`, and the number of its node.
-#[derive(Clone, Copy, Drop)]
-pub struct OpenElement<'a> {
-    pub name: &'a str,
-    pub at: usize,
-    pub node: usize,
+/// The elements that are open: how many, and the number of the innermost one's node. Until an element is closed, its node's `next` is the number of the node of the element around it; so the nodes are all the memory that reading takes.
+#[derive(Clone, Copy)]
+pub struct Opened {
+    pub count: usize,
+    pub innermost: usize,
 }
 
 /// The most elements that may be open.
 const MOST_OPEN: usize = 200;
 
-/// Opens an element, where it isn't void.
+/// Appends the node of a start tag with that name, and opens its element, where it isn't void.
 pub fn open_element<'a>(
-    opened: &mut Vec<OpenElement<'a>>,
-    element: OpenElement<'a>,
+    nodes: &mut Vec<Node<'a>>,
+    opened: &mut Opened,
+    token: &Token<'a>,
+    name: &'a str,
 ) -> Result<(), HtmlFault>
-    ensures faults { Goes result (opens opened.new.items) (after_start element.entry.name.now element.entry.at (opens opened.old.items)) }
-    ensures numbers { OnOk result (numbers opened.new.items ≡ (if is_void element.entry.name.now then numbers opened.old.items else element.entry.node ∷ numbers opened.old.items)) }
+    requires name { start_name token.now ≡ name.now }
+    requires room { HasRoom token.now }
+    requires linked { AreLinked nodes.old.items opened.old }
+    ensures faults { Goes result (opens nodes.new.items opened.new) (after_start name.now (span_of token.now).from (opens nodes.old.items opened.old)) }
+    ensures nodes { OnOk result (nodes.new.items ≡ nodes.old.items ++ node_of token.now (if is_void name.now then length nodes.old.items + 1 else opened.old.innermost) ∷ []) }
+    ensures numbers { OnOk result (numbers nodes.new.items opened.new ≡ (if is_void name.now then numbers nodes.old.items opened.old else length nodes.old.items ∷ numbers nodes.old.items opened.old)) }
+    ensures linked { OnOk result (AreLinked nodes.new.items opened.new) }
 {
-    if opened.len() == MOST_OPEN {
-        return Err(HtmlFault::TooDeep { at: element.at });
+    let number = nodes.len();
+    if opened.count == MOST_OPEN {
+        let at = token.span().from;
+        return Err(HtmlFault::TooDeep { at });
     }
-    if is_void_name(element.name.as_bytes()) {
-        return Ok(());
+    if is_void_name(name.as_bytes()) {
+        return push_node(nodes, token, number + 1);
     }
-    opened.push(element)?;
+    push_node(nodes, token, opened.innermost)?;
+    opened.count += 1;
+    opened.innermost = number;
     Ok(())
 }
 
@@ -43,33 +57,52 @@ fn is_same(name: &str, other: &str) -> bool
     name == other
 }
 
-/// Closes the innermost element by an end tag, and answers the number of its node.
-pub fn close_element<'a>(
-    opened: &mut Vec<OpenElement<'a>>,
-    name: &'a str,
-    at: usize,
-) -> Result<usize, HtmlFault>
-    ensures faults { Goes result (opens opened.new.items) (after_end name.now at (opens opened.old.items)) }
-    ensures numbers { IfOk result (λ node. numbers opened.old.items ≡ node ∷ numbers opened.new.items) }
+/// The name of a start tag.
+fn name_of<'a>(token: &Token<'a>) -> &'a str
+    ensures { result.now ≡ start_name token.now }
 {
-    let Some(innermost) = opened.pop() else {
-        return Err(HtmlFault::Stray { at });
-    };
-    if is_void_name(name.as_bytes()) {
-        return Err(HtmlFault::Stray { at });
+    match *token {
+        Token::StartTag { name, .. } => name,
+        _ => "",
     }
-    if !is_same(innermost.name, name) {
-        return Err(HtmlFault::Mismatched { at });
+}
+
+/// Closes the innermost element by an end tag with that name.
+pub fn close_element<'a>(
+    nodes: &mut Vec<Node<'a>>,
+    opened: &mut Opened,
+    name: &'a str,
+    end: Span,
+) -> Result<(), HtmlFault>
+    requires { AreLinked nodes.old.items opened.old }
+    ensures faults { Goes result (opens nodes.new.items opened.new) (after_end name.now end.from (opens nodes.old.items opened.old)) }
+    ensures nodes { OnOk result (nodes.new.items ≡ ended_at opened.old.innermost end.from end.to (length nodes.old.items) nodes.old.items) }
+    ensures numbers { OnOk result (numbers nodes.old.items opened.old ≡ opened.old.innermost ∷ numbers nodes.new.items opened.new) }
+    ensures linked { OnOk result (AreLinked nodes.new.items opened.new) }
+{
+    if opened.count == 0 || is_void_name(name.as_bytes()) {
+        return Err(HtmlFault::Stray { at: end.from });
     }
-    Ok(innermost.node)
+    let number = opened.innermost;
+    let innermost = &nodes[number];
+    if !is_same(name_of(&innermost.token), name) {
+        return Err(HtmlFault::Mismatched { at: end.from });
+    }
+    opened.count -= 1;
+    opened.innermost = innermost.next;
+    end_node(nodes, number, end);
+    Ok(())
 }
 
 /// The end of a text with these elements open.
-pub fn end_of_text(opened: &[OpenElement<'_>]) -> Result<(), HtmlFault>
-    ensures { Ends result (fault_at_end (opens opened.now) None) }
+pub fn end_of_text(nodes: &[Node<'_>], opened: Opened) -> Result<(), HtmlFault>
+    requires { AreLinked nodes.now opened }
+    ensures { Ends result (fault_at_end (opens nodes.now opened) None) }
 {
-    match opened.last() {
-        None => Ok(()),
-        Some(innermost) => Err(HtmlFault::Unclosed { at: innermost.at }),
+    if opened.count == 0 {
+        return Ok(());
     }
+    Err(HtmlFault::Unclosed {
+        at: nodes[opened.innermost].span.from,
+    })
 }

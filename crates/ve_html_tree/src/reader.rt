@@ -7,7 +7,7 @@ ghost use Rattle.ve_html_tree.specs.Nodes.{ShowRows};
 ghost use Rattle.ve_html_tree.specs.Seen.{IsFault};
 
 use crate::build::take_token;
-use crate::open::end_of_text;
+use crate::open::{Opened, end_of_text};
 use crate::{Forest, HtmlFault};
 use std::alloc::Global;
 use ve_html_scan::Scanner;
@@ -21,12 +21,15 @@ pub fn read<'a>(alloc: Global, text: &'a str) -> Result<Forest<'a>, HtmlFault>
 {
     let mut scanner = Scanner::new(text);
     let mut nodes = Vec::new(alloc);
-    let mut opened = Vec::new(alloc);
+    let mut opened = Opened {
+        count: 0,
+        innermost: 0,
+    };
     loop {
         match scanner.next() {
             Err(fault) => return Err(HtmlFault::Scan(fault)),
             Ok(None) => {
-                end_of_text(&opened)?;
+                end_of_text(&nodes, opened)?;
                 return Ok(Forest { nodes });
             }
             Ok(Some(token)) => take_token(&mut nodes, &mut opened, &token)?,
