@@ -41,6 +41,8 @@ pub mod SpanCuts
 pub mod OriginPlaces
 pub mod MadeRefers
 pub mod PageRefers
+pub mod EditsRefer
 mod FormCases
 mod SpanExamples
 mod ComposedExamples
+mod EditsExamples

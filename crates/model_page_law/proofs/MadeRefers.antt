@@ -26,10 +26,10 @@ use Rattle.model_page_law.proofs.KindFits.{element_of_tag}
 
 -- ---- kinds that are no references
 
-abbrev Other : Kind → Type 0
+abbrev pub Other : Kind → Type 0
 Other k = (kind_same k Ref ≡ false) × (kind_same k InternalItem ≡ false)
 
-other_refers : (k : Kind) → Other k → (head : Head) → head_refers k head ≡ true
+pub other_refers : (k : Kind) → Other k → (head : Head) → head_refers k head ≡ true
 other_refers k o head = (λ i. if o.0 i then is_editable_ref head else (if o.1 i then is_some head.reference else true))
 
 abbrev FitOther : Fit → Type 0
@@ -38,7 +38,7 @@ FitOther (Leaf k) = Other k
 FitOther (Whole k) = Other k
 FitOther (Branch k) = Other k
 
-element-other : (k : Kind) → is_element k ≡ true → Other k
+pub element-other : (k : Kind) → is_element k ≡ true → Other k
 element-other Root e = cc
 element-other P e = (refl, refl)
 element-other H1 e = (refl, refl)
@@ -146,7 +146,7 @@ pub refers-append : (xs ys : List PlainItem) → all_refer xs ≡ true → all_r
 refers-append [] ys h g = g
 refers-append (x ∷ xs) ys h g = let p = and_parts (item_refers x) (all_refer xs) h in and_from (item_refers x) (all_refer (xs ++ ys)) p.0 (refers-append xs ys p.1 g)
 
-refers-chars : (marks : List Mark) (text : List ℕ) → all_refer (map (λ c. Char c marks) text) ≡ true
+pub refers-chars : (marks : List Mark) (text : List ℕ) → all_refer (map (λ c. Char c marks) text) ≡ true
 refers-chars marks [] = refl
 refers-chars marks (c ∷ cs) = refers-chars marks cs
 
@@ -199,7 +199,7 @@ Refers-words_before (Structural kind) text m h = Refers-with_white (chars text) 
 Refers-words_before (Flow kind) text m h = Refers-in_run (chars_piece [] (characters text)) text [] m (refers-chars [] (characters text)) h
 Refers-words_before (Content marks) text m h = Refers-in_run (chars_piece marks (characters text)) text [] m (refers-chars marks (characters text)) h
 
-Refers-inside_piece : (around : Around) (w : Place) (m : Made) → Refers m → all_refer (inside_piece around w m).later.items ≡ true
+pub Refers-inside_piece : (around : Around) (w : Place) (m : Made) → Refers m → all_refer (inside_piece around w m).later.items ≡ true
 Refers-inside_piece (Content marks) w m h = h.run
 Refers-inside_piece (Flow kind) w m h = (Refers-run_closed w m h).later
 Refers-inside_piece (Structural kind) w m h = h.later

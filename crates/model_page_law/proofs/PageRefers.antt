@@ -184,7 +184,7 @@ none-refers (Element name attrs children (Void n a slash rest)) w around r s e =
 none-refers (Element name attrs children (RawElement n a text rest)) w around r s e = cc
 none-refers (Element name attrs children (Element n a inner rest)) w around r s e = cc
 
-none-refer : (parts : Parts) → GroupsRefer false parts
+pub none-refer : (parts : Parts) → GroupsRefer false parts
 none-refer Ended = tt
 none-refer (Words text later) = none-refer later
 none-refer (Note text later) = none-refer later

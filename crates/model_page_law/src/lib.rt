@@ -6,7 +6,7 @@ ghost use Rattle.model_page_law.specs.Composed.{ComposedIsBarred, ComposedIsRead
 ghost use Rattle.model_page_law.specs.Lawful.{BadPageHasFault, LimitedIsLawful, ReadIsLawful, ReadIsWithin, WithinIsRead};
 ghost use Rattle.model_page_law.specs.Origins.{OriginsNumberSpans};
 ghost use Rattle.model_page_law.specs.ReadBack.{FreshIsReadBack, FreshOpensAsItself};
-ghost use Rattle.model_page_law.specs.Referring.{OpenedRefers, SpelledRefers};
+ghost use Rattle.model_page_law.specs.Referring.{EditsRefer, FragmentsRefer, InversesRefer, JoinListsRefer, JoinsRefer, OpenedRefers, ReplaysRefer, ReversalsRefer, SpelledRefers};
 ghost use Rattle.model_page_law.specs.Spans.{BodyIsCut, OriginsStand, SpansAreParts};
 ghost use Rattle.model_page_law.specs.WritesFresh.{WritesFresh};
 ghost use Rattle.model_page_law.specs.WrittenBack.{FaultlessOpens, OpenedIsFaultless, OpenedIsWrittenBack, OpensAsItsForest, SpelledIsWrittenBack};
@@ -51,6 +51,17 @@ pub fn origins_stand()
 pub fn references_are_editable()
     ensures opened { OpenedRefers }
     ensures spelled { SpelledRefers }
+{}
+
+/// Edits keep this: a transaction that inserts only such items keeps it of every list, whatever attributes it sets, and inserts nothing else where it is undone or joined with others. Fragments are such items.
+pub fn edits_keep_references()
+    ensures edited { EditsRefer }
+    ensures undone { InversesRefer }
+    ensures joined { JoinsRefer }
+    ensures replayed { ReplaysRefer }
+    ensures reversed { ReversalsRefer }
+    ensures lists { JoinListsRefer }
+    ensures fragments { FragmentsRefer }
 {}
 
 /// A `data-mw` that is composed with another body is read as what it was with that body; so it is editable, of the same group and name, and has that body, where a forest spells the body's text.
