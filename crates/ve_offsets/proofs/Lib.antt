@@ -1,3 +1,4 @@
+pub mod ClassLemmas
 pub mod NearestLemmas
 pub mod ShapeLemmas
 pub mod StateLemmas

@@ -1,19 +1,48 @@
-// The class of an offset, by the kind of the innermost node round it.
+// The class of an offset, by the item before it.
 ghost use Rattle.std.specs.Prelude.{◌≡◌, ◌≤◌, ◌↔◌, IsTrue, length};
-ghost use Rattle.model_items.specs.Tree.{node_at};
-ghost use Rattle.ve_offsets.specs.Classes.{IsContent, IsInsideLeaf, IsStructural};
+ghost use Rattle.model_items.specs.Tree as model;
+ghost use Rattle.ve_offsets.specs.Classes.{IsContent, IsInsideLeaf, IsStructural, ItemDecidesClass};
 ghost use Rattle.ve_tree.specs.IsTree.{IsTree, unvalued};
 
 use crate::Doc;
-use ve_kinds::{Kind, is_content_branch, is_leaf};
+use model_items::OffsetClass;
+use ve_items::Item;
+use ve_kinds::{Kind, is_content_branch, is_inline_leaf, is_leaf};
 
-/// The kind of the innermost node round an offset, text nodes aside.
-fn kind_at(doc: Doc<'_>, o: usize) -> Kind
+/// The class of the offsets that lie in a node of a kind, and in none of its children.
+fn class_in(kind: Kind) -> OffsetClass
+    ensures { result ≡ model.class_in kind }
+{
+    if is_content_branch(kind) {
+        OffsetClass::Content
+    } else if is_leaf(kind) {
+        OffsetClass::Inside
+    } else {
+        OffsetClass::Structural
+    }
+}
+
+/// The class of an offset. The item before it decides it: behind a closing the offset lies in what holds the closed node, which is a content branch
+/// for an inline leaf alone.
+fn class_at(doc: Doc<'_>, o: usize) -> OffsetClass
     requires tree { IsTree doc.tree.now.arena doc.tree.now.root (unvalued doc.list.now.items) }
     requires within { o ≤ length doc.list.now.items }
-    ensures { result ≡ (node_at (unvalued doc.entry.list.now.items) o).kind }
+    ensures { result ≡ model.class_at (unvalued doc.entry.list.now.items) o }
 {
-    doc.tree.kind_of(doc.tree.node_at(o))
+    if o == 0 {
+        return OffsetClass::Structural;
+    }
+    match doc.list.get(o - 1) {
+        Item::Char { .. } => OffsetClass::Content,
+        Item::Opening { kind, .. } => class_in(kind),
+        Item::Closing { kind, .. } => {
+            if is_inline_leaf(kind) {
+                OffsetClass::Content
+            } else {
+                OffsetClass::Structural
+            }
+        }
+    }
 }
 
 /// Whether characters may stand at an offset: the innermost node round it is a content branch.
@@ -22,7 +51,7 @@ pub fn is_content(doc: Doc<'_>, o: usize) -> bool
     requires within { o ≤ length doc.list.now.items }
     ensures { IsTrue result ↔ IsContent doc.entry.list.now.items o }
 {
-    is_content_branch(kind_at(doc, o))
+    class_at(doc, o) == OffsetClass::Content
 }
 
 /// Whether an offset is inside a leaf, where nothing may stand.
@@ -31,7 +60,7 @@ pub fn is_inside_leaf(doc: Doc<'_>, o: usize) -> bool
     requires within { o ≤ length doc.list.now.items }
     ensures { IsTrue result ↔ IsInsideLeaf doc.entry.list.now.items o }
 {
-    is_leaf(kind_at(doc, o))
+    class_at(doc, o) == OffsetClass::Inside
 }
 
 /// Whether nodes alone may stand at an offset: it is neither content nor inside a leaf.
@@ -40,6 +69,10 @@ pub fn is_structural(doc: Doc<'_>, o: usize) -> bool
     requires within { o ≤ length doc.list.now.items }
     ensures { IsTrue result ↔ IsStructural doc.entry.list.now.items o }
 {
-    let kind = kind_at(doc, o);
-    !is_content_branch(kind) && !is_leaf(kind)
+    class_at(doc, o) == OffsetClass::Structural
 }
+
+/// The item before an offset decides its class.
+pub fn items_decide_classes()
+    ensures { ItemDecidesClass }
+{}

@@ -9,7 +9,7 @@ mod state;
 #[cfg(test)]
 mod tests;
 
-pub use class::{is_content, is_inside_leaf, is_structural};
+pub use class::{is_content, is_inside_leaf, is_structural, items_decide_classes};
 pub use doc::Doc;
 pub use nearest::nearest_content;
 pub use range::{unmatched, unmatched_are_open};
