@@ -142,3 +142,14 @@ batches : Answered
     ∷ [])
 unfolding page_on_literals is_utf8 digits
 batches = refl
+
+-- each change of a batch is made on what those before it leave
+batch_in_turn : Answered
+    ((codes "{\"do\":\"open\",\"page\":\"<p>a</p>\"}", codes "ok 5")
+    ∷ (codes "{\"do\":\"batch\",\"cmds\":[{\"do\":\"text\",\"at\":1,\"text\":\"xyz\"},{\"do\":\"remove\",\"from\":2,\"to\":5}]}", codes "ok 5")
+    ∷ (codes "{\"do\":\"html\"}", codes "ok \"<p>x</p>\"")
+    ∷ (codes "{\"do\":\"undo\"}", codes "ok 5")
+    ∷ (codes "{\"do\":\"html\"}", codes "ok \"<p>a</p>\"")
+    ∷ [])
+unfolding page_on_literals is_utf8 digits
+batch_in_turn = refl

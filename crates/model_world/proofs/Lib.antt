@@ -8,4 +8,7 @@ mod ReferenceScripts
 mod PeopleScripts
 mod RevokeScripts
 mod TableScripts
+mod OrderScripts
+mod LimitScripts
 pub mod Unchanged
+pub mod BatchLemmas

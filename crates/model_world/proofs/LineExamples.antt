@@ -1,5 +1,5 @@
 -- Lines, and what they ask.
-use Rattle.std.specs.Prelude.{◌≡◌, ℕ, List, [], ◌∷◌, codes, false, true, Some, None, Ok, Err, encode_utf8_all, refl}
+use Rattle.std.specs.Prelude.{◌≡◌, ℕ, List, [], ◌∷◌, ◌++◌, codes, false, true, Some, None, Ok, Err, encode_utf8_all, refl}
 use Rattle.std.specs.Str.{is_utf8}
 use Rattle.ve_kinds.specs.declared.kind.Kind.TheVariants.{H2, P, Br, Ul, Li}
 use Rattle.ve_base.specs.declared.attrs.Attr.{Attr}
@@ -19,6 +19,7 @@ use Rattle.model_world.specs.declared.field.Field.{Field}
 use Rattle.model_world.specs.declared.field.Field.TheVariants as field
 use Rattle.model_world.specs.declared.refusal.Refusal.TheVariants.{BadJson, BadCommand}
 use Rattle.model_world.specs.Commands.{command}
+use Rattle.model_world.proofs.Scripts.{times}
 
 -- the line asks it, of site 0
 abbrev Asks : List ℕ → Request → Type 0
@@ -180,6 +181,15 @@ number_past_all_limits = refl
 no_text : command (123 ∷ 34 ∷ 255 ∷ 34 ∷ 58 ∷ 49 ∷ 125 ∷ []) ≡ Err BadJson
 unfolding page_on_literals is_utf8
 no_text = refl
+
+-- 127 lists one inside the other are read, and no more
+deep : command (times 127 (codes "[") ++ times 127 (codes "]")) ≡ Err (BadCommand field.Do)
+unfolding page_on_literals is_utf8
+deep = refl
+
+too_deep : command (times 128 (codes "[") ++ times 128 (codes "]")) ≡ Err BadJson
+unfolding page_on_literals is_utf8
+too_deep = refl
 
 -- of members with one name the last counts, and those that no command reads are passed over
 last_counts : command (codes "{\"do\":\"open\",\"colour\":[],\"do\":\"html\",\"site\":1,\"site\":2}") ≡ Ok (Ask request.Html 2)
