@@ -5,6 +5,7 @@ mod FineLemmas
 pub mod ApartLemmas
 pub mod ApartEditLemmas
 mod ApartExamples
+pub mod SelectLemmas
 pub mod BracketLemmas
 pub mod NodeLemmas
 pub mod InsertLemmas

@@ -6,3 +6,4 @@ pub mod ShapeLaws
 pub mod ListLaws
 pub mod Spans
 pub mod TableLaws
+pub mod SelectLaws

@@ -7,6 +7,7 @@ ghost use Rattle.model_edit_law.specs.Fine.{EditsAreFine, EditsSubstitute, FineI
 ghost use Rattle.model_edit_law.specs.InsertLaws.{FragmentStaysLawful, InsertionIsFine, SplitIsFine, SplitStaysLawful, TypingStaysLawful};
 ghost use Rattle.model_edit_law.specs.ListLaws.{IndentIsFine, IndentIsUndone, IndentKeepsText, IndentStaysLawful, OutdentIsFine, OutdentKeepsText, OutdentStaysLawful};
 ghost use Rattle.model_edit_law.specs.RemoveLaws.{RemovalIsFine, RemovalStaysLawful};
+ghost use Rattle.model_edit_law.specs.SelectLaws.{OffsetsKeepNeighbours, OffsetsKeepOrder, OffsetsOutsideStay, OffsetsStayWithin, SelectionKeepsDirection, SelectionKeepsItems};
 ghost use Rattle.model_edit_law.specs.ShapeLaws.{AttributeIsFine, AttributeStaysLawful, ConvertIsFine, ConvertStaysLawful, MarkingIsFine, MarkingStaysLawful, UnmarkingIsFine, UnmarkingStaysLawful, WrapIsFine};
 ghost use Rattle.model_edit_law.specs.TableLaws.{ColInIsFine, ColInStaysLawful, ColOutIsFine, ColOutStaysLawful, GridLays, RowInIsFine, RowInStaysLawful, RowOutIsFine, RowOutLays, RowOutStaysLawful};
 
@@ -162,4 +163,19 @@ pub fn inserted_names_are_apart()
     ensures col_in { ColInIsApart }
     ensures row_out { RowOutIsApart }
     ensures col_out { ColOutIsApart }
+{}
+
+/// After a transaction an offset stands in the new list, offsets keep their order, beside an item that is retained one stays beside it, and outside
+/// the active range each stays or moves by the difference of the lengths.
+pub fn offsets_lead_on()
+    ensures within { OffsetsStayWithin }
+    ensures order { OffsetsKeepOrder }
+    ensures neighbours { OffsetsKeepNeighbours }
+    ensures outside { OffsetsOutsideStay }
+{}
+
+/// What a selection has of retained items it keeps, and no other one joins it; it never turns round.
+pub fn selections_lead_on()
+    ensures items { SelectionKeepsItems }
+    ensures direction { SelectionKeepsDirection }
 {}
