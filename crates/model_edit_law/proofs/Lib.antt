@@ -6,6 +6,9 @@ pub mod ApartLemmas
 pub mod ApartEditLemmas
 mod ApartExamples
 pub mod SelectLemmas
+mod CutLemmas
+pub mod NextLemmas
+mod SelectionExamples
 pub mod BracketLemmas
 pub mod NodeLemmas
 pub mod InsertLemmas

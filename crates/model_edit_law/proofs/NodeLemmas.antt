@@ -17,7 +17,7 @@ use Rattle.model_items.specs.Law.{State, top, is_empty, is_over, may_open, opene
 use Rattle.model_items.proofs.LawLemmas.{if_ok, Ok-same, after_whole, piece_fits}
 use Rattle.model_edit_law.proofs.BracketLemmas.{state_of, or_false, HoldsSame, HoldsSame-itself, Closes, NodeParts, slice_get-split}
 
-content_list : (k : Kind) → is_content_branch k ≡ true → held_by k ≡ inline_leaves
+pub content_list : (k : Kind) → is_content_branch k ≡ true → held_by k ≡ inline_leaves
 content_list P h = refl
 content_list H1 h = refl
 content_list H2 h = refl

@@ -1,17 +1,17 @@
 -- Offsets and selections after a transaction.
-use Rattle.std.proofs.Common.{◌≡◌, ◌⊎◌, inl, inr, ℕ, zero, suc, ◌+◌, ◌-◌, ◌<◌, ◌≤◌, min, max, Bool, true, false, ◌&&◌, ◌==◌, if◌then◌else◌, nat_le, nat_lt, List, [], ◌∷◌, length, Option, Some, None, option_map, refl, sym, ap, ◌∙◌, subst, arith}
-use Rattle.std.proofs.lemmas.Bool.{cases_Bool, le-leb, leb-true, leb-false, lt-ltb, ltb-true, ltb-false, le-ltb, lt-leb, eqb-true, eqb-false, cases_lt}
+use Rattle.std.proofs.Common.{◌≡◌, ◌⊎◌, inl, inr, ℕ, suc, ◌+◌, ◌-◌, ◌<◌, ◌≤◌, min, max, Bool, true, false, ◌&&◌, ◌==◌, if◌then◌else◌, nat_le, nat_lt, List, [], ◌∷◌, length, Option, Some, None, option_map, refl, sym, ap, ◌∙◌, subst, arith}
+use Rattle.std.proofs.lemmas.Bool.{le-leb, leb-true, leb-false, lt-ltb, ltb-true, ltb-false, le-ltb, lt-leb, eqb-true, eqb-false, cases_lt}
 use Rattle.model_items.specs.declared.plain_item.PlainItem.{PlainItem}
-use Rattle.model_change.specs.Transaction.{Retain, Replace, Attribute, Transaction, old_length, new_length, edited}
-use Rattle.model_change.specs.Join.{first, without_first, without_end, core, reach, start_of, end_of}
+use Rattle.model_change.specs.Transaction.{Retain, Replace, Attribute, Transaction, old_length, new_length}
+use Rattle.model_change.specs.Join.{without_end, reach, start_of, end_of}
 use Rattle.model_change.specs.Touch.{new_place}
 use Rattle.model_change.proofs.Fits.{gives_new_length}
 use Rattle.model_edit.specs.declared.selection.Bias.{Bias}
 use Rattle.model_edit.specs.declared.selection.Bias.TheVariants.{Left, Right}
 use Rattle.model_edit.specs.declared.selection.Selection.{Selection}
 use Rattle.model_edit.specs.Offsets.{is_inside_leaf}
-use Rattle.model_edit.specs.Translate.{is_before, items_before, translate, translate_range, between, past_leaf, moved}
-use Rattle.model_edit_law.specs.SelectLaws.{OffsetsStayWithin, KeptInOrder, OffsetsKeepOrder, OffsetsKeepNeighbours, StaysOutside, OffsetsOutsideStay, selects, SelectionKeepsItems, KeepsDirection, SelectionKeepsDirection}
+use Rattle.model_edit.specs.Translate.{is_before, items_before, translate, translate_range, between, past_leaf}
+use Rattle.model_edit_law.specs.SelectLaws.{OffsetsStayWithin, OffsetsKeepOrder, OffsetsKeepNeighbours, OffsetsOutsideStay, selects, SelectionKeepsItems, KeepsDirection, SelectionKeepsDirection}
 
 -- within the new list
 

@@ -7,3 +7,4 @@ pub mod ListLaws
 pub mod Spans
 pub mod TableLaws
 pub mod SelectLaws
+pub mod NextLaws

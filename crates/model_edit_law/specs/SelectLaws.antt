@@ -23,7 +23,7 @@ pub record KeptInOrder (t : Transaction) (low high : ℕ) : Type 0 where
 abbrev pub OffsetsKeepOrder : Type 0
 OffsetsKeepOrder = (t : Transaction) (low high : ℕ) → KeptInOrder t low high
 
--- Just before an item that is retained an offset stays just before it, if it keeps to the right, and just behind it just behind it, if it keeps to the left.
+-- Beside a retained item an offset stays beside it: just before it one that keeps to the right, just behind it one that keeps to the left.
 abbrev pub OffsetsKeepNeighbours : Type 0
 OffsetsKeepNeighbours = (t : Transaction) (at to : ℕ) → new_place t at ≡ Some to → (translate t at Right ≡ to) × (translate t (suc at) Left ≡ suc to)
 

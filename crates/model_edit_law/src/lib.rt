@@ -6,6 +6,7 @@ ghost use Rattle.model_edit_law.specs.ApartLaws.{AttributeIsApart, ColInIsApart,
 ghost use Rattle.model_edit_law.specs.Fine.{EditsAreFine, EditsSubstitute, FineIsNormal};
 ghost use Rattle.model_edit_law.specs.InsertLaws.{FragmentStaysLawful, InsertionIsFine, SplitIsFine, SplitStaysLawful, TypingStaysLawful};
 ghost use Rattle.model_edit_law.specs.ListLaws.{IndentIsFine, IndentIsUndone, IndentKeepsText, IndentStaysLawful, OutdentIsFine, OutdentKeepsText, OutdentStaysLawful};
+ghost use Rattle.model_edit_law.specs.NextLaws.{CaretStaysInBranch, CaretStopsAtEnds};
 ghost use Rattle.model_edit_law.specs.RemoveLaws.{RemovalIsFine, RemovalStaysLawful};
 ghost use Rattle.model_edit_law.specs.SelectLaws.{OffsetsKeepNeighbours, OffsetsKeepOrder, OffsetsOutsideStay, OffsetsStayWithin, SelectionKeepsDirection, SelectionKeepsItems};
 ghost use Rattle.model_edit_law.specs.ShapeLaws.{AttributeIsFine, AttributeStaysLawful, ConvertIsFine, ConvertStaysLawful, MarkingIsFine, MarkingStaysLawful, UnmarkingIsFine, UnmarkingStaysLawful, WrapIsFine};
@@ -178,4 +179,10 @@ pub fn offsets_lead_on()
 pub fn selections_lead_on()
     ensures items { SelectionKeepsItems }
     ensures direction { SelectionKeepsDirection }
+{}
+
+/// A caret in content goes farther, and stays in its content branch; it goes nowhere exactly at an end of the branch.
+pub fn carets_stay_in_content()
+    ensures branch { CaretStaysInBranch }
+    ensures end { CaretStopsAtEnds }
 {}
