@@ -19,7 +19,8 @@ use Rattle.model_page_law.proofs.Premises.{ReadsBack, AllUtf8}
 use Rattle.model_page_law.proofs.SourceLemmas.{parts_of-source}
 use Rattle.model_page_law.proofs.ShapeLemmas.{letters}
 use Rattle.model_page_law.proofs.TileLemmas.{white-IsAscii}
-use Rattle.model_page_law.proofs.BareLemmas.{Inlined, Texted}
+use Rattle.model_page_law.proofs.MarkedLemmas.{Texted}
+use Rattle.model_page_law.proofs.BareLemmas.{Inlined}
 
 -- ---- what groups are made of
 

@@ -9,6 +9,8 @@ pub mod TileLemmas
 pub mod SameLemmas
 pub mod PlaceLemmas
 pub mod LawLemmas
+pub mod FollowedNodes
+pub mod MarkedLemmas
 pub mod BareLemmas
 pub mod InlinedLemmas
 pub mod KeptLemmas
@@ -26,6 +28,7 @@ pub mod BlockClean
 pub mod NodesRead
 pub mod OneLemmas
 pub mod ReadLemmas
+pub mod FormKinds
 pub mod FormLemmas
 pub mod FreshOpens
 pub mod FreshLemmas
