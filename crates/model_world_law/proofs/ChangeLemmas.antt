@@ -37,7 +37,7 @@ use Rattle.model_world_law.specs.Fit.{Fit, OpsApart, ChangesFit, PagesAreSound}
 use Rattle.model_world_law.proofs.BuilderLemmas.{insertion_fits, split_fits, removal_fits, marking_fits, unmarking_fits, wrap_fits, convert_fits, attribute_fits}
 use Rattle.model_world_law.proofs.MadeLemmas.{apart-chars, ForestApart, forest_apart, read_apart, fragment_apart, page_apart}
 
-given : {A E : Type 0} (named : E → Refusal) (r : Result A E) (x : A) → refused_as named r ≡ Ok x → r ≡ Ok x
+pub given : {A E : Type 0} (named : E → Refusal) (r : Result A E) (x : A) → refused_as named r ≡ Ok x → r ≡ Ok x
 given named (Ok y) x h = ap (λ z. Ok z) (Ok-same {E = Refusal} y x h)
 given named (Err f) x h = cc
 

@@ -3,6 +3,7 @@
 #![tactic(auto)]
 
 ghost use Rattle.model_world_law.specs.Fit.{LinesAreWritten, ChangesFit, MovesFit, PagesAreSound};
+ghost use Rattle.model_world_law.specs.Causes.{StoreFullIsFull};
 ghost use Rattle.model_world_law.specs.Reached.{EveryWorldIsReached, EverySiteHolds};
 
 /// A line that is read asks for operations in normal form, and for no opening with two attributes of one name. On a sound list, one that is lawful and
@@ -13,6 +14,13 @@ pub fn layers_fit()
     ensures changes { ChangesFit }
     ensures moves { MovesFit }
     ensures pages { PagesAreSound }
+{}
+
+/// Want of memory, and an item that is not the one to be removed, are never the cause of a change's refusal: `store_full` is told only where the store would
+/// have over 1,048,576 values.
+#[tactic(auto, using(crate::proofs::CauseLemmas::store_full_is_full))]
+pub fn store_full_is_full()
+    ensures { StoreFullIsFull }
 {}
 
 /// Whatever lines a world is given, it is what some events make of the sites that began on its page, events that the laws of sites and server speak of.
