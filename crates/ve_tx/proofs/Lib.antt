@@ -5,3 +5,6 @@ pub mod EndsLemmas
 pub mod CopiesLemmas
 pub mod AlikeLemmas
 pub mod RecitedLemmas
+pub mod AttrsLemmas
+pub mod CheckLemmas
+pub mod FaultLemmas

@@ -16,3 +16,5 @@ pub mod Cites
 pub mod Ends
 pub mod Parcel
 pub mod Copied
+pub mod Checked
+pub mod Attrs

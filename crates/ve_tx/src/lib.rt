@@ -4,6 +4,8 @@
 mod copies;
 mod draft;
 mod ends;
+mod attributes;
+mod check;
 mod entry;
 mod gathered;
 mod inverse;
@@ -11,6 +13,7 @@ mod normal;
 mod op;
 mod parcel;
 mod range;
+mod same;
 #[cfg(test)]
 mod tests;
 mod transaction;
@@ -19,6 +22,7 @@ mod value_list;
 
 pub use draft::Draft;
 pub use entry::{Entry, EntryList};
+pub use model_change::TxFault;
 pub use op::{Op, OpList};
 pub use parcel::{Parcel, ParcelList};
 pub use transaction::Transaction;

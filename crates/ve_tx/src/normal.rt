@@ -9,7 +9,7 @@ use ve_base::Text;
 /// The most that all retained, removed and inserted lengths add up to.
 const LIMIT: usize = 1 << 60;
 
-fn is_same(one: &Text, other: &Text) -> bool
+pub fn is_same(one: &Text, other: &Text) -> bool
     ensures { result ≡ text_same one.now other.now }
 {
     one.same(other)
