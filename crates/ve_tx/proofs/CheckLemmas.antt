@@ -153,7 +153,7 @@ module _ (values : List Value) (items : List Item) (at : ℕ) (removed inserted 
           subst P (sym (get_or-drop n xs k d)) (a (n + k) d (omega arith))
 
 -- what an operation of a transaction cites
-cites-at : (values : List Value) (ops : List Op) (i : ℕ) (o : Op) → i < length ops → o ≡ get_or ops i o → TxCites values (unkept ops) →
+pub cites-at : (values : List Value) (ops : List Op) (i : ℕ) (o : Op) → i < length ops → o ≡ get_or ops i o → TxCites values (unkept ops) →
     OperationCites values (with_position o None)
 cites-at values ops i o within is cites =
     let here = cites i (with_position o None) (let same : length (unkept ops) ≡ length ops = length-map ops (λ x. with_position x None) in omega arith) in

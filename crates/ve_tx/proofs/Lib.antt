@@ -8,3 +8,9 @@ pub mod RecitedLemmas
 pub mod AttrsLemmas
 pub mod CheckLemmas
 pub mod FaultLemmas
+pub mod ValuesLemmas
+pub mod MakingLemmas
+pub mod MadeLemmas
+pub mod CutLemmas
+pub mod StageLemmas
+pub mod ChangeLemmas

@@ -4,7 +4,7 @@ use Rattle.ve_base.specs.declared.value.Value.{Value}
 use Rattle.model_items.specs.declared.item.Item.{Item}
 use Rattle.model_items.specs.Plain.{plain_list}
 use Rattle.model_change.specs.declared.tx_fault.TxFault.{TxFault}
-use Rattle.model_change.specs.declared.tx_fault.TxFault.TheVariants.{BadLength, Mismatch, BadAttr, Memory}
+use Rattle.model_change.specs.declared.tx_fault.TxFault.TheVariants.{BadLength, Mismatch, BadAttr}
 use Rattle.model_change.specs.Attributes.{AttrChange}
 use Rattle.model_change.specs.Fault.{or_else, differs_at, first_allows, fault_by}
 use Rattle.ve_tx.specs.declared.op.Op.{Op}
@@ -46,8 +46,3 @@ fault_in values items ops =
     if old_size ops == length items
     then or_else (fault_by (λ at. Mismatch at) (mismatch_in values items 0 ops)) (fault_by (λ at. BadAttr at) (bad_in values items 0 ops))
     else Some (BadLength (length items) (old_size ops))
-
--- The refusal is the fault, where there is one, and else want of memory.
-abbrev pub IsRefusal : Option TxFault → TxFault → Type 0
-IsRefusal (Some fault) why = why ≡ fault
-IsRefusal None why = why ≡ Memory

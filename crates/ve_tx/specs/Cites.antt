@@ -1,6 +1,5 @@
 -- Which values the items of transactions cite.
 use Rattle.std.specs.Prelude.{List, All}
-use Rattle.std.specs.Prelude.{◌≡◌, List, All}
 use Rattle.ve_base.specs.declared.value.Value.{Value}
 use Rattle.model_items.specs.Plain.{CitesWell}
 use Rattle.ve_tx.specs.Operation.{Operation, Retain, Replace, Attribute}

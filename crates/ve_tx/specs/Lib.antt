@@ -7,6 +7,8 @@ pub use Rattle.model_change.specs.Transaction
 pub use Rattle.model_change.specs.Fault
 pub use Rattle.model_change.specs.Inverse
 pub use Rattle.model_change.specs.Join
+pub use Rattle.model_change.specs.Store
+pub use Rattle.ve_items.specs.Substitution
 pub mod Operation
 pub mod Normal
 pub mod Range
@@ -18,3 +20,5 @@ pub mod Parcel
 pub mod Copied
 pub mod Checked
 pub mod Attrs
+pub mod Making
+pub mod Changed

@@ -158,7 +158,7 @@ fn attribute(alloc: Global, name: &Text, to: &Option<Text>) -> Result<Option<Att
 
 /// A copy of attributes in which one goes from its present value to another. One that comes is put at the place kept
 /// for it, or at the end.
-fn changed(
+pub fn changed(
     alloc: Global,
     attrs: &Attrs,
     name: &Text,

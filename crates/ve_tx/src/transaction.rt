@@ -1,26 +1,33 @@
 // Transactions in normal form.
-ghost use Rattle.std.specs.Prelude.{◌≡◌, true, map, is_ok, IfOk, IfErr, OnOk};
+ghost use Rattle.std.specs.Prelude.{◌≡◌, ◌≤◌, ◌+◌, All, length, true, map, is_ok, Ok, IfOk, IfErr, OnOk, OnErr};
+ghost use Rattle.model_items.specs.Plain.{plain_list, CitesWell};
 ghost use Rattle.model_change.specs.Attributes.{AllNamesApart};
-ghost use Rattle.model_change.specs.Fault.{Applies};
+ghost use Rattle.model_change.specs.Fault.{Applies, apply, fault};
 ghost use Rattle.model_change.specs.Inverse.{inverse, IsRestorable, IsUndoneBy};
 ghost use Rattle.model_change.specs.Join.{active_range, core, with_ends};
-ghost use Rattle.model_change.specs.Store.{fill};
+ghost use Rattle.model_change.specs.Store.{fill, changed_heads};
 ghost use Rattle.model_change.specs.Transaction.{is_normal};
+ghost use Rattle.ve_items.specs.Substitution.{spliced};
+ghost use Rattle.ve_tx.specs.Changed.{IsOver, IsRefusal};
 ghost use Rattle.ve_tx.specs.Cites.{TxCites};
 ghost use Rattle.ve_tx.specs.Copied.{AreCopied, ReadsAlike};
 ghost use Rattle.ve_tx.specs.Operation.{unkept, bare, by_value};
 ghost use Rattle.ve_tx.specs.Parcel.{transaction_cited};
 
+use crate::change::prepared;
+use crate::check::check;
 use crate::copies::Copies;
 use crate::ends::with_ends;
 use crate::inverse::inverted;
 use crate::normal::is_normal;
 use crate::op::copy_all;
 use crate::range::range_of;
-use crate::{Op, OpList};
+use crate::{Change, Op, OpList};
+use model_change::TxFault;
 use std::alloc::Global;
 use std::marker::Model;
 use ve_base::Memory;
+use ve_items::Linear;
 use ve_store::Store;
 
 /// Operations along a list in normal form: no retain of 0, no replace with both sides empty, no two neighbouring
@@ -145,5 +152,69 @@ impl Transaction {
         ensures { (values : _) → result ≡ active_range (by_value values self.now) }
     {
         range_of(self.ops.as_slice())
+    }
+    /// What changes a list as the transaction says, without changing it. The change replaces the items of the active
+    /// range, and inside it those that are retained stay; splicing it into the list gives the new list and succeeds. Heads
+    /// that attribute operations change are put into the store, where they are new.
+    ///
+    /// It is refused by the first of these causes: the retained and removed lengths don't add up to the list's; an item
+    /// that is to be removed isn't the list's, at the first such place; an attribute operation doesn't stand on the opening
+    /// of an element, its old value isn't the present one, or its name is `about` or `typeof`, at the first such place. An
+    /// `Err` changes neither the list nor the store.
+    pub fn change(
+        &self,
+        alloc: Global,
+        list: &mut Linear,
+        store: &mut Store,
+    ) -> Result<Change, TxFault>
+        requires list { All (CitesWell store.old) list.old.items }
+        requires cites { TxCites store.old self.now }
+        ensures applied { IfOk result (λ change. apply (by_value store.old self.now) (plain_list store.old list.old.items) ≡ Ok (plain_list store.new (spliced list.old.items change.at change.removed change.items))) }
+        ensures range { IfOk result (λ change. IsOver (active_range (by_value store.old self.now)) change.at change.removed) }
+        ensures within { IfOk result (λ change. change.at + change.removed ≤ length list.old.items) }
+        ensures room { IfOk result (λ change. length change.items ≤ list.new.spare) }
+        ensures cites { IfOk result (λ change. All (CitesWell store.new) change.items) }
+        ensures store { OnOk result (store.new ≡ fill store.old (changed_heads (by_value store.old self.now) (plain_list store.old list.old.items))) }
+        ensures items { list.new.items ≡ list.old.items }
+        ensures blocks { list.new.blocks ≡ list.old.blocks }
+        ensures refused { IfErr result (IsRefusal (fault (by_value store.old self.now) (plain_list store.old list.old.items))) }
+        ensures list_kept { OnErr result (list.new ≡ list.old) }
+        ensures store_kept { OnErr result (store.new ≡ store.old) }
+    {
+        let values = store.len();
+        check(self.ops.as_slice(), list, store)?;
+        match prepared(
+            alloc,
+            self.ops.as_slice(),
+            self.kept.as_slice(),
+            list,
+            store,
+        ) {
+            Ok(change) => Ok(change),
+            Err(Memory) => {
+                store.truncate(values);
+                Err(TxFault::Memory)
+            }
+        }
+    }
+
+    /// Changes a list as the transaction says, by one splice. It is refused as `change` is, and an `Err` changes neither
+    /// the list nor the store.
+    pub fn apply(&self, alloc: Global, list: &mut Linear, store: &mut Store) -> Result<(), TxFault>
+        requires list { All (CitesWell store.old) list.old.items }
+        requires cites { TxCites store.old self.now }
+        ensures applied { OnOk result (apply (by_value store.old self.now) (plain_list store.old list.old.items) ≡ Ok (plain_list store.new list.new.items)) }
+        ensures cites { OnOk result (All (CitesWell store.new) list.new.items) }
+        ensures store { OnOk result (store.new ≡ fill store.old (changed_heads (by_value store.old self.now) (plain_list store.old list.old.items))) }
+        ensures refused { IfErr result (IsRefusal (fault (by_value store.old self.now) (plain_list store.old list.old.items))) }
+        ensures list_kept { OnErr result (list.new ≡ list.old) }
+        ensures store_kept { OnErr result (store.new ≡ store.old) }
+    {
+        let change = self.change(alloc, list, store)?;
+        let spliced = list
+            .splice(change.at, change.removed, change.items.as_slice())
+            .is_ok();
+        prove!(spliced);
+        Ok(())
     }
 }

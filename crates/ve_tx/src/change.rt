@@ -1,0 +1,69 @@
+// What a list is to be changed by, made before the list is.
+ghost use Rattle.std.specs.Prelude.{◌≡◌, ◌≤◌, ◌+◌, length, All, IfOk, OnOk, OnErr};
+ghost use Rattle.model_items.specs.Plain.{plain_list, CitesWell};
+ghost use Rattle.model_change.specs.Fault.{Applies};
+ghost use Rattle.model_change.specs.Join.{active_range};
+ghost use Rattle.model_change.specs.Store.{fill, changed_heads};
+ghost use Rattle.model_change.specs.Transaction.{edited};
+ghost use Rattle.ve_items.specs.Substitution.{spliced};
+ghost use Rattle.ve_tx.specs.Changed.{IsOver};
+ghost use Rattle.ve_tx.specs.Cites.{TxCites};
+ghost use Rattle.ve_tx.specs.Making.{Extends};
+ghost use Rattle.ve_tx.specs.Operation.{by_value, with_positions, IsNormal};
+
+use crate::Op;
+use crate::making::new_items;
+use crate::range::range_of;
+use std::alloc::Global;
+use ve_base::Memory;
+use ve_items::{Items, Linear};
+use ve_store::Store;
+
+/// One change of a list: at the place `at` the items replace so many items that are there. Splicing it into the list makes
+/// the change.
+#[derive(Drop)]
+pub struct Change {
+    pub at: usize,
+    pub removed: usize,
+    pub items: Items,
+}
+
+/// The change that operations make which apply to the list. The store takes the heads that are new, and the list takes
+/// room for the change. An `Err` may leave heads behind those that were there.
+pub fn prepared(
+    alloc: Global,
+    ops: &[Op],
+    kept: &[Option<usize>],
+    list: &mut Linear,
+    store: &mut Store,
+) -> Result<Change, Memory>
+    requires normal { IsNormal (with_positions ops.now kept.now) }
+    requires list { All (CitesWell store.old) list.old.items }
+    requires cites { TxCites store.old (with_positions ops.now kept.now) }
+    requires applies { Applies (by_value store.old (with_positions ops.now kept.now)) (plain_list store.old list.old.items) }
+    ensures changed { IfOk result (λ change. plain_list store.new (spliced list.old.items change.at change.removed change.items) ≡ edited (by_value store.old (with_positions ops.now kept.now)) (plain_list store.old list.old.items)) }
+    ensures range { IfOk result (λ change. IsOver (active_range (by_value store.old (with_positions ops.now kept.now))) change.at change.removed) }
+    ensures within { IfOk result (λ change. change.at + change.removed ≤ length list.old.items) }
+    ensures room { IfOk result (λ change. length change.items ≤ list.new.spare) }
+    ensures cites { IfOk result (λ change. All (CitesWell store.new) change.items) }
+    ensures store { OnOk result (store.new ≡ fill store.old (changed_heads (by_value store.old (with_positions ops.now kept.now)) (plain_list store.old list.old.items))) }
+    ensures items { list.new.items ≡ list.old.items }
+    ensures blocks { list.new.blocks ≡ list.old.blocks }
+    ensures err { OnErr result (list.new ≡ list.old) }
+    ensures extends { Extends store.old store.new }
+{
+    let Some((start, end)) = range_of(ops) else {
+        return Ok(Change {
+            at: 0,
+            removed: 0,
+            items: Items::new(alloc),
+        });
+    };
+    let items = new_items(alloc, ops, kept, list, store, start, end)?;
+    list.reserve(items.as_slice().len())?;
+    Ok(Change {
+        at: start,
+        removed: end - start,
+        items,
+    })
+}
