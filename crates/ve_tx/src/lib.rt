@@ -1,12 +1,12 @@
 //! Edits as values: transactions of retain, replace and attribute operations along a list of items.
 #![tactic(auto)]
 
-mod copies;
-mod draft;
-mod ends;
 mod attributes;
 mod change;
 mod check;
+mod copies;
+mod draft;
+mod ends;
 mod entry;
 mod gathered;
 mod inverse;
@@ -22,8 +22,8 @@ mod transaction;
 mod tx_list;
 mod value_list;
 
-pub use draft::Draft;
 pub use change::Change;
+pub use draft::Draft;
 pub use entry::{Entry, EntryList};
 pub use model_change::TxFault;
 pub use op::{Op, OpList};
