@@ -39,7 +39,7 @@ not_two n false e h = refl
 neat-class : (g : Forest) → Neat g → class (spelling g) ≡ code g
 neat-class g n = ap class (sym (append-nil (spelling g))) ∙ class-neat g [] n refl
 
-not_whole : (g : Forest) → Neat g → is_whole (spelling g) ≡ false
+pub not_whole : (g : Forest) → Neat g → is_whole (spelling g) ≡ false
 not_whole Nothing n = refl
 not_whole (Text text rest) n = not_two 1 _ refl (λ h. sym (neat-class (Text text rest) n) ∙ whole-class (spelling (Text text rest)) h)
 not_whole (Remark text rest) n = refl

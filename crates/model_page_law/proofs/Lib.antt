@@ -45,7 +45,9 @@ pub mod OriginPlaces
 pub mod MadeRefers
 pub mod PageRefers
 pub mod EditsRefer
+pub mod BodyReplaced
 mod FormCases
 mod SpanExamples
 mod ComposedExamples
 mod EditsExamples
+mod ReplacedExamples

@@ -7,3 +7,4 @@ pub mod Origins
 pub mod Referring
 pub mod Spans
 pub mod Composed
+pub mod Replaced

@@ -7,6 +7,7 @@ ghost use Rattle.model_page_law.specs.Lawful.{BadPageHasFault, LimitedIsLawful, 
 ghost use Rattle.model_page_law.specs.Origins.{OriginsNumberSpans};
 ghost use Rattle.model_page_law.specs.ReadBack.{FreshIsReadBack, FreshOpensAsItself};
 ghost use Rattle.model_page_law.specs.Referring.{EditsRefer, FragmentsRefer, InversesRefer, JoinListsRefer, JoinsRefer, OpenedRefers, ReplaysRefer, ReversalsRefer, SpelledRefers};
+ghost use Rattle.model_page_law.specs.Replaced.{BodyIsReplaced, WrittenIsReadBack, WrittenOpens};
 ghost use Rattle.model_page_law.specs.Spans.{BodyIsCut, OriginsStand, SpansAreParts};
 ghost use Rattle.model_page_law.specs.WritesFresh.{WritesFresh};
 ghost use Rattle.model_page_law.specs.WrittenBack.{FaultlessOpens, OpenedIsFaultless, OpenedIsWrittenBack, OpensAsItsForest, SpelledIsWrittenBack};
@@ -92,4 +93,11 @@ pub fn fresh_is_read_back()
 #[tactic(auto, using(crate::proofs::FreshLemmas::writes_fresh))]
 pub fn writes_fresh()
     ensures { WritesFresh }
+{}
+
+/// A page with another body that a forest spells opens with that body: head and tail are found again. So does the page that is written of any list; and where the list is of the form above, and no node of it is kept, the whole page is read back as the list.
+pub fn written_page_opens()
+    ensures replaced { BodyIsReplaced }
+    ensures opens { WrittenOpens }
+    ensures read_back { WrittenIsReadBack }
 {}
