@@ -1,9 +1,13 @@
 -- Composed texts, by computation.
-use Rattle.std.specs.Prelude.{◌≡◌, ℕ, List, ◌∷◌, ◌++◌, Some, None, codes, refl}
+use Rattle.std.specs.Prelude.{◌≡◌, ℕ, false, List, [], ◌∷◌, ◌++◌, Some, None, codes, refl}
 use Rattle.serde_json.specs.Data.{string}
 use Rattle.serde_json.specs.Find.{get_member}
+use Rattle.ve_kinds.specs.declared.kind.Kind.TheVariants.{Ref}
+use Rattle.ve_base.specs.declared.head.Key.TheVariants.{Named}
 use Rattle.model_page.specs.DataMw.{reference_of, composed_mw}
 use Rattle.model_page.proofs.OnLiterals.{page_on_literals}
+use Rattle.model_page_write.specs.Nodes.{Start}
+use Rattle.model_page_write.specs.Written.{Writer, ref_text}
 use Rattle.model_page_law.specs.Composed.{body_in}
 
 -- with spaces, a list, and an identifier in the body
@@ -42,3 +46,30 @@ reuses = refl
 nameless : reference_of (composed_mw (codes "{\"body\":{\"html\":\"x\"}}") None) ≡ None
 unfolding page_on_literals
 nameless = refl
+
+-- ---- a reference that is written with a body
+
+abbrev reference : Start
+reference = record {
+  kind = Ref;
+  head = record {
+    tag = codes "sup";
+    attrs = record { name = codes "id"; value = codes "r" } ∷ record { name = codes "data-mw"; value = codes "{\"attrs\": {\"name\": \"n\"}}" } ∷ [];
+    raw = codes "[1]";
+    reference = Some (record { group = []; key = Named (codes "n") });
+    owner = false;
+  };
+  marks = [];
+  pre = [];
+  origin = None;
+  generated = false;
+  body = Some (record { at = 5; items = []; pre = [] });
+}
+
+-- whose body's text is this
+abbrev writer : Writer
+writer = record { original = λ start items. None; html = λ body. codes "<i>x</i>" }
+
+is_written : ref_text writer reference ≡ codes "<sup id=\"r\" data-mw=\"{&quot;attrs&quot;:{&quot;name&quot;:&quot;n&quot;},&quot;body&quot;:{&quot;html&quot;:&quot;&lt;i&gt;x&lt;/i&gt;&quot;}}\">[1]</sup>"
+unfolding page_on_literals
+is_written = refl

@@ -46,6 +46,7 @@ pub mod MadeRefers
 pub mod PageRefers
 pub mod EditsRefer
 pub mod BodyReplaced
+pub mod ReferenceLemmas
 mod FormCases
 mod SpanExamples
 mod ComposedExamples

@@ -8,3 +8,4 @@ pub mod Referring
 pub mod Spans
 pub mod Composed
 pub mod Replaced
+pub mod WrittenReference

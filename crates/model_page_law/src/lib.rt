@@ -10,6 +10,7 @@ ghost use Rattle.model_page_law.specs.Referring.{EditsRefer, FragmentsRefer, Inv
 ghost use Rattle.model_page_law.specs.Replaced.{BodyIsReplaced, WrittenIsReadBack, WrittenOpens};
 ghost use Rattle.model_page_law.specs.Spans.{BodyIsCut, OriginsStand, SpansAreParts};
 ghost use Rattle.model_page_law.specs.WritesFresh.{WritesFresh};
+ghost use Rattle.model_page_law.specs.WrittenReference.{ReferenceHasBody, ReferenceIsWritten};
 ghost use Rattle.model_page_law.specs.WrittenBack.{FaultlessOpens, OpenedIsFaultless, OpenedIsWrittenBack, OpensAsItsForest, SpelledIsWrittenBack};
 
 /// A page opens exactly where it has no fault, and then as what its forest is converted to.
@@ -73,6 +74,12 @@ pub fn composed_reads_back()
     ensures owns { ComposedOwns }
     ensures barred { ComposedIsBarred }
     ensures reuses { ComposedReuses }
+{}
+
+/// A reference is written as an element of its tag and its source, with the attributes of its head but for the composed `data-mw`; so the element is editable, of the same group and name, and has the body that the reference carries.
+pub fn reference_is_written()
+    ensures written { ReferenceIsWritten }
+    ensures body { ReferenceHasBody }
 {}
 
 /// A page that opens, and is written with the items that it has, is that page, byte for byte.
