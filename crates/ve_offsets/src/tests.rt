@@ -1,8 +1,8 @@
-// The classes of all offsets of a page that has every kind, and the nearest content offsets of a small one.
+// The classes of all offsets of a page that has every kind, and all else that is asked of the offsets of a small one.
 ghost use Rattle.std.specs.Prelude.{◌≡◌, ◌≤◌, length};
 ghost use Rattle.ve_tree.specs.IsTree.{IsTree, unvalued};
 
-use crate::{Doc, is_content, is_inside_leaf, is_structural, nearest_content};
+use crate::{Doc, is_content, is_inside_leaf, is_structural, nearest_content, state_at, unmatched};
 use model_items::OffsetClass;
 use model_items::OffsetClass::{Content, Inside, Structural};
 use std::marker::Brand;
@@ -51,11 +51,14 @@ fn class_of(doc: Doc<'_>, o: usize) -> Option<OffsetClass>
     }
 }
 
-/// An offset's class, and the nearest content offset.
+/// What is asked of an offset: its class, the nearest content offset, how many nodes are open, and the unmatched brackets before and behind it.
 #[derive(Clone, Copy, Debug, PartialEq, Eq)]
 struct Offset {
     class: Option<OffsetClass>,
     nearest: Option<usize>,
+    depth: usize,
+    before: (usize, usize),
+    behind: (usize, usize),
 }
 
 /// All offsets of a page.
@@ -81,6 +84,9 @@ fn offsets_of<L: Ledger>(rt: &HostRuntime, blank: Blank, page: &[Item]) -> Resul
         offsets.push(Offset {
             class: class_of(doc, o),
             nearest: nearest_content(doc, o),
+            depth: state_at(doc, o).depth(),
+            before: unmatched(doc, 0, o),
+            behind: unmatched(doc, o, list.len()),
         })?;
     }
     Ok(offsets)
@@ -180,7 +186,7 @@ fn every_kind_has_its_class(rt: HostRuntime) -> Result<(), Fail> {
 }
 
 #[test]
-fn the_lower_of_two_is_nearer(rt: HostRuntime) -> Result<(), Fail> {
+fn offsets_lie_in_these_nodes(rt: HostRuntime) -> Result<(), Fail> {
     let page = [
         opening(Kind::Ul),
         opening(Kind::Li),
@@ -196,10 +202,27 @@ fn the_lower_of_two_is_nearer(rt: HostRuntime) -> Result<(), Fail> {
         closing(Kind::InternalList),
     ];
     let offsets = offsets_of::<Brand>(&rt, Blank::new(1), &page)?;
-    let nearest = [3, 3, 3, 3, 4, 4, 6, 7, 7, 7, 7, 7, 7];
-    assert_eq!(rt; offsets.len(), nearest.len());
-    for (offset, place) in offsets.iter().zip(nearest) {
-        assert_eq!(rt; offset.nearest, Some(place));
+    let expected = [
+        (0, 3),
+        (1, 3),
+        (2, 3),
+        (3, 3),
+        (3, 4),
+        (2, 4),
+        (3, 6),
+        (3, 7),
+        (2, 7),
+        (1, 7),
+        (0, 7),
+        (1, 7),
+        (0, 7),
+    ];
+    assert_eq!(rt; offsets.len(), expected.len());
+    for (offset, (depth, nearest)) in offsets.iter().zip(expected) {
+        assert_eq!(rt; offset.nearest, Some(nearest));
+        assert_eq!(rt; offset.depth, depth);
+        assert_eq!(rt; offset.before, (0, depth));
+        assert_eq!(rt; offset.behind, (depth, 0));
     }
     let empty = [opening(Kind::InternalList), closing(Kind::InternalList)];
     for offset in offsets_of::<Brand>(&rt, Blank::new(1), &empty)?.iter() {

@@ -1,4 +1,4 @@
-use Rattle.ve_offsets.proofs.tests.the_lower_of_two_is_nearer.Given as goal
+use Rattle.ve_offsets.proofs.tests.offsets_lie_in_these_nodes.Given as goal
 
 abbrev pub ghosts-offsets_of : goal.ghosts-offsets_of
 ghosts-offsets_of g a = record { name = a.blank.name; parts = a.blank.parts }
