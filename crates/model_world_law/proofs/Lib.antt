@@ -4,5 +4,6 @@ pub mod MadeLemmas
 pub mod ChangeLemmas
 pub mod CauseLemmas
 pub mod WrittenLemmas
+pub mod TypedLemmas
 pub mod LinkLemmas
 pub mod ReachLemmas

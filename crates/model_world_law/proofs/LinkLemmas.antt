@@ -1,13 +1,21 @@
 -- Each accepted request is some events of the session.
 use Rattle.std.proofs.Common.{◌≡◌, ◌<◌, ℕ, zero, suc, nat_lt, Bool, true, false, List, [], ◌∷◌, length, slice_get, slice_range, ◌||◌, Option, Some, None, Result, Ok, Err, if◌then◌else◌, unwrap_or, refl, sym, ap, ◌∙◌, subst}
-use Rattle.std.proofs.lemmas.Bool.{ltb-true}
+use Rattle.std.proofs.lemmas.Bool.{or_parts, ltb-true, ltb-false}
 use Rattle.model_items.specs.declared.plain_item.PlainItem.{PlainItem}
+use Rattle.model_items.specs.Law.{Lawful}
+use Rattle.model_items.proofs.LawLemmas.{Ok-same}
 use Rattle.model_change.specs.Transaction.{Transaction, edited}
 use Rattle.model_change.proofs.FilledLemmas.{names_stay_apart}
 use Rattle.model_edit.specs.declared.selection.Selection.{Selection}
 use Rattle.model_edit.specs.declared.table_fault.TableFault.{TableFault}
 use Rattle.model_edit.specs.declared.list_fault.ListFault.{ListFault}
+use Rattle.model_edit.specs.declared.selection.Dir.{Dir}
+use Rattle.model_edit.specs.declared.selection.By.{By}
+use Rattle.model_edit.specs.Offsets.{kind_at, is_content, is_inside_leaf}
+use Rattle.model_edit.specs.Insert.{marks_before, text_insertion}
+use Rattle.model_edit.specs.Next.{next}
 use Rattle.model_edit.specs.Translate.{between}
+use Rattle.model_edit_law.proofs.NextLemmas.{caret_stays_in_branch}
 use Rattle.model_edit.specs.Grid.{Grid, grid}
 use Rattle.model_edit.specs.Tables.{row_in, row_out, col_in, col_out}
 use Rattle.model_edit.specs.Lists.{indent, outdent}
@@ -17,7 +25,7 @@ use Rattle.model_site.specs.declared.site_fault.RedoFault.{RedoFault}
 use Rattle.model_site.specs.declared.site_fault.SendFault.{SendFault}
 use Rattle.model_site.specs.declared.served.Served.{Served}
 use Rattle.model_site.specs.declared.taken.Taken.{Taken}
-use Rattle.model_site.specs.Replica.{Replica, performed}
+use Rattle.model_site.specs.Replica.{Replica, performed, all_performed}
 use Rattle.model_site.specs.Refused.{edit_fault}
 use Rattle.model_change.specs.Join.{Clash}
 use Rattle.model_site.specs.Site.{Site, Submission, with_entry, with_selection, undo, redo, send, revoke_entry}
@@ -26,6 +34,8 @@ use Rattle.model_site.specs.Events.{Event, Perform, Select, Undo, Redo, Revoke, 
 use Rattle.model_site.specs.Events as events
 use Rattle.model_site_law.specs.Sound.{Sound, MayRun, AllMayRun}
 use Rattle.model_site_law.specs.MayHappen.{MayHappen}
+use Rattle.model_site_law.specs.SelectionLaws.{StandsIn, SelectsWithin}
+use Rattle.model_site_law.specs.SelectionLaws as selection
 use Rattle.model_site_law.proofs.EditLemmas.{edit_may_run}
 use Rattle.model_world.specs.declared.change.TextMarks.TheVariants.{Left}
 use Rattle.model_world.specs.declared.change.Change.{Change}
@@ -33,13 +43,17 @@ use Rattle.model_world.specs.declared.change.Change.TheVariants as change
 use Rattle.model_world.specs.declared.command.Request.{Request}
 use Rattle.model_world.specs.declared.command.Request.TheVariants as request
 use Rattle.model_world.specs.declared.refusal.Refusal.{Refusal}
-use Rattle.model_world.specs.declared.refusal.Refusal.TheVariants.{BadRange, BadOffset, BadEntry}
+use Rattle.model_world.specs.declared.refusal.Refusal.TheVariants.{BadRange, BadOffset, BadEntry, NotContent}
 use Rattle.model_world.specs.declared.reply.Reply.TheVariants as reply
-use Rattle.model_world.specs.Refusals.{refused_as, undo_refusal, redo_refusal, send_refusal, revoke_refusal, table_refusal, list_refusal}
+use Rattle.model_world.specs.Refusals.{refused_as, build_refusal, undo_refusal, redo_refusal, send_refusal, revoke_refusal, table_refusal, list_refusal}
 use Rattle.model_world.specs.Edits.{BatchRefusal, allowed, unless_faulty, change_of, change_on, batch_from, batch_on}
-use Rattle.model_world.specs.Answers.{Outcome, Asked, asked, with_site, site_of, replica_of, items_of, told, refused, changed_or_no, performed_or_no, batch_or_no, selected, is_no_end, select_between, next_place, moved_or_no, lower, higher, is_collapsed, to_erase, erased_or_no, typing, behind_text, typed_or_no, items_shown_or_no, node_told, node_or_no, grid_or_no, table_changed, list_changed, sent_or_no, served_or_no, taken_or_no, revoked_or_no}
+use Rattle.model_world.specs.Answers.{Outcome, Asked, asked, with_site, site_of, replica_of, items_of, told, refused, changed_or_no, performed_or_no, batch_or_no, selected, is_no_end, select_between, next_place, moved_or_no, lower, higher, is_collapsed, to_erase, erased_or_no, typing, behind_text, typed_or_no, items_shown_or_no, node_told, node_or_no, grid_or_no, table_changed, list_changed, sent_or_no, served_or_no, taken_or_no, revoked_or_no, edge_or}
 use Rattle.model_world_law.specs.Fit.{Fit, IsWritten, AllWritten, RequestWritten, LayersFit}
+use Rattle.model_world.specs.Laws.{MadeInTurn}
+use Rattle.model_world.proofs.BatchLemmas.{batch_is_whole}
 use Rattle.model_world_law.specs.Reached.{Becomes}
+use Rattle.model_world_law.proofs.ChangeLemmas.{given}
+use Rattle.model_world_law.proofs.TypedLemmas.{content_no_leaf, typed_stands}
 
 -- ---- what may be performed
 
@@ -97,6 +111,9 @@ typing_written s text = by_test (is_collapsed s)
 
 -- ---- members put in their places
 
+some_same : (m n : Member) → Some m ≡ Some n → m ≡ n
+some_same m n e = cc
+
 get_put : (k : ℕ) (m n : Member) (ms : List Member) → slice_get ms k ≡ Some n → slice_get (put_at k m ms) k ≡ Some m
 get_put k m n [] h = cc
 get_put zero m n (x ∷ ms) h = refl
@@ -113,16 +130,17 @@ put_put (suc k) m n (x ∷ ms) = ap (λ r. x ∷ r) (put_put k m n ms)
 pub record Stands (a : Asked) : Type 0 where
   pub there : slice_get a.session.members a.k ≡ Some a.member
   pub sound : Sound (items_of a)
+  pub selection : StandsIn (items_of a) (replica_of a).selection
 
 abbrev pub Leads : Asked → Outcome → Type 0
 Leads a (Ok r) = Becomes a.session r.1
 Leads a (Err r) = Unit {0}
 
 stays : (a : Asked) → Becomes a.session a.session
-stays a = record { events = []; may = tt; same = refl }
+stays a = record { events = []; may = tt; within = tt; same = refl }
 
-one_event : (a : Asked) (e : Event) (next : Session) → MayHappen a.session e → next ≡ happens a.session e → Becomes a.session next
-one_event a e next may same = record { events = e ∷ []; may = (may, tt); same = same }
+one_event : (a : Asked) (e : Event) (next : Session) → MayHappen a.session e → SelectsWithin a.session e → next ≡ happens a.session e → Becomes a.session next
+one_event a e next may within same = record { events = e ∷ []; may = (may, tt); within = (within, tt); same = same }
 
 same_member : (a : Asked) → Stands a → (m : Member) → slice_get a.session.members a.k ≡ Some m → a.member ≡ m
 same_member a s m e = let f : Some a.member ≡ Some m = sym s.there ∙ e in cc
@@ -135,7 +153,8 @@ perform_same : (a : Asked) → Stands a → (ts : List Transaction) → with_sit
 perform_same a s ts = of_member a s (λ m. events.with_site a.k m (with_entry ts m.site) a.session)
 
 performs : (a : Asked) → Stands a → (ts : List Transaction) → AllMayRun ts (items_of a) → Becomes a.session (with_site a (with_entry ts (site_of a)))
-performs a s ts may = one_event a (Perform a.k ts) _ (λ m e. subst (λ n. AllMayRun ts n.site.replica.items) (same_member a s m e) may) (perform_same a s ts)
+performs a s ts may =
+    one_event a (Perform a.k ts) _ (λ m e. subst (λ n. AllMayRun ts n.site.replica.items) (same_member a s m e) may) tt (perform_same a s ts)
 
 performed_leads : (a : Asked) → Stands a → (r : Result Transaction Refusal) → ((t : Transaction) → r ≡ Ok t → MayRun t (items_of a)) → Leads a (performed_or_no a r)
 performed_leads a s (Err refusal) may = tt
@@ -148,27 +167,78 @@ batch_leads : (a : Asked) → Stands a → (r : Result (List Transaction) BatchR
 batch_leads a s (Err f) may = tt
 batch_leads a s (Ok ts) may = performs a s ts (may ts refl)
 
-selects : (a : Asked) → Stands a → (sel : Selection) → Leads a (selected a sel)
-selects a s sel = one_event a (Select a.k sel) _ tt (of_member a s (λ m. events.with_site a.k m (with_selection sel m.site) a.session))
+selects : (a : Asked) → Stands a → (sel : Selection) → StandsIn (items_of a) sel → Leads a (selected a sel)
+selects a s sel within =
+    one_event a (Select a.k sel) _ tt (λ m e. subst (λ n. StandsIn n.site.replica.items sel) (same_member a s m e) within)
+    (of_member a s (λ m. events.with_site a.k m (with_selection sel m.site) a.session))
 
-typed_leads : (a : Asked) → Stands a → (r : Result (List Transaction) BatchRefusal) → ((ts : List Transaction) → r ≡ Ok ts → AllMayRun ts (items_of a)) → Leads a (typed_or_no a r)
-typed_leads a s (Err f) may = tt
-typed_leads a s (Ok ts) may =
+typed_leads : (a : Asked) → Stands a → (r : Result (List Transaction) BatchRefusal) → ((ts : List Transaction) → r ≡ Ok ts → AllMayRun ts (items_of a)) →
+    ((ts : List Transaction) → r ≡ Ok ts → selection.Stands (all_performed ts (replica_of a)).items (behind_text ts)) → Leads a (typed_or_no a r)
+typed_leads a s (Err f) may stands = tt
+typed_leads a s (Ok ts) may stands =
     let sel = between (behind_text ts) (behind_text ts) in
     let middle : Member = record a.member { site = with_entry ts (site_of a) } in
     let last : Member = record a.member { site = with_selection sel (with_entry ts (site_of a)) } in
     let w = with_member a.k middle a.session in
+    let there : slice_get w.members a.k ≡ Some middle = get_put a.k middle a.member a.session.members s.there in
+    let here : StandsIn middle.site.replica.items sel = record { anchor = stands ts refl; focus = stands ts refl } in
+    let of_middle : (m : Member) → slice_get w.members a.k ≡ Some m → StandsIn m.site.replica.items sel =
+    λ m e. subst (λ n. StandsIn n.site.replica.items sel) (let f : Some middle ≡ Some m = sym there ∙ e in some_same middle m f) here in
     record {
       events = Perform a.k ts ∷ Select a.k sel ∷ [];
       may = ((λ m e. subst (λ n. AllMayRun ts n.site.replica.items) (same_member a s m e) (may ts refl)), (tt, tt));
+      within = (tt, (subst (λ (v : Session). (m : Member) → slice_get v.members a.k ≡ Some m → StandsIn m.site.replica.items sel) (perform_same a s ts) of_middle, tt));
       same = ap (λ ms. record a.session { members = ms }) (sym (put_put a.k last middle a.session.members))
-          ∙ ap (λ o. at_member w o (λ m. events.with_site a.k m (with_selection sel m.site) w)) (sym (get_put a.k middle a.member a.session.members s.there))
+          ∙ ap (λ o. at_member w o (λ m. events.with_site a.k m (with_selection sel m.site) w)) (sym there)
           ∙ ap (λ v. happens v (Select a.k sel)) (perform_same a s ts);
     }
 
-moved_leads : (a : Asked) → Stands a → (keep : Bool) (r : Result ℕ Refusal) → Leads a (moved_or_no a keep r)
-moved_leads a s keep (Err refusal) = tt
-moved_leads a s keep (Ok at) = selects a s (between (if keep then (replica_of a).selection.anchor else at) at)
+-- what typing gives, by its last transaction
+text_behind : (r : Replica) (at : ℕ) (text : List ℕ) (ts : List Transaction) → 0 < length text → MadeInTurn (change.Text at text Left ∷ []) ts r → AllMayRun ts r.items →
+    selection.Stands (all_performed ts r).items (behind_text ts)
+text_behind r at text [] some m may = absurd m
+text_behind r at text (t ∷ []) some m may =
+    let made = allowed_is r (change_of r.items (change.Text at text Left)) t m.0 in
+    typed_stands r.items at (marks_before r.items at) text t some (given build_refusal (text_insertion r.items at text) t made.given) (may.0).lawful
+text_behind r at text (t ∷ u ∷ ts) some m may = absurd m.1
+
+typing_behind : (r : Replica) (sel : Selection) (text : List ℕ) (ts : List Transaction) → 0 < length text → batch_on r (typing sel text) ≡ Ok ts → AllMayRun ts r.items →
+    selection.Stands (all_performed ts r).items (behind_text ts)
+typing_behind r sel text ts some h may = by (is_collapsed sel) ts (batch_is_whole r (typing sel text) ts h) may
+  where
+    by : (b : Bool) (us : List Transaction) →
+        MadeInTurn (if b then change.Text (lower sel) text Left ∷ [] else change.Remove (lower sel) (higher sel) ∷ change.Text (lower sel) text Left ∷ []) us r →
+        AllMayRun us r.items → selection.Stands (all_performed us r).items (behind_text us)
+    by true us m may = text_behind r (lower sel) text us some m may
+    by false [] m may = absurd m
+    by false (t ∷ []) m may = absurd m.1
+    by false (t ∷ u ∷ us) m may = text_behind (performed t r) (lower sel) text (u ∷ us) some m.1 may.1
+
+moved_leads : (a : Asked) → Stands a → (keep : Bool) (r : Result ℕ Refusal) → ((at : ℕ) → r ≡ Ok at → selection.Stands (items_of a) at) → Leads a (moved_or_no a keep r)
+moved_leads a s keep (Err refusal) stands = tt
+moved_leads a s keep (Ok at) stands = selects a s (between (if keep then (replica_of a).selection.anchor else at) at) (record { anchor = by keep; focus = stands at refl })
+  where
+    by : (b : Bool) → selection.Stands (items_of a) (if b then (replica_of a).selection.anchor else at)
+    by true = s.selection.anchor
+    by false = stands at refl
+
+-- a caret's next place is one of its content branch
+place_stands : (items : List PlainItem) (at : ℕ) (dir : Dir) (by : By) (to : ℕ) → Lawful items → next_place items at dir by ≡ Ok to → selection.Stands items to
+place_stands items at dir by to lawful h = in_content (is_content items at) refl h
+  where
+    at_edge : is_content items at ≡ true → (o : Option ℕ) → next items at dir by ≡ o → edge_or at o ≡ Ok to → selection.Stands items to
+    at_edge c None e h = cc
+    at_edge c (Some place) e h =
+        let same : place ≡ to = Ok-same {E = Refusal} place to h in
+        let goes = caret_stays_in_branch items at place dir by lawful c e in
+        subst (selection.Stands items) same (goes.within, content_no_leaf (kind_at items place) goes.content)
+
+    in_content : (b : Bool) → is_content items at ≡ b → (elim b as (λ _. Result ℕ Refusal) [
+      | false ↦ Err (NotContent at)
+      | true ↦ edge_or at (next items at dir by)
+    ]) ≡ Ok to → selection.Stands items to
+    in_content false c h = cc
+    in_content true c h = at_edge c (next items at dir by) refl h
 
 either : (a : Asked) (b : Bool) (x y : Outcome) → Leads a x → Leads a y → Leads a (if b then x else y)
 either a true x y p q = p
@@ -180,19 +250,19 @@ grid_leads a (Err f) = tt
 
 undo_leads : (a : Asked) → Stands a → (r : Result Site UndoFault) → undo (site_of a) ≡ r → Leads a (changed_or_no a (refused_as undo_refusal r))
 undo_leads a s (Err f) e = tt
-undo_leads a s (Ok site) e = one_event a (Undo a.k) _ tt
+undo_leads a s (Ok site) e = one_event a (Undo a.k) _ tt tt
     (ap (λ r. with_site_of a.k a.member r a.session) (sym e) ∙ of_member a s (λ m. with_site_of a.k m (undo m.site) a.session))
 
 redo_leads : (a : Asked) → Stands a → (r : Result Site RedoFault) → redo (site_of a) ≡ r → Leads a (changed_or_no a (refused_as redo_refusal r))
 redo_leads a s (Err f) e = tt
-redo_leads a s (Ok site) e = one_event a (Redo a.k) _ tt
+redo_leads a s (Ok site) e = one_event a (Redo a.k) _ tt tt
     (ap (λ r. with_site_of a.k a.member r a.session) (sym e) ∙ of_member a s (λ m. with_site_of a.k m (redo m.site) a.session))
 
 revoke_leads : (a : Asked) → Stands a → (i : ℕ) → i < (site_of a).seen → (r : Result Site Clash) → revoke_entry a.session.committed i (site_of a) ≡ r →
     Leads a (changed_or_no a (refused_as revoke_refusal r))
 revoke_leads a s i seen (Err f) e = tt
 revoke_leads a s i seen (Ok site) e = one_event a (Revoke a.k i) _
-    (λ m there. subst (λ n. i < n.site.seen) (same_member a s m there) seen)
+    (λ m there. subst (λ n. i < n.site.seen) (same_member a s m there) seen) tt
     (ap (λ r. with_site_of a.k a.member r a.session) (sym e) ∙ of_member a s (λ m. with_site_of a.k m (revoke_entry a.session.committed i m.site) a.session))
 
 revoked_leads : (a : Asked) → Stands a → (i : ℕ) → Leads a (revoked_or_no a i)
@@ -207,17 +277,17 @@ revoked_leads a s i = by_seen (nat_lt i (site_of a).seen) refl
 
 send_leads : (a : Asked) → Stands a → (r : Result (Site × Submission) SendFault) → send (site_of a) ≡ r → Leads a (sent_or_no a (refused_as send_refusal r))
 send_leads a s (Err f) e = tt
-send_leads a s (Ok r) e = one_event a (Send a.k) _ tt
+send_leads a s (Ok r) e = one_event a (Send a.k) _ tt tt
     (ap (λ x. with_sent a.k a.member x a.session) (sym e) ∙ of_member a s (λ m. with_sent a.k m (send m.site) a.session))
 
 serve_leads : (a : Asked) → Stands a → (o : Option (Session × Served)) → serve_next a.k a.member a.session ≡ o → Leads a (served_or_no o)
 serve_leads a s None e = tt
-serve_leads a s (Some r) e = one_event a (Serve a.k) _ tt
+serve_leads a s (Some r) e = one_event a (Serve a.k) _ tt tt
     (ap (after_turn a.session) (sym e) ∙ of_member a s (λ m. after_turn a.session (serve_next a.k m a.session)))
 
 take_leads : (a : Asked) → Stands a → (o : Option (Session × Taken)) → take_next a.k a.member a.session ≡ o → Leads a (taken_or_no o)
 take_leads a s None e = tt
-take_leads a s (Some r) e = one_event a (Take a.k) _ tt
+take_leads a s (Some r) e = one_event a (Take a.k) _ tt tt
     (ap (after_turn a.session) (sym e) ∙ of_member a s (λ m. after_turn a.session (take_next a.k m a.session)))
 
 table_leads : (a : Asked) → Stands a → (r : Result Transaction TableFault) → ((t : Transaction) → r ≡ Ok t → Fit t) → Leads a (table_changed a r)
@@ -248,12 +318,18 @@ show_leads a from to =
 node_leads : (a : Asked) (at : ℕ) → Leads a (node_or_no a at)
 node_leads a at = either a (nat_lt (length (items_of a)) at) (refused (BadOffset at)) (node_told a at) tt (stays a)
 
+stands_from : (items : List PlainItem) (at : ℕ) → is_no_end items at ≡ false → selection.Stands items at
+stands_from items at h = let p = or_parts (nat_lt (length items) at) (is_inside_leaf items at) h in (ltb-false (length items) at p.0, p.1)
+
 select_leads : (a : Asked) → Stands a → (anchor focus : ℕ) → Leads a (select_between a anchor focus)
-select_leads a s anchor focus =
-    let sel = between anchor focus in
-    let second = if is_no_end (items_of a) focus then refused (BadOffset focus) else selected a sel in
-    either a (is_no_end (items_of a) anchor) (refused (BadOffset anchor)) second tt
-    (either a (is_no_end (items_of a) focus) (refused (BadOffset focus)) (selected a sel) tt (selects a s sel))
+select_leads a s anchor focus = by (is_no_end (items_of a) anchor) (is_no_end (items_of a) focus) refl refl
+  where
+    by : (b c : Bool) → is_no_end (items_of a) anchor ≡ b → is_no_end (items_of a) focus ≡ c →
+        Leads a (if b then refused (BadOffset anchor) else (if c then refused (BadOffset focus) else selected a (between anchor focus)))
+    by true true d e = tt
+    by true false d e = tt
+    by false true d e = tt
+    by false false d e = selects a s (between anchor focus) (record { anchor = stands_from (items_of a) anchor d; focus = stands_from (items_of a) focus e })
 
 pub asked_leads : LayersFit → (a : Asked) → Stands a → (r : Request) → RequestWritten r → Leads a (asked a r)
 asked_leads fit a s request.Html o = stays a
@@ -270,10 +346,13 @@ asked_leads fit a s (request.At at) o = node_leads a at
 asked_leads fit a s (request.Edit c) o = change_leads fit a s c o
 asked_leads fit a s (request.Batch cmds) o = batch_leads a s (batch_on (replica_of a) cmds) (λ ts e. batch_may fit 0 cmds (replica_of a) ts o s.sound e)
 asked_leads fit a s (request.Select anchor focus) o = select_leads a s anchor focus
-asked_leads fit a s (request.Move dir by keep) o = moved_leads a s keep (next_place (items_of a) (replica_of a).selection.focus dir by)
+asked_leads fit a s (request.Move dir by keep) o =
+    moved_leads a s keep (next_place (items_of a) (replica_of a).selection.focus dir by) (λ at e. place_stands (items_of a) (replica_of a).selection.focus dir by at s.sound.lawful e)
 asked_leads fit a s (request.TypeText text) o =
-    let cmds = typing (replica_of a).selection text in
-    typed_leads a s (batch_on (replica_of a) cmds) (λ ts e. batch_may fit 0 cmds (replica_of a) ts (typing_written (replica_of a).selection text) s.sound e)
+    let sel = (replica_of a).selection in
+    let may : (ts : List Transaction) → batch_on (replica_of a) (typing sel text) ≡ Ok ts → AllMayRun ts (items_of a) =
+    λ ts e. batch_may fit 0 (typing sel text) (replica_of a) ts (typing_written sel text) s.sound e in
+    typed_leads a s (batch_on (replica_of a) (typing sel text)) may (λ ts e. typing_behind (replica_of a) sel text ts o e (may ts e))
 asked_leads fit a s (request.Erase dir by) o = erased_leads fit a s (to_erase (replica_of a) dir by)
 asked_leads fit a s (request.Grid at) o = grid_leads a (grid (items_of a) at)
 asked_leads fit a s (request.RowIn at row) o = table_leads a s (row_in (items_of a) at row) (λ t e. fit.moves.row_in (items_of a) at row t s.sound e)

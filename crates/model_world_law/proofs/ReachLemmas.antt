@@ -6,8 +6,10 @@ use Rattle.model_site.specs.Session.{Session, Member, started}
 use Rattle.model_site.specs.Events.{Event, happens, run}
 use Rattle.model_site_law.specs.Sound.{Opens}
 use Rattle.model_site_law.specs.MayHappen.{AllMayHappen}
+use Rattle.model_site_law.specs.SelectionLaws.{AllSelectWithin}
 use Rattle.model_site_law.proofs.LawLemmas.{list_is_replay, all_entries_run, list_is_sound, acks_count, store_holds, first_replica_opens}
 use Rattle.model_site_law.proofs.FreshSessionLemmas.{undone_is_first}
+use Rattle.model_site_law.proofs.KeptLemmas.{selection_stands, first_selection_stands}
 use Rattle.model_world.specs.declared.command.Request.{Request}
 use Rattle.model_world.specs.declared.command.Command.{Command}
 use Rattle.model_world.specs.declared.command.Command.TheVariants.{OpenPage, Ask}
@@ -33,6 +35,10 @@ may-append : (es fs : List Event) (w : Session) → AllMayHappen w es → AllMay
 may-append [] fs w p q = q
 may-append (e ∷ es) fs w p q = (p.0, may-append es fs (happens w e) p.1 q)
 
+within-append : (es fs : List Event) (w : Session) → AllSelectWithin w es → AllSelectWithin (run w es) fs → AllSelectWithin w (es ++ fs)
+within-append [] fs w p q = q
+within-append (e ∷ es) fs w p q = (p.0, within-append es fs (happens w e) p.1 q)
+
 -- events lead on from a session that is reached
 further : (o : Opened) (w next : Session) → IsReached o w → Becomes w next → IsReached o next
 further o w next r b =
@@ -42,6 +48,7 @@ further o w next r b =
       events = r.events ++ b.events;
       opens = r.opens;
       may = may-append r.events b.events start r.may (subst (λ v. AllMayHappen v b.events) r.same b.may);
+      within = within-append r.events b.events start r.within (subst (λ v. AllSelectWithin v b.events) r.same b.within);
       same = b.same ∙ ap (λ v. run v b.events) r.same ∙ sym (run-append r.events b.events start);
     }
 
@@ -49,9 +56,13 @@ further o w next r b =
 abbrev at_site : (o : Opened) (sites : ℕ) (events : List Event) (k : ℕ) (m : Member) → Asked
 at_site o sites events k m = record { page = o; session = run (started (opened_with o.items) sites) events; k = k; member = m }
 
-site_stands : (o : Opened) (sites : ℕ) (events : List Event) (k : ℕ) (m : Member) → Opens (opened_with o.items) → AllMayHappen (started (opened_with o.items) sites) events →
+site_stands : (o : Opened) (sites : ℕ) (events : List Event) (k : ℕ) (m : Member) → Opens (opened_with o.items) → AllMayHappen (started (opened_with o.items) sites) events → AllSelectWithin (started (opened_with o.items) sites) events →
     slice_get (run (started (opened_with o.items) sites) events).members k ≡ Some m → Stands (at_site o sites events k m)
-site_stands o sites events k m opens may e = record { there = e; sound = list_is_sound (opened_with o.items) sites events k m opens may e }
+site_stands o sites events k m opens may within e = record {
+  there = e;
+  sound = list_is_sound (opened_with o.items) sites events k m opens may e;
+  selection = selection_stands (opened_with o.items) sites events k m opens (first_selection_stands o.items) may within e;
+}
 
 -- ---- answers
 
@@ -63,25 +74,25 @@ page_reached : (o : Opened) (w : Session) → IsReached o w → (a : Asked) → 
 page_reached o w reached a e (Ok r) b = further o w r.1 reached (subst (λ v. Becomes v r.1) e b)
 page_reached o w reached a e (Err r) b = tt
 
-member_reached : LayersFit → (o : Opened) (sites : ℕ) (events : List Event) → (opens : Opens (opened_with o.items)) → (may : AllMayHappen (started (opened_with o.items) sites) events) →
+member_reached : LayersFit → (o : Opened) (sites : ℕ) (events : List Event) → Opens (opened_with o.items) → AllMayHappen (started (opened_with o.items) sites) events → AllSelectWithin (started (opened_with o.items) sites) events →
     (r : Request) (k : ℕ) → RequestWritten r → (x : Option Member) → slice_get (run (started (opened_with o.items) sites) events).members k ≡ x →
     AnswerReached (asked_of o (run (started (opened_with o.items) sites) events) r k x)
-member_reached fit o sites events opens may r k written None e = tt
-member_reached fit o sites events opens may r k written (Some m) e =
+member_reached fit o sites events opens may within r k written None e = tt
+member_reached fit o sites events opens may within r k written (Some m) e =
     let w = run (started (opened_with o.items) sites) events in
     let a = at_site o sites events k m in
-    page_reached o w (record { sites = sites; events = events; opens = opens; may = may; same = refl }) a refl (asked a r)
-    (asked_leads fit a (site_stands o sites events k m opens may e) r written)
+    page_reached o w (record { sites = sites; events = events; opens = opens; may = may; within = within; same = refl }) a refl (asked a r)
+    (asked_leads fit a (site_stands o sites events k m opens may within e) r written)
 
 ask_reached : LayersFit → (w : World) → WorldReached w → (r : Request) (k : ℕ) → RequestWritten r → AnswerReached (answered w (Ask r k))
 ask_reached fit Closed reached r k written = tt
 ask_reached fit (Open o w) reached r k written =
     subst (λ v. AnswerReached (asked_of o v r k (slice_get v.members k))) (sym reached.same)
-    (member_reached fit o reached.sites reached.events reached.opens reached.may r k written _ refl)
+    (member_reached fit o reached.sites reached.events reached.opens reached.may reached.within r k written _ refl)
 
 open_reached : LayersFit → (page : List ℕ) (sites : ℕ) (x : Result Opened Refusal) → open_page page ≡ x → AnswerReached (opened_or_no sites x)
 open_reached fit page sites (Err r) e = tt
-open_reached fit page sites (Ok o) e = record { sites = sites; events = []; opens = first_replica_opens o.items (fit.pages page o e); may = tt; same = refl }
+open_reached fit page sites (Ok o) e = record { sites = sites; events = []; opens = first_replica_opens o.items (fit.pages page o e); may = tt; within = tt; same = refl }
 
 command_reached : LayersFit → (w : World) → WorldReached w → (line : List ℕ) (x : Result Command Refusal) → command line ≡ x → AnswerReached (answered_if w x)
 command_reached fit w reached line (Err r) e = tt
@@ -117,15 +128,16 @@ every_world_is_reached lines = lines_reached layers_fit lines Closed tt
 
 -- ---- each site
 
-site_holds : (o : Opened) (sites : ℕ) (events : List Event) (k : ℕ) (m : Member) → Opens (opened_with o.items) → AllMayHappen (started (opened_with o.items) sites) events →
+site_holds : (o : Opened) (sites : ℕ) (events : List Event) (k : ℕ) (m : Member) → Opens (opened_with o.items) → AllMayHappen (started (opened_with o.items) sites) events → AllSelectWithin (started (opened_with o.items) sites) events →
     slice_get (run (started (opened_with o.items) sites) events).members k ≡ Some m → SiteHolds (opened_with o.items) (run (started (opened_with o.items) sites) events) m
-site_holds o sites events k m opens may e =
+site_holds o sites events k m opens may within e =
     let base = opened_with o.items in
     record {
       sound = list_is_sound base sites events k m opens may e;
       list = list_is_replay base sites events k m opens may e;
       runs = all_entries_run base sites events k m opens may e;
       stored = store_holds base sites events k m opens may e;
+      selection = selection_stands base sites events k m opens (first_selection_stands o.items) may within e;
       acknowledged = acks_count base sites events k m opens may e;
       undone = undone_is_first base sites events k m opens may e;
     }
@@ -133,7 +145,7 @@ site_holds o sites events k m opens may e =
 reached_holds : (o : Opened) (w : Session) (k : ℕ) (m : Member) → IsReached o w → slice_get w.members k ≡ Some m → SiteHolds (opened_with o.items) w m
 reached_holds o w k m r e =
     subst (λ v. SiteHolds (opened_with o.items) v m) (sym r.same)
-    (site_holds o r.sites r.events k m r.opens r.may (ap (λ (v : Session). slice_get v.members k) (sym r.same) ∙ e))
+    (site_holds o r.sites r.events k m r.opens r.may r.within (ap (λ (v : Session). slice_get v.members k) (sym r.same) ∙ e))
 
 pub every_site_holds : EverySiteHolds
 every_site_holds lines page w k m h e = reached_holds page w k m (subst WorldReached h (every_world_is_reached lines)) e

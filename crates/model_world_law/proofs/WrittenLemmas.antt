@@ -2,7 +2,7 @@
 use Rattle.std.proofs.Common.{◌≡◌, ℕ, zero, suc, ◌<◌, Bool, true, false, not, if◌then◌else◌, List, [], ◌∷◌, length, map, Option, Some, None, Result, Ok, Err, refl, sym, ◌∙◌, subst, arith}
 use Rattle.std.specs.Prelude.{codes, slice_index_or, bytes_eq, option_and_then, option_map}
 use Rattle.std.specs.List.{list_any}
-use Rattle.std.proofs.lemmas.Bool.{and_parts, or_parts}
+use Rattle.std.proofs.lemmas.Bool.{and_parts, or_parts, ltb-true}
 use Rattle.serde_json.specs.Data.{Data, null, boolean, number, string, array, object, Members}
 use Rattle.serde_json.specs.Find.{get_member, as_str, as_array, as_bool, as_object}
 use Rattle.ve_kinds.specs.declared.kind.Kind.{Kind}
@@ -28,7 +28,7 @@ use Rattle.model_world.specs.declared.command.Command.TheVariants.{OpenPage, Ask
 use Rattle.model_world.specs.declared.field.Field.{Field}
 use Rattle.model_world.specs.declared.field.Field.TheVariants as field
 use Rattle.model_world.specs.Names.{field_name}
-use Rattle.model_world.specs.Values.{such_that, number_in, number_between, source_in, text_in, text_or_null_in, list_in, listed, all_read, pair_in, meant_by, word_in, member_in, read_or, member_or}
+use Rattle.model_world.specs.Values.{such_that, number_in, number_between, source_in, text_in, text_or_null_in, list_in, listed, all_read, pair_in, meant_by, word_in, member_in, read_or, member_or, is_some_text}
 use Rattle.model_world.specs.Members.{Reader, or_bad, needed, defaulted, made}
 use Rattle.model_world.specs.Members as members
 use Rattle.model_world.specs.Attributes.{name_in, attr_in, attrs_in, are_apart, are_free, free_attrs_in, marks_in, element_in, branch_in, kinds_in, shape_in, shapes_in}
@@ -364,8 +364,14 @@ select_written ms = bind RequestWritten (needed field.Anchor number_in ms) _ (λ
 move_written : Reads RequestWritten move_read
 move_written ms = bind RequestWritten (needed field.Dir dir_in ms) _ (λ dir. bind RequestWritten (defaulted field.By Cluster by_in ms) _ (λ by. bind RequestWritten (defaulted field.Keep false as_bool ms) _ (λ keep. tt)))
 
+some_text : (json : Data) → Of (λ text. 0 < length text) (some_text_in json)
+some_text json =
+    Of-such_that (λ text. 0 < length text) is_some_text (text_in json)
+    (Of-always (λ text. is_some_text text ≡ true → 0 < length text) (text_in json) (λ text h. ltb-true 0 (length text) h))
+
 type_written : Reads RequestWritten type_read
-type_written ms = bind RequestWritten (needed field.Text some_text_in ms) _ (λ text. tt)
+type_written ms =
+    bind_with (λ text. 0 < length text) RequestWritten (needed field.Text some_text_in ms) _ (needed_is (λ text. 0 < length text) field.Text some_text_in ms some_text) (λ text p. p)
 
 erase_written : Reads RequestWritten erase_read
 erase_written ms = bind RequestWritten (needed field.Dir dir_in ms) _ (λ dir. bind RequestWritten (defaulted field.By Cluster by_in ms) _ (λ by. tt))

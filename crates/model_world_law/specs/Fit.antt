@@ -1,5 +1,5 @@
 -- What the layers below the world make sure of: lines are read as written, what they ask gives transactions that are reduced and put in names apart, and pages open as sound lists.
-use Rattle.std.specs.Prelude.{◌≡◌, ℕ, true, List, [], ◌∷◌, Ok}
+use Rattle.std.specs.Prelude.{◌≡◌, ◌<◌, ℕ, true, List, [], ◌∷◌, length, Ok}
 use Rattle.model_items.specs.declared.plain_item.PlainItem.{PlainItem}
 use Rattle.model_change.specs.Attributes.{AllNamesApart}
 use Rattle.model_change.specs.Transaction.{Transaction, is_reduced, InsertedApart}
@@ -39,9 +39,11 @@ abbrev pub AllWritten : List Change → Type 0
 AllWritten [] = Unit {0}
 AllWritten (c ∷ cs) = IsWritten c × AllWritten cs
 
+-- and typed text is not empty
 abbrev pub RequestWritten : Request → Type 0
 RequestWritten (request.Edit c) = IsWritten c
 RequestWritten (request.Batch cmds) = AllWritten cmds
+RequestWritten (request.TypeText text) = 0 < length text
 RequestWritten _ = Unit {0}
 
 abbrev pub LinesAreWritten : Type 0

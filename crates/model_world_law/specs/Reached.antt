@@ -9,12 +9,14 @@ use Rattle.model_site.specs.Session.{Feed, Ack, Member, Session, started}
 use Rattle.model_site.specs.Events.{Event, run}
 use Rattle.model_site_law.specs.Sound.{Sound, AllIn, Opens}
 use Rattle.model_site_law.specs.MayHappen.{AllMayHappen}
+use Rattle.model_site_law.specs.SelectionLaws.{StandsIn, AllSelectWithin}
 use Rattle.model_world.specs.World.{World, Closed, Open, world_after}
 
 -- some events lead from one session to the other
 pub record Becomes (w next : Session) : Type 0 where
   pub events : List Event
   pub may : AllMayHappen w events
+  pub within : AllSelectWithin w events
   pub same : next ≡ run w events
 
 -- the session is what some events make of sites that began with the page's items
@@ -23,6 +25,7 @@ pub record IsReached (page : Opened) (w : Session) : Type 0 where
   pub events : List Event
   pub opens : Opens (opened_with page.items)
   pub may : AllMayHappen (started (opened_with page.items) sites) events
+  pub within : AllSelectWithin (started (opened_with page.items) sites) events
   pub same : w ≡ run (started (opened_with page.items) sites) events
 
 abbrev pub WorldReached : World → Type 0
@@ -43,6 +46,8 @@ pub record SiteHolds (base : Replica) (w : Session) (m : Member) : Type 0 where
   pub runs : AllRun (flattened (entries_of w.committed m.site)) base.items
   -- its store has every value that its list cites
   pub stored : AllIn m.site.replica.store (cited m.site.replica.items)
+  -- both ends of its selection stand in the list, and not inside a leaf
+  pub selection : StandsIn m.site.replica.items m.site.replica.selection
   -- the answer that it takes next counts the entries that it still holds as sent
   pub acknowledged : (accepted : ℕ) (later : List Feed) → m.feeds ≡ Ack accepted ∷ later → accepted ≡ length m.site.sent
   -- having taken nothing and with nothing pending, it has the first list and the first store
