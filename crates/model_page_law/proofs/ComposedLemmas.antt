@@ -4,6 +4,7 @@ use Rattle.std.specs.Prelude.{codes, is_some}
 use Rattle.std.specs.Ordering.{match_ordering}
 use Rattle.std.specs.Cmp.Lexicographic.{slice_cmp}
 use Rattle.std.proofs.lemmas.Bool.{or_parts}
+use Rattle.std.proofs.lemmas.Cmp.{nat_list_cmp_total, tied_itself}
 use Rattle.std.proofs.lemmas.Map.Text.{is_eq-slice_cmp}
 use Rattle.std.proofs.lemmas.Slice.Eq.{bytes_eq-Decides}
 use Rattle.serde_json.specs.Data.{Data, null, boolean, number, string, array, object, Members, no_members, member, put, depth, members_depth}
@@ -14,9 +15,9 @@ use Rattle.serde_json.proofs.Nesting.{depth-read}
 use Rattle.serde_json.proofs.Views.{get_member-put, get_member-put_other}
 use Rattle.model_spelling.specs.Forest.{Forest}
 use Rattle.model_spelling.specs.Parsed.{forest_of}
-use Rattle.model_spelling.proofs.Proved.{law_only}
+use Rattle.model_spelling.proofs.Proved.{law_only, law_reads_right}
 use Rattle.model_page.specs.DataMw.{RefRead, ◌>>=◌, whole_object, members_or_none, text_or_empty, unless_empty, if_spelled, html_or_none, if_owner_or_named, reference_of, members_of, without, with_body, composed_mw}
-use Rattle.model_page_law.specs.Composed.{ComposedIsRead, ComposedKeepsMembers, ComposedKeepsBody, ComposedOwns, ComposedIsBarred, ComposedReuses}
+use Rattle.model_page_law.specs.Composed.{ComposedIsRead, ComposedKeepsMembers, ComposedKeepsBody, ComposedTwice, ComposedOwns, ComposedIsSame, ComposedIsBarred, ComposedReuses}
 use Rattle.model_page_law.proofs.JsonLemmas.{Above, Proper, MembersProper, IfThere, proper-put, proper-read, read-compact_text}
 
 -- ---- members
@@ -312,3 +313,81 @@ composed_reuses mw r e =
     composed-said mw None r s
     ∙ ap (λ o. said_with attrs (html_or_none o)) (get-without (codes "body") s.members (proper-read mw (object s.members) s.reads))
     ∙ said-other attrs (html_or_none (get_member (codes "body") s.members)) None r s.says
+
+-- ---- the same body again
+
+-- a member that is put at a name twice
+put-put : (k : List ℕ) (d e : Data) (ms : Members) → put k d (put k e ms) ≡ put k d ms
+put-put k d e no_members = ap (λ o. match_ordering o (member k d (member k e no_members)) (member k d no_members) (member k e (member k d no_members))) (tied_itself nat_list_cmp_total k)
+put-put k d e (member l c ms) = by (slice_cmp nat_cmp k l) refl (put-put k d e ms)
+  where
+    by : (o : Ordering) → slice_cmp nat_cmp k l ≡ o → put k d (put k e ms) ≡ put k d ms →
+        put k d (match_ordering o (member k e (member l c ms)) (member l e ms) (member l c (put k e ms))) ≡ match_ordering o (member k d (member l c ms)) (member l d ms) (member l c (put k d ms))
+    by Less t rec = ap (λ o. match_ordering o (member k d (member k e (member l c ms))) (member k d (member l c ms)) (member k e (put k d (member l c ms)))) (tied_itself nat_list_cmp_total k)
+    by Equal t rec = ap (λ o. match_ordering o (member k d (member l e ms)) (member l d ms) (member l e (put k d ms))) t
+    by Greater t rec = ap (λ o. match_ordering o (member k d (member l c (put k e ms))) (member l d (put k e ms)) (member l c (put k d (put k e ms)))) t ∙ ap (member l c) rec
+
+body-twice : (first second : List ℕ) (ms : Members) → with_body (Some second) (with_body (Some first) ms) ≡ with_body (Some second) ms
+body-twice first second ms =
+    ap (λ o. put (codes "body") (object (put (codes "html") (string second) (members_of o))) (with_body (Some first) ms)) (body-member first ms)
+    ∙ ap (λ bs. put (codes "body") (object bs) (with_body (Some first) ms)) (put-put (codes "html") (string second) (string first) (members_of (get_member (codes "body") ms)))
+    ∙ put-put (codes "body") (object (new_body second ms)) (object (new_body first ms)) ms
+
+pub composed_twice : ComposedTwice
+composed_twice mw first second r e =
+    let s = says mw r e in
+    ap (λ o. compact_text (object (with_body (Some second) (members_of o)))) (composed_is_read mw (Some first) s.members s.reads s.whole)
+    ∙ ap (λ ms. compact_text (object ms)) (body-twice first second s.members)
+    ∙ ap (λ o. compact_text (object (with_body (Some second) (members_of o)))) (sym s.reads)
+
+-- the body that is said
+html-in : (name group : Option (List ℕ)) (body : Option (Option (List ℕ))) (r : RefRead) →
+    (name >>= λ n. group >>= λ g. body >>= λ h. if_owner_or_named (record { group = g; name = unless_empty n; html = h })) ≡ Some r → body ≡ Some r.html
+html-in None group body r e = cc
+html-in (Some n) None body r e = cc
+html-in (Some n) (Some g) None r e = cc
+html-in (Some n) (Some g) (Some h) r e =
+    let q : RefRead = record { group = g; name = unless_empty n; html = h } in
+    ap (λ x. Some x.html) (kept q r (is_some q.html || is_some q.name) e)
+
+html-said : (attrs : Option Members) (body : Option (Option (List ℕ))) (r : RefRead) → said_with attrs body ≡ Some r → body ≡ Some r.html
+html-said None body r e = cc
+html-said (Some a) body r e = html-in (text_or_empty (get_member (codes "name") a)) (text_or_empty (get_member (codes "group") a)) body r e
+
+-- the text of a body that is said is spelled
+html-spelled : (member : Option Data) (html : List ℕ) → html_or_none member ≡ Some (Some html) → (f : Forest) × (forest_of html ≡ Some f)
+html-spelled None html e = absurd (none-never html e)
+  where
+    none-never : (html : List ℕ) → ◌≡◌ {A = Option (Option (List ℕ))} (Some None) (Some (Some html)) → ⊥
+    none-never html e = cc
+html-spelled (Some null) html e = cc
+html-spelled (Some (boolean b)) html e = cc
+html-spelled (Some (number n)) html e = cc
+html-spelled (Some (string s)) html e = cc
+html-spelled (Some (array ds)) html e = cc
+html-spelled (Some (object ms)) html e = in-body (get_member (codes "html") ms) e
+  where
+    same-text : (text : List ℕ) → ◌≡◌ {A = Option (Option (List ℕ))} (Some (Some text)) (Some (Some html)) → text ≡ html
+    same-text text e = cc
+
+    by : (text : List ℕ) (o : Option Forest) → forest_of text ≡ o → ((o >>= λ f. Some text) >>= λ t. Some (Some t)) ≡ Some (Some html) → (f : Forest) × (forest_of html ≡ Some f)
+    by text None r e = cc
+    by text (Some f) r e = (f, ap forest_of (sym (same-text text e)) ∙ r)
+
+    in-body : (member : Option Data) → (if_spelled member >>= λ text. Some (Some text)) ≡ Some (Some html) → (f : Forest) × (forest_of html ≡ Some f)
+    in-body None e = cc
+    in-body (Some null) e = cc
+    in-body (Some (boolean b)) e = cc
+    in-body (Some (number n)) e = cc
+    in-body (Some (string text)) e = by text (forest_of text) refl e
+    in-body (Some (array ds)) e = cc
+    in-body (Some (object ms)) e = cc
+
+pub composed_is_same : ComposedIsSame
+composed_is_same mw r html e h =
+    let s = says mw r e in
+    let attrs : Option Members = members_or_none (get_member (codes "attrs") s.members) in
+    let body : Option (Option (List ℕ)) = html_or_none (get_member (codes "body") s.members) in
+    let f = html-spelled (get_member (codes "body") s.members) html (html-said attrs body r s.says ∙ ap (λ x. Some x) h) in
+    let p = law_reads_right html f.0 f.1 in
+    composed_owns mw html r f.0 e (record { allowed = p.1; text_is = sym p.0 }) ∙ ap (λ x. Some (record { group = r.group; name = r.name; html = x })) (sym h)

@@ -1,5 +1,5 @@
 -- Edits, fragments and whole histories keep that each reference is editable.
-use Rattle.std.proofs.Common.{◌≡◌, ℕ, zero, suc, ◌-◌, ◌+◌, Bool, true, false, not, ◌&&◌, if◌then◌else◌, List, [], ◌∷◌, ◌++◌, map, length, take, drop, Result, Ok, Err, refl, sym, ap, ◌∙◌, subst, append-nil, take-append-drop}
+use Rattle.std.proofs.Common.{◌≡◌, ℕ, zero, suc, ◌-◌, ◌+◌, ◌<◌, Bool, true, false, not, ◌&&◌, if◌then◌else◌, List, [], ◌∷◌, ◌++◌, map, length, take, drop, Result, Ok, Err, refl, sym, ap, ◌∙◌, subst, append_assoc, append-nil, arith, take-append-drop}
 use Rattle.std.specs.Prelude.{chars, nat_le}
 use Rattle.std.proofs.lemmas.Bool.{and_parts, and_from}
 use Rattle.ve_kinds.specs.declared.kind.Kind.{Kind}
@@ -14,7 +14,7 @@ use Rattle.model_change.specs.Transaction.{Retain, Replace, Attribute, Transacti
 use Rattle.model_change.specs.Fault.{first_allows}
 use Rattle.model_change.specs.Inverse.{attribute_ops, inverse_after, inverse}
 use Rattle.model_change.specs.Join.{Clash, first, without_first, last, without_end, core, is_active, start_of, end_of, both_attributes, conflict, retained, with_ends, moved_on, with_new_end, join, ranges, row_with, list_with, join_row, after_row, join_list}
-use Rattle.model_change.specs.Replay.{reversal}
+use Rattle.model_change.specs.Replay.{replay, reversal, flattened, mine_of, entry_at, made_before, made_after, AllRun}
 use Rattle.model_change.proofs.Fits.{Fits, parts_of_Applies}
 use Rattle.model_page.specs.Elements.{is_white}
 use Rattle.model_page.specs.Parts.{Parts, parts_of, source_of}
@@ -23,7 +23,7 @@ use Rattle.model_page.specs.Pieces.{Place}
 use Rattle.model_page.specs.Convert.{made_of}
 use Rattle.model_page.specs.Fragment.{context_of, item_unmade, pieces_in}
 use Rattle.model_page.specs.Editable.{head_refers, item_refers, all_refer}
-use Rattle.model_page_law.specs.Referring.{FragmentsRefer, inserts_referring, EditsRefer, InversesRefer, JoinsRefer, all_insert_referring, ReplaysRefer, ReversalsRefer, JoinListsRefer}
+use Rattle.model_page_law.specs.Referring.{FragmentsRefer, inserts_referring, EditsRefer, InversesRefer, JoinsRefer, all_insert_referring, ReplaysRefer, ReversalsRefer, JoinListsRefer, RevokesRefer}
 use Rattle.model_page_law.proofs.MadeRefers.{other_refers, element-other, refers-append, refers-chars, Refers-inside_piece, Refers-made_of}
 use Rattle.model_page_law.proofs.PageRefers.{none-refer}
 
@@ -223,3 +223,41 @@ lists-refer (one ∷ mine) committed c m =
 
 pub join_lists_refer : JoinListsRefer
 join_lists_refer committed mine joined e c m = subst ListsRefer e (lists-refer mine committed c m)
+
+-- ---- an entry that is taken back
+
+runs-parts : (ts us : List Transaction) (items : List PlainItem) → AllRun (ts ++ us) items → AllRun ts items × AllRun us (replay ts items)
+runs-parts [] us items r = (tt, r)
+runs-parts (t ∷ ts) us items r = let p = runs-parts ts us (edited t items) r.1 in ((r.0, p.0), p.1)
+
+insert-parts : (ts us : List Transaction) → all_insert_referring (ts ++ us) ≡ true → (all_insert_referring ts ≡ true) × (all_insert_referring us ≡ true)
+insert-parts [] us h = (refl, h)
+insert-parts (t ∷ ts) us h =
+    let p = and_parts (inserts_referring t) (all_insert_referring (ts ++ us)) h in
+    let q = insert-parts ts us p.1 in
+    (and_from (inserts_referring t) (all_insert_referring ts) p.0 q.0, q.1)
+
+-- the transactions before the entry, its own, and those after it
+flattened-parts : (entries : List (List Transaction)) (i : ℕ) → i < length entries → flattened entries ≡ made_before entries i ++ (entry_at entries i ++ made_after entries i)
+flattened-parts [] i l = absurd (omega (arith, l))
+flattened-parts (entry ∷ entries) zero l = refl
+flattened-parts (entry ∷ entries) (suc i) l = ap (λ ts. entry ++ ts) (flattened-parts entries i (omega (arith, l))) ∙ sym (append_assoc entry (made_before entries i) (entry_at entries i ++ made_after entries i))
+
+ok_same : (ts us : List Transaction) → ◌≡◌ {A = Result (List Transaction) Clash} (Ok ts) (Ok us) → ts ≡ us
+ok_same ts us e = cc
+
+mine-refers : (joined : Result (List Transaction × List Transaction) Clash) (back : List Transaction) → ListsRefer joined → mine_of joined ≡ Ok back → all_insert_referring back ≡ true
+mine-refers (Ok joined) back r e = ap all_insert_referring (sym (ok_same joined.1 back e)) ∙ r.1
+mine-refers (Err clash) back r e = cc
+
+pub revokes_refer : RevokesRefer
+revokes_refer entries i back base l run ins r e =
+    let before : List Transaction = made_before entries i in
+    let entry : List Transaction = entry_at entries i in
+    let after : List Transaction = made_after entries i in
+    let parts : flattened entries ≡ before ++ (entry ++ after) = flattened-parts entries i l in
+    let first = runs-parts before (entry ++ after) base (subst (λ ts. AllRun ts base) parts run) in
+    let second = runs-parts entry after (replay before base) first.1 in
+    let p = insert-parts before (entry ++ after) (ap all_insert_referring (sym parts) ∙ ins) in
+    let q = insert-parts entry after p.1 in
+    mine-refers (join_list after (reversal entry)) back (lists-refer (reversal entry) after q.1 (reversals_refer entry (replay before base) second.0 q.0 (replays_refer before base first.0 p.0 r))) e

@@ -32,12 +32,20 @@ abbrev pub ComposedKeepsBody : Type 0
 ComposedKeepsBody = (mw html : List ℕ) (r : RefRead) → reference_of mw ≡ Some r →
     (k : List ℕ) → (k ≡ codes "html" → ⊥) → get_member k (body_in (composed_mw mw (Some html))) ≡ get_member k (body_in mw)
 
+-- Of two bodies that are put in, the second stays, and nothing of the first one's text.
+abbrev pub ComposedTwice : Type 0
+ComposedTwice = (mw first second : List ℕ) (r : RefRead) → reference_of mw ≡ Some r → composed_mw (composed_mw mw (Some first)) (Some second) ≡ composed_mw mw (Some second)
+
 -- ---- as a reference
 
 -- With a body whose text a forest spells it is editable, of the same group and name, and has that body.
 abbrev pub ComposedOwns : Type 0
 ComposedOwns = (mw html : List ℕ) (r : RefRead) (f : Forest) → reference_of mw ≡ Some r → Spells html f →
     reference_of (composed_mw mw (Some html)) ≡ Some (record { group = r.group; name = r.name; html = Some html })
+
+-- With the body that it has it says what it said.
+abbrev pub ComposedIsSame : Type 0
+ComposedIsSame = (mw : List ℕ) (r : RefRead) (html : List ℕ) → reference_of mw ≡ Some r → r.html ≡ Some html → reference_of (composed_mw mw (Some html)) ≡ Some r
 
 -- With a text that no forest spells it is not editable.
 abbrev pub ComposedIsBarred : Type 0

@@ -1,5 +1,5 @@
 -- What an opened page holds as references can be written and can carry a body, and edits keep that.
-use Rattle.std.specs.Prelude.{◌≡◌, ℕ, Bool, true, List, Some, Ok, IsUtf8}
+use Rattle.std.specs.Prelude.{◌≡◌, ℕ, ◌<◌, Bool, true, List, length, Some, Ok, IsUtf8}
 use Rattle.std.specs.List.{list_all}
 use Rattle.model_spelling.specs.Forest.{Forest, spelling, is_forest}
 use Rattle.ve_kinds.specs.declared.kind.Kind.{Kind}
@@ -8,7 +8,7 @@ use Rattle.model_change.specs.Transaction.{Transaction, all_inserted, edited}
 use Rattle.model_change.specs.Fault.{Applies}
 use Rattle.model_change.specs.Inverse.{inverse}
 use Rattle.model_change.specs.Join.{join, join_list}
-use Rattle.model_change.specs.Replay.{replay, reversal, AllRun}
+use Rattle.model_change.specs.Replay.{replay, reversal, flattened, revoke, AllRun}
 use Rattle.model_page.specs.PageItems.{Opened, opened_page, page_made, items_of}
 use Rattle.model_page.specs.Fragment.{pieces_of}
 use Rattle.model_page.specs.Editable.{all_refer}
@@ -61,3 +61,8 @@ abbrev pub JoinListsRefer : Type 0
 JoinListsRefer = (committed mine : List Transaction) (joined : List Transaction × List Transaction) → join_list committed mine ≡ Ok joined →
     all_insert_referring committed ≡ true → all_insert_referring mine ≡ true →
     (all_insert_referring joined.0 ≡ true) × (all_insert_referring joined.1 ≡ true)
+
+-- What takes an entry of a history back inserts what the entry removed, and nothing else.
+abbrev pub RevokesRefer : Type 0
+RevokesRefer = (entries : List (List Transaction)) (i : ℕ) (back : List Transaction) (base : List PlainItem) → i < length entries →
+    AllRun (flattened entries) base → all_insert_referring (flattened entries) ≡ true → all_refer base ≡ true → revoke entries i ≡ Ok back → all_insert_referring back ≡ true

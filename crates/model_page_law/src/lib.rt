@@ -2,11 +2,11 @@
 //! law that is proved of every page and every list.
 #![tactic(auto)]
 
-ghost use Rattle.model_page_law.specs.Composed.{ComposedIsBarred, ComposedIsRead, ComposedKeepsBody, ComposedKeepsMembers, ComposedOwns, ComposedReuses};
+ghost use Rattle.model_page_law.specs.Composed.{ComposedIsBarred, ComposedIsRead, ComposedIsSame, ComposedKeepsBody, ComposedKeepsMembers, ComposedOwns, ComposedReuses, ComposedTwice};
 ghost use Rattle.model_page_law.specs.Lawful.{BadPageHasFault, LimitedIsLawful, ReadIsLawful, ReadIsWithin, WithinIsRead};
 ghost use Rattle.model_page_law.specs.Origins.{OriginsNumberSpans};
 ghost use Rattle.model_page_law.specs.ReadBack.{FreshIsReadBack, FreshOpensAsItself};
-ghost use Rattle.model_page_law.specs.Referring.{EditsRefer, FragmentsRefer, InversesRefer, JoinListsRefer, JoinsRefer, OpenedRefers, ReplaysRefer, ReversalsRefer, SpelledRefers};
+ghost use Rattle.model_page_law.specs.Referring.{EditsRefer, FragmentsRefer, InversesRefer, JoinListsRefer, JoinsRefer, OpenedRefers, ReplaysRefer, ReversalsRefer, RevokesRefer, SpelledRefers};
 ghost use Rattle.model_page_law.specs.Replaced.{BodyIsReplaced, WrittenIsReadBack, WrittenOpens};
 ghost use Rattle.model_page_law.specs.Spans.{BodyIsCut, OriginsStand, SpansAreParts};
 ghost use Rattle.model_page_law.specs.WritesFresh.{WritesFresh};
@@ -55,7 +55,7 @@ pub fn references_are_editable()
     ensures spelled { SpelledRefers }
 {}
 
-/// Edits keep this: a transaction that inserts only such items keeps it of every list, whatever attributes it sets, and inserts nothing else where it is undone or joined with others. Fragments are such items.
+/// Edits keep this: a transaction that inserts only such items keeps it of every list, whatever attributes it sets, and where it is undone, joined with others or taken back under later ones, only such items are inserted. Fragments are such items.
 pub fn edits_keep_references()
     ensures edited { EditsRefer }
     ensures undone { InversesRefer }
@@ -63,6 +63,7 @@ pub fn edits_keep_references()
     ensures replayed { ReplaysRefer }
     ensures reversed { ReversalsRefer }
     ensures lists { JoinListsRefer }
+    ensures revoked { RevokesRefer }
     ensures fragments { FragmentsRefer }
 {}
 
@@ -71,7 +72,9 @@ pub fn composed_reads_back()
     ensures value { ComposedIsRead }
     ensures members { ComposedKeepsMembers }
     ensures body { ComposedKeepsBody }
+    ensures twice { ComposedTwice }
     ensures owns { ComposedOwns }
+    ensures same { ComposedIsSame }
     ensures barred { ComposedIsBarred }
     ensures reuses { ComposedReuses }
 {}

@@ -1,4 +1,4 @@
-use Rattle.model_page_law.proofs.ComposedLemmas.{composed_is_read, composed_keeps_members, composed_keeps_body, composed_owns, composed_is_barred, composed_reuses}
+use Rattle.model_page_law.proofs.ComposedLemmas.{composed_is_read, composed_keeps_members, composed_keeps_body, composed_twice, composed_owns, composed_is_same, composed_is_barred, composed_reuses}
 use Rattle.model_page_law.proofs.composed_reads_back.Goals as goal
 
 pub returns-clause-value : goal.returns-clause-value
@@ -18,3 +18,9 @@ returns-clause-barred c = composed_is_barred
 
 pub returns-clause-reuses : goal.returns-clause-reuses
 returns-clause-reuses c = composed_reuses
+
+pub returns-clause-twice : goal.returns-clause-twice
+returns-clause-twice c = composed_twice
+
+pub returns-clause-same : goal.returns-clause-same
+returns-clause-same c = composed_is_same

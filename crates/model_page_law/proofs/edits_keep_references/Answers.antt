@@ -1,4 +1,4 @@
-use Rattle.model_page_law.proofs.EditsRefer.{fragments_refer, edits_refer, inverses_refer, joins_refer, replays_refer, reversals_refer, join_lists_refer}
+use Rattle.model_page_law.proofs.EditsRefer.{fragments_refer, edits_refer, inverses_refer, joins_refer, replays_refer, reversals_refer, join_lists_refer, revokes_refer}
 use Rattle.model_page_law.proofs.edits_keep_references.Goals as goal
 
 pub returns-clause-edited : goal.returns-clause-edited
@@ -21,3 +21,6 @@ returns-clause-lists c = join_lists_refer
 
 pub returns-clause-fragments : goal.returns-clause-fragments
 returns-clause-fragments c = fragments_refer
+
+pub returns-clause-revoked : goal.returns-clause-revoked
+returns-clause-revoked c = revokes_refer
