@@ -8,8 +8,11 @@ use Rattle.model_items.specs.declared.plain_item.PlainItem.TheVariants.{Char, Op
 use Rattle.model_items.specs.Law.{Lawful}
 use Rattle.ve_base.specs.Empty.{empty_head}
 use Rattle.model_page.proofs.OnLiterals.{page_on_literals}
-use Rattle.model_page_write.specs.PageText.{fresh}
+use Rattle.model_page.specs.PageItems.{Opened}
+use Rattle.model_page_write.specs.Nodes.{nodes_of, carried_items}
+use Rattle.model_page_write.specs.PageText.{fresh, page_writer}
 use Rattle.model_page_law.specs.Formed.{ArePlain, IsHead, AreFormed}
+use Rattle.model_page_law.specs.WritesFresh.{KeepsNoneOf}
 
 abbrev bold : Mark
 bold = record { tag = codes "b"; attrs = [] }
@@ -80,3 +83,7 @@ spelled = refl
 spells : spelling its_forest ≡ fresh some_items
 unfolding page_on_literals
 spells = refl
+
+-- no node has an origin, so none is kept of any page
+none_kept : (o : Opened) → KeepsNoneOf (page_writer o) (nodes_of (carried_items some_items))
+none_kept o = (refl, (refl, (refl, (refl, tt, tt), tt), tt), (refl, tt, tt))

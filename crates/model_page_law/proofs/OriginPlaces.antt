@@ -143,5 +143,12 @@ body-stands : (page : List ℕ) (body : Result (ℕ × ℕ) ScanFault) (o : Open
 body-stands page (Err f) o h = cc
 body-stands page (Ok body) o h = forest-stands page body.0 body.1 (forest_of (slice page body.0 body.1)) o h
 
+-- the node lies in the list
+within : (items : List PlainItem) (k from to : ℕ) → NodeAt items k from to → to ≤ length items
+within items k from to n =
+    let closing : List PlainItem = Closing n.kind n.white ∷ n.after in
+    let node : List PlainItem = Opening n.kind n.head n.marks n.pre (Some k) n.generated ∷ n.inside ++ closing in
+    omega (arith, ap length n.items_are, length-append n.before node, length-append n.inside closing, n.from_is, n.to_is)
+
 pub origins_stand : OriginsStand
-origins_stand page o h k l = body-stands page (body_at page) o h k l
+origins_stand page o h k l = let s = body-stands page (body_at page) o h k l in (s.0, s.1, within o.items k s.0 s.1 s.2, s.2)

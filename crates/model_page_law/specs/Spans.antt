@@ -50,6 +50,6 @@ pub record NodeAt (items : List PlainItem) (k from to : ℕ) : Type 0 where
   pub from_is : from ≡ length before
   pub to_is : to ≡ from + length inside + 2
 
--- The node of each origin stands in the list of the opened page.
+-- The node of each origin stands in the list of the opened page, at a range of its places.
 abbrev pub OriginsStand : Type 0
-OriginsStand = (page : List ℕ) (o : Opened) → opened_page page ≡ Some o → (k : ℕ) → k < length o.spans → (from : ℕ) × (to : ℕ) × NodeAt o.items k from to
+OriginsStand = (page : List ℕ) (o : Opened) → opened_page page ≡ Some o → (k : ℕ) → k < length o.spans → (from : ℕ) × (to : ℕ) × (to ≤ length o.items) × NodeAt o.items k from to

@@ -1,5 +1,5 @@
-//! What is written of a page that was read. Definitions of these laws stand in specs/; each public function here does nothing, and its contract is a
-//! law that is proved of every page and every list.
+//! The laws of pages: what a page opens as, where its nodes come from, what its references say, and what is written of it. Definitions of these laws
+//! stand in specs/; each public function here does nothing, and its contract is a law that is proved of every page and every list.
 #![tactic(auto)]
 
 ghost use Rattle.model_page_law.specs.Composed.{ComposedIsBarred, ComposedIsRead, ComposedIsSame, ComposedKeepsBody, ComposedKeepsMembers, ComposedOwns, ComposedReuses, ComposedTwice};
