@@ -1,13 +1,24 @@
 -- Every world is reached by events.
 use Rattle.std.proofs.Common.{◌≡◌, ℕ, nat_lt, Bool, true, false, List, [], ◌∷◌, ◌++◌, length, slice_get, Option, Some, None, Result, Ok, Err, refl, sym, ap, ◌∙◌, subst}
-use Rattle.model_page.specs.PageItems.{Opened}
+use Rattle.std.specs.Prelude.{IsUtf8, encode_utf8_all, unwrap_or}
+use Rattle.model_spelling.specs.declared.scan_fault.ScanFault.{ScanFault}
+use Rattle.model_spelling.specs.Forest.{Forest}
+use Rattle.model_spelling.specs.Parsed.{forest_of}
+use Rattle.model_spelling.specs.Page.{body_at}
+use Rattle.model_page.specs.Pieces.{Span}
+use Rattle.model_page.specs.PageItems.{Opened, slice, page_made, opened_with as opened_with_page, opened_forest, opened_body, opened_page}
+use Rattle.model_page.specs.OpenPage.{read_page}
+use Rattle.model_page_write.specs.PageText.{write}
+use Rattle.model_page_law.proofs.OpenPageLemmas.{read_is_within}
+use Rattle.model_page_law.proofs.KeptLemmas.{opened_is_written_back}
 use Rattle.model_site.specs.Replica.{opened_with}
+use Rattle.model_site.specs.Site.{pending}
 use Rattle.model_site.specs.Session.{Session, Member, started}
 use Rattle.model_site.specs.Events.{Event, happens, run}
 use Rattle.model_site_law.specs.Sound.{Opens}
 use Rattle.model_site_law.specs.MayHappen.{AllMayHappen}
 use Rattle.model_site_law.specs.SelectionLaws.{AllSelectWithin}
-use Rattle.model_site_law.proofs.LawLemmas.{list_is_replay, all_entries_run, list_is_sound, acks_count, store_holds, first_replica_opens}
+use Rattle.model_site_law.proofs.LawLemmas.{list_is_replay, all_entries_run, list_is_sound, acks_count, sites_meet, store_holds, first_replica_opens}
 use Rattle.model_site_law.proofs.FreshSessionLemmas.{undone_is_first}
 use Rattle.model_site_law.proofs.KeptLemmas.{selection_stands, first_selection_stands}
 use Rattle.model_world.specs.declared.command.Request.{Request}
@@ -17,14 +28,15 @@ use Rattle.model_world.specs.declared.refusal.Refusal.{Refusal}
 use Rattle.model_world.specs.declared.refusal.Refusal.TheVariants.{LineTooLong}
 use Rattle.model_world.specs.declared.reply.Reply.TheVariants.{No}
 use Rattle.model_world.specs.Commands.{command}
+use Rattle.model_world.specs.Refusals.{open_refusal}
 use Rattle.model_world.specs.Opening.{open_page}
 use Rattle.model_world.specs.Answers.{Outcome, Asked, asked}
 use Rattle.model_world.specs.World.{World, Closed, Open, Answer, opened_or_no, on_page, asked_of, answered, answered_if, answer, settled, reply, world_after, longest_line}
 use Rattle.model_world_law.specs.Fit.{RequestWritten, LayersFit}
-use Rattle.model_world_law.specs.Reached.{Becomes, IsReached, WorldReached, EveryWorldIsReached, SiteHolds, EverySiteHolds}
+use Rattle.model_world_law.specs.Reached.{Becomes, IsReached, WorldReached, EveryWorldIsReached, SiteHolds, EverySiteHolds, SitesMeet, UneditedIsWrittenBack}
 use Rattle.model_world_law.proofs.LinkLemmas.{Stands, Leads, asked_leads}
 use Rattle.model_world_law.proofs.WrittenLemmas.{lines_are_written}
-use Rattle.model_world_law.proofs.ChangeLemmas.{changes_fit, pages_are_sound}
+use Rattle.model_world_law.proofs.ChangeLemmas.{given, changes_fit, pages_are_sound}
 use Rattle.model_world_law.proofs.BuilderLemmas.{moves_fit}
 
 run-append : (es fs : List Event) (w : Session) → run w (es ++ fs) ≡ run (run w es) fs
@@ -44,6 +56,8 @@ further : (o : Opened) (w next : Session) → IsReached o w → Becomes w next �
 further o w next r b =
     let start = started (opened_with o.items) r.sites in
     record {
+      text = r.text;
+      opened = r.opened;
       sites = r.sites;
       events = r.events ++ b.events;
       opens = r.opens;
@@ -74,25 +88,26 @@ page_reached : (o : Opened) (w : Session) → IsReached o w → (a : Asked) → 
 page_reached o w reached a e (Ok r) b = further o w r.1 reached (subst (λ v. Becomes v r.1) e b)
 page_reached o w reached a e (Err r) b = tt
 
-member_reached : LayersFit → (o : Opened) (sites : ℕ) (events : List Event) → Opens (opened_with o.items) → AllMayHappen (started (opened_with o.items) sites) events → AllSelectWithin (started (opened_with o.items) sites) events →
+member_reached : LayersFit → (o : Opened) (text : List ℕ) (sites : ℕ) (events : List Event) → open_page text ≡ Ok o → Opens (opened_with o.items) → AllMayHappen (started (opened_with o.items) sites) events → AllSelectWithin (started (opened_with o.items) sites) events →
     (r : Request) (k : ℕ) → RequestWritten r → (x : Option Member) → slice_get (run (started (opened_with o.items) sites) events).members k ≡ x →
     AnswerReached (asked_of o (run (started (opened_with o.items) sites) events) r k x)
-member_reached fit o sites events opens may within r k written None e = tt
-member_reached fit o sites events opens may within r k written (Some m) e =
+member_reached fit o text sites events opened opens may within r k written None e = tt
+member_reached fit o text sites events opened opens may within r k written (Some m) e =
     let w = run (started (opened_with o.items) sites) events in
     let a = at_site o sites events k m in
-    page_reached o w (record { sites = sites; events = events; opens = opens; may = may; within = within; same = refl }) a refl (asked a r)
+    page_reached o w (record { text = text; opened = opened; sites = sites; events = events; opens = opens; may = may; within = within; same = refl }) a refl (asked a r)
     (asked_leads fit a (site_stands o sites events k m opens may within e) r written)
 
 ask_reached : LayersFit → (w : World) → WorldReached w → (r : Request) (k : ℕ) → RequestWritten r → AnswerReached (answered w (Ask r k))
 ask_reached fit Closed reached r k written = tt
 ask_reached fit (Open o w) reached r k written =
     subst (λ v. AnswerReached (asked_of o v r k (slice_get v.members k))) (sym reached.same)
-    (member_reached fit o reached.sites reached.events reached.opens reached.may reached.within r k written _ refl)
+    (member_reached fit o reached.text reached.sites reached.events reached.opened reached.opens reached.may reached.within r k written _ refl)
 
 open_reached : LayersFit → (page : List ℕ) (sites : ℕ) (x : Result Opened Refusal) → open_page page ≡ x → AnswerReached (opened_or_no sites x)
 open_reached fit page sites (Err r) e = tt
-open_reached fit page sites (Ok o) e = record { sites = sites; events = []; opens = first_replica_opens o.items (fit.pages page o e); may = tt; within = tt; same = refl }
+open_reached fit page sites (Ok o) e =
+    record { text = page; opened = e; sites = sites; events = []; opens = first_replica_opens o.items (fit.pages page o e); may = tt; within = tt; same = refl }
 
 command_reached : LayersFit → (w : World) → WorldReached w → (line : List ℕ) (x : Result Command Refusal) → command line ≡ x → AnswerReached (answered_if w x)
 command_reached fit w reached line (Err r) e = tt
@@ -149,3 +164,38 @@ reached_holds o w k m r e =
 
 pub every_site_holds : EverySiteHolds
 every_site_holds lines page w k m h e = reached_holds page w k m (subst WorldReached h (every_world_is_reached lines)) e
+
+meet : (o : Opened) (w : Session) (k l : ℕ) (m n : Member) → IsReached o w → slice_get w.members k ≡ Some m → slice_get w.members l ≡ Some n →
+    m.site.seen ≡ n.site.seen → pending m.site ≡ [] → pending n.site ≡ [] → m.site.replica.items ≡ n.site.replica.items
+meet o w k l m n r d e seen none none' =
+    sites_meet (opened_with o.items) r.sites r.events k l m n r.opens r.may
+    (ap (λ (v : Session). slice_get v.members k) (sym r.same) ∙ d) (ap (λ (v : Session). slice_get v.members l) (sym r.same) ∙ e) seen none none'
+
+pub all_sites_meet : SitesMeet
+all_sites_meet lines page w k l m n h = meet page w k l m n (subst WorldReached h (every_world_is_reached lines))
+
+-- ---- a page that was not edited
+
+of_forest : (page : List ℕ) (body : Span) (f : Option Forest) (o : Opened) → opened_forest page body f ≡ Some o → o.page ≡ page
+of_forest page body None o h = cc
+of_forest page body (Some f) o h =
+    let first : Opened = opened_with_page page body (page_made body.from f) in
+    let is : first ≡ o = let p : ◌≡◌ {A = Option Opened} (Some first) (Some o) = h in ap (λ x. unwrap_or x first) p in
+    ap (λ x. x.page) (sym is)
+
+of_body : (page : List ℕ) (body : Result (ℕ × ℕ) ScanFault) (o : Opened) → opened_body page body ≡ Some o → o.page ≡ page
+of_body page (Err f) o h = cc
+of_body page (Ok body) o h = of_forest page (record { from = body.0; to = body.1 }) (forest_of (slice page body.0 body.1)) o h
+
+written_back : (o : Opened) (text : List ℕ) → open_page text ≡ Ok o → IsUtf8 o.page → write o o.items ≡ o.page
+written_back o text h u =
+    let bytes = encode_utf8_all text in
+    let opens : opened_page bytes ≡ Some o = (read_is_within bytes o (given open_refusal (read_page bytes) o h)).opens in
+    let same : o.page ≡ bytes = of_body bytes (body_at bytes) o opens in
+    opened_is_written_back o.page o u (ap opened_page same ∙ opens)
+
+unedited : (o : Opened) (w : Session) (m : Member) → IsReached o w → IsUtf8 o.page → m.site.replica.items ≡ o.items → write o m.site.replica.items ≡ o.page
+unedited o w m r u e = ap (write o) e ∙ written_back o r.text r.opened u
+
+pub unedited_is_written_back : UneditedIsWrittenBack
+unedited_is_written_back lines page w k m h e u same = unedited page w m (subst WorldReached h (every_world_is_reached lines)) u same

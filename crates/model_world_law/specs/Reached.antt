@@ -1,8 +1,9 @@
 -- What always holds of a world, whatever lines it was given: the laws of sites and server hold of it.
-use Rattle.std.specs.Prelude.{◌≡◌, ℕ, List, [], ◌∷◌, length, slice_get, Some}
+use Rattle.std.specs.Prelude.{◌≡◌, ℕ, List, [], ◌∷◌, length, slice_get, Some, Ok, IsUtf8}
 use Rattle.model_change.specs.Store.{cited}
 use Rattle.model_change.specs.Replay.{replay, AllRun, flattened}
 use Rattle.model_page.specs.PageItems.{Opened}
+use Rattle.model_page_write.specs.PageText.{write}
 use Rattle.model_site.specs.Replica.{Replica, opened_with}
 use Rattle.model_site.specs.Site.{pending, entries_of}
 use Rattle.model_site.specs.Session.{Feed, Ack, Member, Session, started}
@@ -10,6 +11,7 @@ use Rattle.model_site.specs.Events.{Event, run}
 use Rattle.model_site_law.specs.Sound.{Sound, AllIn, Opens}
 use Rattle.model_site_law.specs.MayHappen.{AllMayHappen}
 use Rattle.model_site_law.specs.SelectionLaws.{StandsIn, AllSelectWithin}
+use Rattle.model_world.specs.Opening.{open_page}
 use Rattle.model_world.specs.World.{World, Closed, Open, world_after}
 
 -- some events lead from one session to the other
@@ -21,6 +23,9 @@ pub record Becomes (w next : Session) : Type 0 where
 
 -- the session is what some events make of sites that began with the page's items
 pub record IsReached (page : Opened) (w : Session) : Type 0 where
+  -- the text that was opened
+  pub text : List ℕ
+  pub opened : open_page text ≡ Ok page
   pub sites : ℕ
   pub events : List Event
   pub opens : Opens (opened_with page.items)
@@ -56,3 +61,14 @@ pub record SiteHolds (base : Replica) (w : Session) (m : Member) : Type 0 where
 abbrev pub EverySiteHolds : Type 0
 EverySiteHolds = (lines : List (List ℕ)) (page : Opened) (w : Session) (k : ℕ) (m : Member) → world_after Closed lines ≡ Open page w → slice_get w.members k ≡ Some m →
     SiteHolds (opened_with page.items) w m
+
+-- Sites that have seen as much, and have nothing pending, have one list, and so write one page.
+abbrev pub SitesMeet : Type 0
+SitesMeet = (lines : List (List ℕ)) (page : Opened) (w : Session) (k l : ℕ) (m n : Member) → world_after Closed lines ≡ Open page w →
+    slice_get w.members k ≡ Some m → slice_get w.members l ≡ Some n → m.site.seen ≡ n.site.seen → pending m.site ≡ [] → pending n.site ≡ [] →
+    m.site.replica.items ≡ n.site.replica.items
+
+-- A site that has the page's items writes the page as it was opened, byte for byte, whatever happened between.
+abbrev pub UneditedIsWrittenBack : Type 0
+UneditedIsWrittenBack = (lines : List (List ℕ)) (page : Opened) (w : Session) (k : ℕ) (m : Member) → world_after Closed lines ≡ Open page w → slice_get w.members k ≡ Some m →
+    IsUtf8 page.page → m.site.replica.items ≡ page.items → write page m.site.replica.items ≡ page.page

@@ -4,7 +4,7 @@
 
 ghost use Rattle.model_world_law.specs.Fit.{LinesAreWritten, ChangesFit, MovesFit, PagesAreSound};
 ghost use Rattle.model_world_law.specs.Causes.{StoreFullIsFull};
-ghost use Rattle.model_world_law.specs.Reached.{EveryWorldIsReached, EverySiteHolds};
+ghost use Rattle.model_world_law.specs.Reached.{EveryWorldIsReached, EverySiteHolds, SitesMeet, UneditedIsWrittenBack};
 
 /// A line that is read asks for operations in normal form, and for no opening with two attributes of one name. On a sound list, one that is lawful and
 /// has names apart, every change that was read gives a reduced transaction that puts in names apart, and so do rows, columns and moved list items.
@@ -29,8 +29,20 @@ pub fn every_world_is_reached()
     ensures { EveryWorldIsReached }
 {}
 
-/// So each site of every world has a sound list, the replay of what it has seen and made; its store has what the list cites; the server's answers count
-/// what it still holds as sent; and with everything undone, and nothing taken, it has the page's items and the first store.
+/// So each site of every world has a sound list, the replay of what it has seen and made; its store has what the list cites; its selection stands in
+/// the list; the server's answers count what it still holds as sent; and with everything undone, and nothing taken, it has the page's items and the first store.
 pub fn every_site_holds()
     ensures { EverySiteHolds }
+{}
+
+/// Sites that have seen as much, and have nothing pending, have one list, and so write one page.
+#[tactic(auto, using(crate::proofs::ReachLemmas::all_sites_meet))]
+pub fn sites_meet()
+    ensures { SitesMeet }
+{}
+
+/// A site that has the page's items again writes the page as it was opened, byte for byte.
+#[tactic(auto, using(crate::proofs::ReachLemmas::unedited_is_written_back))]
+pub fn unedited_is_written_back()
+    ensures { UneditedIsWrittenBack }
 {}
