@@ -14,3 +14,5 @@ pub mod MadeLemmas
 pub mod CutLemmas
 pub mod StageLemmas
 pub mod ChangeLemmas
+pub mod FilledLemmas
+pub mod EntryExamples

@@ -22,3 +22,4 @@ pub mod Checked
 pub mod Attrs
 pub mod Making
 pub mod Changed
+pub mod Filled

@@ -112,7 +112,7 @@ fn exchanged(
 }
 
 /// How many attributes stand before the one of this name; all, where there is none.
-fn position(attrs: &[Attr], name: &Text) -> usize
+pub fn position(attrs: &[Attr], name: &Text) -> usize
     ensures place { result ≡ position_of name.now attrs.now }
     ensures within { result ≤ length attrs.now }
 {

@@ -44,6 +44,7 @@ impl Gathered {
     pub fn push(&mut self, op: Op, kept: Option<usize>) -> Result<(), Memory>
         requires even { vec_len self.old.ops ≡ vec_len self.old.kept }
         ensures even { OnOk result (vec_len self.new.ops ≡ vec_len self.new.kept) }
+        ensures ops { OnOk result (self.new.ops.items ≡ self.old.ops.items ++ op ∷ []) }
         ensures ok { OnOk result (with_positions self.new.ops.items self.new.kept.items ≡ with_positions self.old.ops.items self.old.kept.items ++ with_position op kept ∷ []) }
     {
         self.ops.push(op)?;

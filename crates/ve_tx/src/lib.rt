@@ -8,6 +8,7 @@ mod copies;
 mod draft;
 mod ends;
 mod entry;
+mod filled;
 mod gathered;
 mod inverse;
 mod making;

@@ -36,7 +36,7 @@ fn head_copy(alloc: Global, store: &Store, head: Option<ValueId>) -> Result<Head
 }
 
 /// The head of an opening as it is by now: the changed one, or a copy of the one that it cites.
-fn present_head(
+pub fn present_head(
     alloc: Global,
     store: &Store,
     item: Item,
@@ -55,7 +55,7 @@ fn present_head(
 }
 
 /// The head after one attribute operation more.
-fn next_head(
+pub fn next_head(
     alloc: Global,
     head: Head,
     name: &Text,

@@ -3,7 +3,7 @@ ghost use Rattle.std.specs.Prelude.{◌≡◌, ◌≤◌, ◌+◌, All, length, 
 ghost use Rattle.model_items.specs.Plain.{plain_list, CitesWell};
 ghost use Rattle.model_change.specs.Attributes.{AllNamesApart};
 ghost use Rattle.model_change.specs.Fault.{Applies, apply, fault};
-ghost use Rattle.model_change.specs.Inverse.{inverse, IsRestorable, IsUndoneBy};
+ghost use Rattle.model_change.specs.Inverse.{inverse, filled, IsRestorable, IsUndoneBy};
 ghost use Rattle.model_change.specs.Join.{active_range, core, with_ends};
 ghost use Rattle.model_change.specs.Store.{fill, changed_heads};
 ghost use Rattle.model_change.specs.Transaction.{is_normal};
@@ -18,6 +18,7 @@ use crate::change::prepared;
 use crate::check::check;
 use crate::copies::Copies;
 use crate::ends::with_ends;
+use crate::filled::filled;
 use crate::inverse::inverted;
 use crate::normal::is_normal;
 use crate::op::copy_all;
@@ -139,6 +140,30 @@ impl Transaction {
             self.ops.as_slice(),
             self.kept.as_slice(),
             last,
+        )?;
+        Ok(Transaction {
+            ops: made.ops,
+            kept: made.kept,
+        })
+    }
+
+    /// The same transaction, where it applies to the list, with a position kept beside each operation that removes an
+    /// attribute: the one that the attribute has just before, the earlier operations at its place being done. So its
+    /// inverse puts each one back where it was.
+    pub fn filled(&self, alloc: Global, list: &Linear, store: &Store) -> Result<Transaction, Memory>
+        requires list { All (CitesWell store.now) list.now.items }
+        requires applies { Applies (by_value store.now self.now) (plain_list store.now list.now.items) }
+        ensures ops { IfOk result (λ tx. map bare tx ≡ map bare self.now) }
+        ensures filled { IfOk result (λ tx. by_value store.now tx ≡ filled (by_value store.now self.now) (plain_list store.now list.now.items)) }
+        ensures restorable { IfOk result (λ tx. IsRestorable (by_value store.now tx) (plain_list store.now list.now.items)) }
+        ensures cites { IfOk result (λ tx. (values : _) → TxCites values self.now → TxCites values tx) }
+    {
+        let made = filled(
+            alloc,
+            self.ops.as_slice(),
+            self.kept.as_slice(),
+            list,
+            store,
         )?;
         Ok(Transaction {
             ops: made.ops,

@@ -1,0 +1,121 @@
+// The positions of removed attributes.
+ghost use Rattle.std.specs.Prelude.{◌≡◌, ◌≤◌, ◌+◌, ◌^◌, List, Some, None, drop, IfOk, All};
+ghost use Rattle.model_items.specs.declared.plain_item.PlainItem.{PlainItem};
+ghost use Rattle.model_items.specs.Plain.{plain_list, CitesWell};
+ghost use Rattle.model_change.specs.Attributes.{position_kept};
+ghost use Rattle.model_change.specs.Fault.{bad_attribute_at};
+ghost use Rattle.model_change.specs.Inverse as inverse;
+ghost use Rattle.ve_tx.specs.Filled.{standing, passed, op_filled, MayBeMade};
+ghost use Rattle.ve_tx.specs.Making.{headed, IsOpening};
+ghost use Rattle.ve_tx.specs.Normal.{size, total_size};
+ghost use Rattle.ve_tx.specs.Operation.{operation_by_value, by_value, with_position, with_positions};
+
+use crate::Op;
+use crate::attributes::position;
+use crate::gathered::Gathered;
+use crate::inverse::position_at;
+use crate::making::{next_head, present_head};
+use std::alloc::Global;
+use ve_base::{Head, Memory, Text};
+use ve_items::Linear;
+use ve_store::Store;
+
+/// A place of the old list, with the head of the item there, where operations have changed it.
+#[derive(Drop)]
+struct Cursor {
+    at: usize,
+    head: Option<Head>,
+}
+
+/// Past so many items. A changed head stays behind with its item.
+fn past(cursor: Cursor, count: usize) -> Cursor
+    requires { cursor.at + count ≤ 2 ^ 60 }
+    ensures at { result.at ≡ cursor.at + count }
+    ensures standing { (items : List PlainItem) → standing items result.at result.head ≡ drop count (standing items cursor.at cursor.head) }
+{
+    if count == 0 {
+        return cursor;
+    }
+    Cursor {
+        at: cursor.at + count,
+        head: None,
+    }
+}
+
+/// The position to keep: that of the attribute, where it is removed, and else the one that is kept already.
+fn position_to_keep(
+    head: &Head,
+    name: &Text,
+    kept: Option<usize>,
+    from: &Option<Text>,
+    to: &Option<Text>,
+) -> Option<usize>
+    ensures { (item : PlainItem) → IsOpening item → result ≡ position_kept from.now to.now name.now kept (headed (Some head.now) item) }
+{
+    match (from, to) {
+        (Some(_), None) => Some(position(head.attrs.as_slice(), name)),
+        (Some(_), Some(_)) => kept,
+        (None, _) => kept,
+    }
+}
+
+/// The cursor after an operation, and the position that the operation keeps.
+fn step(
+    alloc: Global,
+    cursor: Cursor,
+    op: &Op,
+    kept: Option<usize>,
+    list: &Linear,
+    store: &Store,
+) -> Result<(Cursor, Option<usize>), Memory>
+    requires fits { cursor.at + size op.now ≤ 2 ^ 60 }
+    requires list { All (CitesWell store.now) list.now.items }
+    requires allowed { MayBeMade (operation_by_value store.now (with_position op.now kept)) (standing (plain_list store.now list.now.items) cursor.at cursor.head) }
+    ensures at { IfOk result (λ next. next.0.at ≤ cursor.at + size op.now) }
+    ensures passed { IfOk result (λ next. standing (plain_list store.now list.now.items) next.0.at next.0.head ≡ passed (operation_by_value store.now (with_position op.now kept)) (standing (plain_list store.now list.now.items) cursor.at cursor.head)) }
+    ensures filled { IfOk result (λ next. operation_by_value store.now (with_position op.now next.1) ≡ op_filled (operation_by_value store.now (with_position op.now kept)) (standing (plain_list store.now list.now.items) cursor.at cursor.head)) }
+{
+    match op {
+        Op::Retain(count) => Ok((past(cursor, *count), kept)),
+        Op::Replace { removed, .. } => Ok((past(cursor, removed.as_slice().len()), kept)),
+        Op::Attribute { name, from, to } => {
+            let Cursor { at, head } = cursor;
+            let present = present_head(alloc, store, list.get(at), head)?;
+            let position = position_to_keep(&present, name, kept, from, to);
+            let next = next_head(alloc, present, name, kept, from, to)?;
+            Ok((
+                Cursor {
+                    at,
+                    head: Some(next),
+                },
+                position,
+            ))
+        }
+    }
+}
+
+/// Copies of the operations, each with its position or, where it removes an attribute, with the position that the
+/// attribute has just before.
+pub fn filled(
+    alloc: Global,
+    ops: &[Op],
+    kept: &[Option<usize>],
+    list: &Linear,
+    store: &Store,
+) -> Result<Gathered, Memory>
+    requires within { total_size ops.now ≤ 2 ^ 60 }
+    requires list { All (CitesWell store.now) list.now.items }
+    requires allowed { bad_attribute_at 0 (by_value store.now (with_positions ops.now kept.now)) (plain_list store.now list.now.items) ≡ None }
+    ensures ops { IfOk result (λ made. made.ops.items ≡ ops.now) }
+    ensures filled { IfOk result (λ made. by_value store.now (with_positions made.ops.items made.kept.items) ≡ inverse.filled (by_value store.now (with_positions ops.now kept.now)) (plain_list store.now list.now.items)) }
+{
+    let mut made = Gathered::new(alloc);
+    let mut cursor = Cursor { at: 0, head: None };
+    for i in 0..ops.len() {
+        let op = &ops[i];
+        let (next, position) = step(alloc, cursor, op, position_at(kept, i), list, store)?;
+        made.push(op.copy(alloc)?, position)?;
+        cursor = next;
+    }
+    Ok(made)
+}
