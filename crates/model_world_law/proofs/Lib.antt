@@ -3,6 +3,7 @@ pub mod NameLemmas
 pub mod MadeLemmas
 pub mod ChangeLemmas
 pub mod CauseLemmas
+pub mod ReadLemmas
 pub mod WrittenLemmas
 pub mod TypedLemmas
 pub mod LinkLemmas
