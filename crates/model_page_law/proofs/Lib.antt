@@ -42,6 +42,7 @@ pub mod ComposedLemmas
 pub mod SpanLemmas
 pub mod SpanCuts
 pub mod OriginPlaces
+pub mod RangeLemmas
 pub mod MadeRefers
 pub mod PageRefers
 pub mod EditsRefer

@@ -20,7 +20,7 @@ before-append : (o : Option ℕ) (xs ys : List ℕ) → origin_before o (xs ++ y
 before-append None xs ys = refl
 before-append (Some k) xs ys = refl
 
-origins_of-append : (xs ys : List PlainItem) → origins_of (xs ++ ys) ≡ origins_of xs ++ origins_of ys
+pub origins_of-append : (xs ys : List PlainItem) → origins_of (xs ++ ys) ≡ origins_of xs ++ origins_of ys
 origins_of-append [] ys = refl
 origins_of-append (Char c marks ∷ xs) ys = origins_of-append xs ys
 origins_of-append (Closing kind pre ∷ xs) ys = origins_of-append xs ys

@@ -50,7 +50,7 @@ bearing bodies at (Letter c marks later) = Letter c marks (bearing bodies (suc a
 bearing bodies at (Node s inside pre later) =
     Node (with_body (bodies at) s) (bearing bodies (suc at) inside) pre (bearing bodies (suc (suc at + length (plain inside))) later)
 
-carried_from-append : (bodies : ℕ → Option Body) (at : ℕ) (xs ys : List PlainItem) → carried_from bodies at (xs ++ ys) ≡ carried_from bodies at xs ++ carried_from bodies (at + length xs) ys
+pub carried_from-append : (bodies : ℕ → Option Body) (at : ℕ) (xs ys : List PlainItem) → carried_from bodies at (xs ++ ys) ≡ carried_from bodies at xs ++ carried_from bodies (at + length xs) ys
 carried_from-append bodies at [] ys = ap (λ n. carried_from bodies n ys) (omega arith)
 carried_from-append bodies at (Char c marks ∷ xs) ys =
     ap (λ zs. record { item = Char c marks; body = None } ∷ zs) (carried_from-append bodies (suc at) xs ys)
@@ -100,7 +100,7 @@ pub Below-more : (k m : ℕ) (xs : List Carried) → k ≤ m → Below k xs → 
 Below-more k m [] l h = tt
 Below-more k m (x ∷ xs) l h = ((λ j g. h.0 j (omega (arith, l, g))), Below-more k m xs l h.1)
 
-other_origin : (k j : ℕ) → k < j → option_same (λ m n. m == n) (Some k) (Some j) ≡ false
+pub other_origin : (k j : ℕ) → k < j → option_same (λ m n. m == n) (Some k) (Some j) ≡ false
 other_origin k j l = grind (arith, common_steps)
 
 pub Below-with_origins : (bodies : ℕ → Option Body) (at k : ℕ) (n : Nodes) → Below (k + openings n) (items_of (bearing bodies at (numbered_nodes k n)))
@@ -118,11 +118,11 @@ Below-with_origins bodies at k (Node s inside pre later) =
           ((λ j l. refl), Below-more (k2 + openings later) all outer (omega arith) (Below-with_origins bodies place k2 later)),
     )
 
-chosen_list : (c : Bool) (xs ys : List Carried) → c ≡ true → (if c then xs else ys) ≡ xs
+pub chosen_list : (c : Bool) (xs ys : List Carried) → c ≡ true → (if c then xs else ys) ≡ xs
 chosen_list true xs ys e = refl
 chosen_list false xs ys e = cc
 
-other_list : (c : Bool) (xs ys : List Carried) → c ≡ false → (if c then xs else ys) ≡ ys
+pub other_list : (c : Bool) (xs ys : List Carried) → c ≡ false → (if c then xs else ys) ≡ ys
 other_list true xs ys e = cc
 other_list false xs ys e = refl
 
@@ -130,7 +130,7 @@ node_with-append : (k : ℕ) (xs ys : List Carried) → Below k xs → node_with
 node_with-append k [] ys h = refl
 node_with-append k (x ∷ xs) ys h = other_list (has_origin k x.item) _ _ (h.0 k (omega arith)) ∙ node_with-append k xs ys h.1
 
-has_origin-itself : (k : ℕ) → option_same (λ m n. m == n) (Some k) (Some k) ≡ true
+pub has_origin-itself : (k : ℕ) → option_same (λ m n. m == n) (Some k) (Some k) ≡ true
 has_origin-itself k = grind (arith, common_steps)
 
 -- the node of the origin k, where no item before it has that origin or a greater one

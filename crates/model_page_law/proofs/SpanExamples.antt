@@ -1,12 +1,14 @@
 -- The spans and the places of a small page, by computation.
 use Rattle.std.proofs.Common.{◌≡◌, ℕ, ◌≤◌, List, [], ◌∷◌, ◌++◌, Some, refl, arith, IsCharBoundary}
-use Rattle.std.specs.Prelude.{codes}
+use Rattle.std.specs.Prelude.{codes, take, drop}
 use Rattle.ve_kinds.specs.declared.kind.Kind.TheVariants.{P}
 use Rattle.ve_base.specs.Empty.{empty_head}
 use Rattle.model_items.specs.declared.plain_item.PlainItem.{PlainItem}
 use Rattle.model_items.specs.declared.plain_item.PlainItem.TheVariants.{Char}
 use Rattle.model_page.proofs.OnLiterals.{page_on_literals}
 use Rattle.model_page.proofs.PageExamples.{open_, made_, close_, empty_list, items_in, spans_in, span}
+use Rattle.model_page_write.specs.Nodes.{carried_items}
+use Rattle.model_page_write.specs.PageText.{node_with}
 use Rattle.model_page_law.specs.Spans.{IsPart, NodeAt}
 
 -- an element with U+00E9 in it, of two bytes, and a bare run
@@ -53,3 +55,6 @@ run_stands = record {
   from_is = refl;
   to_is = refl;
 }
+
+is_compared : node_with 1 (carried_items items) ≡ take 3 (drop 3 (carried_items items))
+is_compared = refl

@@ -1,5 +1,5 @@
 -- Where the nodes of a page that was just opened come from, and where they stand in its list.
-use Rattle.std.specs.Prelude.{◌≡◌, ℕ, ◌+◌, ◌<◌, ◌≤◌, Bool, List, ◌∷◌, ◌++◌, length, Some, All, IsUtf8, IsCharBoundary}
+use Rattle.std.specs.Prelude.{◌≡◌, ℕ, ◌+◌, ◌-◌, ◌<◌, ◌≤◌, Bool, List, ◌∷◌, ◌++◌, length, take, drop, Some, All, IsUtf8, IsCharBoundary}
 use Rattle.ve_kinds.specs.declared.kind.Kind.{Kind}
 use Rattle.ve_base.specs.declared.marks.Mark.{Mark}
 use Rattle.ve_base.specs.declared.head.Head.{Head}
@@ -8,6 +8,8 @@ use Rattle.model_items.specs.declared.plain_item.PlainItem.TheVariants.{Opening,
 use Rattle.model_page.specs.References.{inside_from}
 use Rattle.model_page.specs.Pieces.{Span}
 use Rattle.model_page.specs.PageItems.{Opened, opened_page}
+use Rattle.model_page_write.specs.Nodes.{carried_items}
+use Rattle.model_page_write.specs.PageText.{node_with}
 
 -- ---- in the page
 
@@ -53,3 +55,8 @@ pub record NodeAt (items : List PlainItem) (k from to : ℕ) : Type 0 where
 -- The node of each origin stands in the list of the opened page, at a range of its places.
 abbrev pub OriginsStand : Type 0
 OriginsStand = (page : List ℕ) (o : Opened) → opened_page page ≡ Some o → (k : ℕ) → k < length o.spans → (from : ℕ) × (to : ℕ) × (to ≤ length o.items) × NodeAt o.items k from to
+
+-- So what a node of the origin k is compared with, where it may be kept, are the items at that range, with what they carry.
+abbrev pub RangesAreCompared : Type 0
+RangesAreCompared = (page : List ℕ) (o : Opened) → opened_page page ≡ Some o → (k from to : ℕ) → NodeAt o.items k from to →
+    node_with k (carried_items o.items) ≡ take (to - from) (drop from (carried_items o.items))

@@ -8,7 +8,7 @@ ghost use Rattle.model_page_law.specs.Origins.{OriginsNumberSpans};
 ghost use Rattle.model_page_law.specs.ReadBack.{FreshIsReadBack, FreshOpensAsItself};
 ghost use Rattle.model_page_law.specs.Referring.{EditsRefer, FragmentsRefer, InversesRefer, JoinListsRefer, JoinsRefer, OpenedRefers, ReplaysRefer, ReversalsRefer, RevokesRefer, SpelledRefers};
 ghost use Rattle.model_page_law.specs.Replaced.{BodyIsReplaced, WrittenIsReadBack, WrittenOpens};
-ghost use Rattle.model_page_law.specs.Spans.{BodyIsCut, OriginsStand, SpansAreParts};
+ghost use Rattle.model_page_law.specs.Spans.{BodyIsCut, OriginsStand, RangesAreCompared, SpansAreParts};
 ghost use Rattle.model_page_law.specs.WritesFresh.{WritesFresh};
 ghost use Rattle.model_page_law.specs.WrittenReference.{ReferenceHasBody, ReferenceIsWritten};
 ghost use Rattle.model_page_law.specs.WrittenBack.{FaultlessOpens, OpenedIsFaultless, OpenedIsWrittenBack, OpensAsItsForest, SpelledIsWrittenBack};
@@ -43,9 +43,10 @@ pub fn spans_are_parts()
     ensures spans { SpansAreParts }
 {}
 
-/// The node of each origin stands in the list of the opened page, from its opening to the closing of that.
+/// The node of each origin stands in the list of the opened page, from its opening to the closing of that; and what stands there is what a node of that origin is compared with, where it may be kept.
 pub fn origins_stand()
-    ensures { OriginsStand }
+    ensures stands { OriginsStand }
+    ensures compared { RangesAreCompared }
 {}
 
 /// Each reference of an opened page has its key and an editable `data-mw`, and each internal item has its key.
