@@ -1,4 +1,4 @@
--- The refusal that a fault is answered by. Want of memory is no reply, and what a line removes is the list's own: those cases are never asked for.
+-- The refusal that a fault is answered by. Want of memory is no reply, and what a line removes is the list's own: those cases are never asked for, and have the word of a full store.
 use Rattle.std.specs.Prelude.{Result, Ok, Err}
 use Rattle.model_spelling.specs.Faults.{ForestFault}
 use Rattle.model_spelling.specs.Faults as forest
