@@ -8,3 +8,5 @@ pub mod WrittenLemmas
 pub mod TypedLemmas
 pub mod LinkLemmas
 pub mod ReachLemmas
+pub mod ShownLemmas
+pub mod ShownItemLemmas

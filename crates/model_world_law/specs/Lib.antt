@@ -1,3 +1,4 @@
 pub mod Fit
 pub mod Causes
 pub mod Reached
+pub mod ShownLaws

@@ -4,6 +4,7 @@
 
 ghost use Rattle.model_world_law.specs.Fit.{LinesAreWritten, ChangesFit, MovesFit, PagesAreSound};
 ghost use Rattle.model_world_law.specs.Causes.{StoreFullIsFull};
+ghost use Rattle.model_world_law.specs.ShownLaws.{ShownIsRead};
 ghost use Rattle.model_world_law.specs.Reached.{EveryWorldIsReached, EverySiteHolds, SitesMeet, UneditedIsWrittenBack};
 
 /// A line that is read asks for operations in normal form, and for no opening with two attributes of one name. On a sound list, one that is lawful and
@@ -14,6 +15,12 @@ pub fn layers_fit()
     ensures changes { ChangesFit }
     ensures moves { MovesFit }
     ensures pages { PagesAreSound }
+{}
+
+/// Items that a line can write, elements without origin with well-written attributes, marks and white text, are shown so that they are read back.
+#[tactic(auto, using(crate::proofs::ShownItemLemmas::shown_is_read))]
+pub fn shown_is_read()
+    ensures { ShownIsRead }
 {}
 
 /// Want of memory, and an item that is not the one to be removed, are never the cause of a change's refusal: `store_full` is told only where the store would
