@@ -1,4 +1,4 @@
--- Going over attributes that are spelled, and reading one more.
+-- Attributes read one by one: what was read so far, whose names are known, and one more.
 use Rattle.std.proofs.Common.{◌≡◌, ◌≢◌, ℕ, suc, ◌+◌, ◌-◌, ◌<◌, ◌≤◌, Bool, true, false, cond, not, ◌&&◌, ◌||◌, eqb, List, [], ◌∷◌, ◌++◌, length, get_or, drop, take, Some, Ok, Err, refl, sym, ap, ◌∙◌, arith, append_assoc, add-zero, subst, inl, inr}
 use Rattle.std.specs.Prelude.{◌==◌, IsTrue, slice_index}
 use Rattle.std.proofs.lemmas.List.{drop-drop, get_or-drop, get_or_past, append-nil, drop_more, take-append-drop}
