@@ -32,3 +32,7 @@ mod TableGrowLemmas
 mod LeastLemmas
 mod LayLemmas
 mod LinkLemmas
+mod SiblingLemmas
+mod TableSetLemmas
+mod TableLinesLemmas
+mod TableCellLemmas

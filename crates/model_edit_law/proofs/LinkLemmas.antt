@@ -16,7 +16,7 @@ use Rattle.model_edit_law.specs.TableLaws.{GridLays}
 use Rattle.model_edit_law.proofs.LeastLemmas.{first_free-cells}
 
 -- what is laid where cells are placed
-abbrev rectangles : Result (List GridCell) TableFault → Option (List Rectangle)
+abbrev pub rectangles : Result (List GridCell) TableFault → Option (List Rectangle)
 rectangles (Err e) = None
 rectangles (Ok cells) = Some (map rectangle_of cells)
 
@@ -55,7 +55,7 @@ row_link items (n ∷ nodes) row left end before =
     out true = refl
     out false = refl
 
-rows_link : (items : List PlainItem) (rows : List Row) (row : ℕ) (r : Result (List GridCell) TableFault) →
+pub rows_link : (items : List PlainItem) (rows : List Row) (row : ℕ) (r : Result (List GridCell) TableFault) →
     lay row (map (line_at items) rows) (rectangles r) ≡ rectangles (with_rows items row rows r)
 rows_link items rows row (Err e) = refl
 rows_link items [] row (Ok before) = refl

@@ -124,7 +124,7 @@ row_within items kinds low high (one ∷ rows) (suc i) r c h =
     (omega arith, p.1)
 
 -- an earlier row ends before a later one begins
-rows_apart : (items : List PlainItem) (kinds : List Kind) (low high : ℕ) (rows : List Row) (i k : ℕ) (r later : Row) → Chain row_at items kinds low high rows →
+pub rows_apart : (items : List PlainItem) (kinds : List Kind) (low high : ℕ) (rows : List Row) (i k : ℕ) (r later : Row) → Chain row_at items kinds low high rows →
     slice_get rows i ≡ Some r → slice_get rows k ≡ Some later → i < k → suc (partner items r.at) ≤ later.at
 rows_apart items kinds low high [] i k r later c h g less = cc
 rows_apart items kinds low high (one ∷ rows) i zero r later c h g less = absurd (omega arith)
@@ -222,7 +222,7 @@ removed_may : (items : List PlainItem) (o : Option Row) → EachMay items (row_r
 removed_may items None = tt
 removed_may items (Some r) = tt
 
-row_ahead : (items : List PlainItem) (kinds : List Kind) (low high : ℕ) (rows : List Row) (i : ℕ) (r : Row) → Chain row_at items kinds low high rows → slice_get rows i ≡ Some r → suc r.at ≤ partner items r.at
+pub row_ahead : (items : List PlainItem) (kinds : List Kind) (low high : ℕ) (rows : List Row) (i : ℕ) (r : Row) → Chain row_at items kinds low high rows → slice_get rows i ≡ Some r → suc r.at ≤ partner items r.at
 row_ahead items kinds low high [] i r c h = cc
 row_ahead items kinds low high (one ∷ rows) zero r c h = let e : one ≡ r = cc in subst (λ (v : Row). suc v.at ≤ partner items v.at) e (c.1.2).ahead
 row_ahead items kinds low high (one ∷ rows) (suc i) r c h = row_ahead items kinds (end_of_node items one.at) high rows i r c.2 h

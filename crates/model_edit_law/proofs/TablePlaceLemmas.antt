@@ -170,11 +170,11 @@ children_of_stand items kinds kind at lawful o = Chain-kids items kinds (suc at)
 abbrev pub row_at : Row → ℕ
 row_at r = r.at
 
-section_stands : (items : List PlainItem) (low high : ℕ) (nodes : List Open) → Chain from_of items (Tr ∷ []) low high nodes → Chain row_at items (Tr ∷ []) low high (section_rows nodes)
+pub section_stands : (items : List PlainItem) (low high : ℕ) (nodes : List Open) → Chain from_of items (Tr ∷ []) low high nodes → Chain row_at items (Tr ∷ []) low high (section_rows nodes)
 section_stands items low high [] c = c
 section_stands items low high (n ∷ nodes) c = (c.0, c.1, section_stands items (end_of_node items n.from) high nodes c.2)
 
-sections_stand : (items : List PlainItem) (kinds : List Kind) (low high : ℕ) (nodes : List Open) → Lawful items → Chain from_of items kinds low high nodes →
+pub sections_stand : (items : List PlainItem) (kinds : List Kind) (low high : ℕ) (nodes : List Open) → Lawful items → Chain from_of items kinds low high nodes →
     Chain row_at items (Tr ∷ []) low high (flat_map (λ (section : Open). section_rows (children_of (Tr ∷ []) items section.from)) nodes)
 sections_stand items kinds low high [] lawful c = c
 sections_stand items kinds low high (n ∷ nodes) lawful c =
@@ -263,7 +263,7 @@ span_least name most (Some (Char c marks)) = omega arith
 span_least name most (Some (Closing kind pre)) = omega arith
 span_least name most (Some (Opening kind head marks pre origin generated)) = span_least_in most (value_of name head.attrs)
 
-if_ok_else : {A E : Type 0} (b : Bool) (e : E) (r : Result A E) (t : A) → (if b then Err e else r) ≡ Ok t → (b ≡ false) × (r ≡ Ok t)
+pub if_ok_else : {A E : Type 0} (b : Bool) (e : E) (r : Result A E) (t : A) → (if b then Err e else r) ≡ Ok t → (b ≡ false) × (r ≡ Ok t)
 if_ok_else true e r t h = cc
 if_ok_else false e r t h = (refl, h)
 
