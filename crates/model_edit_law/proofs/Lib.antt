@@ -36,3 +36,4 @@ mod SiblingLemmas
 mod TableSetLemmas
 mod TableLinesLemmas
 mod TableCellLemmas
+mod RowOutLemmas
