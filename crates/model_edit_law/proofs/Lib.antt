@@ -37,3 +37,4 @@ mod TableSetLemmas
 mod TableLinesLemmas
 mod TableCellLemmas
 mod RowOutLemmas
+mod RowOutGridLemmas

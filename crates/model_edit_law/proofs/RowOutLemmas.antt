@@ -6,13 +6,14 @@ use Rattle.std.proofs.lemmas.Bool.{cases_eq, lt-ltb, le-leb}
 use Rattle.std.proofs.lemmas.List.{length-take-le}
 use Rattle.std.proofs.Math.Seq.{drop-append-add}
 use Rattle.ve_kinds.specs.declared.kind.Kind.{Kind}
-use Rattle.ve_kinds.specs.declared.kind.Kind.TheVariants.{Thead, Tbody, Tfoot, Tr, InternalList}
+use Rattle.ve_kinds.specs.declared.kind.Kind.TheVariants.{Table, Thead, Tbody, Tfoot, Tr}
 use Rattle.ve_kinds.specs.Table.{kind_same, is_among}
 use Rattle.model_items.specs.declared.plain_item.PlainItem.{PlainItem}
-use Rattle.model_items.specs.declared.plain_item.PlainItem.TheVariants.{Opening, Closing}
+use Rattle.model_items.specs.declared.plain_item.PlainItem.TheVariants.{Char, Opening, Closing}
 use Rattle.model_items.specs.Law.{Lawful}
-use Rattle.model_items.specs.Tree.{Open, shape_of}
+use Rattle.model_items.specs.Tree.{Open, Shape, Letter, Begin, End, shape_of}
 use Rattle.model_change.proofs.TouchLemmas.{get-take-append}
+use Rattle.model_edit.specs.Brackets.{is_opening_of, passes}
 use Rattle.model_edit.specs.Offsets.{partner, end_of_node, children}
 use Rattle.model_edit.specs.Edits.{substituted_from}
 use Rattle.model_edit.specs.declared.grid_cell.GridCell.{GridCell}
@@ -228,4 +229,38 @@ module _ (items : List PlainItem) (at row : ℕ) (g : Grid) (lawful : Lawful ite
       let many = Rattle.std.proofs.lemmas.Option.slice_get_within (table_rows items at) row gone here in
       ap (λ v. map (line_at without) (flat_map (λ (section : Open). Rattle.model_edit.specs.Grid.section_rows (children_of (Tr ∷ []) without section.from)) v)) new_sections
       ∙ sym (sections_round items without p n row some lawful kinds ends (kids_of (Tr ∷ [])) sections 0 row (suc at) (partner items at) (omega arith) many
-      (children_of_stand items kinds Rattle.ve_kinds.specs.declared.kind.Kind.TheVariants.Table at lawful s.table) all)
+      (children_of_stand items kinds Table at lawful s.table) all)
+
+  -- the table still opens at its place
+  pub opens_still : passes (is_opening_of Table) (slice_get without at) ≡ true
+  opens_still =
+      let a = within.0 in
+      let o = s.table in
+      get_opening (slice_get without at)
+      (get_shape at without ∙ ap (λ v. slice_get v at) shapes_without ∙ sym (get_shape at (take p items ++ drop (n + p) items))
+      ∙ ap on_shape (get-take-append p items (drop (n + p) items) at (omega arith) (let b = room in let c = ends in omega arith) ∙ o.here))
+    where
+      on_shape : Option PlainItem → Option Shape
+      on_shape None = None
+      on_shape (Some x) = Some (shape_of x)
+
+      get_shape : (k : ℕ) (xs : List PlainItem) → on_shape (slice_get xs k) ≡ slice_get (map shape_of xs) k
+      get_shape k [] = refl
+      get_shape zero (x ∷ xs) = refl
+      get_shape (suc k) (x ∷ xs) = get_shape k xs
+
+      get_opening : (r : Option PlainItem) → on_shape r ≡ Some (Begin Table) → passes (is_opening_of Table) r ≡ true
+      get_opening None e = cc
+      get_opening (Some (Char c marks)) e = cc
+      get_opening (Some (Closing kind pre)) e = cc
+      get_opening (Some (Opening kind head marks pre origin generated)) e =
+          let z : kind ≡ Table = begins (let w : Begin kind ≡ Begin Table = cc in w) in
+          ap (λ k. kind_same k Table) z
+        where
+          kind_in : Shape → Rattle.ve_kinds.specs.declared.kind.Kind.Kind
+          kind_in (Begin k) = k
+          kind_in (End k) = k
+          kind_in Letter = Table
+
+          begins : Begin kind ≡ Begin Table → kind ≡ Table
+          begins w = ap kind_in w

@@ -1,12 +1,13 @@
 -- What the calls on tables keep.
-use Rattle.std.specs.Prelude.{◌≡◌, ◌⊎◌, ℕ, ◌<◌, List, [], length, filter_map, Some, None, Ok}
+use Rattle.std.specs.Prelude.{◌≡◌, ◌⊎◌, ℕ, ◌<◌, List, [], length, filter_map, Some, None, Result, Ok, Err}
 use Rattle.model_items.specs.declared.plain_item.PlainItem.{PlainItem}
 use Rattle.model_items.specs.declared.law_fault.LawFault.TheVariants.{TooDeep}
 use Rattle.model_items.specs.Law.{Lawful, verdict}
 use Rattle.model_change.specs.Transaction.{Transaction, edited}
 use Rattle.model_edit_law.specs.Fine.{Fine}
 use Rattle.model_edit.specs.Grid.{Grid, grid}
-use Rattle.model_edit.specs.Layout.{Rectangle, layout_of, without_row}
+use Rattle.model_edit.specs.declared.table_fault.TableFault.{TableFault}
+use Rattle.model_edit.specs.Layout.{Rectangle, Layout, layout_of, without_row, row_out_layout}
 use Rattle.model_edit_law.specs.Spans.{Line, lay, lines_of, lines_after, LowIn}
 use Rattle.model_edit.specs.Tables.{row_in, col_in, row_out, col_out}
 
@@ -38,6 +39,15 @@ RowOutLays = (lines : List Line) (gone : ℕ) (all : List Rectangle) → gone < 
 -- A grid's rectangles are those that its rows' spans give.
 abbrev pub GridLays : Type 0
 GridLays = (items : List PlainItem) (at : ℕ) (g : Grid) → grid items at ≡ Ok g → lay 0 (lines_of items at) (Some []) ≡ Some (layout_of g).rectangles
+
+-- Without a row that the call takes out, a table's grid is the old one without the row, cell by cell.
+abbrev pub laid_out : Result Grid TableFault → Result Layout TableFault
+laid_out (Err fault) = Err fault
+laid_out (Ok g) = Ok (layout_of g)
+
+abbrev pub RowOutGrid : Type 0
+RowOutGrid = (items : List PlainItem) (at row : ℕ) (t : Transaction) (g : Grid) → Lawful items → grid items at ≡ Ok g → row_out items at row ≡ Ok t →
+    laid_out (grid (edited t items) at) ≡ Ok (row_out_layout (layout_of g) row)
 
 -- A row put in leaves it lawful, or its nodes are nested over 100 deep.
 abbrev pub RowInStaysLawful : Type 0
