@@ -8,7 +8,7 @@ use Rattle.model_items.specs.declared.plain_item.PlainItem.{PlainItem}
 use Rattle.model_items.specs.Law.{Lawful}
 use Rattle.model_change.specs.Transaction.{Transaction, edited}
 use Rattle.model_edit.specs.Brackets.{is_opening_of, passes}
-use Rattle.model_edit.specs.Edits.{transaction_of, substituted_from}
+use Rattle.model_edit.specs.Edits.{Edit, transaction_of, InOrder}
 use Rattle.model_edit.specs.declared.grid_cell.GridCell.{GridCell}
 use Rattle.model_edit.specs.declared.table_fault.TableFault.{TableFault}
 use Rattle.model_edit.specs.declared.table_fault.TableFault.TheVariants.{NotTable, BadRow, Spanned}
@@ -61,13 +61,14 @@ low_in : (items : List PlainItem) (rows : List Row) (row : ℕ) (cells : List Gr
     first_fault (at_first (λ (c : GridCell). (c.row == row) && nat_lt 1 c.rows) cells (λ cell. Spanned cell)) ≡ None → LowIn row (map rectangle_of cells)
 low_in items rows row [] homes h = tt
 low_in items rows row (c ∷ cells) homes h =
-    let p = first_none ((c.row == row) && nat_lt 1 c.rows) (Spanned c.at) (at_first (λ (c : GridCell). (c.row == row) && nat_lt 1 c.rows) cells (λ cell. Spanned cell)) h in
-    ((λ e.
-      let low : nat_lt 1 c.rows ≡ false = ap (λ b. b && nat_lt 1 c.rows) (sym (eq-eqb c.row row e)) ∙ p.0 in
-      let most = ltb-false 1 c.rows low in
-      let least = (homes.0).tall in
-      omega arith),
-     low_in items rows row cells homes.1 p.1)
+    let p = first_none ((c.row == row) && nat_lt 1 c.rows) (Spanned c.at) (at_first (λ (c : GridCell). (c.row == row) && nat_lt 1 c.rows) cells (λ cell. Spanned cell)) h in (
+      (λ e.
+          let low : nat_lt 1 c.rows ≡ false = ap (λ b. b && nat_lt 1 c.rows) (sym (eq-eqb c.row row e)) ∙ p.0 in
+          let most = ltb-false 1 c.rows low in
+          let least = (homes.0).tall in
+          omega arith),
+      low_in items rows row cells homes.1 p.1,
+    )
 
 after_length : (gone above row : ℕ) (lines : List Line) → above < length lines → length (lines_after gone above row lines) ≡ length lines - 1
 after_length gone above row [] l = refl
@@ -104,47 +105,42 @@ row_out_grid items at row t g lawful given h =
     causes : Grid → Option TableFault
     causes v = first_fault ((nat_le v.rows row, BadRow row v.rows) ∷ at_first (λ (c : GridCell). (c.row == row) && nat_lt 1 c.rows) v.cells (λ cell. Spanned cell))
 
-    edits : Grid → Option Row → List Rattle.model_edit.specs.Edits.Edit
+    edits : Grid → Option Row → List Edit
     edits v o = map (λ (c : GridCell). set_rows (c.rows - 1) c) (filter (spans_row row) v.cells) ++ row_removed items o
+
+    none_within : (rows : List Row) (i : ℕ) → i < length rows → slice_get rows i ≡ None → ⊥
+    none_within [] i l e = omega arith
+    none_within (r ∷ rows) zero l e = cc
+    none_within (r ∷ rows) (suc i) l e = none_within rows i (omega arith) e
 
     by : (o : Option Row) → slice_get (table_rows items at) row ≡ o → fault_or (causes g) (transaction_of items (edits g o)) ≡ Ok t →
         laid_out (grid (edited t items) at) ≡ Ok (row_out_layout (layout_of g) row)
-    by o e f =
-        let s = grid_stands items at g lawful given in
+    by None e f =
+        let count = (grid_stands items at g lawful given).count in
         let q = first_none (nat_le g.rows row) (BadRow row g.rows) _ (no_fault (causes g) _ t f) in
         let l = leb-false g.rows row q.0 in
+        absurd (none_within (table_rows items at) row (omega arith) e)
+    by (Some gone) e f =
+        let s = grid_stands items at g lawful given in
         let count = s.count in
+        let q = first_none (nat_le g.rows row) (BadRow row g.rows) _ (no_fault (causes g) _ t f) in
+        let l = leb-false g.rows row q.0 in
         let low = low_in items (table_rows items at) row g.cells (s.cells).homes q.1 in
-        found o e f l
-      where
-        found : (o : Option Row) → slice_get (table_rows items at) row ≡ o → fault_or (causes g) (transaction_of items (edits g o)) ≡ Ok t → row < g.rows →
-            laid_out (grid (edited t items) at) ≡ Ok (row_out_layout (layout_of g) row)
-        found None e f l =
-            absurd (let s = grid_stands items at g lawful given in
-            let c = s.count in
-            none_within (table_rows items at) row (omega arith) e)
-          where
-            none_within : (rows : List Row) (i : ℕ) → i < length rows → slice_get rows i ≡ None → ⊥
-            none_within [] i l e = omega arith
-            none_within (r ∷ rows) zero l e = cc
-            none_within (r ∷ rows) (suc i) l e = none_within rows i (omega arith) e
-        found (Some gone) e f l =
-            let s = grid_stands items at g lawful given in
-            let count = s.count in
-            let q = first_none (nat_le g.rows row) (BadRow row g.rows) _ (no_fault (causes g) _ t f) in
-            let low = low_in items (table_rows items at) row g.cells (s.cells).homes q.1 in
-            let places = grid_places items at g given in
-            let new = without items at row g lawful s gone e places in
-            let lines = lines_of items at in
-            let long : length lines ≡ g.rows = length_map (line_at items) (table_rows items at) ∙ sym count in
-            let is_new : edited t items ≡ new =
-            ap (λ v. edited v items) (sym (fault_or_is _ (transaction_of items (edits g (Some gone))) t f))
-            ∙ edited-transaction_from 0 items (edits g (Some gone)) (subst (λ k. Rattle.model_edit.specs.Edits.InOrder 0 k (edits g (Some gone))) (sym (zero-add (length items))) (row_out_order items at row g s (Some gone) e))
-            ∙ made items at row g lawful s gone e places in
-            let lines_new : lines_of new at ≡ lines_after row row 0 lines = lines_without items at row g lawful s gone e places in
-            let laid = row_out_lays lines row (map rectangle_of g.cells) (omega arith) low (grid_lays items at g given) in
-            let fewer : length (table_rows new at) ≡ g.rows - 1 =
-            sym (length_map (line_at new) (table_rows new at)) ∙ ap length lines_new ∙ after_length row row 0 lines (omega arith) ∙ ap (λ k. k - 1) long in
-            ap (λ v. laid_out (grid v at)) is_new
-            ∙ lays_grid new at (filter_map (without_row row) (map rectangle_of g.cells)) (opens_still items at row g lawful s gone e places) (ap (λ v. lay 0 v (Some [])) lines_new ∙ laid)
-            ∙ ap (λ k. Ok (with_rectangles k (filter_map (without_row row) (map rectangle_of g.cells)))) fewer
+        let places = grid_places items at g given in
+        let new = without items at row g lawful s gone e places in
+        let lines = lines_of items at in
+        let left = filter_map (without_row row) (map rectangle_of g.cells) in
+        let long : length lines ≡ g.rows = length_map (line_at items) (table_rows items at) ∙ sym count in
+        let order : InOrder 0 (0 + length items) (edits g (Some gone)) =
+        subst (λ k. InOrder 0 k (edits g (Some gone))) (sym (zero-add (length items))) (row_out_order items at row g s (Some gone) e) in
+        let is_new : edited t items ≡ new =
+        ap (λ v. edited v items) (sym (fault_or_is _ (transaction_of items (edits g (Some gone))) t f))
+        ∙ edited-transaction_from 0 items (edits g (Some gone)) order
+        ∙ made items at row g lawful s gone e places in
+        let lines_new : lines_of new at ≡ lines_after row row 0 lines = lines_without items at row g lawful s gone e places in
+        let laid = row_out_lays lines row (map rectangle_of g.cells) (omega arith) low (grid_lays items at g given) in
+        let fewer : length (table_rows new at) ≡ g.rows - 1 =
+        sym (length_map (line_at new) (table_rows new at)) ∙ ap length lines_new ∙ after_length row row 0 lines (omega arith) ∙ ap (λ k. k - 1) long in
+        ap (λ v. laid_out (grid v at)) is_new
+        ∙ lays_grid new at left (opens_still items at row g lawful s gone e places) (ap (λ v. lay 0 v (Some [])) lines_new ∙ laid)
+        ∙ ap (λ k. Ok (with_rectangles k left)) fewer

@@ -2,7 +2,8 @@
 use Rattle.std.specs.Prelude.{slice_get, filter, filter_map, flat_map, codes, decimal}
 use Rattle.std.specs.List.{cons_option}
 use Rattle.std.proofs.Common.{◌≡◌, ◌⊎◌, inl, inr, ℕ, zero, suc, ◌+◌, ◌-◌, ◌<◌, ◌≤◌, Bool, true, false, ◌&&◌, if◌then◌else◌, nat_le, nat_lt, List, [], ◌∷◌, ◌++◌, length, map, take, drop, Option, Some, None, refl, sym, ap, ◌∙◌, subst, arith, length-drop}
-use Rattle.std.proofs.lemmas.Bool.{cases_eq, lt-ltb, le-leb}
+use Rattle.std.proofs.lemmas.Bool.{ltb-true, ltb-false, lt-ltb, le-leb}
+use Rattle.std.proofs.lemmas.Option.{slice_get_within}
 use Rattle.std.proofs.lemmas.List.{length-take-le}
 use Rattle.std.proofs.Math.Seq.{drop-append-add}
 use Rattle.ve_kinds.specs.declared.kind.Kind.{Kind}
@@ -17,7 +18,7 @@ use Rattle.model_edit.specs.Brackets.{is_opening_of, passes}
 use Rattle.model_edit.specs.Offsets.{partner, end_of_node, children}
 use Rattle.model_edit.specs.Edits.{substituted_from}
 use Rattle.model_edit.specs.declared.grid_cell.GridCell.{GridCell}
-use Rattle.model_edit.specs.Grid.{Row, Grid, grid, children_of, table_rows, row_cells}
+use Rattle.model_edit.specs.Grid.{Row, Grid, children_of, section_rows, table_rows, row_cells}
 use Rattle.model_edit.specs.Tables.{spans_row, whole_node}
 use Rattle.model_edit_law.specs.Spans.{Span, span_after, lines_after, span_at, line_at, lines_of}
 use Rattle.model_edit_law.proofs.BracketLemmas.{node_parts, slice_get-split}
@@ -203,10 +204,10 @@ module _ (items : List PlainItem) (at row : ℕ) (g : Grid) (lawful : Lawful ite
       cases a b = by (nat_lt a b) (nat_lt b a) refl refl
         where
           by : (x y : Bool) → nat_lt a b ≡ x → nat_lt b a ≡ y → (a < b) ⊎ ((a ≡ b) ⊎ (b < a))
-          by true y e f = inl (Rattle.std.proofs.lemmas.Bool.ltb-true a b e)
-          by false true e f = inr (inr (Rattle.std.proofs.lemmas.Bool.ltb-true b a f))
+          by true y e f = inl (ltb-true a b e)
+          by false true e f = inr (inr (ltb-true b a f))
           by false false e f =
-              let l = Rattle.std.proofs.lemmas.Bool.ltb-false a b e in let m = Rattle.std.proofs.lemmas.Bool.ltb-false b a f in inr (inl (omega arith))
+              let l = ltb-false a b e in let m = ltb-false b a f in inr (inl (omega arith))
 
       outside : (k < row) ⊎ ((k ≡ row) ⊎ (row < k)) → Outside p n r.at
       outside (inl l) =
@@ -226,8 +227,8 @@ module _ (items : List PlainItem) (at row : ℕ) (g : Grid) (lawful : Lawful ite
       let all = all_kept items without p n row (table_rows items at) 0
       (λ k r e other. let z : k ≡ 0 + k = omega arith in subst (λ m. Kept items without p n row m r) z (row_kept k r e (λ w. other (omega arith))))
       (λ k r e w. let z : row ≡ k = omega arith in let q : ◌≡◌ {A = Option Row} (Some r) (Some gone) = sym e ∙ ap (slice_get (table_rows items at)) (sym z) ∙ here in let y : r ≡ gone = cc in ap (λ (v : Row). v.at) y) in
-      let many = Rattle.std.proofs.lemmas.Option.slice_get_within (table_rows items at) row gone here in
-      ap (λ v. map (line_at without) (flat_map (λ (section : Open). Rattle.model_edit.specs.Grid.section_rows (children_of (Tr ∷ []) without section.from)) v)) new_sections
+      let many = slice_get_within (table_rows items at) row gone here in
+      ap (λ v. map (line_at without) (flat_map (λ (section : Open). section_rows (children_of (Tr ∷ []) without section.from)) v)) new_sections
       ∙ sym (sections_round items without p n row some lawful kinds ends (kids_of (Tr ∷ [])) sections 0 row (suc at) (partner items at) (omega arith) many
       (children_of_stand items kinds Table at lawful s.table) all)
 
@@ -257,7 +258,7 @@ module _ (items : List PlainItem) (at row : ℕ) (g : Grid) (lawful : Lawful ite
           let z : kind ≡ Table = begins (let w : Begin kind ≡ Begin Table = cc in w) in
           ap (λ k. kind_same k Table) z
         where
-          kind_in : Shape → Rattle.ve_kinds.specs.declared.kind.Kind.Kind
+          kind_in : Shape → Kind
           kind_in (Begin k) = k
           kind_in (End k) = k
           kind_in Letter = Table

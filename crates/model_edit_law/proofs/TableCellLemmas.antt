@@ -8,7 +8,7 @@ use Rattle.ve_base.specs.declared.marks.Mark.{Mark}
 use Rattle.model_items.specs.declared.plain_item.PlainItem.{PlainItem}
 use Rattle.model_items.specs.declared.plain_item.PlainItem.TheVariants.{Char, Opening, Closing}
 use Rattle.model_items.specs.Tree.{Open}
-use Rattle.model_change.specs.Attributes.{value_of}
+use Rattle.model_change.specs.Attributes.{value_of, attrs_changed, position_kept}
 use Rattle.model_edit.specs.declared.grid_cell.GridCell.{GridCell}
 use Rattle.model_edit.specs.declared.table_fault.TableFault.{TableFault}
 use Rattle.model_edit.specs.Grid.{Row, row_cells, number_of, span_by, span_in, span_of, most_rows, most_columns, placed, is_crooked, with_row, with_rows}
@@ -108,7 +108,7 @@ module _ (kind : Kind) (head : Head) (marks : List Mark) (pre : List ℕ) (origi
 
   rows_written : (m : ℕ) → 1 ≤ m → m ≤ most_rows → span_read (set_in (codes "rowspan") (Some (decimal m)) (Some cell_item)) ≡ record (span_read (Some cell_item)) { rows = m }
   rows_written m some most =
-      let rows : span_in most_rows (value_of (codes "rowspan") (Rattle.model_change.specs.Attributes.attrs_changed (codes "rowspan") (Rattle.model_change.specs.Attributes.position_kept (value_of (codes "rowspan") head.attrs) (Some (decimal m)) (codes "rowspan") None cell_item) (value_of (codes "rowspan") head.attrs) (Some (decimal m)) head.attrs)) ≡ m =
+      let rows : span_in most_rows (value_of (codes "rowspan") (attrs_changed (codes "rowspan") (position_kept (value_of (codes "rowspan") head.attrs) (Some (decimal m)) (codes "rowspan") None cell_item) (value_of (codes "rowspan") head.attrs) (Some (decimal m)) head.attrs)) ≡ m =
       ap (span_in most_rows) (attrs_set (codes "rowspan") (decimal m) head.attrs cell_item) ∙ span_written most_rows m some most (omega arith) in
       let columns = ap (span_in most_columns) (attrs_other (codes "rowspan") (decimal m) (codes "colspan") head.attrs cell_item refl) in
       (λ i. record { rows = rows i; columns = columns i })
