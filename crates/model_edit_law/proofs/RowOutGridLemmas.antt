@@ -1,11 +1,9 @@
 -- The grid of a table without a row is the old one without it.
-use Rattle.std.specs.Prelude.{slice_get, filter, filter_map, fold, max, codes, decimal}
-use Rattle.std.proofs.Common.{◌≡◌, ◌⊎◌, inl, inr, ℕ, zero, suc, ◌+◌, ◌-◌, ◌<◌, ◌≤◌, ◌==◌, Bool, true, false, ◌&&◌, if◌then◌else◌, nat_le, nat_lt, List, [], ◌∷◌, ◌++◌, length, map, take, drop, Option, Some, None, Result, Ok, Err, refl, sym, ap, ◌∙◌, subst, arith, zero-add}
-use Rattle.std.proofs.lemmas.Bool.{eq-eqb, leb-true, leb-false, ltb-false, true≢false, le-leb}
-use Rattle.std.proofs.lemmas.Option.{slice_get_past, slice_get_within}
+use Rattle.std.specs.Prelude.{slice_get, filter, filter_map, fold, max}
+use Rattle.std.proofs.Common.{◌≡◌, ℕ, zero, suc, ◌+◌, ◌-◌, ◌<◌, ◌==◌, Bool, true, false, ◌&&◌, if◌then◌else◌, nat_le, nat_lt, List, [], ◌∷◌, ◌++◌, length, map, Option, Some, None, Result, Ok, Err, refl, sym, ap, ◌∙◌, subst, arith, zero-add}
+use Rattle.std.proofs.lemmas.Bool.{eq-eqb, leb-false, ltb-false}
 use Rattle.ve_kinds.specs.declared.kind.Kind.TheVariants.{Table}
 use Rattle.model_items.specs.declared.plain_item.PlainItem.{PlainItem}
-use Rattle.model_items.specs.Law.{Lawful}
 use Rattle.model_change.specs.Transaction.{Transaction, edited}
 use Rattle.model_edit.specs.Brackets.{is_opening_of, passes}
 use Rattle.model_edit.specs.Edits.{Edit, transaction_of, InOrder}
@@ -13,18 +11,18 @@ use Rattle.model_edit.specs.declared.grid_cell.GridCell.{GridCell}
 use Rattle.model_edit.specs.declared.table_fault.TableFault.{TableFault}
 use Rattle.model_edit.specs.declared.table_fault.TableFault.TheVariants.{NotTable, BadRow, Spanned}
 use Rattle.model_edit.specs.Grid.{Row, Grid, grid, grid_with, right_end, table_rows, row_cells, with_rows}
-use Rattle.model_edit.specs.Layout.{Rectangle, Layout, layout_of, with_rectangles, end_of_columns, without_row, row_out_layout}
-use Rattle.model_edit.specs.Tables.{spans_row, set_rows, whole_node, row_removed, fault_or, first_fault, at_first}
+use Rattle.model_edit.specs.Layout.{Rectangle, layout_of, with_rectangles, without_row, row_out_layout}
+use Rattle.model_edit.specs.Tables.{spans_row, set_rows, row_removed, fault_or, first_fault, at_first}
 use Rattle.model_edit_law.specs.Spans.{Line, rectangle_of, lay, lines_of, line_at, lines_after, LowIn}
 use Rattle.model_edit_law.specs.TableLaws.{laid_out, RowOutGrid}
 use Rattle.model_edit_law.proofs.EditLemmas.{edited-transaction_from}
 use Rattle.model_edit_law.proofs.LayLemmas.{row_out_lays}
 use Rattle.model_edit_law.proofs.LinkLemmas.{rectangles, rows_link, grid_lays}
-use Rattle.model_edit_law.proofs.TablePlaceLemmas.{Home, Homes, grid_stands}
-use Rattle.model_edit_law.proofs.TableFineLemmas.{sets, fault_or_is, grid_given, row_out_order}
+use Rattle.model_edit_law.proofs.TablePlaceLemmas.{Homes, grid_stands}
+use Rattle.model_edit_law.proofs.TableFineLemmas.{fault_or_is, grid_given, row_out_order}
 use Rattle.model_edit_law.proofs.TableSetLemmas.{length_map}
 use Rattle.model_edit_law.proofs.TableCellLemmas.{AllPlaced, rows_placed}
-use Rattle.model_edit_law.proofs.RowOutLemmas.{without, made, shapes_without, lines_without, opens_still}
+use Rattle.model_edit_law.proofs.RowOutLemmas.{without, made, lines_without, opens_still}
 
 end_cells : (end : ℕ) (cells : List GridCell) →
     fold (λ e (c : GridCell). max e (c.column + c.columns)) end cells ≡ fold (λ e (r : Rectangle). max e (r.column + r.columns)) end (map rectangle_of cells)

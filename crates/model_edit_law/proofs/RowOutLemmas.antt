@@ -1,14 +1,14 @@
 -- The list of a table without a row: its lines are those without the row.
 use Rattle.std.specs.Prelude.{slice_get, filter, filter_map, flat_map, codes, decimal}
 use Rattle.std.specs.List.{cons_option}
-use Rattle.std.proofs.Common.{◌≡◌, ◌⊎◌, inl, inr, ℕ, zero, suc, ◌+◌, ◌-◌, ◌<◌, ◌≤◌, Bool, true, false, ◌&&◌, if◌then◌else◌, nat_le, nat_lt, List, [], ◌∷◌, ◌++◌, length, map, take, drop, Option, Some, None, refl, sym, ap, ◌∙◌, subst, arith, length-drop}
+use Rattle.std.proofs.Common.{◌≡◌, ◌⊎◌, inl, inr, ℕ, zero, suc, ◌+◌, ◌-◌, ◌<◌, ◌≤◌, Bool, true, false, ◌&&◌, if◌then◌else◌, nat_le, nat_lt, List, [], ◌∷◌, ◌++◌, length, map, take, drop, Option, Some, None, refl, sym, ap, ◌∙◌, subst, arith}
 use Rattle.std.proofs.lemmas.Bool.{ltb-true, ltb-false, lt-ltb, le-leb}
 use Rattle.std.proofs.lemmas.Option.{slice_get_within}
 use Rattle.std.proofs.lemmas.List.{length-take-le}
 use Rattle.std.proofs.Math.Seq.{drop-append-add}
 use Rattle.ve_kinds.specs.declared.kind.Kind.{Kind}
 use Rattle.ve_kinds.specs.declared.kind.Kind.TheVariants.{Table, Thead, Tbody, Tfoot, Tr}
-use Rattle.ve_kinds.specs.Table.{kind_same, is_among}
+use Rattle.ve_kinds.specs.Table.{kind_same}
 use Rattle.model_items.specs.declared.plain_item.PlainItem.{PlainItem}
 use Rattle.model_items.specs.declared.plain_item.PlainItem.TheVariants.{Char, Opening, Closing}
 use Rattle.model_items.specs.Law.{Lawful}
@@ -20,9 +20,9 @@ use Rattle.model_edit.specs.Edits.{substituted_from}
 use Rattle.model_edit.specs.declared.grid_cell.GridCell.{GridCell}
 use Rattle.model_edit.specs.Grid.{Row, Grid, children_of, section_rows, table_rows, row_cells}
 use Rattle.model_edit.specs.Tables.{spans_row, whole_node}
-use Rattle.model_edit_law.specs.Spans.{Span, span_after, lines_after, span_at, line_at, lines_of}
+use Rattle.model_edit_law.specs.Spans.{span_after, lines_after, span_at, line_at, lines_of}
 use Rattle.model_edit_law.proofs.BracketLemmas.{node_parts, slice_get-split}
-use Rattle.model_edit_law.proofs.TablePlaceLemmas.{Opens, Chain, Chain-ends, Chain-filter, Chain-within, from_of, row_at, cell_kinds, cell_at, children_of_stand, Standing}
+use Rattle.model_edit_law.proofs.TablePlaceLemmas.{Opens, Chain, Chain-ends, Chain-filter, from_of, cell_kinds, cell_at, children_of_stand, Standing}
 use Rattle.model_edit_law.proofs.TableFineLemmas.{drop_twice, sets, row_within, rows_apart, row_ahead, row_out_order}
 use Rattle.model_edit_law.proofs.TableLawfulLemmas.{row_opens}
 use Rattle.model_edit_law.proofs.SiblingLemmas.{place_without, node_without, Outside, place_kept, place_moved, node_outside, children_same, children_without, children_of-without}

@@ -1,8 +1,8 @@
 -- A list without one node: in each other node stand the same nodes but for that one, and those behind it are moved.
 use Rattle.std.specs.Prelude.{filter, filter_map}
 use Rattle.std.specs.List.{cons_option}
-use Rattle.std.proofs.Common.{◌≡◌, ◌⊎◌, inl, inr, ℕ, zero, suc, ◌+◌, ◌-◌, ◌<◌, ◌≤◌, Bool, true, false, cond, if◌then◌else◌, nat_lt, List, [], ◌∷◌, ◌++◌, length, map, take, drop, Option, Some, None, refl, sym, ap, ◌∙◌, subst, arith, length-append, length-drop}
-use Rattle.std.proofs.lemmas.Bool.{cases_Bool, ltb-true, lt-ltb, false_from_ne_true}
+use Rattle.std.proofs.Common.{◌≡◌, ◌⊎◌, inl, inr, ℕ, zero, suc, ◌+◌, ◌-◌, ◌<◌, ◌≤◌, Bool, true, false, cond, if◌then◌else◌, nat_lt, List, [], ◌∷◌, ◌++◌, length, map, drop, Option, Some, None, refl, sym, ap, ◌∙◌, subst, arith, length-append, length-drop}
+use Rattle.std.proofs.lemmas.Bool.{ltb-true, lt-ltb, false_from_ne_true}
 use Rattle.std.proofs.lemmas.List.{append_assoc, drop-append-le}
 use Rattle.std.proofs.Math.Seq.{drop-append-add}
 use Rattle.ve_kinds.specs.declared.kind.Kind.{Kind}

@@ -1,12 +1,12 @@
 -- The cells of a table in its grid, and the spans that are read where one is set.
-use Rattle.std.specs.Prelude.{slice_get, codes, decimal, ◌^◌}
-use Rattle.std.proofs.Common.{◌≡◌, ◌⊎◌, inl, inr, ℕ, zero, suc, ◌+◌, ◌-◌, ◌<◌, ◌≤◌, Bool, true, false, if◌then◌else◌, nat_le, nat_lt, List, [], ◌∷◌, ◌++◌, length, map, Option, Some, None, Result, Ok, Err, refl, sym, ap, ◌∙◌, subst, arith}
+use Rattle.std.specs.Prelude.{slice_get, codes, decimal}
+use Rattle.std.proofs.Common.{◌≡◌, inl, inr, ℕ, zero, suc, ◌+◌, ◌-◌, ◌<◌, ◌≤◌, Bool, true, false, if◌then◌else◌, nat_le, nat_lt, List, [], ◌∷◌, ◌++◌, Option, Some, None, Result, Ok, Err, refl, sym, ap, ◌∙◌, subst, arith}
 use Rattle.std.proofs.lemmas.Bool.{ltb-true, leb-true}
 use Rattle.ve_kinds.specs.declared.kind.Kind.{Kind}
 use Rattle.ve_base.specs.declared.head.Head.{Head}
 use Rattle.ve_base.specs.declared.marks.Mark.{Mark}
 use Rattle.model_items.specs.declared.plain_item.PlainItem.{PlainItem}
-use Rattle.model_items.specs.declared.plain_item.PlainItem.TheVariants.{Char, Opening, Closing}
+use Rattle.model_items.specs.declared.plain_item.PlainItem.TheVariants.{Opening}
 use Rattle.model_items.specs.Tree.{Open}
 use Rattle.model_change.specs.Attributes.{value_of, attrs_changed, position_kept}
 use Rattle.model_edit.specs.declared.grid_cell.GridCell.{GridCell}

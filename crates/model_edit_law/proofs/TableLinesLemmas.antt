@@ -1,9 +1,8 @@
 -- A table without a row, line by line.
 use Rattle.std.specs.Prelude.{filter_map, flat_map, slice_get}
 use Rattle.std.specs.List.{cons_option}
-use Rattle.std.proofs.Common.{◌≡◌, ◌⊎◌, inl, inr, ℕ, zero, suc, ◌+◌, ◌-◌, ◌<◌, ◌≤◌, Bool, true, false, if◌then◌else◌, nat_lt, List, [], ◌∷◌, ◌++◌, length, map, Option, Some, None, refl, sym, ap, ◌∙◌, subst, arith, length-append}
+use Rattle.std.proofs.Common.{◌≡◌, ◌⊎◌, inl, inr, ℕ, zero, suc, ◌+◌, ◌-◌, ◌<◌, ◌≤◌, true, false, if◌then◌else◌, nat_lt, List, [], ◌∷◌, ◌++◌, length, map, Some, refl, sym, ap, ◌∙◌, subst, arith, length-append}
 use Rattle.std.proofs.lemmas.Bool.{cases_Bool, ltb-true, ltb-false, lt-ltb}
-use Rattle.std.proofs.lemmas.List.{append_assoc}
 use Rattle.ve_kinds.specs.declared.kind.Kind.{Kind}
 use Rattle.ve_kinds.specs.declared.kind.Kind.TheVariants.{Tr}
 use Rattle.model_items.specs.declared.plain_item.PlainItem.{PlainItem}
@@ -11,10 +10,10 @@ use Rattle.model_items.specs.Law.{Lawful}
 use Rattle.model_items.specs.Tree.{Open}
 use Rattle.model_edit.specs.Offsets.{partner, end_of_node}
 use Rattle.model_edit.specs.Grid.{Row, children_of, section_rows, row_cells}
-use Rattle.model_edit_law.specs.Spans.{Span, Line, span_after, line_after, lines_after, span_at, line_at}
+use Rattle.model_edit_law.specs.Spans.{Line, span_after, lines_after, span_at, line_at}
 use Rattle.model_edit_law.proofs.SiblingLemmas.{place_without, node_without, Outside, no_less, node_outside, node_gone}
 use Rattle.model_edit_law.proofs.TableSetLemmas.{map-append}
-use Rattle.model_edit_law.proofs.TablePlaceLemmas.{Chain, Chain-ends, from_of, row_at, children_of_stand, section_stands, sections_stand}
+use Rattle.model_edit_law.proofs.TablePlaceLemmas.{Chain, from_of, children_of_stand, section_stands, sections_stand}
 use Rattle.model_edit_law.proofs.TableFineLemmas.{row_within}
 
 section_length : (nodes : List Open) → length (section_rows nodes) ≡ length nodes

@@ -1,24 +1,23 @@
 -- Attributes set at cells: which items they change, and what a table reads of those.
-use Rattle.std.specs.Prelude.{slice_get, filter, codes, decimal, ◌^◌, ◌*◌}
-use Rattle.std.proofs.Common.{◌≡◌, ◌⊎◌, inl, inr, ℕ, zero, suc, ◌+◌, ◌-◌, ◌<◌, ◌≤◌, ◌==◌, Bool, true, false, cond, if◌then◌else◌, nat_lt, List, [], ◌∷◌, ◌++◌, length, map, take, drop, Option, Some, None, refl, sym, ap, ◌∙◌, subst, arith, length-append, length-drop}
+use Rattle.std.specs.Prelude.{slice_get, filter}
+use Rattle.std.proofs.Common.{◌≡◌, ◌⊎◌, inl, inr, ℕ, zero, suc, ◌+◌, ◌-◌, ◌<◌, ◌≤◌, ◌==◌, Bool, true, false, cond, if◌then◌else◌, nat_lt, List, [], ◌∷◌, ◌++◌, length, map, take, drop, Option, Some, None, refl, sym, ap, ◌∙◌, subst, arith, length-drop}
 use Rattle.std.proofs.lemmas.Bool.{cases_Bool, ltb-true, ltb-false, eq-eqb, ne_eqb}
 use Rattle.std.proofs.lemmas.List.{append_assoc, take-append-drop, length-take-le}
 use Rattle.std.proofs.Math.Seq.{take-append-add}
-use Rattle.ve_kinds.specs.declared.kind.Kind.{Kind}
 use Rattle.ve_base.specs.declared.attrs.Attr.{Attr}
 use Rattle.model_items.specs.declared.plain_item.PlainItem.{PlainItem}
 use Rattle.model_items.specs.declared.plain_item.PlainItem.TheVariants.{Char, Opening, Closing}
 use Rattle.model_items.specs.Same.{text_same}
 use Rattle.model_items.proofs.SameLemmas.{Means-text_same}
-use Rattle.model_items.specs.Tree.{Shape, shape_of}
+use Rattle.model_items.specs.Tree.{shape_of}
 use Rattle.model_change.specs.Attributes.{AttrChange, value_of, attr_replaced, attrs_changed, position_kept, item_changed}
 use Rattle.model_change.specs.Transaction.{on_first}
 use Rattle.model_change.proofs.TouchLemmas.{get-take-append}
 use Rattle.model_edit.specs.Offsets.{end_of_node}
-use Rattle.model_edit.specs.Edits.{Edit, Change, Set, setting, substituted_from, InOrder}
+use Rattle.model_edit.specs.Edits.{Change, setting, substituted_from, InOrder}
 use Rattle.model_edit.specs.declared.grid_cell.GridCell.{GridCell}
 use Rattle.model_edit_law.proofs.EditLemmas.{drop-on_first, length-on_first, order_ends, earlier_order}
-use Rattle.model_edit_law.proofs.TablePlaceLemmas.{Opens, Chain, Chain-within, Chain-ends, Chain-filter, cell_kinds, cell_at}
+use Rattle.model_edit_law.proofs.TablePlaceLemmas.{Chain, Chain-ends, Chain-filter, cell_kinds, cell_at}
 use Rattle.model_edit_law.proofs.TableFineLemmas.{drop_twice, sets}
 
 pub map-append : {A B : Type 0} (f : A → B) (xs ys : List A) → map f (xs ++ ys) ≡ map f xs ++ map f ys
