@@ -8,6 +8,8 @@ mod copies;
 mod draft;
 mod ends;
 mod entry;
+#[cfg(test)]
+mod entry_tests;
 mod filled;
 mod gathered;
 mod inverse;
