@@ -11,7 +11,7 @@ use Rattle.model_edit_law.proofs.LeastLemmas.{covered_kept, placed_same}
 abbrev pub fm : ℕ → List Rectangle → List Rectangle
 fm gone all = filter_map (without_row gone) all
 
-filter_map-append : {A B : Type 0} (f : A → Option B) (xs ys : List A) → filter_map f (xs ++ ys) ≡ filter_map f xs ++ filter_map f ys
+pub filter_map-append : {A B : Type 0} (f : A → Option B) (xs ys : List A) → filter_map f (xs ++ ys) ≡ filter_map f xs ++ filter_map f ys
 filter_map-append f [] ys = refl
 filter_map-append f (x ∷ xs) ys = by (f x) (filter_map-append f xs ys)
   where
@@ -75,7 +75,7 @@ alike_of gone r r' low e = first (nat_lt gone r.row) refl e
     first true t e = let l = ltb-true gone r.row t in subst (Alike gone r) (some_same e) (record { rows = inl (l, omega arith, refl); column = refl; columns = refl })
     first false f e = second (has_row r gone) refl (ltb-false gone r.row f) e
 
-meet_numbers : (a b : Rectangle) → meet a b ≡ true → (a.row < b.row + b.rows) × (b.row < a.row + a.rows) × (a.column < b.column + b.columns) × (b.column < a.column + a.columns)
+pub meet_numbers : (a b : Rectangle) → meet a b ≡ true → (a.row < b.row + b.rows) × (b.row < a.row + a.rows) × (a.column < b.column + b.columns) × (b.column < a.column + a.columns)
 meet_numbers a b h =
     let p = and_parts (nat_lt a.row (b.row + b.rows) && nat_lt b.row (a.row + a.rows)) _ h in
     let q = and_parts (nat_lt a.row (b.row + b.rows)) _ p.0 in
@@ -114,10 +114,10 @@ LowIn-front gone (x ∷ xs) ys h = let r = LowIn-front gone xs ys h.1 in ((h.0, 
 abbrev rect : (row column : ℕ) → Span → Rectangle
 rect row column s = record { row = row; column = column; rows = s.rows; columns = s.columns }
 
-abbrev next_row : (row left : ℕ) → List Span → List Rectangle → Rectangle → Option (List Rectangle)
+abbrev pub next_row : (row left : ℕ) → List Span → List Rectangle → Rectangle → Option (List Rectangle)
 next_row row left spans before one = if bent left before one then None else lay_row row left (one.column + one.columns) spans (before ++ one ∷ [])
 
-not_bent : (row left : ℕ) (spans : List Span) (before : List Rectangle) (one : Rectangle) (all : List Rectangle) → next_row row left spans before one ≡ Some all →
+pub not_bent : (row left : ℕ) (spans : List Span) (before : List Rectangle) (one : Rectangle) (all : List Rectangle) → next_row row left spans before one ≡ Some all →
     (bent left before one ≡ false) × (lay_row row left (one.column + one.columns) spans (before ++ one ∷ []) ≡ Some all)
 not_bent row left spans before one all h = by (bent left before one) refl h
   where

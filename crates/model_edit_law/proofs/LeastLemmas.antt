@@ -144,14 +144,14 @@ placed_same cells cells' row row' end same =
 abbrev pub row_after : ℕ → ℕ → ℕ
 row_after gone row = if nat_lt row gone then row else row - 1
 
-abbrev covers_in : Option Rectangle → ℕ → ℕ → Bool
+abbrev pub covers_in : Option Rectangle → ℕ → ℕ → Bool
 covers_in None row column = false
 covers_in (Some r) row column = has_row r row && has_column r column
 
 has_true : (low row high : ℕ) → low ≤ row → row < high → (nat_le low row && nat_lt row high) ≡ true
 has_true low row high a b = and_from _ _ (le-leb low row a) (lt-ltb row high b)
 
-has_parts : (low row high : ℕ) → (nat_le low row && nat_lt row high) ≡ true → (low ≤ row) × (row < high)
+pub has_parts : (low row high : ℕ) → (nat_le low row && nat_lt row high) ≡ true → (low ≤ row) × (row < high)
 has_parts low row high e = let p = and_parts (nat_le low row) _ e in (leb-true low row p.0, ltb-true row high p.1)
 
 same_test : (a b : Bool) → (a ≡ true → b ≡ true) → (b ≡ true → a ≡ true) → a ≡ b
@@ -160,7 +160,7 @@ same_test false false f g = refl
 same_test true false f g = sym (f refl)
 same_test false true f g = g refl
 
-same_has : (low low' row row' high high' : ℕ) → (low ≤ row → row < high → (low' ≤ row') × (row' < high')) → (low' ≤ row' → row' < high' → (low ≤ row) × (row < high)) →
+pub same_has : (low low' row row' high high' : ℕ) → (low ≤ row → row < high → (low' ≤ row') × (row' < high')) → (low' ≤ row' → row' < high' → (low ≤ row) × (row < high)) →
     (nat_le low row && nat_lt row high) ≡ (nat_le low' row' && nat_lt row' high')
 same_has low low' row row' high high' f g =
     same_test (nat_le low row && nat_lt row high) (nat_le low' row' && nat_lt row' high')

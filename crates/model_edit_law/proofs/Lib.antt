@@ -31,6 +31,7 @@ mod TableLawfulLemmas
 mod TableGrowLemmas
 mod LeastLemmas
 mod LayLemmas
+mod ColumnLemmas
 mod LinkLemmas
 mod SiblingLemmas
 mod TableSetLemmas

@@ -1,11 +1,11 @@
 -- A table as the spans of its cells, row by row, and the rectangles that these give.
-use Rattle.std.specs.Prelude.{◌≡◌, ℕ, zero, suc, ◌+◌, ◌-◌, Bool, ◌&&◌, ◌||◌, nat_lt, if◌then◌else◌, List, [], ◌∷◌, ◌++◌, map, sum_by, Option, Some, None, codes, slice_get}
+use Rattle.std.specs.Prelude.{◌≡◌, ◌≤◌, ℕ, zero, suc, ◌+◌, ◌-◌, ◌==◌, Bool, ◌&&◌, ◌||◌, nat_lt, if◌then◌else◌, List, [], ◌∷◌, ◌++◌, map, filter, filter_map, sum_by, Option, Some, None, codes, slice_get}
 use Rattle.std.specs.List.{list_any}
 use Rattle.model_items.specs.Tree.{Open}
 use Rattle.model_items.specs.declared.plain_item.PlainItem.{PlainItem}
 use Rattle.model_edit.specs.declared.grid_cell.GridCell.{GridCell}
 use Rattle.model_edit.specs.Grid.{Row, table_rows, row_cells, span_of, most_rows, most_columns}
-use Rattle.model_edit.specs.Layout.{Rectangle, has_row, has_column}
+use Rattle.model_edit.specs.Layout.{Rectangle, has_row, has_column, without_column}
 
 abbrev pub covered : List Rectangle → ℕ → ℕ → Bool
 covered all row column = list_any (λ (r : Rectangle). has_row r row && has_column r column) all
@@ -83,3 +83,25 @@ line_at items row = record { left = row.left; spans = map (span_at items) (row_c
 
 abbrev pub lines_of : List PlainItem → ℕ → List Line
 lines_of items at = map (line_at items) (table_rows items at)
+
+-- a rectangle's spans, and the rectangles that begin in a row
+abbrev pub size_of : Rectangle → Span
+size_of r = record { rows = r.rows; columns = r.columns }
+
+abbrev pub of_row : List Rectangle → ℕ → List Rectangle
+of_row all row = filter (λ (r : Rectangle). r.row == row) all
+
+-- each row with the spans of what is left of its rectangles without a column
+abbrev pub lines_left : (gone : ℕ) → List Rectangle → (row : ℕ) → List Line → List Line
+lines_left gone all row [] = []
+lines_left gone all row (line ∷ lines) =
+    record { left = line.left; spans = map size_of (filter_map (without_column gone) (of_row all row)) } ∷ lines_left gone all (suc row) lines
+
+-- no span is 0
+abbrev pub AllSome : List Span → Type 0
+AllSome [] = Unit {0}
+AllSome (s ∷ spans) = (1 ≤ s.rows) × (1 ≤ s.columns) × AllSome spans
+
+abbrev pub EachSome : List Line → Type 0
+EachSome [] = Unit {0}
+EachSome (line ∷ lines) = AllSome line.spans × EachSome lines

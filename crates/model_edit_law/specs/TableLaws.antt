@@ -7,8 +7,8 @@ use Rattle.model_change.specs.Transaction.{Transaction, edited}
 use Rattle.model_edit_law.specs.Fine.{Fine}
 use Rattle.model_edit.specs.Grid.{Grid, grid}
 use Rattle.model_edit.specs.declared.table_fault.TableFault.{TableFault}
-use Rattle.model_edit.specs.Layout.{Rectangle, Layout, layout_of, without_row, row_out_layout}
-use Rattle.model_edit_law.specs.Spans.{Line, lay, lines_of, lines_after, LowIn}
+use Rattle.model_edit.specs.Layout.{Rectangle, Layout, layout_of, without_row, without_column, row_out_layout}
+use Rattle.model_edit_law.specs.Spans.{Line, lay, lines_of, lines_after, LowIn, lines_left, EachSome}
 use Rattle.model_edit.specs.Tables.{row_in, col_in, row_out, col_out}
 
 -- The transactions are reduced, apply, and can put back what they remove.
@@ -35,6 +35,11 @@ ColOutStaysLawful = (items : List PlainItem) (at column : ℕ) (t : Transaction)
 abbrev pub RowOutLays : Type 0
 RowOutLays = (lines : List Line) (gone : ℕ) (all : List Rectangle) → gone < length lines → LowIn gone all → lay 0 lines (Some []) ≡ Some all →
     lay 0 (lines_after gone gone 0 lines) (Some []) ≡ Some (filter_map (without_row gone) all)
+
+-- So are those of a table without a column, where each row keeps what is left of its cells.
+abbrev pub ColOutLays : Type 0
+ColOutLays = (lines : List Line) (gone : ℕ) (all : List Rectangle) → EachSome lines → lay 0 lines (Some []) ≡ Some all →
+    lay 0 (lines_left gone all 0 lines) (Some []) ≡ Some (filter_map (without_column gone) all)
 
 -- A grid's rectangles are those that its rows' spans give.
 abbrev pub GridLays : Type 0

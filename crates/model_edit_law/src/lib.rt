@@ -10,7 +10,7 @@ ghost use Rattle.model_edit_law.specs.NextLaws.{CaretStaysInBranch, CaretStopsAt
 ghost use Rattle.model_edit_law.specs.RemoveLaws.{RemovalIsFine, RemovalStaysLawful};
 ghost use Rattle.model_edit_law.specs.SelectLaws.{OffsetsKeepNeighbours, OffsetsKeepOrder, OffsetsOutsideStay, OffsetsStayWithin, SelectionKeepsDirection, SelectionKeepsItems};
 ghost use Rattle.model_edit_law.specs.ShapeLaws.{AttributeIsFine, AttributeStaysLawful, ConvertIsFine, ConvertStaysLawful, MarkingIsFine, MarkingStaysLawful, UnmarkingIsFine, UnmarkingStaysLawful, WrapIsFine};
-ghost use Rattle.model_edit_law.specs.TableLaws.{ColInIsFine, ColInStaysLawful, ColOutIsFine, ColOutStaysLawful, GridLays, RowInIsFine, RowInStaysLawful, RowOutGrid, RowOutIsFine, RowOutLays, RowOutStaysLawful};
+ghost use Rattle.model_edit_law.specs.TableLaws.{ColInIsFine, ColInStaysLawful, ColOutIsFine, ColOutLays, ColOutStaysLawful, GridLays, RowInIsFine, RowInStaysLawful, RowOutGrid, RowOutIsFine, RowOutLays, RowOutStaysLawful};
 
 /// Edits that stand in order are a transaction that cannot be written shorter, applies, can put back each attribute that it removes, and gives the
 /// list with the edits made. It is in normal form exactly where the list's length and what it inserts add up to at most 2^60.
@@ -130,11 +130,13 @@ pub fn col_in_stays_lawful()
     ensures { ColInStaysLawful }
 {}
 
-/// A grid's rectangles are those that its rows' spans give, and without a row they are those without the row.
-#[tactic(auto, using(crate::proofs::LayLemmas::row_out_lays, crate::proofs::LinkLemmas::grid_lays))]
+/// A grid's rectangles are those that its rows' spans give; without a row they are those without the row, and without a column those without the
+/// column.
+#[tactic(auto, using(crate::proofs::LayLemmas::row_out_lays, crate::proofs::ColumnLemmas::col_out_lays, crate::proofs::LinkLemmas::grid_lays))]
 pub fn grids_lay()
     ensures grid { GridLays }
     ensures row_out { RowOutLays }
+    ensures col_out { ColOutLays }
 {}
 
 /// The grid of a table after a row is taken out is the old one without the row: each cell of another row keeps its columns, and its rows but for that one,
