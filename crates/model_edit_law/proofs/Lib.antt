@@ -37,5 +37,7 @@ mod SiblingLemmas
 mod TableSetLemmas
 mod TableLinesLemmas
 mod TableCellLemmas
+mod CellsOutLemmas
+mod CellsReadLemmas
 mod RowOutLemmas
 mod RowOutGridLemmas

@@ -16,7 +16,7 @@ use Rattle.model_edit.specs.Offsets.{siblings, children}
 use Rattle.model_edit.specs.Grid.{children_of}
 
 -- the walk of `siblings` over what items are to the tree
-abbrev nodes_in : (depth at : ℕ) → List Shape → List Open
+abbrev pub nodes_in : (depth at : ℕ) → List Shape → List Open
 nodes_in depth at [] = []
 nodes_in depth at (Letter ∷ shapes) = nodes_in depth (suc at) shapes
 nodes_in zero at (Begin kind ∷ shapes) = record { kind = kind; from = at } ∷ nodes_in 1 (suc at) shapes
@@ -24,7 +24,7 @@ nodes_in (suc depth) at (Begin kind ∷ shapes) = nodes_in (suc (suc depth)) (su
 nodes_in zero at (End kind ∷ shapes) = []
 nodes_in (suc depth) at (End kind ∷ shapes) = nodes_in depth (suc at) shapes
 
-siblings-shapes : (depth at : ℕ) (items : List PlainItem) → siblings depth at items ≡ nodes_in depth at (map shape_of items)
+pub siblings-shapes : (depth at : ℕ) (items : List PlainItem) → siblings depth at items ≡ nodes_in depth at (map shape_of items)
 siblings-shapes depth at [] = refl
 siblings-shapes depth at (Char c marks ∷ items) = siblings-shapes depth (suc at) items
 siblings-shapes zero at (Opening kind head marks pre origin generated ∷ items) = ap (λ v. record { kind = kind; from = at } ∷ v) (siblings-shapes 1 (suc at) items)
@@ -83,7 +83,7 @@ node_gone p n o some e =
     ∙ ap (λ b. if b then None else Some (record { kind = o.kind; from = o.from - n })) (lt-ltb o.from (p + n) (omega arith))
 
 -- behind them nodes are moved
-behind_moved : (p n d q far : ℕ) (items : List PlainItem) → p ≤ q → far ≡ q + n → siblings d q items ≡ filter_map (node_without p n) (siblings d far items)
+pub behind_moved : (p n d q far : ℕ) (items : List PlainItem) → p ≤ q → far ≡ q + n → siblings d q items ≡ filter_map (node_without p n) (siblings d far items)
 behind_moved p n d q far [] l e = refl
 behind_moved p n d q far (Char c marks ∷ items) l e = behind_moved p n d (suc q) (suc far) items (omega arith) (omega arith)
 behind_moved p n zero q far (Opening kind head marks pre origin generated ∷ items) l e =
@@ -98,7 +98,7 @@ behind_moved p n (suc d) q far (Closing kind pre ∷ items) l e = behind_moved p
 
 -- what stands in a node is passed
 module _ (k : Kind) (pre : List ℕ) (rest : List PlainItem) where
-  passed : (inside : List PlainItem) (e d q far : ℕ) → ((other : List PlainItem) → length_to_close e (inside ++ Closing k pre ∷ other) ≡ suc (length inside)) →
+  pub passed : (inside : List PlainItem) (e d q far : ℕ) → ((other : List PlainItem) → length_to_close e (inside ++ Closing k pre ∷ other) ≡ suc (length inside)) →
       far ≡ q + suc (length inside) → siblings (suc (e + d)) q (inside ++ Closing k pre ∷ rest) ≡ siblings d far rest
   passed [] zero d q far h w = (let z : suc q ≡ far = omega arith in let y : zero + d ≡ d = omega arith in λ i. siblings (y i) (z i) rest)
   passed [] (suc e) d q far h w = absurd (let z : suc (suc (length_to_close e [])) ≡ 1 = h (Char 0 [] ∷ []) in omega arith)

@@ -38,7 +38,7 @@ take_split (suc n) zero (suc m) [] e = refl
 take_split (suc n) (suc k) (suc m) [] e = refl
 take_split (suc n) k (suc m) (x ∷ xs) e = ap (λ v. x ∷ v) (take_split n k m xs (omega arith))
 
-skip_first : (edits : List Edit) (at end : ℕ) (x : PlainItem) (items : List PlainItem) → InOrder (suc at) end edits → substituted_from at (x ∷ items) edits ≡ x ∷ substituted_from (suc at) items edits
+pub skip_first : (edits : List Edit) (at end : ℕ) (x : PlainItem) (items : List PlainItem) → InOrder (suc at) end edits → substituted_from at (x ∷ items) edits ≡ x ∷ substituted_from (suc at) items edits
 skip_first [] at end x items h = refl
 skip_first (Change place count inserted ∷ edits) at end x items h =
     let low = h.0 in

@@ -46,7 +46,7 @@ shape_set c (Char ch marks) = refl
 shape_set c (Opening kind head marks pre origin generated) = refl
 shape_set c (Closing kind pre) = refl
 
-shapes_first : (c : AttrChange) (items : List PlainItem) → map shape_of (on_first (item_changed c) items) ≡ map shape_of items
+pub shapes_first : (c : AttrChange) (items : List PlainItem) → map shape_of (on_first (item_changed c) items) ≡ map shape_of items
 shapes_first c [] = refl
 shapes_first c (x ∷ items) = ap (λ v. v ∷ map shape_of items) (shape_set c x)
 
@@ -113,7 +113,7 @@ module _ (name : List ℕ) (f : GridCell → Option (List ℕ)) where
     abbrev Cells : (low high : ℕ) → List GridCell → Type 0
     Cells low high cells = Chain cell_at whole cell_kinds low high cells
 
-    set_before : (cells : List GridCell) (low high q : ℕ) (o : Option PlainItem) → Cells low high cells → q < low → set_at q cells o ≡ o
+    pub set_before : (cells : List GridCell) (low high q : ℕ) (o : Option PlainItem) → Cells low high cells → q < low → set_at q cells o ≡ o
     set_before [] low high q o c l = refl
     set_before (one ∷ cells) low high q o c l =
         let a = c.0 in
@@ -121,11 +121,11 @@ module _ (name : List ℕ) (f : GridCell → Option (List ℕ)) where
         ap (λ t. set_at q cells (if t then set_in name (f one) o else o)) (ne_eqb one.at q (λ e. omega arith))
         ∙ set_before cells (end_of_node whole one.at) high q o c.2 (omega arith)
 
-    first_set : (to : Option (List ℕ)) (rest : List PlainItem) → slice_get (on_first (item_changed (setting name to rest)) rest) 0 ≡ set_in name to (slice_get rest 0)
+    pub first_set : (to : Option (List ℕ)) (rest : List PlainItem) → slice_get (on_first (item_changed (setting name to rest)) rest) 0 ≡ set_in name to (slice_get rest 0)
     first_set to [] = refl
     first_set to (x ∷ rest) = ap Some (setting_first name to x rest)
 
-    later_same : (g : PlainItem → PlainItem) (rest : List PlainItem) (j : ℕ) → slice_get (on_first g rest) (suc j) ≡ slice_get rest (suc j)
+    pub later_same : (g : PlainItem → PlainItem) (rest : List PlainItem) (j : ℕ) → slice_get (on_first g rest) (suc j) ≡ slice_get rest (suc j)
     later_same g [] j = refl
     later_same g (x ∷ rest) j = refl
 
@@ -189,7 +189,7 @@ module _ (name : List ℕ) (f : GridCell → Option (List ℕ)) where
             ∙ ap (set_at (one.at + j) cells) (put j)
             ∙ (λ i. set_at (there i) cells (if one.at == there i then set_in name (f one) (old i) else old i))
 
-    among_behind : (cells : List GridCell) (low high : ℕ) (c : GridCell) → Cells low high cells → Among c cells → low ≤ c.at
+    pub among_behind : (cells : List GridCell) (low high : ℕ) (c : GridCell) → Cells low high cells → Among c cells → low ≤ c.at
     among_behind [] low high c h a = absurd a
     among_behind (x ∷ cells) low high c h (inl e) = subst (λ (v : GridCell). low ≤ v.at) e h.0
     among_behind (x ∷ cells) low high c h (inr a) =
