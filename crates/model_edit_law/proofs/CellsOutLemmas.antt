@@ -72,6 +72,11 @@ substituted_drop (suc k) q end (x ∷ list) edits h l =
     ∙ substituted_drop k (suc q) end list edits (subst (λ m. InOrder m end edits) z h) (omega arith)
     ∙ ap (λ m. substituted_from m (drop k list) edits) y
 
+-- the node at the place where it goes
+abbrev pub node_to : Kind → Option ℕ → Option Open
+node_to kind None = None
+node_to kind (Some b) = Some (record { kind = kind; from = b })
+
 module _ (items : List PlainItem) where
   abbrev pub edits_of : List GridCell → List Edit
   edits_of cells = map (cell_removed items) cells
@@ -85,12 +90,8 @@ module _ (items : List PlainItem) where
   fate s (c ∷ cells) a =
       if c.columns == 1 then (if nat_lt a c.at then Some (a - s) else (if nat_lt a (end_of_node items c.at) then None else fate (s + size c) cells a)) else fate s cells a
 
-  abbrev pub node_at : Kind → Option ℕ → Option Open
-  node_at kind None = None
-  node_at kind (Some b) = Some (record { kind = kind; from = b })
-
   abbrev pub node_fate : ℕ → List GridCell → Open → Option Open
-  node_fate s cells o = node_at o.kind (fate s cells o.from)
+  node_fate s cells o = node_to o.kind (fate s cells o.from)
 
   abbrev pub Cells : (low high : ℕ) → List GridCell → Type 0
   Cells low high cells = Chain cell_at items cell_kinds low high cells
@@ -214,7 +215,7 @@ module _ (items : List PlainItem) where
         f o = node_fate s (c ∷ cells) o
 
         before : (kind : Kind) (a : ℕ) → a < c.at → f (record { kind = kind; from = a }) ≡ Some (record { kind = kind; from = a - s })
-        before kind a l' = ap (node_at kind) (fate_before (c ∷ cells) c.at high s a (omega arith, h.1, h.2) l')
+        before kind a l' = ap (node_to kind) (fate_before (c ∷ cells) c.at high s a (omega arith, h.1, h.2) l')
 
         whole : (new : List PlainItem) → ((d : ℕ) → siblings d (c.at - s) new ≡ filter_map f (siblings d c.at rest)) → siblings d q' (take (c.at - q) list ++ new) ≡ filter_map f (siblings d q list)
         whole new seam =
@@ -236,11 +237,11 @@ module _ (items : List PlainItem) where
             let y : c.at + size c ≡ end_of_node items c.at = omega arith in
             let here : rest ≡ drop c.at items = tail (c.at - q) (omega arith) ∙ ap (λ k. drop k items) z in
             let there : drop (size c) rest ≡ drop (c.at + size c) items = ap (drop (size c)) here ∙ drop_twice (size c) c.at (c.at + size c) items refl in
-            let none : f (record { kind = h.1.0; from = c.at }) ≡ None = ap (node_at (h.1.0)) (fate_itself s c cells t (omega arith)) in
+            let none : f (record { kind = h.1.0; from = c.at }) ≡ None = ap (node_to (h.1.0)) (fate_itself s c cells t (omega arith)) in
             ap (siblings d q') (one_gone c cells q list t)
             ∙ whole (substituted_from (c.at + size c) (drop (size c) rest) (edits_of cells))
             (λ d'. gone d'
-            ∙ siblings_alike (node_fate (s + size c) cells) f d' (c.at + size c) (drop (size c) rest) (λ o l'. ap (node_at o.kind) (sym (fate_past s c cells o.from t (omega arith) (omega arith))))
+            ∙ siblings_alike (node_fate (s + size c) cells) f d' (c.at + size c) (drop (size c) rest) (λ o l'. ap (node_to o.kind) (sym (fate_past s c cells o.from t (omega arith) (omega arith))))
             ∙ ap (λ v. filter_map f (siblings d' (c.at + size c) v)) there
             ∙ sym (node_skipped f (h.1.0) c (h.1.2) d' none)
             ∙ ap (λ v. filter_map f (siblings d' c.at v)) (sym here))
@@ -249,7 +250,7 @@ module _ (items : List PlainItem) where
             ∙ whole (substituted_from c.at (narrowed c rest) (edits_of cells))
             (λ d'. set d'
             ∙ ap (filter_map (node_fate s cells)) (siblings-shapes d' c.at (narrowed c rest) ∙ ap (nodes_in d' c.at) (shapes_first (setting (codes "colspan") (Some (decimal (c.columns - 1))) rest) rest) ∙ sym (siblings-shapes d' c.at rest))
-            ∙ siblings_alike (node_fate s cells) f d' c.at rest (λ o l'. ap (node_at o.kind) (sym (fate_wide s c cells o.from t))))
+            ∙ siblings_alike (node_fate s cells) f d' c.at rest (λ o l'. ap (node_to o.kind) (sym (fate_wide s c cells o.from t))))
 
     -- a place that lies in none of the cells
     abbrev pub Clear : ℕ → List GridCell → Type 0
@@ -356,7 +357,7 @@ module _ (items : List PlainItem) where
             ∙ ap (siblings 0 (suc b)) (skip Y (low1 (omega arith) g))
             ∙ gone past g
             ∙ siblings_alike (node_fate (s + size c) cells) (node_fate s (c ∷ cells)) 0 (suc a) (drop (suc a - (c.at + size c)) (drop (size c) rest))
-            (λ o l'. ap (node_at o.kind) (sym (fate_past s c cells o.from t (omega arith) (omega arith))))
+            (λ o l'. ap (node_to o.kind) (sym (fate_past s c cells o.from t (omega arith) (omega arith))))
             ∙ ap (λ v. filter_map (node_fate s (c ∷ cells)) (siblings 0 (suc a) v))
             (drop_twice (suc a - (c.at + size c)) (size c) (size c + (suc a - (c.at + size c))) rest refl ∙ drop_twice (size c + (suc a - (c.at + size c))) (c.at - q) (suc a - q) list z)
         by false t (inr past) gone set low1 low2 =
@@ -366,6 +367,6 @@ module _ (items : List PlainItem) where
             ap (λ v. siblings 0 (suc b) (drop (suc b - q') v)) (one_set c cells q list t)
             ∙ ap (siblings 0 (suc b)) (skip Y' (low2 (omega arith) g))
             ∙ set past g
-            ∙ siblings_alike (node_fate s cells) (node_fate s (c ∷ cells)) 0 (suc a) (drop (suc a - c.at) (narrowed c rest)) (λ o l'. ap (node_at o.kind) (sym (fate_wide s c cells o.from t)))
+            ∙ siblings_alike (node_fate s cells) (node_fate s (c ∷ cells)) 0 (suc a) (drop (suc a - c.at) (narrowed c rest)) (λ o l'. ap (node_to o.kind) (sym (fate_wide s c cells o.from t)))
             ∙ ap (λ v. filter_map (node_fate s (c ∷ cells)) (siblings 0 (suc a) v))
             (drop-on_first (item_changed (setting (codes "colspan") (Some (decimal (c.columns - 1))) rest)) (suc a - c.at) rest (omega arith) ∙ drop_twice (suc a - c.at) (c.at - q) (suc a - q) list (omega arith))

@@ -20,7 +20,7 @@ is_wide c = not (c.columns == 1)
 abbrev pub one_narrower : GridCell → Option (List ℕ)
 one_narrower c = Some (decimal (c.columns - 1))
 
-filter_filter : (p q : GridCell → Bool) (cells : List GridCell) → filter p (filter q cells) ≡ filter (λ c. if q c then p c else false) cells
+pub filter_filter : (p q : GridCell → Bool) (cells : List GridCell) → filter p (filter q cells) ≡ filter (λ c. if q c then p c else false) cells
 filter_filter p q [] = refl
 filter_filter p q (c ∷ cells) = by (q c) (p c) refl refl (filter_filter p q cells)
   where

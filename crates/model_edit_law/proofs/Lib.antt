@@ -39,5 +39,7 @@ mod TableLinesLemmas
 mod TableCellLemmas
 mod CellsOutLemmas
 mod CellsReadLemmas
+mod CellRowLemmas
 mod RowOutLemmas
 mod RowOutGridLemmas
+mod ColOutLemmas

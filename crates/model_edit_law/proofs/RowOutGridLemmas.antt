@@ -47,7 +47,7 @@ lays_grid items at all table h =
         ∙ ap (λ v. Ok (with_rectangles (length rows) v)) e
 
 -- what a call that answers has found
-no_fault : (o : Option TableFault) (s t : Transaction) → fault_or o s ≡ Ok t → o ≡ None
+pub no_fault : (o : Option TableFault) (s t : Transaction) → fault_or o s ≡ Ok t → o ≡ None
 no_fault None s t h = refl
 no_fault (Some e) s t h = cc
 

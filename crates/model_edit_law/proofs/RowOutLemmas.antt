@@ -30,7 +30,7 @@ use Rattle.model_edit_law.proofs.TableSetLemmas.{map-append, length_map, Among, 
 use Rattle.model_edit_law.proofs.TableCellLemmas.{Placed, AllPlaced, span_read, span_less}
 use Rattle.model_edit_law.proofs.TableLinesLemmas.{Kept, AllKept, sections_round}
 
-among_opens : (items : List PlainItem) (cells : List GridCell) (low high : ℕ) (c : GridCell) → Chain cell_at items cell_kinds low high cells → Among c cells → (kind : Kind) × Opens items kind c.at
+pub among_opens : (items : List PlainItem) (cells : List GridCell) (low high : ℕ) (c : GridCell) → Chain cell_at items cell_kinds low high cells → Among c cells → (kind : Kind) × Opens items kind c.at
 among_opens items [] low high c h a = absurd a
 among_opens items (x ∷ cells) low high c h (inl e) = subst (λ (v : GridCell). (kind : Kind) × Opens items kind v.at) e (h.1.0, h.1.2)
 among_opens items (x ∷ cells) low high c h (inr a) = among_opens items cells (end_of_node items x.at) high c h.2 a

@@ -29,7 +29,7 @@ abbrev pub AllPlaced : List PlainItem → List GridCell → ℕ → List Open �
 AllPlaced items cells row [] = Unit {0}
 AllPlaced items cells row (n ∷ nodes) = Placed items cells row n × AllPlaced items cells row nodes
 
-Among-left : (c : GridCell) (xs ys : List GridCell) → Among c xs → Among c (xs ++ ys)
+pub Among-left : (c : GridCell) (xs ys : List GridCell) → Among c xs → Among c (xs ++ ys)
 Among-left c [] ys a = absurd a
 Among-left c (x ∷ xs) ys (inl e) = inl e
 Among-left c (x ∷ xs) ys (inr a) = inr (Among-left c xs ys a)
@@ -112,6 +112,16 @@ module _ (kind : Kind) (head : Head) (marks : List Mark) (pre : List ℕ) (origi
       ap (span_in most_rows) (attrs_set (codes "rowspan") (decimal m) head.attrs cell_item) ∙ span_written most_rows m some most (omega arith) in
       let columns = ap (span_in most_columns) (attrs_other (codes "rowspan") (decimal m) (codes "colspan") head.attrs cell_item refl) in
       (λ i. record { rows = rows i; columns = columns i })
+
+  pub columns_written : (m : ℕ) → 1 ≤ m → m ≤ most_columns → span_read (set_in (codes "colspan") (Some (decimal m)) (Some cell_item)) ≡ record (span_read (Some cell_item)) { columns = m }
+  columns_written m some most =
+      let columns : span_in most_columns (value_of (codes "colspan") (attrs_changed (codes "colspan") (position_kept (value_of (codes "colspan") head.attrs) (Some (decimal m)) (codes "colspan") None cell_item) (value_of (codes "colspan") head.attrs) (Some (decimal m)) head.attrs)) ≡ m =
+      ap (span_in most_columns) (attrs_set (codes "colspan") (decimal m) head.attrs cell_item) ∙ span_written most_columns m some most (omega arith) in
+      let rows = ap (span_in most_rows) (attrs_other (codes "colspan") (decimal m) (codes "rowspan") head.attrs cell_item refl) in
+      (λ i. record { rows = rows i; columns = columns i })
+
+  pub columns_most : (span_read (Some cell_item)).columns ≤ most_columns
+  columns_most = span_most_in most_columns (value_of (codes "colspan") head.attrs) (omega arith)
 
   pub span_less : (rows k gone : ℕ) → rows ≡ (span_read (Some cell_item)).rows → k < gone →
       span_read (if nat_lt gone (k + rows) then set_in (codes "rowspan") (Some (decimal (rows - 1))) (Some cell_item) else Some cell_item) ≡ span_after gone k (span_read (Some cell_item))
