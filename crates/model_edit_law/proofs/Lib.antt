@@ -43,3 +43,4 @@ mod CellRowLemmas
 mod RowOutLemmas
 mod RowOutGridLemmas
 mod ColOutLemmas
+mod ColOutGridLemmas

@@ -7,7 +7,7 @@ use Rattle.model_change.specs.Transaction.{Transaction, edited}
 use Rattle.model_edit_law.specs.Fine.{Fine}
 use Rattle.model_edit.specs.Grid.{Grid, grid}
 use Rattle.model_edit.specs.declared.table_fault.TableFault.{TableFault}
-use Rattle.model_edit.specs.Layout.{Rectangle, Layout, layout_of, without_row, without_column, row_out_layout}
+use Rattle.model_edit.specs.Layout.{Rectangle, Layout, layout_of, without_row, without_column, row_out_layout, col_out_layout}
 use Rattle.model_edit_law.specs.Spans.{Line, lay, lines_of, lines_after, LowIn, lines_left, EachSome}
 use Rattle.model_edit.specs.Tables.{row_in, col_in, row_out, col_out}
 
@@ -53,6 +53,11 @@ laid_out (Ok g) = Ok (layout_of g)
 abbrev pub RowOutGrid : Type 0
 RowOutGrid = (items : List PlainItem) (at row : ℕ) (t : Transaction) (g : Grid) → Lawful items → grid items at ≡ Ok g → row_out items at row ≡ Ok t →
     laid_out (grid (edited t items) at) ≡ Ok (row_out_layout (layout_of g) row)
+
+-- And without a column it is the old one without the column.
+abbrev pub ColOutGrid : Type 0
+ColOutGrid = (items : List PlainItem) (at column : ℕ) (t : Transaction) (g : Grid) → Lawful items → grid items at ≡ Ok g → col_out items at column ≡ Ok t →
+    laid_out (grid (edited t items) at) ≡ Ok (col_out_layout (layout_of g) column)
 
 -- A row put in leaves it lawful, or its nodes are nested over 100 deep.
 abbrev pub RowInStaysLawful : Type 0

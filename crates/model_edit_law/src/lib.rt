@@ -10,7 +10,7 @@ ghost use Rattle.model_edit_law.specs.NextLaws.{CaretStaysInBranch, CaretStopsAt
 ghost use Rattle.model_edit_law.specs.RemoveLaws.{RemovalIsFine, RemovalStaysLawful};
 ghost use Rattle.model_edit_law.specs.SelectLaws.{OffsetsKeepNeighbours, OffsetsKeepOrder, OffsetsOutsideStay, OffsetsStayWithin, SelectionKeepsDirection, SelectionKeepsItems};
 ghost use Rattle.model_edit_law.specs.ShapeLaws.{AttributeIsFine, AttributeStaysLawful, ConvertIsFine, ConvertStaysLawful, MarkingIsFine, MarkingStaysLawful, UnmarkingIsFine, UnmarkingStaysLawful, WrapIsFine};
-ghost use Rattle.model_edit_law.specs.TableLaws.{ColInIsFine, ColInStaysLawful, ColOutIsFine, ColOutLays, ColOutStaysLawful, GridLays, RowInIsFine, RowInStaysLawful, RowOutGrid, RowOutIsFine, RowOutLays, RowOutStaysLawful};
+ghost use Rattle.model_edit_law.specs.TableLaws.{ColInIsFine, ColInStaysLawful, ColOutGrid, ColOutIsFine, ColOutLays, ColOutStaysLawful, GridLays, RowInIsFine, RowInStaysLawful, RowOutGrid, RowOutIsFine, RowOutLays, RowOutStaysLawful};
 
 /// Edits that stand in order are a transaction that cannot be written shorter, applies, can put back each attribute that it removes, and gives the
 /// list with the edits made. It is in normal form exactly where the list's length and what it inserts add up to at most 2^60.
@@ -139,11 +139,12 @@ pub fn grids_lay()
     ensures col_out { ColOutLays }
 {}
 
-/// The grid of a table after a row is taken out is the old one without the row: each cell of another row keeps its columns, and its rows but for that one,
-/// in the same order.
-#[tactic(auto, using(crate::proofs::RowOutGridLemmas::row_out_grid))]
-pub fn row_out_leaves_the_others()
-    ensures { RowOutGrid }
+/// The grid of a table after a row or a column is taken out is the old one without it: each other cell keeps its place and its spans but for that row or
+/// column, in the same order.
+#[tactic(auto, using(crate::proofs::RowOutGridLemmas::row_out_grid, crate::proofs::ColOutGridLemmas::col_out_grid))]
+pub fn outs_leave_the_others()
+    ensures row { RowOutGrid }
+    ensures column { ColOutGrid }
 {}
 
 /// The one transaction of edits inserts their pieces, one after the other. Where these have names apart, so has what it inserts; and edits in order
