@@ -1,7 +1,7 @@
 -- Cells taken out of a list and cells of which the width is set: what is read at the places of the others.
 use Rattle.std.specs.Prelude.{slice_get, filter, codes, decimal}
 use Rattle.std.proofs.Common.{◌≡◌, ◌⊎◌, inl, inr, ℕ, zero, suc, ◌+◌, ◌-◌, ◌<◌, ◌≤◌, ◌==◌, Bool, true, false, cond, not, if◌then◌else◌, nat_lt, List, [], ◌∷◌, ◌++◌, length, take, drop, Option, Some, None, refl, sym, ap, ◌∙◌, subst, arith, length-append, length-drop}
-use Rattle.std.proofs.lemmas.Bool.{ltb-true, ltb-false, eq-eqb, ne_eqb}
+use Rattle.std.proofs.lemmas.Bool.{ltb-true, ltb-false, eq-eqb, ne_eqb, true≢false}
 use Rattle.std.proofs.lemmas.List.{length-take-le}
 use Rattle.model_items.specs.declared.plain_item.PlainItem.{PlainItem}
 use Rattle.model_items.specs.Law.{Lawful}
@@ -78,12 +78,12 @@ module _ (items : List PlainItem) where
           ((λ p q. fate_itself items s x F f ahead), λ o. other o)
         where
           other : (taken x ≡ false) ⊎ ((x.columns == 1) ≡ false) → (b : ℕ) × (fate items s (x ∷ F) x.at ≡ Some b)
-          other (inl z) = absurd (Rattle.std.proofs.lemmas.Bool.true≢false (sym e ∙ z))
-          other (inr z) = absurd (Rattle.std.proofs.lemmas.Bool.true≢false (sym f ∙ z))
+          other (inl z) = absurd (true≢false (sym e ∙ z))
+          other (inr z) = absurd (true≢false (sym f ∙ z))
       itself true false e f =
-          ((λ p q. absurd (Rattle.std.proofs.lemmas.Bool.true≢false (sym q ∙ f))), λ o. (x.at - s, fate_wide items s x F x.at f ∙ fate_before items F (end_of_node items x.at) high s x.at chain ahead))
+          ((λ p q. absurd (true≢false (sym q ∙ f))), λ o. (x.at - s, fate_wide items s x F x.at f ∙ fate_before items F (end_of_node items x.at) high s x.at chain ahead))
       itself false n e f =
-          ((λ p q. absurd (Rattle.std.proofs.lemmas.Bool.true≢false (sym p ∙ e))), λ o. (x.at - s, fate_before items F (end_of_node items x.at) high s x.at chain ahead))
+          ((λ p q. absurd (true≢false (sym p ∙ e))), λ o. (x.at - s, fate_before items F (end_of_node items x.at) high s x.at chain ahead))
 
       moved : (s' : ℕ) (list : List GridCell) → fate items s list c.at ≡ fate items s' F c.at → Both s' F c → Both s list c
       moved s' list e both = ((λ p q. e ∙ both.0 p q), λ o. let r = both.1 o in (r.0, e ∙ r.1))

@@ -11,13 +11,14 @@ use Rattle.model_items.specs.declared.plain_item.PlainItem.TheVariants.{Opening}
 use Rattle.model_items.specs.Law.{Lawful}
 use Rattle.model_items.specs.Tree.{Open}
 use Rattle.model_edit.specs.Brackets.{is_opening_of, passes}
-use Rattle.model_edit.specs.Offsets.{partner, end_of_node, children}
+use Rattle.model_edit.specs.Offsets.{partner, end_of_node, siblings, children}
 use Rattle.model_edit.specs.Edits.{substituted_from}
 use Rattle.model_edit.specs.declared.grid_cell.GridCell.{GridCell}
-use Rattle.model_edit.specs.Grid.{Row, Grid, children_of, section_rows, table_rows, row_cells, covers_column}
+use Rattle.model_edit.specs.Grid.{Row, Grid, children_of, section_rows, table_rows, row_cells, covers_column, most_columns}
 use Rattle.model_edit.specs.Layout.{Rectangle, has_column, without_column}
 use Rattle.model_edit_law.specs.Spans.{Span, Line, rectangle_of, size_of, of_row, lines_left, span_at, line_at, lines_of}
-use Rattle.model_edit_law.proofs.TablePlaceLemmas.{Opens, Chain, Chain-filter, from_of, cell_kinds, cell_at, children_of_stand, Standing}
+use Rattle.model_edit_law.proofs.TablePlaceLemmas.{Chain, Chain-ends, Chain-filter, from_of, cell_kinds, cell_at, children_of_stand, Standing}
+use Rattle.model_edit_law.proofs.TableFineLemmas.{row_within, row_ahead}
 use Rattle.model_edit_law.proofs.TableSetLemmas.{map-append, length_map, Among, set_in, set_at, set_before, set_among, among_behind}
 use Rattle.model_edit_law.proofs.TableCellLemmas.{span_read, columns_written, columns_most}
 use Rattle.model_edit_law.proofs.RowOutLemmas.{among_opens}
@@ -29,35 +30,25 @@ use Rattle.model_edit_law.proofs.CellRowLemmas.{Pairs, cells_in, of_row-cells, A
 filter_fate : (f : ℕ → Option ℕ) (kinds : List Kind) (nodes : List Open) →
     filter (λ (o : Open). is_among kinds o.kind) (filter_map (λ (o : Open). node_to o.kind (f o.from)) nodes) ≡ filter_map (λ (o : Open). node_to o.kind (f o.from)) (filter (λ (o : Open). is_among kinds o.kind) nodes)
 filter_fate f kinds [] = refl
-filter_fate f kinds (o ∷ nodes) = by (f o.from) (is_among kinds o.kind) refl refl (filter_fate f kinds nodes)
+filter_fate f kinds (o ∷ nodes) =
+    by (f o.from) (is_among kinds o.kind) refl (filter_fate f kinds nodes) ∙ sym (whole (is_among kinds o.kind))
   where
-    test : Open → Bool
-    test x = is_among kinds x.kind
+    kept : List Open
+    kept = filter (λ (x : Open). is_among kinds x.kind) nodes
 
-    g : Open → Option Open
-    g x = node_to x.kind (f x.from)
+    whole : (b : Bool) → filter_map (λ (x : Open). node_to x.kind (f x.from)) (cond b (o ∷ filter (λ (x : Open). is_among kinds x.kind) nodes) (filter (λ (x : Open). is_among kinds x.kind) nodes))
+        ≡ cond b (cons_option (node_to o.kind (f o.from)) (filter_map (λ (x : Open). node_to x.kind (f x.from)) kept)) (filter_map (λ (x : Open). node_to x.kind (f x.from)) kept)
+    whole true = refl
+    whole false = refl
 
-    by : (r : Option ℕ) (b : Bool) → f o.from ≡ r → is_among kinds o.kind ≡ b → filter (λ (o : Open). is_among kinds o.kind) (filter_map (λ (o : Open). node_to o.kind (f o.from)) nodes) ≡ filter_map (λ (o : Open). node_to o.kind (f o.from)) (filter (λ (o : Open). is_among kinds o.kind) nodes) →
-        filter (λ (o : Open). is_among kinds o.kind) (cons_option (node_to o.kind (f o.from)) (filter_map (λ (o : Open). node_to o.kind (f o.from)) nodes))
-        ≡ filter_map (λ (o : Open). node_to o.kind (f o.from)) (cond (is_among kinds o.kind) (o ∷ filter (λ (o : Open). is_among kinds o.kind) nodes) (filter (λ (o : Open). is_among kinds o.kind) nodes))
-    by None true e t rest =
-        ap (λ r. filter (λ (o : Open). is_among kinds o.kind) (cons_option (node_to o.kind r) (filter_map (λ (o : Open). node_to o.kind (f o.from)) nodes))) e ∙ rest
-        ∙ ap (λ r. cons_option (node_to o.kind r) (filter_map (λ (o : Open). node_to o.kind (f o.from)) (filter (λ (o : Open). is_among kinds o.kind) nodes))) (sym e)
-        ∙ ap (λ b. filter_map (λ (o : Open). node_to o.kind (f o.from)) (cond b (o ∷ filter (λ (o : Open). is_among kinds o.kind) nodes) (filter (λ (o : Open). is_among kinds o.kind) nodes))) (sym t)
-    by None false e t rest =
-        ap (λ r. filter (λ (o : Open). is_among kinds o.kind) (cons_option (node_to o.kind r) (filter_map (λ (o : Open). node_to o.kind (f o.from)) nodes))) e ∙ rest
-        ∙ ap (λ b. filter_map (λ (o : Open). node_to o.kind (f o.from)) (cond b (o ∷ filter (λ (o : Open). is_among kinds o.kind) nodes) (filter (λ (o : Open). is_among kinds o.kind) nodes))) (sym t)
-    by (Some k) true e t rest =
-        ap (λ r. filter (λ (o : Open). is_among kinds o.kind) (cons_option (node_to o.kind r) (filter_map (λ (o : Open). node_to o.kind (f o.from)) nodes))) e
-        ∙ ap (λ b. cond b (record { kind = o.kind; from = k } ∷ filter (λ (o : Open). is_among kinds o.kind) (filter_map (λ (o : Open). node_to o.kind (f o.from)) nodes)) (filter (λ (o : Open). is_among kinds o.kind) (filter_map (λ (o : Open). node_to o.kind (f o.from)) nodes))) t
-        ∙ ap (λ v. record { kind = o.kind; from = k } ∷ v) rest
-        ∙ ap (λ r. cons_option (node_to o.kind r) (filter_map (λ (o : Open). node_to o.kind (f o.from)) (filter (λ (o : Open). is_among kinds o.kind) nodes))) (sym e)
-        ∙ ap (λ b. filter_map (λ (o : Open). node_to o.kind (f o.from)) (cond b (o ∷ filter (λ (o : Open). is_among kinds o.kind) nodes) (filter (λ (o : Open). is_among kinds o.kind) nodes))) (sym t)
-    by (Some k) false e t rest =
-        ap (λ r. filter (λ (o : Open). is_among kinds o.kind) (cons_option (node_to o.kind r) (filter_map (λ (o : Open). node_to o.kind (f o.from)) nodes))) e
-        ∙ ap (λ b. cond b (record { kind = o.kind; from = k } ∷ filter (λ (o : Open). is_among kinds o.kind) (filter_map (λ (o : Open). node_to o.kind (f o.from)) nodes)) (filter (λ (o : Open). is_among kinds o.kind) (filter_map (λ (o : Open). node_to o.kind (f o.from)) nodes))) t
-        ∙ rest
-        ∙ ap (λ b. filter_map (λ (o : Open). node_to o.kind (f o.from)) (cond b (o ∷ filter (λ (o : Open). is_among kinds o.kind) nodes) (filter (λ (o : Open). is_among kinds o.kind) nodes))) (sym t)
+    by : (r : Option ℕ) (b : Bool) → is_among kinds o.kind ≡ b → filter (λ (x : Open). is_among kinds x.kind) (filter_map (λ (x : Open). node_to x.kind (f x.from)) nodes) ≡ filter_map (λ (x : Open). node_to x.kind (f x.from)) kept →
+        filter (λ (x : Open). is_among kinds x.kind) (cons_option (node_to o.kind r) (filter_map (λ (x : Open). node_to x.kind (f x.from)) nodes))
+        ≡ cond b (cons_option (node_to o.kind r) (filter_map (λ (x : Open). node_to x.kind (f x.from)) kept)) (filter_map (λ (x : Open). node_to x.kind (f x.from)) kept)
+    by None true t rest = rest
+    by None false t rest = rest
+    by (Some k) b t rest =
+        let F = filter (λ (x : Open). is_among kinds x.kind) (filter_map (λ (x : Open). node_to x.kind (f x.from)) nodes) in
+        ap (λ c. cond c (record { kind = o.kind; from = k } ∷ F) F) t ∙ ap (λ v. cond b (record { kind = o.kind; from = k } ∷ v) v) rest
 
 -- what a column that goes leaves of a rectangle
 left_none : (column : ℕ) (c : GridCell) → covers_column c column ≡ true → (c.columns == 1) ≡ true → without_column column (rectangle_of c) ≡ None
@@ -78,14 +69,16 @@ left_whole : (column : ℕ) (c : GridCell) → covers_column c column ≡ false 
 left_whole column c cover = by (nat_lt column c.column) refl
   where
     by : (b : Bool) → nat_lt column c.column ≡ b → (r : Rectangle) × (without_column column (rectangle_of c) ≡ Some r) × (size_of r ≡ size_of (rectangle_of c))
-    by true e =
-        (record (rectangle_of c) { column = c.column - 1 },
-         ap (λ b. if b then Some (record (rectangle_of c) { column = c.column - 1 }) else (if covers_column c column then (if c.columns == 1 then None else Some (record (rectangle_of c) { columns = c.columns - 1 })) else Some (rectangle_of c))) e,
-         refl)
-    by false e =
-        (rectangle_of c,
-         (λ i. if e i then Some (record (rectangle_of c) { column = c.column - 1 }) else (if cover i then (if c.columns == 1 then None else Some (record (rectangle_of c) { columns = c.columns - 1 })) else Some (rectangle_of c))),
-         refl)
+    by true e = (
+      record (rectangle_of c) { column = c.column - 1 },
+      ap (λ b. if b then Some (record (rectangle_of c) { column = c.column - 1 }) else (if covers_column c column then (if c.columns == 1 then None else Some (record (rectangle_of c) { columns = c.columns - 1 })) else Some (rectangle_of c))) e,
+      refl,
+    )
+    by false e = (
+      rectangle_of c,
+      (λ i. if e i then Some (record (rectangle_of c) { column = c.column - 1 }) else (if cover i then (if c.columns == 1 then None else Some (record (rectangle_of c) { columns = c.columns - 1 })) else Some (rectangle_of c))),
+      refl,
+    )
 
 section_length : (nodes : List Open) → length (section_rows nodes) ≡ length nodes
 section_length [] = refl
@@ -134,9 +127,9 @@ module _ (items : List PlainItem) (at column : ℕ) (g : Grid) (lawful : Lawful 
       let y : suc b - 0 ≡ suc b = omega arith in
       let z : suc a - 0 ≡ suc a = omega arith in
       let all : children without b ≡ left (children items a) =
-      ap (λ k. Rattle.model_edit.specs.Offsets.siblings 0 (suc b) (drop k without)) (sym y)
+      ap (λ k. siblings 0 (suc b) (drop k without)) (sym y)
       ∙ children_fate items lawful covering (suc at) (partner items at) 0 0 0 items a b chain (omega arith) (omega arith) fit tail (omega arith) (omega arith) clear e
-      ∙ ap (λ k. left (Rattle.model_edit.specs.Offsets.siblings 0 (suc a) (drop k items))) z in
+      ∙ ap (λ k. left (siblings 0 (suc a) (drop k items))) z in
       ap (filter (λ (o : Open). is_among kinds o.kind)) all ∙ filter_fate stays kinds (children items a)
 
   -- what stands at a cell's place afterwards
@@ -168,19 +161,19 @@ module _ (items : List PlainItem) (at column : ℕ) (g : Grid) (lawful : Lawful 
       let its_rows : c.rows ≡ (span_read (Some x)).rows = rows ∙ ap (λ v. (span_read v).rows) there in
       let its_columns : c.columns ≡ (span_read (Some x)).columns = columns ∙ ap (λ v. (span_read v).columns) there in
       let whole : span_read (Some x) ≡ size_of (rectangle_of c) = (λ i. record { rows = sym its_rows i; columns = sym its_columns i }) in
-      let most : c.columns ≤ Rattle.model_edit.specs.Grid.most_columns =
-      subst (λ k. k ≤ Rattle.model_edit.specs.Grid.most_columns) (sym its_columns) (columns_most o.0 (o.1).head (o.1).marks (o.1).pre (o.1).origin (o.1).generated) in
+      let most : c.columns ≤ most_columns =
+      subst (λ k. k ≤ most_columns) (sym its_columns) (columns_most o.0 (o.1).head (o.1).marks (o.1).pre (o.1).origin (o.1).generated) in
       let read_here : (b : ℕ) → stays c.at ≡ Some b → slice_get without b ≡ (if (if covers c then is_wide c else false) then set_in (codes "colspan") (one_narrower c) (Some x) else Some x) =
       (λ b e. read c b (Some x) m (o.1).here room e) in
-      let written : (k : ℕ) → 1 ≤ k → k ≤ Rattle.model_edit.specs.Grid.most_columns → span_read (set_in (codes "colspan") (Some (decimal k)) (Some x)) ≡ record (span_read (Some x)) { columns = k } =
+      let written : (k : ℕ) → 1 ≤ k → k ≤ most_columns → span_read (set_in (codes "colspan") (Some (decimal k)) (Some x)) ≡ record (span_read (Some x)) { columns = k } =
       columns_written o.0 (o.1).head (o.1).marks (o.1).pre (o.1).origin (o.1).generated in
       by (Some x) (covers c) (c.columns == 1) refl refl f.0 f.1 whole its_rows most read_here written
     where
       by : (x : Option PlainItem) (u v : Bool) → covers c ≡ u → (c.columns == 1) ≡ v →
           (covers c ≡ true → (c.columns == 1) ≡ true → stays c.at ≡ None) → ((covers c ≡ false) ⊎ ((c.columns == 1) ≡ false) → (b : ℕ) × (stays c.at ≡ Some b)) →
-          span_read x ≡ size_of (rectangle_of c) → c.rows ≡ (span_read x).rows → c.columns ≤ Rattle.model_edit.specs.Grid.most_columns →
+          span_read x ≡ size_of (rectangle_of c) → c.rows ≡ (span_read x).rows → c.columns ≤ most_columns →
           ((b : ℕ) → stays c.at ≡ Some b → slice_get without b ≡ (if (if covers c then is_wide c else false) then set_in (codes "colspan") (one_narrower c) x else x)) →
-          ((k : ℕ) → 1 ≤ k → k ≤ Rattle.model_edit.specs.Grid.most_columns → span_read (set_in (codes "colspan") (Some (decimal k)) x) ≡ record (span_read x) { columns = k }) → Left c n
+          ((k : ℕ) → 1 ≤ k → k ≤ most_columns → span_read (set_in (codes "colspan") (Some (decimal k)) x) ≡ record (span_read x) { columns = k }) → Left c n
       by x true true e f gone some whole its_rows most read_here written = inl (left_none column c e f, ap stays (sym place) ∙ gone e f)
       by x true false e f gone some whole its_rows most read_here written =
           let b = some (inr f) in
@@ -188,9 +181,14 @@ module _ (items : List PlainItem) (at column : ℕ) (g : Grid) (lawful : Lawful 
           let l = leb-true c.column column p.0 in
           let h = ltb-true column (c.column + c.columns) p.1 in
           let two = wide c.columns (eqb-false c.columns 1 f) (omega arith) in
-          inr (record (rectangle_of c) { columns = c.columns - 1 }, b.0, left_narrow column c e f, ap stays (sym place) ∙ b.1,
-          ap span_read (read_here b.0 b.1 ∙ (λ i. if (if e i then not (f i) else false) then set_in (codes "colspan") (one_narrower c) x else x))
-          ∙ written (c.columns - 1) (omega arith) (omega arith) ∙ (λ i. record { rows = sym its_rows i; columns = c.columns - 1 }))
+          inr (
+            record (rectangle_of c) { columns = c.columns - 1 },
+            b.0,
+            left_narrow column c e f,
+            ap stays (sym place) ∙ b.1,
+            ap span_read (read_here b.0 b.1 ∙ (λ i. if (if e i then not (f i) else false) then set_in (codes "colspan") (one_narrower c) x else x))
+                ∙ written (c.columns - 1) (omega arith) (omega arith) ∙ (λ i. record { rows = sym its_rows i; columns = c.columns - 1 }),
+          )
         where
           wide : (h : ℕ) → (h ≡ 1 → ⊥) → 1 ≤ h → 2 ≤ h
           wide zero a b = omega arith
@@ -199,8 +197,13 @@ module _ (items : List PlainItem) (at column : ℕ) (g : Grid) (lawful : Lawful 
       by x false v e f gone some whole its_rows most read_here written =
           let b = some (inl e) in
           let r = left_whole column c e in
-          inr (r.0, b.0, r.1, ap stays (sym place) ∙ b.1,
-          ap span_read (read_here b.0 b.1 ∙ ap (λ t. if (if t then is_wide c else false) then set_in (codes "colspan") (one_narrower c) x else x) e) ∙ whole ∙ sym r.2)
+          inr (
+            r.0,
+            b.0,
+            r.1,
+            ap stays (sym place) ∙ b.1,
+            ap span_read (read_here b.0 b.1 ∙ ap (λ t. if (if t then is_wide c else false) then set_in (codes "colspan") (one_narrower c) x else x) e) ∙ whole ∙ sym r.2,
+          )
 
   cells_left : (cells : List GridCell) (nodes : List Open) → Pairs items cells nodes → ((c : GridCell) → Among c cells → Among c g.cells) →
       map (span_at without) (left nodes) ≡ map size_of (filter_map (without_column column) (map rectangle_of cells))
@@ -244,8 +247,8 @@ module _ (items : List PlainItem) (at column : ℕ) (g : Grid) (lawful : Lawful 
       let rows = table_rows items at in
       let clear = clear_all r.at covering (λ c m. row_clear items (suc at) (partner items at) rows k r c s.rows e (homes_among items rows g.cells c (s.cells).homes (Among-filter covers c g.cells m))) in
       let f = fate_clear items covering (suc at) (partner items at) 0 r.at lawful chain clear in
-      let w = Rattle.model_edit_law.proofs.TableFineLemmas.row_within items (Tr ∷ []) (suc at) (partner items at) rows k r s.rows e in
-      let v = Rattle.model_edit_law.proofs.TableFineLemmas.row_ahead items (Tr ∷ []) (suc at) (partner items at) rows k r s.rows e in
+      let w = row_within items (Tr ∷ []) (suc at) (partner items at) rows k r s.rows e in
+      let v = row_ahead items (Tr ∷ []) (suc at) (partner items at) rows k r s.rows e in
       let u = (s.table).within in
       let w1 = w.1 in
       record {
@@ -309,7 +312,7 @@ module _ (items : List PlainItem) (at column : ℕ) (g : Grid) (lawful : Lawful 
       inside : (o : Open) (low high : ℕ) (nodes : List Open) → Chain from_of items (Thead ∷ Tbody ∷ Tfoot ∷ []) low high nodes → AmongNodes o nodes → o.from < high
       inside o low high [] c m = absurd m
       inside o low high (x ∷ nodes) c (inl e) =
-          let far = Rattle.model_edit_law.proofs.TablePlaceLemmas.Chain-ends from_of items (Thead ∷ Tbody ∷ Tfoot ∷ []) (end_of_node items x.from) high nodes c.2 in
+          let far = Chain-ends from_of items (Thead ∷ Tbody ∷ Tfoot ∷ []) (end_of_node items x.from) high nodes c.2 in
           let b = (c.1.2).ahead in
           let l : x.from < high = omega arith in
           subst (λ (v : Open). v.from < high) e l
