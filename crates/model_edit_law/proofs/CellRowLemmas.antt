@@ -1,6 +1,6 @@
 -- The cells of a grid, row by row, and where sections and rows stand beside them.
 use Rattle.std.specs.Prelude.{slice_get, filter, flat_map}
-use Rattle.std.proofs.Common.{◌≡◌, ◌⊎◌, inl, inr, ℕ, zero, suc, ◌+◌, ◌-◌, ◌<◌, ◌≤◌, ◌==◌, Bool, true, false, cond, nat_lt, List, [], ◌∷◌, ◌++◌, length, map, Option, Some, None, Result, Ok, Err, refl, sym, ap, ◌∙◌, subst, arith, append-nil}
+use Rattle.std.proofs.Common.{◌≡◌, ◌⊎◌, inl, inr, ℕ, zero, suc, ◌+◌, ◌<◌, ◌≤◌, ◌==◌, Bool, true, false, cond, nat_lt, List, [], ◌∷◌, ◌++◌, map, Option, Some, Result, Ok, Err, refl, sym, ap, ◌∙◌, subst, arith, append-nil}
 use Rattle.std.proofs.lemmas.Bool.{eq-eqb, ne_eqb, ltb-true, ltb-false}
 use Rattle.std.proofs.lemmas.List.{append_assoc}
 use Rattle.ve_kinds.specs.declared.kind.Kind.{Kind}
@@ -12,9 +12,8 @@ use Rattle.model_edit.specs.Offsets.{partner, end_of_node}
 use Rattle.model_edit.specs.declared.grid_cell.GridCell.{GridCell}
 use Rattle.model_edit.specs.declared.table_fault.TableFault.{TableFault}
 use Rattle.model_edit.specs.Grid.{Row, children_of, section_rows, row_cells, placed, is_crooked, with_row, with_rows}
-use Rattle.model_edit.specs.Layout.{Rectangle}
 use Rattle.model_edit_law.specs.Spans.{rectangle_of, of_row, span_at}
-use Rattle.model_edit_law.proofs.TablePlaceLemmas.{Chain, from_of, row_at, cell_kinds, Home, Homes, children_of_stand, section_stands, sections_stand, if_ok_else}
+use Rattle.model_edit_law.proofs.TablePlaceLemmas.{Chain, from_of, row_at, Home, Homes, children_of_stand, section_stands, sections_stand, if_ok_else}
 use Rattle.model_edit_law.proofs.TableFineLemmas.{row_within, rows_apart, row_ahead}
 use Rattle.model_edit_law.proofs.TableSetLemmas.{Among}
 

@@ -1,29 +1,28 @@
 -- Cells taken out of a list and cells of which the width is set: where the other nodes stand then.
-use Rattle.std.specs.Prelude.{slice_get, filter, filter_map, codes, decimal}
+use Rattle.std.specs.Prelude.{filter_map, codes, decimal}
 use Rattle.std.specs.List.{cons_option}
-use Rattle.std.proofs.Common.{◌≡◌, ◌⊎◌, inl, inr, ℕ, zero, suc, ◌+◌, ◌-◌, ◌<◌, ◌≤◌, ◌==◌, Bool, true, false, cond, not, if◌then◌else◌, nat_lt, List, [], ◌∷◌, ◌++◌, length, map, take, drop, Option, Some, None, refl, sym, ap, ◌∙◌, subst, arith, length-append, length-drop}
-use Rattle.std.proofs.lemmas.Bool.{ltb-true, ltb-false, lt-ltb, eq-eqb, ne_eqb}
+use Rattle.std.proofs.Common.{◌≡◌, ◌⊎◌, inl, inr, ℕ, zero, suc, ◌+◌, ◌-◌, ◌<◌, ◌≤◌, ◌==◌, Bool, true, false, if◌then◌else◌, nat_lt, List, [], ◌∷◌, ◌++◌, length, map, take, drop, Option, Some, None, refl, sym, ap, ◌∙◌, subst, arith, length-drop}
+use Rattle.std.proofs.lemmas.Bool.{ltb-true, ltb-false, lt-ltb}
 use Rattle.std.proofs.lemmas.List.{take-append-drop, length-take-le}
 use Rattle.std.proofs.Math.Seq.{drop-append-add}
 use Rattle.ve_kinds.specs.declared.kind.Kind.{Kind}
 use Rattle.model_items.specs.declared.plain_item.PlainItem.{PlainItem}
 use Rattle.model_items.specs.declared.plain_item.PlainItem.TheVariants.{Char, Opening, Closing}
 use Rattle.model_items.specs.Law.{Lawful}
-use Rattle.model_items.specs.Tree.{Open, length_to_close, shape_of}
+use Rattle.model_items.specs.Tree.{Open, length_to_close}
 use Rattle.model_change.specs.Attributes.{item_changed}
 use Rattle.model_change.specs.Transaction.{on_first}
-use Rattle.model_change.proofs.TouchLemmas.{get-take-append}
 use Rattle.model_edit.specs.Offsets.{end_of_node, siblings}
-use Rattle.model_edit.specs.Edits.{Edit, Set, setting, substituted_from, InOrder}
+use Rattle.model_edit.specs.Edits.{Edit, setting, substituted_from, InOrder}
 use Rattle.model_edit.specs.declared.grid_cell.GridCell.{GridCell}
 use Rattle.model_edit.specs.Tables.{set_columns, whole_node, cell_removed}
 use Rattle.model_edit_law.proofs.EditLemmas.{drop-on_first, length-on_first}
 use Rattle.model_edit_law.proofs.BracketLemmas.{node_parts}
-use Rattle.model_edit_law.proofs.TablePlaceLemmas.{Opens, Chain, Chain-within, Chain-ends, Chain-filter, cell_kinds, cell_at}
+use Rattle.model_edit_law.proofs.TablePlaceLemmas.{Opens, Chain, Chain-ends, cell_kinds, cell_at}
 use Rattle.model_edit_law.proofs.TableFineLemmas.{drop_twice, drop_at, InOrder-within, col_out_order}
 use Rattle.model_edit_law.proofs.TableGrowLemmas.{skip_first}
 use Rattle.model_edit_law.proofs.SiblingLemmas.{siblings-shapes, nodes_in, no_less, node_without, behind_moved, passed}
-use Rattle.model_edit_law.proofs.TableSetLemmas.{set_in, set_at, set_before, first_set, later_same, shapes_first, get_drop, get_past}
+use Rattle.model_edit_law.proofs.TableSetLemmas.{shapes_first}
 
 -- what a walk finds is at or behind where it begins
 siblings_alike : (f g : Open → Option Open) (d at : ℕ) (list : List PlainItem) → ((o : Open) → at ≤ o.from → f o ≡ g o) → filter_map f (siblings d at list) ≡ filter_map g (siblings d at list)

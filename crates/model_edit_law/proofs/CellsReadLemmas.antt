@@ -1,6 +1,6 @@
 -- Cells taken out of a list and cells of which the width is set: what is read at the places of the others.
 use Rattle.std.specs.Prelude.{slice_get, filter, codes, decimal}
-use Rattle.std.proofs.Common.{◌≡◌, ◌⊎◌, inl, inr, ℕ, zero, suc, ◌+◌, ◌-◌, ◌<◌, ◌≤◌, ◌==◌, Bool, true, false, cond, not, if◌then◌else◌, nat_lt, List, [], ◌∷◌, ◌++◌, length, take, drop, Option, Some, None, refl, sym, ap, ◌∙◌, subst, arith, length-append, length-drop}
+use Rattle.std.proofs.Common.{◌≡◌, ◌⊎◌, inl, inr, ℕ, zero, suc, ◌+◌, ◌-◌, ◌<◌, ◌≤◌, ◌==◌, Bool, true, false, cond, not, if◌then◌else◌, nat_lt, List, [], ◌∷◌, ◌++◌, length, take, drop, Option, Some, None, refl, sym, ap, ◌∙◌, subst, arith, length-drop}
 use Rattle.std.proofs.lemmas.Bool.{ltb-true, ltb-false, eq-eqb, ne_eqb, true≢false}
 use Rattle.std.proofs.lemmas.List.{length-take-le}
 use Rattle.model_items.specs.declared.plain_item.PlainItem.{PlainItem}
@@ -10,7 +10,7 @@ use Rattle.model_change.proofs.TouchLemmas.{get-take-append}
 use Rattle.model_edit.specs.Offsets.{end_of_node}
 use Rattle.model_edit.specs.Edits.{setting, substituted_from}
 use Rattle.model_edit.specs.declared.grid_cell.GridCell.{GridCell}
-use Rattle.model_edit_law.proofs.TablePlaceLemmas.{Chain, Chain-within, Chain-ends, Chain-filter, cell_kinds, cell_at}
+use Rattle.model_edit_law.proofs.TablePlaceLemmas.{Chain-ends, Chain-filter, cell_kinds, cell_at}
 use Rattle.model_edit_law.proofs.TableSetLemmas.{Among, set_in, set_at, set_before, first_set, later_same, get_drop, get_past, among_behind}
 use Rattle.model_edit_law.proofs.CellsOutLemmas.{edits_of, size, fate, Cells, fate_narrow, fate_past, fate_itself, fate_wide, fate_before, narrowed, Tail, one_gone, one_set, tail_gone, tail_set, long_gone, long_set, Clear, fate_low, some_is}
 

@@ -1,6 +1,6 @@
 -- The grid of a table without a column is the old one without it.
 use Rattle.std.specs.Prelude.{slice_get, filter, filter_map, codes}
-use Rattle.std.proofs.Common.{◌≡◌, ℕ, zero, suc, ◌+◌, ◌≤◌, Bool, true, false, if◌then◌else◌, nat_le, List, [], ◌∷◌, ◌++◌, length, map, Option, Some, None, Result, Ok, Err, refl, sym, ap, ◌∙◌, subst, arith, zero-add}
+use Rattle.std.proofs.Common.{◌≡◌, ℕ, suc, ◌+◌, Bool, true, false, if◌then◌else◌, nat_le, List, [], ◌∷◌, length, map, Option, Some, Result, Ok, Err, refl, sym, ap, ◌∙◌, subst, arith}
 use Rattle.ve_kinds.specs.declared.kind.Kind.TheVariants.{Table}
 use Rattle.model_items.specs.declared.plain_item.PlainItem.{PlainItem}
 use Rattle.model_items.specs.Tree.{Open}
@@ -12,8 +12,8 @@ use Rattle.model_edit.specs.declared.grid_cell.GridCell.{GridCell}
 use Rattle.model_edit.specs.declared.table_fault.TableFault.{TableFault}
 use Rattle.model_edit.specs.declared.table_fault.TableFault.TheVariants.{NotTable, BadColumn}
 use Rattle.model_edit.specs.Grid.{Row, Grid, grid, grid_with, right_end, table_rows, row_cells, with_rows, covers_column, most_rows, most_columns}
-use Rattle.model_edit.specs.Layout.{Rectangle, with_rectangles, layout_of, without_column, col_out_layout}
-use Rattle.model_edit.specs.Tables.{cell_removed, fault_or, first_fault}
+use Rattle.model_edit.specs.Layout.{Rectangle, with_rectangles, without_column}
+use Rattle.model_edit.specs.Tables.{fault_or, first_fault}
 use Rattle.model_edit_law.specs.Spans.{Line, rectangle_of, lay, lines_of, line_at, span_at, lines_left, AllSome, EachSome}
 use Rattle.model_edit_law.specs.TableLaws.{laid_out, ColOutGrid}
 use Rattle.model_edit_law.proofs.EditLemmas.{edited-transaction_from}

@@ -1,8 +1,8 @@
 -- The list of a table without a column: each row keeps what is left of its cells.
 use Rattle.std.specs.Prelude.{slice_get, filter, filter_map, flat_map, codes, decimal}
 use Rattle.std.specs.List.{cons_option}
-use Rattle.std.proofs.Common.{◌≡◌, ◌⊎◌, inl, inr, ℕ, zero, suc, ◌+◌, ◌-◌, ◌<◌, ◌≤◌, ◌==◌, Bool, true, false, cond, not, ◌&&◌, if◌then◌else◌, nat_le, nat_lt, List, [], ◌∷◌, ◌++◌, length, map, drop, Option, Some, None, refl, sym, ap, ◌∙◌, subst, arith, length-append}
-use Rattle.std.proofs.lemmas.Bool.{cases_Bool, and_parts, leb-true, ltb-true, eqb-false}
+use Rattle.std.proofs.Common.{◌≡◌, ◌⊎◌, inl, inr, ℕ, zero, suc, ◌+◌, ◌-◌, ◌<◌, ◌≤◌, ◌==◌, Bool, true, false, cond, not, if◌then◌else◌, nat_le, nat_lt, List, [], ◌∷◌, ◌++◌, length, map, drop, Option, Some, None, refl, sym, ap, ◌∙◌, subst, arith}
+use Rattle.std.proofs.lemmas.Bool.{and_parts, leb-true, ltb-true, eqb-false}
 use Rattle.ve_kinds.specs.declared.kind.Kind.{Kind}
 use Rattle.ve_kinds.specs.declared.kind.Kind.TheVariants.{Table, Thead, Tbody, Tfoot, Tr}
 use Rattle.ve_kinds.specs.Table.{is_among}
@@ -15,8 +15,8 @@ use Rattle.model_edit.specs.Offsets.{partner, end_of_node, siblings, children}
 use Rattle.model_edit.specs.Edits.{substituted_from}
 use Rattle.model_edit.specs.declared.grid_cell.GridCell.{GridCell}
 use Rattle.model_edit.specs.Grid.{Row, Grid, children_of, section_rows, table_rows, row_cells, covers_column, most_columns}
-use Rattle.model_edit.specs.Layout.{Rectangle, has_column, without_column}
-use Rattle.model_edit_law.specs.Spans.{Span, Line, rectangle_of, size_of, of_row, lines_left, span_at, line_at, lines_of}
+use Rattle.model_edit.specs.Layout.{Rectangle, without_column}
+use Rattle.model_edit_law.specs.Spans.{Line, rectangle_of, size_of, of_row, lines_left, span_at, line_at, lines_of}
 use Rattle.model_edit_law.proofs.TablePlaceLemmas.{Chain, Chain-ends, Chain-filter, from_of, cell_kinds, cell_at, children_of_stand, Standing}
 use Rattle.model_edit_law.proofs.TableFineLemmas.{row_within, row_ahead}
 use Rattle.model_edit_law.proofs.TableSetLemmas.{map-append, length_map, Among, set_in, set_at, set_before, set_among, among_behind}

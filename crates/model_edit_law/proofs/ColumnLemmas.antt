@@ -1,8 +1,8 @@
 -- A table as the spans of its cells, and what is left of its rectangles when a column is taken out.
-use Rattle.std.specs.Prelude.{filter, filter_map, nat_le}
+use Rattle.std.specs.Prelude.{filter_map, nat_le}
 use Rattle.std.specs.List.{list_any, cons_option}
-use Rattle.std.proofs.Common.{◌≡◌, ◌⊎◌, inl, inr, ℕ, zero, suc, ◌+◌, ◌-◌, ◌<◌, ◌≤◌, ◌==◌, Bool, true, false, cond, not, ◌&&◌, ◌||◌, if◌then◌else◌, nat_lt, List, [], ◌∷◌, ◌++◌, map, Option, Some, None, refl, sym, ap, ◌∙◌, subst, arith, append-nil}
-use Rattle.std.proofs.lemmas.Bool.{cases_Bool, eqb-true, eqb-false, eq-eqb, ne_eqb, and_parts, and_from, or_parts, or_from, leb-true, ltb-true, ltb-false, le-leb, lt-ltb, false_from_ne_true, true≢false}
+use Rattle.std.proofs.Common.{◌≡◌, ◌⊎◌, inl, inr, ℕ, zero, suc, ◌+◌, ◌-◌, ◌<◌, ◌≤◌, ◌==◌, Bool, true, false, cond, ◌&&◌, ◌||◌, if◌then◌else◌, nat_lt, List, [], ◌∷◌, ◌++◌, map, Option, Some, None, refl, sym, ap, ◌∙◌, subst, arith, append-nil}
+use Rattle.std.proofs.lemmas.Bool.{eqb-true, eqb-false, eq-eqb, ne_eqb, and_parts, and_from, or_parts, or_from, ltb-true, ltb-false, le-leb, lt-ltb, false_from_ne_true, true≢false}
 use Rattle.std.proofs.lemmas.List.{append_assoc}
 use Rattle.model_edit.specs.Layout.{Rectangle, has_row, has_column, without_column}
 use Rattle.model_edit_law.specs.Spans.{Span, Line, covered, free_from, width, meet, laid, bent, lay_row, lay, size_of, of_row, AllSome, EachSome, lines_left}
