@@ -45,16 +45,17 @@ ColOutLays = (lines : List Line) (gone : ℕ) (all : List Rectangle) → EachSom
 abbrev pub GridLays : Type 0
 GridLays = (items : List PlainItem) (at : ℕ) (g : Grid) → grid items at ≡ Ok g → lay 0 (lines_of items at) (Some []) ≡ Some (layout_of g).rectangles
 
--- Without a row that the call takes out, a table's grid is the old one without the row, cell by cell.
+-- the rectangles of a grid, if there is one
 abbrev pub laid_out : Result Grid TableFault → Result Layout TableFault
 laid_out (Err fault) = Err fault
 laid_out (Ok g) = Ok (layout_of g)
 
+-- After a row is taken out a table's grid is the old one without the row, rectangle by rectangle in the same order.
 abbrev pub RowOutGrid : Type 0
 RowOutGrid = (items : List PlainItem) (at row : ℕ) (t : Transaction) (g : Grid) → Lawful items → grid items at ≡ Ok g → row_out items at row ≡ Ok t →
     laid_out (grid (edited t items) at) ≡ Ok (row_out_layout (layout_of g) row)
 
--- And without a column it is the old one without the column.
+-- After a column is taken out it is the old one without the column.
 abbrev pub ColOutGrid : Type 0
 ColOutGrid = (items : List PlainItem) (at column : ℕ) (t : Transaction) (g : Grid) → Lawful items → grid items at ≡ Ok g → col_out items at column ≡ Ok t →
     laid_out (grid (edited t items) at) ≡ Ok (col_out_layout (layout_of g) column)
