@@ -16,3 +16,5 @@ pub mod StageLemmas
 pub mod ChangeLemmas
 pub mod FilledLemmas
 pub mod EntryExamples
+pub mod CitesLemmas
+mod ApplyExamples

@@ -1,6 +1,8 @@
 //! Edits as values: transactions of retain, replace and attribute operations along a list of items.
 #![tactic(auto)]
 
+#[cfg(test)]
+mod apply_tests;
 mod attributes;
 mod change;
 mod check;

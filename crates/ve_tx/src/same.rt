@@ -40,10 +40,10 @@ pub fn is_item(one: Item, other: Item) -> bool
         (
             Item::Char { ch, marks },
             Item::Char {
-                ch: ch_2,
-                marks: marks_2,
+                ch: other_ch,
+                marks: other_marks,
             },
-        ) => ch == ch_2 && is_id(marks, marks_2),
+        ) => ch == other_ch && is_id(marks, other_marks),
         (
             Item::Opening {
                 kind,
@@ -54,28 +54,28 @@ pub fn is_item(one: Item, other: Item) -> bool
                 origin,
             },
             Item::Opening {
-                kind: kind_2,
-                generated: generated_2,
-                head: head_2,
-                marks: marks_2,
-                pre: pre_2,
-                origin: origin_2,
+                kind: other_kind,
+                generated: other_generated,
+                head: other_head,
+                marks: other_marks,
+                pre: other_pre,
+                origin: other_origin,
             },
         ) => {
-            is_kind(kind, kind_2)
-                && generated == generated_2
-                && is_id(head, head_2)
-                && is_id(marks, marks_2)
-                && is_id(pre, pre_2)
-                && is_origin(origin, origin_2)
+            is_kind(kind, other_kind)
+                && generated == other_generated
+                && is_id(head, other_head)
+                && is_id(marks, other_marks)
+                && is_id(pre, other_pre)
+                && is_origin(origin, other_origin)
         }
         (
             Item::Closing { kind, pre },
             Item::Closing {
-                kind: kind_2,
-                pre: pre_2,
+                kind: other_kind,
+                pre: other_pre,
             },
-        ) => is_kind(kind, kind_2) && is_id(pre, pre_2),
+        ) => is_kind(kind, other_kind) && is_id(pre, other_pre),
         (Item::Char { .. }, Item::Opening { .. } | Item::Closing { .. })
         | (Item::Opening { .. }, Item::Char { .. } | Item::Closing { .. })
         | (Item::Closing { .. }, Item::Char { .. } | Item::Opening { .. }) => false,

@@ -119,6 +119,7 @@ impl Transaction {
     pub fn inverse(&self, alloc: Global) -> Result<Transaction, Memory>
         ensures inverse { IfOk result (λ back. (values : _) → by_value values back ≡ inverse (by_value values self.now)) }
         ensures undone { IfOk result (λ back. (values : _) (items : _) → AllNamesApart items → Applies (by_value values self.now) items → IsRestorable (by_value values self.now) items → IsUndoneBy (by_value values self.now) (by_value values back) items) }
+        ensures cites { IfOk result (λ back. (values : _) → TxCites values self.now → TxCites values back) }
     {
         let back = inverted(alloc, self.ops.as_slice(), self.kept.as_slice())?;
         Ok(Transaction {
