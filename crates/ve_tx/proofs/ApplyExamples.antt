@@ -2,7 +2,6 @@
 use Rattle.std.proofs.Common.{◌≡◌, false, List, [], ◌∷◌, None, Some, codes, refl}
 use Rattle.ve_base.specs.declared.attrs.Attr.{Attr}
 use Rattle.ve_base.specs.Empty.{empty_head}
-use Rattle.ve_base.specs.declared.head.Head.{Head}
 use Rattle.ve_kinds.specs.declared.kind.Kind.TheVariants.{P, InternalList}
 use Rattle.model_items.specs.declared.item.Item.{Item}
 use Rattle.model_items.specs.declared.item.Item.TheVariants.{Char, Opening, Closing}
@@ -11,8 +10,8 @@ use Rattle.model_change.specs.declared.tx_fault.TxFault.TheVariants.{BadLength, 
 use Rattle.ve_tx.specs.declared.op.Op.{Op}
 use Rattle.ve_tx.specs.declared.op.Op.TheVariants.{Retain, Replace, Attribute}
 use Rattle.ve_tx.specs.Attrs.{exchanged, new_attr, place_of, count_of}
-use Rattle.ve_tx.specs.Checked.{old_size, mismatch_in, bad_in, fault_in}
-use Rattle.ve_tx.specs.Making.{headed, first_headed}
+use Rattle.ve_tx.specs.Checked.{old_size, fault_in}
+use Rattle.ve_tx.specs.Making.{headed}
 
 -- a paragraph with the letters a and b, and the empty internal list
 page : List Item

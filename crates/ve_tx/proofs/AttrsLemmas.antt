@@ -1,5 +1,5 @@
 -- Attributes with one put in, exchanged or left out.
-use Rattle.std.proofs.Common.{◌≡◌, ◌≤◌, ◌<◌, ℕ, zero, suc, ◌+◌, min, Bool, true, false, not, ◌&&◌, ◌||◌, if◌then◌else◌, IsTrue, List, [], ◌∷◌, ◌++◌, length, take, drop, map, get_or, Contains, Option, Some, None, option_to_list, codes, refl, sym, ap, ◌∙◌, subst, inl, inr, append_assoc, arith, take-append-drop}
+use Rattle.std.proofs.Common.{◌≡◌, ◌≤◌, ◌<◌, ℕ, zero, suc, ◌+◌, min, Bool, true, false, not, ◌||◌, if◌then◌else◌, List, [], ◌∷◌, ◌++◌, length, take, drop, get_or, Contains, Option, Some, None, codes, refl, sym, ap, ◌∙◌, subst, inl, inr, append_assoc, arith, take-append-drop}
 use Rattle.std.specs.Bool.{Decides}
 use Rattle.std.specs.Str.{chars}
 use Rattle.std.proofs.lemmas.Bool.Decides.{same_from_decides}
@@ -10,7 +10,7 @@ use Rattle.ve_base.specs.Names.{names, NamesApart}
 use Rattle.model_items.specs.Same.{text_same, option_same}
 use Rattle.model_items.proofs.SameLemmas.{Means-text_same, Means-option_same}
 use Rattle.ve_base.specs.declared.head.Head.{Head}
-use Rattle.model_change.specs.Attributes.{AttrChange, value_of, position_of, attr_added, attr_replaced, attr_removed, attrs_changed, is_reserved, allows}
+use Rattle.model_change.specs.Attributes.{AttrChange, value_of, position_of, attr_replaced, attr_removed, attrs_changed, is_reserved}
 use Rattle.model_change.proofs.AttributeLemmas.{item_apart}
 use Rattle.model_items.specs.declared.plain_item.PlainItem.TheVariants.{Opening}
 use Rattle.ve_kinds.specs.declared.kind.Kind.TheVariants.{P}

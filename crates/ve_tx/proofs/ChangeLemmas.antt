@@ -1,5 +1,5 @@
 -- A change of the active range, spliced into the list.
-use Rattle.std.proofs.Common.{◌≡◌, ◌≤◌, ℕ, zero, suc, ◌+◌, ◌-◌, Bool, true, false, ◌&&◌, if◌then◌else◌, List, [], ◌∷◌, ◌++◌, length, take, drop, map, All, Option, Some, None, Result, Ok, Err, OnOk, is_ok, refl, sym, ap, ◌∙◌, subst, append_assoc, arith}
+use Rattle.std.proofs.Common.{◌≡◌, ◌≤◌, ℕ, ◌+◌, ◌-◌, Bool, true, false, ◌&&◌, if◌then◌else◌, List, [], ◌∷◌, ◌++◌, length, take, drop, map, All, Option, Some, None, Result, Ok, Err, OnOk, is_ok, refl, sym, ap, ◌∙◌, subst, append_assoc, arith}
 use Rattle.std.proofs.lemmas.List.{map-append, length-map, take-map, drop-map}
 use Rattle.std.proofs.lemmas.List.Elements.{All-append}
 use Rattle.ve_base.specs.declared.value.Value.{Value}
@@ -10,7 +10,7 @@ use Rattle.model_change.specs.Transaction.{Retain, Replace, Attribute, Transacti
 use Rattle.model_change.specs.declared.tx_fault.TxFault.{TxFault}
 use Rattle.model_change.specs.declared.tx_fault.TxFault.TheVariants.{Memory}
 use Rattle.model_change.specs.Fault.{Applies, fault, apply, apply_unless}
-use Rattle.model_change.specs.Join.{active_range, is_active, start_of, end_of, has_some, core, without_end, without_first}
+use Rattle.model_change.specs.Join.{active_range, is_active, start_of, end_of, has_some, without_end}
 use Rattle.model_change.specs.Store.{fill, changed_heads, heads_from}
 use Rattle.model_change.proofs.JoinLaw.{inactive_keeps}
 use Rattle.model_change.proofs.JoinLemmas.{parts_of}

@@ -1,16 +1,16 @@
 -- What operations do to a list, they do to its items up to where they reach.
-use Rattle.std.proofs.Common.{◌≡◌, ◌≤◌, ◌<◌, ℕ, zero, suc, ◌+◌, ◌-◌, min, max, Bool, true, false, List, [], ◌∷◌, ◌++◌, length, take, drop, All, None, refl, sym, ap, ◌∙◌, subst, append_assoc, append-nil, arith, take-append-drop}
+use Rattle.std.proofs.Common.{◌≡◌, ◌≤◌, ◌<◌, ℕ, zero, suc, ◌+◌, ◌-◌, Bool, true, false, List, [], ◌∷◌, ◌++◌, length, take, drop, All, None, refl, sym, ap, ◌∙◌, subst, append_assoc, arith, take-append-drop}
 use Rattle.std.proofs.lemmas.List.{length-take-le, length-drop, drop-drop, take-take, drop-take}
 use Rattle.std.proofs.lemmas.List.Elements.{All-nil}
 use Rattle.ve_base.specs.declared.value.Value.{Value}
 use Rattle.model_items.specs.declared.item.Item.{Item}
 use Rattle.model_items.specs.declared.plain_item.PlainItem.{PlainItem}
 use Rattle.model_items.specs.declared.plain_item.PlainItem.TheVariants.{Char, Opening, Closing}
-use Rattle.model_items.specs.Plain.{plain, plain_list, CitesWell}
+use Rattle.model_items.specs.Plain.{plain_list, CitesWell}
 use Rattle.model_change.specs.Attributes.{AttrChange, item_changed}
-use Rattle.model_change.specs.Transaction.{Op, Retain, Replace, Attribute, Transaction, old_length, on_first, edited, is_reduced}
+use Rattle.model_change.specs.Transaction.{Retain, Replace, Attribute, Transaction, old_length, on_first, edited, is_reduced}
 use Rattle.model_change.specs.Fault.{first_allows, Applies}
-use Rattle.model_change.specs.Join.{first, without_first, without_end, core, reach, start_of, end_of}
+use Rattle.model_change.specs.Join.{first, without_first, without_end, core, reach, end_of}
 use Rattle.model_change.specs.Store.{fill, head_if, heads_from, changed_heads}
 use Rattle.model_change.proofs.Fits.{Fits, parts_of_Applies}
 use Rattle.model_change.proofs.InverseLemmas.{reduced_parts}

@@ -1,5 +1,5 @@
 -- The first fault by passes over the operations, each over the old list alone, is the model's.
-use Rattle.std.proofs.Common.{◌≡◌, ◌≢◌, ◌≤◌, ℕ, zero, suc, ◌+◌, ◌^◌, Bool, true, false, not, ◌&&◌, ◌==◌, if◌then◌else◌, eqb-true, eq-eqb, List, [], ◌∷◌, length, drop, map, Option, Some, None, refl, sym, ap, ◌∙◌, subst, arith}
+use Rattle.std.proofs.Common.{◌≡◌, ℕ, zero, suc, ◌+◌, true, false, not, ◌==◌, if◌then◌else◌, List, [], ◌∷◌, length, drop, map, Some, None, refl, sym, ap, ◌∙◌, arith}
 use Rattle.std.proofs.lemmas.Bool.{and_parts, not-true}
 use Rattle.std.proofs.lemmas.List.{length-map, drop-drop, drop-map}
 use Rattle.ve_base.specs.declared.value.Value.{Value}
@@ -8,7 +8,6 @@ use Rattle.model_items.specs.declared.plain_item.PlainItem.{PlainItem}
 use Rattle.model_items.specs.declared.plain_item.PlainItem.TheVariants.{Char, Opening, Closing}
 use Rattle.model_items.specs.Plain.{plain, plain_list}
 use Rattle.model_items.specs.Same.{text_same}
-use Rattle.model_change.specs.declared.tx_fault.TxFault.{TxFault}
 use Rattle.model_change.specs.declared.tx_fault.TxFault.TheVariants.{BadLength, Mismatch, BadAttr}
 use Rattle.model_change.specs.Attributes.{AttrChange, item_changed}
 use Rattle.model_change.specs.Transaction.{Retain, Replace, Attribute, Transaction, old_length, on_first, may_precede, is_reduced}
@@ -16,7 +15,6 @@ use Rattle.model_change.specs.Fault.{or_else, differs_at, mismatch_at, first_all
 use Rattle.model_change.proofs.InverseLemmas.{reduced_parts}
 use Rattle.model_change.proofs.AttributeJoin.{allows-other}
 use Rattle.ve_tx.specs.Checked.{old_size, mismatch_in, bad_in, change_of, fault_in}
-use Rattle.ve_tx.specs.Normal.{total_size}
 use Rattle.ve_tx.specs.Operation.{Operation, bare, by_value}
 use Rattle.ve_tx.specs.Operation as kept
 

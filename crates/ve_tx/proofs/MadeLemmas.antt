@@ -1,7 +1,7 @@
 -- How far a new list is made, and one step further.
-use Rattle.std.proofs.Common.{◌≡◌, ◌≤◌, ◌<◌, ℕ, zero, suc, ◌+◌, ◌-◌, min, max, Bool, true, false, not, ◌&&◌, nat_lt, List, [], ◌∷◌, ◌++◌, length, take, drop, map, get_or, slice_get, All, Option, Some, None, is_some, refl, sym, ap, ◌∙◌, subst, append_assoc, append-nil, arith}
+use Rattle.std.proofs.Common.{◌≡◌, ◌≤◌, ◌<◌, ℕ, zero, suc, ◌+◌, ◌-◌, min, true, false, List, [], ◌∷◌, ◌++◌, length, take, drop, All, Option, Some, None, is_some, refl, sym, ap, ◌∙◌, subst, append_assoc, append-nil, arith}
 use Rattle.std.proofs.lemmas.Bool.{ltb-true}
-use Rattle.std.proofs.lemmas.List.{map-append, length-map, length-take, length-drop, drop-drop, take_min, drop_min, drop_all}
+use Rattle.std.proofs.lemmas.List.{map-append, length-map, length-drop, drop-drop, take_min, drop_min, drop_all}
 use Rattle.std.proofs.lemmas.List.Elements.{All-append}
 use Rattle.ve_base.specs.declared.head.Head.{Head}
 use Rattle.ve_base.specs.declared.value.Value.{Value}
@@ -15,8 +15,8 @@ use Rattle.model_change.specs.Fault.{first_allows}
 use Rattle.model_change.specs.Join.{reach, without_end}
 use Rattle.model_change.specs.Store.{fill, head_if, heads_from}
 use Rattle.model_change.proofs.InverseLemmas.{reduced_parts}
-use Rattle.ve_tx.specs.Making.{Extends, headed, first_headed, IsOpening, MayHead}
-use Rattle.ve_tx.proofs.ValuesLemmas.{extends_on, plain-extended, list-extended, all-extended, filled_on}
+use Rattle.ve_tx.specs.Making.{Extends, headed, first_headed, IsOpening}
+use Rattle.ve_tx.proofs.ValuesLemmas.{extends_on, list-extended, all-extended, filled_on}
 
 -- each attribute operation is allowed, those before it at its place being done
 abbrev pub AreAllowed : Transaction → List PlainItem → Type 0

@@ -1,7 +1,7 @@
 -- How a new list is made along the operations.
-use Rattle.std.proofs.Common.{◌≡◌, ◌≤◌, ◌<◌, ℕ, zero, suc, ◌+◌, ◌-◌, min, Bool, true, false, List, [], ◌∷◌, ◌++◌, length, take, drop, map, get_or, slice_get, All, Option, Some, None, Result, Ok, Err, OnOk, refl, sym, ap, ◌∙◌, subst, append_assoc, append-nil, arith}
+use Rattle.std.proofs.Common.{◌≡◌, ◌≤◌, ◌<◌, ℕ, zero, suc, ◌+◌, ◌-◌, min, true, List, [], ◌∷◌, ◌++◌, length, take, drop, slice_get, All, Some, None, Result, Ok, Err, OnOk, refl, sym, ap, ◌∙◌, subst, append_assoc, arith}
 use Rattle.std.proofs.lemmas.List.{map-append, length-take, length-drop, get_or-take, get_or-drop, take-map, drop-map}
-use Rattle.std.proofs.lemmas.List.Elements.{All-nil, All-cons, All-head, All-tail, All-append}
+use Rattle.std.proofs.lemmas.List.Elements.{All-nil, All-cons, All-append}
 use Rattle.ve_items.proofs.Places.{range_more}
 use Rattle.ve_base.specs.declared.head.Head.{Head}
 use Rattle.ve_base.specs.declared.value.Value.{Value}
@@ -10,8 +10,8 @@ use Rattle.model_items.specs.declared.plain_item.PlainItem.{PlainItem}
 use Rattle.model_items.specs.declared.plain_item.PlainItem.TheVariants.{Char, Opening, Closing}
 use Rattle.model_items.specs.Plain.{plain, plain_list, CitesWell}
 use Rattle.model_change.specs.Store.{fill, head_cited, head_if}
-use Rattle.ve_tx.specs.Making.{Extends, headed, first_headed, IsOpening, MayHead}
-use Rattle.ve_tx.proofs.ValuesLemmas.{extends_itself, extends_on, extends_by_fill, cites-extended, plain-extended, all-extended, list-extended}
+use Rattle.ve_tx.specs.Making.{Extends, headed, first_headed, IsOpening}
+use Rattle.ve_tx.proofs.ValuesLemmas.{all-extended, list-extended}
 
 -- one more piece of a range
 pub copied-more : (items start now new piece : List Item) (from at n : ℕ) → from ≤ at → now ≡ start ++ take (at - from) (drop from items) → new ≡ now ++ piece →

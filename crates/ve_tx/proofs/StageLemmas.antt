@@ -1,5 +1,5 @@
 -- The pass over the operations that makes the new items of the active range, step by step.
-use Rattle.std.proofs.Common.{◌≡◌, ◌≤◌, ◌<◌, ℕ, zero, suc, ◌+◌, ◌-◌, min, Bool, true, false, not, ◌&&◌, List, [], ◌∷◌, ◌++◌, length, take, drop, map, get_or, slice_get, All, Option, Some, None, is_some, refl, sym, ap, ◌∙◌, subst, arith}
+use Rattle.std.proofs.Common.{◌≡◌, ◌≤◌, ◌<◌, ℕ, zero, suc, ◌+◌, ◌-◌, min, true, false, not, List, [], ◌∷◌, ◌++◌, length, take, drop, get_or, slice_get, All, Option, Some, None, is_some, refl, sym, ap, ◌∙◌, subst, arith}
 use Rattle.std.proofs.lemmas.Bool.{and_parts, not-true}
 use Rattle.std.proofs.lemmas.List.{length-map, length-take-le, take-map, take-take, drop_all}
 use Rattle.std.proofs.lemmas.Option.{get_or_from_slice_get, slice_get_within}
@@ -13,7 +13,7 @@ use Rattle.model_items.specs.Same.{text_same, option_same}
 use Rattle.model_items.proofs.SameLemmas.{Means-text_same, Means-option_same}
 use Rattle.ve_kinds.specs.Table.{is_element}
 use Rattle.model_change.specs.Attributes.{AttrChange, value_of, is_reserved, item_changed, allows}
-use Rattle.model_change.specs.Transaction.{Retain, Replace, Attribute, Transaction, edited, is_reduced}
+use Rattle.model_change.specs.Transaction.{Transaction, edited, is_reduced}
 use Rattle.model_change.specs.Fault.{Applies}
 use Rattle.model_change.specs.Join.{start_of, end_of}
 use Rattle.model_change.specs.Store.{fill, head_if, heads_from}

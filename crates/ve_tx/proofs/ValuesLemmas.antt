@@ -1,20 +1,18 @@
 -- What items cite stays as it is in a list of values that has more behind it.
-use Rattle.std.proofs.Common.{◌≡◌, ℕ, zero, suc, ◌+◌, ◌<◌, List, [], ◌∷◌, ◌++◌, length, take, drop, map, get_or, slice_get, All, Option, Some, None, refl, sym, ap, ◌∙◌, subst, append_assoc, append-nil, arith}
+use Rattle.std.proofs.Common.{◌≡◌, ℕ, zero, suc, List, [], ◌∷◌, ◌++◌, length, take, get_or, slice_get, All, Option, Some, None, refl, sym, ap, ◌∙◌, subst, append_assoc, append-nil}
 use Rattle.std.proofs.lemmas.List.{take_at}
-use Rattle.std.proofs.lemmas.List.Elements.{All-nil, All-cons, All-head, All-tail, All-append}
+use Rattle.std.proofs.lemmas.List.Elements.{All-nil, All-cons, All-head, All-tail}
 use Rattle.ve_base.specs.declared.value.Value.{Value}
 use Rattle.ve_base.specs.declared.value.Value.TheVariants as value
 use Rattle.ve_base.specs.declared.value.ValueId.{ValueId}
 use Rattle.model_items.specs.declared.item.Item.{Item}
 use Rattle.model_items.specs.declared.item.Item.TheVariants as item
-use Rattle.model_items.specs.declared.plain_item.PlainItem.{PlainItem}
 use Rattle.model_items.specs.Plain.{plain, plain_list, value_at, head_in, marks_in, white_in, CitesHead, CitesMarks, CitesWhite, CitesWell}
-use Rattle.model_change.specs.Store.{fill, admitted, IsFilled}
+use Rattle.model_change.specs.Store.{fill, admitted}
 use Rattle.model_change.proofs.StoreLemmas.{fill_appends}
-use Rattle.model_change.specs.Transaction.{Transaction}
 use Rattle.ve_tx.specs.Cites.{OperationCites, TxCites}
 use Rattle.ve_tx.specs.Making.{Extends}
-use Rattle.ve_tx.specs.Operation.{Operation, Retain, Replace, Attribute, operation_by_value, by_value, with_position, with_positions, unkept}
+use Rattle.ve_tx.specs.Operation.{with_position, with_positions, unkept}
 use Rattle.ve_tx.specs.declared.op.Op.{Op}
 use Rattle.ve_tx.specs.declared.op.Op.TheVariants as op
 

@@ -1,5 +1,5 @@
 -- Attributes with one put in, exchanged or left out, as they are copied.
-use Rattle.std.specs.Prelude.{ℕ, ◌+◌, min, List, [], ◌∷◌, ◌++◌, length, take, drop, Option, Some, None, option_to_list}
+use Rattle.std.specs.Prelude.{ℕ, ◌+◌, min, List, ◌++◌, length, take, drop, Option, Some, None, option_to_list}
 use Rattle.ve_base.specs.declared.attrs.Attr.{Attr}
 use Rattle.model_change.specs.Attributes.{position_of}
 

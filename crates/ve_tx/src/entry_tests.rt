@@ -7,7 +7,7 @@ use crate::{Draft, Entry, EntryList, Op, OpList, Parcel, ParcelList, Transaction
 use std::alloc::Global;
 use std::test::Fail;
 use ve_base::{Attrs, Mark, Marks, Memory, Text, Value, ValueId};
-use ve_items::{Item, Items};
+use ve_items::{Item, Items, Linear};
 use ve_store::{NewValues, Store};
 
 /// The insertion of a letter between so many items.
@@ -150,5 +150,31 @@ fn a_parcel_cites_its_own_values(rt: HostRuntime) -> Result<(), Fail> {
             }
         }
     }
+    Ok(())
+}
+
+/// The insertion of a letter into an empty list.
+fn first_letter(alloc: Global, ch: char) -> Result<OpList, Memory>
+    ensures { IfOk result (λ ops. ops ≡ op.Replace [] (item.Char ch None ∷ []) ∷ []) }
+{
+    let mut inserted = Items::new(alloc);
+    inserted.push(Item::Char { ch, marks: None })?;
+    let mut ops = OpList::new(alloc);
+    ops.push(Op::Replace {
+        removed: Items::new(alloc),
+        inserted,
+    })?;
+    Ok(ops)
+}
+
+#[test]
+fn positions_are_filled_in(rt: HostRuntime) -> Result<(), Fail> {
+    let alloc = rt.alloc();
+    let Ok(tx) = Transaction::from_ops(first_letter(alloc, 'x')?) else {
+        assert!(rt; false);
+        return Ok(());
+    };
+    let filled = tx.filled(alloc, &Linear::new(alloc), &Store::new(alloc))?;
+    assert_eq!(rt; filled.ops().len(), 1);
     Ok(())
 }

@@ -1,6 +1,4 @@
-use Rattle.std.proofs.Common.{◌≡◌, ap, ◌∙◌, sym, subst, ◌++◌, take, Contains}
-use Rattle.ve_base.specs.declared.attrs.Attr.{Attr}
-use Rattle.ve_base.specs.Names.{names}
+use Rattle.std.proofs.Common.{◌≡◌}
 use Rattle.ve_tx.proofs.AttrsLemmas.{apart-next}
 use Rattle.ve_tx.proofs.attributes.append.Goals as goal
 

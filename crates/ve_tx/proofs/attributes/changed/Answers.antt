@@ -1,8 +1,5 @@
-use Rattle.std.proofs.Common.{◌≡◌, ap, ◌∙◌, sym, subst, List, ℕ, Option, Result, IfOk}
-use Rattle.ve_base.specs.declared.attrs.Attr.{Attr}
+use Rattle.std.proofs.Common.{sym, subst}
 use Rattle.ve_base.specs.Names.{NamesApart}
-use Rattle.model_change.specs.Attributes.{attrs_changed}
-use Rattle.ve_tx.specs.Attrs.{exchanged}
 use Rattle.ve_tx.proofs.AttrsLemmas.{place-within, exchange-is, apart-changed}
 use Rattle.ve_tx.proofs.attributes.changed.Goals as goal
 

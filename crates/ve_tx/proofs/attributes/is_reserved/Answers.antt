@@ -1,4 +1,3 @@
-use Rattle.std.proofs.Common.{◌≡◌, true, false, ◌||◌, ap, ◌∙◌, sym, codes}
 use Rattle.ve_tx.proofs.AttrsLemmas.{reserved_first, reserved_second}
 use Rattle.ve_tx.proofs.attributes.is_reserved.Goals as goal
 

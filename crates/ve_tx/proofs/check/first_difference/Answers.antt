@@ -1,4 +1,4 @@
-use Rattle.std.proofs.Common.{◌≤◌, ◌≡◌, ◌+◌, ◌-◌, length, take, drop, arith}
+use Rattle.std.proofs.Common.{arith}
 use Rattle.ve_tx.proofs.CheckLemmas.{differs-later, alike-more}
 use Rattle.ve_tx.proofs.check.first_difference.Goals as goal
 

@@ -1,4 +1,4 @@
-use Rattle.std.proofs.Common.{◌≡◌, ◌<◌, ◌+◌, ◌-◌, ◌++◌, true, Some, Option, refl, ap, sym, subst, is_some, OnOk, take, drop}
+use Rattle.std.proofs.Common.{◌≡◌, ◌<◌, ◌+◌, ◌-◌, ◌++◌, Option, refl, ap, sym, subst, is_some, OnOk, take, drop}
 use Rattle.ve_base.specs.declared.head.Head.{Head}
 use Rattle.model_items.specs.Plain.{plain, plain_list}
 use Rattle.model_change.specs.Store.{fill, head_if}
