@@ -14,11 +14,11 @@ only_active_changes t items reduced applies =
     let cut : length rest ≡ length items - first t = length-drop (first t) items in
     let far : reach (core t) ≤ length rest = reach_within (core t) rest p.fits (omega arith) in
     let within = take (reach (core t)) rest in
-    let behind = drop (reach (core t)) rest in
+    let suffix = drop (reach (core t)) rest in
     let long : length within ≡ reach (core t) = length-take-le (reach (core t)) rest far in
-    let kept : edited (core t) rest ≡ edited (core t) within ++ behind =
-    ap (edited (core t)) (sym (take-append-drop (reach (core t)) rest)) ∙ edited-append behind (core t) within (omega arith) in
-    let there : behind ≡ drop (end_of t) items = drop-drop (reach (core t)) (first t) items in (
+    let kept : edited (core t) rest ≡ edited (core t) within ++ suffix =
+    ap (edited (core t)) (sym (take-append-drop (reach (core t)) rest)) ∙ edited-append suffix (core t) within (omega arith) in
+    let there : suffix ≡ drop (end_of t) items = drop-drop (reach (core t)) (first t) items in (
       edited (core t) within,
       ap (λ u. edited u items) (sym p.split) ∙ edited-with_ends (first t) (core t) (last t) items
           ∙ ap (λ l. take (first t) items ++ l) (kept ∙ ap (λ l. edited (core t) within ++ l) there),

@@ -10,7 +10,7 @@ use Rattle.model_change.specs.Attributes.{AttrChange, item_changed}
 use Rattle.model_change.specs.Transaction.{Op, Retain, Replace, Attribute, Transaction, on_first, all_inserted, old_length, new_length, edited, is_reduced, is_something, may_precede}
 use Rattle.model_change.specs.Store.{cited_by, cited, head_if, heads_from, changed_heads, brought, IsInserted, cited_head, IsChangedHead, HeadsAreChanged, BroughtIsNew}
 use Rattle.model_change.proofs.StoreLemmas.{contains_none}
-use Rattle.model_change.proofs.TouchLemmas.{get-behind, get-take-append}
+use Rattle.model_change.proofs.TouchLemmas.{get-suffix, get-take-append}
 
 -- ---- what items cite
 
@@ -29,7 +29,7 @@ cited_from [] v h = absurd (contains_none v h)
 cited_from (x ∷ xs) v h =
     elim (Contains-append_cases (cited_by x) (cited xs) v h) [
       | inl here ↦ (x, first_item x xs, here)
-      | inr behind ↦ let (item, within, by) = cited_from xs v behind in (item, Contains-append_right (x ∷ []) xs item within, by)
+      | inr suffix ↦ let (item, within, by) = cited_from xs v suffix in (item, Contains-append_right (x ∷ []) xs item within, by)
     ]
 
 cited_all : (xs : List PlainItem) (item : PlainItem) (v : Value) → Contains xs item → Contains (cited_by item) v → Contains (cited xs) v
@@ -37,7 +37,7 @@ cited_all [] item v within by = absurd (no_item item within)
 cited_all (x ∷ xs) item v within by =
     elim (Contains-append_cases (x ∷ []) xs item within) [
       | inl first ↦ Contains-append_left (cited_by x) (cited xs) v (subst (λ y. Contains (cited_by y) v) (sym (only_item x item first)) by)
-      | inr behind ↦ Contains-append_right (cited_by x) (cited xs) v (cited_all xs item v behind by)
+      | inr suffix ↦ Contains-append_right (cited_by x) (cited xs) v (cited_all xs item v suffix by)
     ]
 
 -- ---- the first item
@@ -67,8 +67,8 @@ head_back (x ∷ items) opening v e h = let same : x ≡ opening = cc in head_th
 retained_first : (count : ℕ) (items rest : List PlainItem) → 0 < count → count ≤ length items → slice_get (take count items ++ rest) 0 ≡ slice_get items 0
 retained_first count items rest some le = get-take-append count items rest 0 some (omega arith)
 
-behind_retained : (count i : ℕ) (items rest : List PlainItem) → count ≤ length items → slice_get (take count items ++ rest) (count + i) ≡ slice_get rest i
-behind_retained count i items rest le = ap (λ n. slice_get (take count items ++ rest) (n + i)) (sym (length-take-le count items le)) ∙ get-behind (take count items) rest i
+after_retained : (count i : ℕ) (items rest : List PlainItem) → count ≤ length items → slice_get (take count items ++ rest) (count + i) ≡ slice_get rest i
+after_retained count i items rest le = ap (λ n. slice_get (take count items ++ rest) (n + i)) (sym (length-take-le count items le)) ∙ get-suffix (take count items) rest i
 
 first_length : (f : PlainItem → PlainItem) (items : List PlainItem) → length (on_first f items) ≡ length items
 first_length f [] = refl
@@ -76,7 +76,7 @@ first_length f (x ∷ items) = refl
 
 -- ---- changed heads
 
--- what stands behind an attribute operation
+-- what stands after an attribute operation
 abbrev Continues : Bool → Transaction → Type 0
 Continues false ops = Unit {0}
 Continues true [] = ⊥
@@ -108,8 +108,8 @@ heads_are [] changed items v red le on h = inl (first_head changed items v h)
 heads_are (Retain count ∷ ops) changed items v red le on h =
     elim (Contains-append_cases (head_if changed items) (heads_from false ops (drop count items)) v h) [
       | inl first ↦ inl (first_on changed count items (edited ops (drop count items)) v (retains_some count ops red) (omega arith) (first_head changed items v first))
-      | inr behind ↦
-          elim (heads_are ops false (drop count items) v (later_reduced (Retain count) ops red) (omega (arith, length-drop count items)) tt behind) [
+      | inr suffix ↦
+          elim (heads_are ops false (drop count items) v (later_reduced (Retain count) ops red) (omega (arith, length-drop count items)) tt suffix) [
             | inl none ↦ absurd none
             | inr c ↦ inr (record {
               before = Retain count ∷ c.before;
@@ -117,7 +117,7 @@ heads_are (Retain count ∷ ops) changed items v red le on h =
               after = c.after;
               parts = ap (λ l. Retain count ∷ l) c.parts;
               opening = c.opening;
-              there = behind_retained count (new_length c.before) items (edited ops (drop count items)) (omega arith) ∙ c.there;
+              there = after_retained count (new_length c.before) items (edited ops (drop count items)) (omega arith) ∙ c.there;
               cites = c.cites;
             })
           ]
@@ -126,8 +126,8 @@ heads_are (Replace removed inserted ∷ ops) true items v red le on h = absurd o
 heads_are (Replace removed inserted ∷ ops) false items v red le on h =
     elim (Contains-append_cases (head_if false items) (heads_from false ops (drop (length removed) items)) v h) [
       | inl first ↦ absurd (contains_none v first)
-      | inr behind ↦
-          elim (heads_are ops false (drop (length removed) items) v (later_reduced (Replace removed inserted) ops red) (omega (arith, length-drop (length removed) items)) tt behind) [
+      | inr suffix ↦
+          elim (heads_are ops false (drop (length removed) items) v (later_reduced (Replace removed inserted) ops red) (omega (arith, length-drop (length removed) items)) tt suffix) [
             | inl none ↦ absurd none
             | inr c ↦ inr (record {
               before = Replace removed inserted ∷ c.before;
@@ -135,7 +135,7 @@ heads_are (Replace removed inserted ∷ ops) false items v red le on h =
               after = c.after;
               parts = ap (λ l. Replace removed inserted ∷ l) c.parts;
               opening = c.opening;
-              there = get-behind inserted (edited ops (drop (length removed) items)) (new_length c.before) ∙ c.there;
+              there = get-suffix inserted (edited ops (drop (length removed) items)) (new_length c.before) ∙ c.there;
               cites = c.cites;
             })
           ]
@@ -169,12 +169,12 @@ heads_all [] change after changed items opening v red le there cites =
     heads_first after (on_first (item_changed change) items) v (later_reduced (Attribute change) after red) (omega (arith, first_length (item_changed change) items)) (goes_on change after red) (opening, there, cites)
 heads_all (Retain count ∷ before) change after changed items opening v red le there cites =
     let ops = before ++ Attribute change ∷ after in
-    let on = sym (behind_retained count (new_length before) items (edited ops (drop count items)) (omega arith)) ∙ there in
+    let on = sym (after_retained count (new_length before) items (edited ops (drop count items)) (omega arith)) ∙ there in
     Contains-append_right (head_if changed items) (heads_from false ops (drop count items)) v
     (heads_all before change after false (drop count items) opening v (later_reduced (Retain count) ops red) (omega (arith, length-drop count items)) on cites)
 heads_all (Replace removed inserted ∷ before) change after changed items opening v red le there cites =
     let ops = before ++ Attribute change ∷ after in
-    let on = sym (get-behind inserted (edited ops (drop (length removed) items)) (new_length before)) ∙ there in
+    let on = sym (get-suffix inserted (edited ops (drop (length removed) items)) (new_length before)) ∙ there in
     Contains-append_right (head_if changed items) (heads_from false ops (drop (length removed) items)) v
     (heads_all before change after false (drop (length removed) items) opening v (later_reduced (Replace removed inserted) ops red) (omega (arith, length-drop (length removed) items)) on cites)
 heads_all (Attribute other ∷ before) change after changed items opening v red le there cites =

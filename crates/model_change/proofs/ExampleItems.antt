@@ -31,4 +31,4 @@ attr_ name value = record { name = name; value = value }
 
 -- the insertion of a text between so many items
 abbrev pub inserts : ℕ → List ℕ → ℕ → Transaction
-inserts before text behind = Retain before ∷ Replace [] (chars_ text) ∷ Retain behind ∷ []
+inserts before text suffix = Retain before ∷ Replace [] (chars_ text) ∷ Retain suffix ∷ []

@@ -39,7 +39,7 @@ reserved = refl
 other_value : apply (sets (codes "id") (Some (codes "z")) None) (page_ (attr_ (codes "id") (codes "x") ∷ [])) ≡ Err (BadAttr 0)
 other_value = refl
 
--- items come before attributes, also where they stand behind
+-- items come before attributes, also where they stand after
 mismatch_first : fault (Attribute (record { name = codes "about"; from = None; to = Some (codes "y"); kept = None }) ∷ Retain 1 ∷ Replace (chars_ (codes "b")) [] ∷ Retain 3 ∷ []) (page_ []) ≡ Some (Mismatch 1)
 mismatch_first = refl
 

@@ -25,16 +25,16 @@ module _ {A : Type 0} (Holds : ℕ × A → Type 0) where
   outcome-append xs ys None (Some at) h k = record {
     before = xs ++ k.before;
     one = k.one;
-    behind = k.behind;
-    parts = ap (λ l. xs ++ l) k.parts ∙ sym (append_assoc xs k.before ((at, k.one) ∷ k.behind));
+    suffix = k.suffix;
+    parts = ap (λ l. xs ++ l) k.parts ∙ sym (append_assoc xs k.before ((at, k.one) ∷ k.suffix));
     fine = All-append Holds xs k.before h k.fine;
     fails = k.fails;
   }
   outcome-append xs ys (Some at) p h k = record {
     before = h.before;
     one = h.one;
-    behind = h.behind ++ ys;
-    parts = ap (λ l. l ++ ys) h.parts ∙ append_assoc h.before ((at, h.one) ∷ h.behind) ys;
+    suffix = h.suffix ++ ys;
+    parts = ap (λ l. l ++ ys) h.parts ∙ append_assoc h.before ((at, h.one) ∷ h.suffix) ys;
     fine = h.fine;
     fails = h.fails;
   }
@@ -43,15 +43,15 @@ module _ {A : Type 0} (Holds : ℕ × A → Type 0) where
   outcome-cons x xs o h k = outcome-append (x ∷ []) xs None o (All-cons Holds x [] h (All-nil Holds)) k
 
   outcome-first : (at : ℕ) (a : A) (xs : List (ℕ × A)) → ¬ Holds (at, a) → Outcome Holds ((at, a) ∷ xs) (Some at)
-  outcome-first at a xs h = record { before = []; one = a; behind = xs; parts = refl; fine = All-nil Holds; fails = h }
+  outcome-first at a xs h = record { before = []; one = a; suffix = xs; parts = refl; fine = All-nil Holds; fails = h }
 
   -- one that fails is there
-  not_all : (before : List (ℕ × A)) (x : ℕ × A) (behind : List (ℕ × A)) → All Holds (before ++ (x ∷ behind)) → Holds x
-  not_all [] x behind h = All-head Holds x behind h
-  not_all (y ∷ before) x behind h = not_all before x behind (All-tail Holds y (before ++ (x ∷ behind)) h)
+  not_all : (before : List (ℕ × A)) (x : ℕ × A) (suffix : List (ℕ × A)) → All Holds (before ++ (x ∷ suffix)) → Holds x
+  not_all [] x suffix h = All-head Holds x suffix h
+  not_all (y ∷ before) x suffix h = not_all before x suffix (All-tail Holds y (before ++ (x ∷ suffix)) h)
 
   all_or_first : (xs : List (ℕ × A)) (at : ℕ) → All Holds xs → FirstAt Holds xs at → ⊥
-  all_or_first xs at h k = k.fails (not_all k.before (at, k.one) k.behind (subst (All Holds) k.parts h))
+  all_or_first xs at h k = k.fails (not_all k.before (at, k.one) k.suffix (subst (All Holds) k.parts h))
 
   one_first : (xs ys : List (ℕ × A)) (p q : ℕ × A) (more others : List (ℕ × A)) → xs ++ (p ∷ more) ≡ ys ++ (q ∷ others) → All Holds xs → All Holds ys → ¬ Holds p → ¬ Holds q → p ≡ q
   one_first [] [] p q more others e h k f g = cc
@@ -63,7 +63,7 @@ module _ {A : Type 0} (Holds : ℕ × A → Type 0) where
 
   first_is_one : (xs : List (ℕ × A)) (at there : ℕ) → FirstAt Holds xs at → FirstAt Holds xs there → at ≡ there
   first_is_one xs at there h k =
-      ap (λ (p : ℕ × A). p.0) (one_first h.before k.before (at, h.one) (there, k.one) h.behind k.behind (sym h.parts ∙ k.parts) h.fine k.fine h.fails k.fails)
+      ap (λ (p : ℕ × A). p.0) (one_first h.before k.before (at, h.one) (there, k.one) h.suffix k.suffix (sym h.parts ∙ k.parts) h.fine k.fine h.fails k.fails)
 
 -- the list from a place on
 

@@ -145,9 +145,9 @@ names_stay_apart t items applies given apart = apart_from t items (parts_of_Appl
 
 -- what a transaction removes from a list whose names are apart, the inverse inserts
 
-AllNamesApart_front : (xs ys : List PlainItem) → AllNamesApart (xs ++ ys) → AllNamesApart xs
-AllNamesApart_front [] ys p = tt
-AllNamesApart_front (x ∷ xs) ys p = (p.0, AllNamesApart_front xs ys p.1)
+AllNamesApart_prefix : (xs ys : List PlainItem) → AllNamesApart (xs ++ ys) → AllNamesApart xs
+AllNamesApart_prefix [] ys p = tt
+AllNamesApart_prefix (x ∷ xs) ys p = (p.0, AllNamesApart_prefix xs ys p.1)
 
 InsertedApart-attribute_ops : (changes : List AttrChange) (ops : Transaction) → InsertedApart ops → InsertedApart (attribute_ops changes ++ ops)
 InsertedApart-attribute_ops [] ops p = p
@@ -160,7 +160,7 @@ InsertedApart-inverse_after (Retain count ∷ ops) changes items fits apart =
     InsertedApart-attribute_ops changes (Retain count ∷ inverse ops) (InsertedApart-inverse_after ops [] (drop count items) fits (AllNamesApart-drop count items apart))
 InsertedApart-inverse_after (Replace removed inserted ∷ ops) changes items fits apart =
     InsertedApart-attribute_ops changes (Replace inserted removed ∷ inverse ops) (
-      AllNamesApart_front removed (drop (length removed) items) (subst AllNamesApart fits.0 apart),
+      AllNamesApart_prefix removed (drop (length removed) items) (subst AllNamesApart fits.0 apart),
       InsertedApart-inverse_after ops [] (drop (length removed) items) fits.1 (AllNamesApart-drop (length removed) items apart),
     )
 InsertedApart-inverse_after (Attribute c ∷ ops) changes [] fits apart = absurd (let e = fits.0 in cc)

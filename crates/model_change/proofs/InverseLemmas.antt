@@ -104,7 +104,7 @@ restored_after (Retain (suc n) ∷ ops) changes [] ready allowed asked = absurd 
 restored_after (Retain (suc n) ∷ ops) changes (item ∷ items) ready allowed asked =
     let room : n + old_length ops ≤ length items = omega arith in
     let cut : length (drop n items) ≡ length items - n = length-drop n items in
-    let front : length (take n items) ≡ n = length-take-le n items (omega arith) in
+    let prefix : length (take n items) ≡ n = length-take-le n items (omega arith) in
     let parts = reduced_parts (Retain (suc n)) ops asked.reduced in
     let rest = restored_after ops [] (drop n items) (Ready_none ops) (FirstAllowed_none (drop n items)) (record {
       reduced = parts.2;
@@ -114,13 +114,13 @@ restored_after (Retain (suc n) ∷ ops) changes (item ∷ items) ready allowed a
       apart = AllNamesApart-drop n items asked.apart.1;
     }) in
     let new = edited ops (drop n items) in
-    let same : take n (take n items ++ new) ≡ take n items = take_at (take n items) new n front in
-    let behind : drop n (take n items ++ new) ≡ new = drop_at (take n items) new n front in
+    let same : take n (take n items ++ new) ≡ take n items = take_at (take n items) new n prefix in
+    let beyond : drop n (take n items ++ new) ≡ new = drop_at (take n items) new n prefix in
     record {
       restored = edited-attribute_ops changes (Retain (suc n) ∷ inverse_after [] ops) item (take n items ++ new)
-          ∙ rw (same, behind, rest.restored, on_first-none (drop n items)) (ap (λ l. changed_all changes item ∷ l) (take-append-drop n items));
-      fits = Fits-attribute_ops changes (Retain (suc n) ∷ inverse_after [] ops) item (take n items ++ new) allowed (subst (λ l. Fits (inverse_after [] ops) l) (sym behind) rest.fits);
-      full = IsRestorable-attribute_ops changes (Retain (suc n) ∷ inverse_after [] ops) item (take n items ++ new) allowed (subst (λ l. IsRestorable (inverse_after [] ops) l) (sym behind) rest.full);
+          ∙ rw (same, beyond, rest.restored, on_first-none (drop n items)) (ap (λ l. changed_all changes item ∷ l) (take-append-drop n items));
+      fits = Fits-attribute_ops changes (Retain (suc n) ∷ inverse_after [] ops) item (take n items ++ new) allowed (subst (λ l. Fits (inverse_after [] ops) l) (sym beyond) rest.fits);
+      full = IsRestorable-attribute_ops changes (Retain (suc n) ∷ inverse_after [] ops) item (take n items ++ new) allowed (subst (λ l. IsRestorable (inverse_after [] ops) l) (sym beyond) rest.full);
     }
 restored_after (Replace removed inserted ∷ ops) (c ∷ changes) items ready allowed asked = absurd (let e = ready in cc)
 restored_after (Replace removed inserted ∷ ops) [] items ready allowed asked =
@@ -134,21 +134,21 @@ restored_after (Replace removed inserted ∷ ops) [] items ready allowed asked =
       apart = AllNamesApart-drop (length removed) items asked.apart;
     }) in
     let new = edited ops (drop (length removed) items) in
-    let behind : drop (length inserted) (inserted ++ new) ≡ new = drop_at inserted new (length inserted) refl in
+    let beyond : drop (length inserted) (inserted ++ new) ≡ new = drop_at inserted new (length inserted) refl in
     record {
-      restored = rw (behind, rest.restored, on_first-none (drop (length removed) items), on_first-none items) (sym asked.fits.0);
-      fits = (ap (λ l. inserted ++ l) (sym behind), subst (λ l. Fits (inverse_after [] ops) l) (sym behind) rest.fits);
-      full = subst (λ l. IsRestorable (inverse_after [] ops) l) (sym behind) rest.full;
+      restored = rw (beyond, rest.restored, on_first-none (drop (length removed) items), on_first-none items) (sym asked.fits.0);
+      fits = (ap (λ l. inserted ++ l) (sym beyond), subst (λ l. Fits (inverse_after [] ops) l) (sym beyond) rest.fits);
+      full = subst (λ l. IsRestorable (inverse_after [] ops) l) (sym beyond) rest.full;
     }
 restored_after (Attribute c ∷ ops) changes [] ready allowed asked = absurd (let e = asked.fits.0 in cc)
 restored_after (Attribute c ∷ ops) changes (item ∷ items) ready allowed asked =
     let parts = reduced_parts (Attribute c) ops asked.reduced in
-    let back = item_undone c item asked.fits.0 asked.full.0 asked.apart.0 in
+    let suffix = item_undone c item asked.fits.0 asked.full.0 asked.apart.0 in
     let rest = restored_after ops (change_back c ∷ changes) (item_changed c item ∷ items) (Ready_after c (change_back c ∷ changes) ops parts.1)
-    (back.allowed, back.put_back, subst (λ x. AllAllowed changes x) (sym back.undone) allowed)
-    (record { reduced = parts.2; room = asked.room; fits = asked.fits.1; full = asked.full.1; apart = (back.apart, asked.apart.1) }) in
+    (suffix.allowed, suffix.put_back, subst (λ x. AllAllowed changes x) (sym suffix.undone) allowed)
+    (record { reduced = parts.2; room = asked.room; fits = asked.fits.1; full = asked.full.1; apart = (suffix.apart, asked.apart.1) }) in
     record {
-      restored = rest.restored ∙ ap (λ x. changed_all changes x ∷ items) back.undone;
+      restored = rest.restored ∙ ap (λ x. changed_all changes x ∷ items) suffix.undone;
       fits = rest.fits;
       full = rest.full;
     }
@@ -168,11 +168,11 @@ old_length-inverse_after (Attribute c ∷ ops) changes = old_length-inverse_afte
 pub inverse_undoes : InverseUndoes
 inverse_undoes t items reduced apart applies full =
     let p = parts_of_Applies t items applies in
-    let back = restored_after t [] items (Ready_none t) (FirstAllowed_none items) (record { reduced = reduced; room = omega arith; fits = p.1; full = full; apart = apart }) in
+    let suffix = restored_after t [] items (Ready_none t) (FirstAllowed_none items) (record { reduced = reduced; room = omega arith; fits = p.1; full = full; apart = apart }) in
     let new = length-edited t items p.1 (omega arith) in
     let old = old_length-inverse_after t [] in
     record {
-      applies = Applies_from (inverse t) (edited t items) (omega arith) back.fits;
-      undone = back.restored ∙ on_first-none items;
-      restorable = back.full;
+      applies = Applies_from (inverse t) (edited t items) (omega arith) suffix.fits;
+      undone = suffix.restored ∙ on_first-none items;
+      restorable = suffix.full;
     }

@@ -97,8 +97,8 @@ one_adds = refl
 attribute_and_removal : conflict sets_id (Replace (with_attrs P [] ∷ []) [] ∷ Retain 4 ∷ []) ≡ true
 attribute_and_removal = refl
 
-attribute_and_insertion_behind : conflict sets_id (inserts 1 (codes "A") 4) ≡ false
-attribute_and_insertion_behind = refl
+attribute_and_insertion_after : conflict sets_id (inserts 1 (codes "A") 4) ≡ false
+attribute_and_insertion_after = refl
 
 parts : with_ends (first sets_id) (core sets_id) (last sets_id) ≡ sets_id
 parts = refl

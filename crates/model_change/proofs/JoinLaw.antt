@@ -10,7 +10,7 @@ use Rattle.model_change.specs.Transaction.{Transaction, new_length, edited}
 use Rattle.model_change.specs.Fault.{Applies, placed_changes}
 use Rattle.model_change.specs.Join.{first, last, core, has_some, is_active, end_of, start_of, has_replace, has_attribute, is_attribute_transaction, both_attributes, some_meet, overlap, conflict, retained, moved_on, with_new_end, join, meets, meets_one, Agree, JoinsAgree, ConflictIsSymmetric}
 use Rattle.model_change.proofs.Fits.{parts_of_Applies, Applies_from, length-edited}
-use Rattle.model_change.proofs.JoinLemmas.{HasParts, parts_of, left_agrees, Agree-swap, edited-behind, edited-with_ends, old_length-retained, Fits-behind}
+use Rattle.model_change.proofs.JoinLemmas.{HasParts, parts_of, left_agrees, Agree-swap, edited-suffix, edited-with_ends, old_length-retained, Fits-suffix}
 use Rattle.model_change.proofs.PlacedLemmas.{attributes_agree}
 
 no_core : (ops : Transaction) → has_some ops ≡ false → ops ≡ []
@@ -79,8 +79,8 @@ inactive_agrees a b items pa applies h =
     let long = old_length-retained (new_length b) in
     record {
       first_then = subst (λ l. Applies b l) (sym kept) applies;
-      second_then = Applies_from (retained (new_length b)) (edited b items) (omega arith) (subst (λ P. P) (sym (Fits-behind [] (new_length b) (edited b items))) tt);
-      one_list = ap (edited b) kept ∙ sym (edited-behind [] (new_length b) (edited b items));
+      second_then = Applies_from (retained (new_length b)) (edited b items) (omega arith) (subst (λ P. P) (sym (Fits-suffix [] (new_length b) (edited b items))) tt);
+      one_list = ap (edited b) kept ∙ sym (edited-suffix [] (new_length b) (edited b items));
     }
 
 module _ (a b : Transaction) (items : List PlainItem) (pa : HasParts a items) (pb : HasParts b items) (applies : Applies a items) (applies_too : Applies b items) where

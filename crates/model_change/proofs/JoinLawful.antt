@@ -10,7 +10,7 @@ use Rattle.model_change.specs.Fault.{Applies, placed_changes}
 use Rattle.model_change.specs.Join.{has_replace, moved_on, with_new_end, join, Agree, JoinsLawful}
 use Rattle.model_change.proofs.Fits.{parts_of_Applies}
 use Rattle.model_change.proofs.PlacedLemmas.{changed_at, all_placed, edited_placed}
-use Rattle.model_change.proofs.JoinLemmas.{HasParts, parts_of, Beside, left_beside, edited-behind}
+use Rattle.model_change.proofs.JoinLemmas.{HasParts, parts_of, Beside, left_beside, edited-suffix}
 use Rattle.model_change.proofs.JoinLaw.{JoinedAs, Unmet, FirstIdle, SecondIdle, FirstLeft, SecondLeft, joined_as, inactive_keeps, joins_agree}
 
 -- an attribute is of no matter to the law
@@ -45,7 +45,7 @@ module _ (a b : Transaction) (items : List PlainItem) (pa : HasParts a items) (p
   lawful_by : (r : Transaction × Transaction) → JoinedAs a b r → Agree a b r.0 r.1 items → Lawful (edited r.1 (edited a items))
   lawful_by r (Unmet none none_too apart) agree = attributes_keep_law b (edited a items) none_too agree.first_then left
   lawful_by r (FirstIdle idle) agree = subst Lawful (ap (edited b) (sym (inactive_keeps a items pa idle))) right
-  lawful_by r (SecondIdle idle) agree = subst Lawful (sym (edited-behind [] (new_length a) (edited a items))) left
+  lawful_by r (SecondIdle idle) agree = subst Lawful (sym (edited-suffix [] (new_length a) (edited a items))) left
   lawful_by r (FirstLeft active active_too near) agree =
       (beside_lawful a b (with_new_end a b) (moved_on b a) items (left_beside a b items pa pb near) lawful left right).0
   lawful_by r (SecondLeft active active_too near) agree =

@@ -27,7 +27,7 @@ ends_split (Retain (suc n) ∷ ops) h = ap (λ rest. Retain (suc n) ∷ rest) (e
 ends_split (Replace removed inserted ∷ ops) h = end_split (Replace removed inserted ∷ ops) h
 ends_split (Attribute c ∷ ops) h = end_split (Attribute c ∷ ops) h
 
--- a retain in front, and one behind
+-- a retain before, and one after
 
 edited-retained : (n : ℕ) (ops : Transaction) (items : List PlainItem) → edited (retained n ++ ops) items ≡ take n items ++ edited ops (drop n items)
 edited-retained zero ops items = refl
@@ -37,66 +37,66 @@ Fits-retained : (n : ℕ) (ops : Transaction) (items : List PlainItem) → Fits 
 Fits-retained zero ops items = refl
 Fits-retained (suc n) ops items = refl
 
-pub edited-behind : (ops : Transaction) (n : ℕ) (items : List PlainItem) → edited (ops ++ retained n) items ≡ edited ops items
-edited-behind [] zero items = refl
-edited-behind [] (suc n) items = take-append-drop (suc n) items
-edited-behind (Retain count ∷ ops) n items = ap (λ rest. take count items ++ rest) (edited-behind ops n (drop count items))
-edited-behind (Replace removed inserted ∷ ops) n items = ap (λ rest. inserted ++ rest) (edited-behind ops n (drop (length removed) items))
-edited-behind (Attribute c ∷ ops) n items = edited-behind ops n (on_first (item_changed c) items)
+pub edited-suffix : (ops : Transaction) (n : ℕ) (items : List PlainItem) → edited (ops ++ retained n) items ≡ edited ops items
+edited-suffix [] zero items = refl
+edited-suffix [] (suc n) items = take-append-drop (suc n) items
+edited-suffix (Retain count ∷ ops) n items = ap (λ rest. take count items ++ rest) (edited-suffix ops n (drop count items))
+edited-suffix (Replace removed inserted ∷ ops) n items = ap (λ rest. inserted ++ rest) (edited-suffix ops n (drop (length removed) items))
+edited-suffix (Attribute c ∷ ops) n items = edited-suffix ops n (on_first (item_changed c) items)
 
-pub Fits-behind : (ops : Transaction) (n : ℕ) (items : List PlainItem) → Fits (ops ++ retained n) items ≡ Fits ops items
-Fits-behind [] zero items = refl
-Fits-behind [] (suc n) items = refl
-Fits-behind (Retain count ∷ ops) n items = Fits-behind ops n (drop count items)
-Fits-behind (Replace removed inserted ∷ ops) n items = ap (λ P. (items ≡ removed ++ drop (length removed) items) × P) (Fits-behind ops n (drop (length removed) items))
-Fits-behind (Attribute c ∷ ops) n items = ap (λ P. (first_allows c items ≡ true) × P) (Fits-behind ops n (on_first (item_changed c) items))
+pub Fits-suffix : (ops : Transaction) (n : ℕ) (items : List PlainItem) → Fits (ops ++ retained n) items ≡ Fits ops items
+Fits-suffix [] zero items = refl
+Fits-suffix [] (suc n) items = refl
+Fits-suffix (Retain count ∷ ops) n items = Fits-suffix ops n (drop count items)
+Fits-suffix (Replace removed inserted ∷ ops) n items = ap (λ P. (items ≡ removed ++ drop (length removed) items) × P) (Fits-suffix ops n (drop (length removed) items))
+Fits-suffix (Attribute c ∷ ops) n items = ap (λ P. (first_allows c items ≡ true) × P) (Fits-suffix ops n (on_first (item_changed c) items))
 
 -- what lies past the reach of the operations stays
 
-module _ (behind : List PlainItem) where
-  pub edited-append : (ops : Transaction) (items : List PlainItem) → reach ops ≤ length items → edited ops (items ++ behind) ≡ edited ops items ++ behind
+module _ (suffix : List PlainItem) where
+  pub edited-append : (ops : Transaction) (items : List PlainItem) → reach ops ≤ length items → edited ops (items ++ suffix) ≡ edited ops items ++ suffix
   edited-append [] items le = refl
   edited-append (Retain count ∷ ops) items le =
       let cut : length (drop count items) ≡ length items - count = length-drop count items in
       let room : count ≤ length items = omega arith in
       let rest = edited-append ops (drop count items) (omega arith) in
-      rw (take-append-le count items behind room, drop-append-le count items behind room, rest) (sym (append_assoc (take count items) (edited ops (drop count items)) behind))
+      rw (take-append-le count items suffix room, drop-append-le count items suffix room, rest) (sym (append_assoc (take count items) (edited ops (drop count items)) suffix))
   edited-append (Replace removed inserted ∷ ops) items le =
       let cut : length (drop (length removed) items) ≡ length items - length removed = length-drop (length removed) items in
       let room : length removed ≤ length items = omega arith in
       let rest = edited-append ops (drop (length removed) items) (omega arith) in
-      rw (drop-append-le (length removed) items behind room, rest) (sym (append_assoc inserted (edited ops (drop (length removed) items)) behind))
+      rw (drop-append-le (length removed) items suffix room, rest) (sym (append_assoc inserted (edited ops (drop (length removed) items)) suffix))
   edited-append (Attribute c ∷ ops) [] le = absurd (omega arith)
   edited-append (Attribute c ∷ ops) (item ∷ items) le = edited-append ops (item_changed c item ∷ items) (omega arith)
 
-  Fits-append : (ops : Transaction) (items : List PlainItem) → reach ops ≤ length items → Fits ops items → Fits ops (items ++ behind)
+  Fits-append : (ops : Transaction) (items : List PlainItem) → reach ops ≤ length items → Fits ops items → Fits ops (items ++ suffix)
   Fits-append [] items le fits = tt
   Fits-append (Retain count ∷ ops) items le fits =
       let cut : length (drop count items) ≡ length items - count = length-drop count items in
       let room : count ≤ length items = omega arith in
-      subst (λ l. Fits ops l) (sym (drop-append-le count items behind room)) (Fits-append ops (drop count items) (omega arith) fits)
+      subst (λ l. Fits ops l) (sym (drop-append-le count items suffix room)) (Fits-append ops (drop count items) (omega arith) fits)
   Fits-append (Replace removed inserted ∷ ops) items le fits =
       let cut : length (drop (length removed) items) ≡ length items - length removed = length-drop (length removed) items in
       let room : length removed ≤ length items = omega arith in
-      let e = drop-append-le (length removed) items behind room in (
-        ap (λ l. l ++ behind) fits.0 ∙ append_assoc removed (drop (length removed) items) behind ∙ ap (λ l. removed ++ l) (sym e),
+      let e = drop-append-le (length removed) items suffix room in (
+        ap (λ l. l ++ suffix) fits.0 ∙ append_assoc removed (drop (length removed) items) suffix ∙ ap (λ l. removed ++ l) (sym e),
         subst (λ l. Fits ops l) (sym e) (Fits-append ops (drop (length removed) items) (omega arith) fits.1),
       )
   Fits-append (Attribute c ∷ ops) [] le fits = absurd (omega arith)
   Fits-append (Attribute c ∷ ops) (item ∷ items) le fits = (fits.0, Fits-append ops (item_changed c item ∷ items) (omega arith) fits.1)
 
-  Fits_of-append : (ops : Transaction) (items : List PlainItem) → reach ops ≤ length items → Fits ops (items ++ behind) → Fits ops items
+  Fits_of-append : (ops : Transaction) (items : List PlainItem) → reach ops ≤ length items → Fits ops (items ++ suffix) → Fits ops items
   Fits_of-append [] items le fits = tt
   Fits_of-append (Retain count ∷ ops) items le fits =
       let cut : length (drop count items) ≡ length items - count = length-drop count items in
       let room : count ≤ length items = omega arith in
-      Fits_of-append ops (drop count items) (omega arith) (subst (λ l. Fits ops l) (drop-append-le count items behind room) fits)
+      Fits_of-append ops (drop count items) (omega arith) (subst (λ l. Fits ops l) (drop-append-le count items suffix room) fits)
   Fits_of-append (Replace removed inserted ∷ ops) items le fits =
       let cut : length (drop (length removed) items) ≡ length items - length removed = length-drop (length removed) items in
       let room : length removed ≤ length items = omega arith in
-      let e = drop-append-le (length removed) items behind room in (
-        append_cancel_right items (removed ++ drop (length removed) items) behind
-            (fits.0 ∙ ap (λ l. removed ++ l) e ∙ sym (append_assoc removed (drop (length removed) items) behind)),
+      let e = drop-append-le (length removed) items suffix room in (
+        append_cancel_right items (removed ++ drop (length removed) items) suffix
+            (fits.0 ∙ ap (λ l. removed ++ l) e ∙ sym (append_assoc removed (drop (length removed) items) suffix)),
         Fits_of-append ops (drop (length removed) items) (omega arith) (subst (λ l. Fits ops l) e fits.1),
       )
   Fits_of-append (Attribute c ∷ ops) [] le fits = absurd (omega arith)
@@ -126,24 +126,24 @@ new_length-retained (suc n) = omega arith
 
 -- a transaction written with its ends
 
-module _ (before : ℕ) (ops : Transaction) (behind : ℕ) where
-  pub old_length-with_ends : old_length (with_ends before ops behind) ≡ before + (old_length ops + behind)
-  old_length-with_ends = rw (old_length-append (retained before) (ops ++ retained behind), old_length-append ops (retained behind), old_length-retained before, old_length-retained behind)
+module _ (before : ℕ) (ops : Transaction) (suffix : ℕ) where
+  pub old_length-with_ends : old_length (with_ends before ops suffix) ≡ before + (old_length ops + suffix)
+  old_length-with_ends = rw (old_length-append (retained before) (ops ++ retained suffix), old_length-append ops (retained suffix), old_length-retained before, old_length-retained suffix)
 
-  new_length-with_ends : new_length (with_ends before ops behind) ≡ before + (new_length ops + behind)
-  new_length-with_ends = rw (new_length-append (retained before) (ops ++ retained behind), new_length-append ops (retained behind), new_length-retained before, new_length-retained behind)
+  new_length-with_ends : new_length (with_ends before ops suffix) ≡ before + (new_length ops + suffix)
+  new_length-with_ends = rw (new_length-append (retained before) (ops ++ retained suffix), new_length-append ops (retained suffix), new_length-retained before, new_length-retained suffix)
 
-  pub edited-with_ends : (items : List PlainItem) → edited (with_ends before ops behind) items ≡ take before items ++ edited ops (drop before items)
-  edited-with_ends items = edited-retained before (ops ++ retained behind) items ∙ ap (λ l. take before items ++ l) (edited-behind ops behind (drop before items))
+  pub edited-with_ends : (items : List PlainItem) → edited (with_ends before ops suffix) items ≡ take before items ++ edited ops (drop before items)
+  edited-with_ends items = edited-retained before (ops ++ retained suffix) items ∙ ap (λ l. take before items ++ l) (edited-suffix ops suffix (drop before items))
 
-  pub Fits-with_ends : (items : List PlainItem) → Fits (with_ends before ops behind) items ≡ Fits ops (drop before items)
-  Fits-with_ends items = Fits-retained before (ops ++ retained behind) items ∙ Fits-behind ops behind (drop before items)
+  pub Fits-with_ends : (items : List PlainItem) → Fits (with_ends before ops suffix) items ≡ Fits ops (drop before items)
+  Fits-with_ends items = Fits-retained before (ops ++ retained suffix) items ∙ Fits-suffix ops suffix (drop before items)
 
 -- what makes a transaction with ends apply
-with_ends_apply : (before : ℕ) (ops : Transaction) (behind : ℕ) (items : List PlainItem) →
-    before + (old_length ops + behind) ≡ length items → Fits ops (drop before items) → Applies (with_ends before ops behind) items
-with_ends_apply before ops behind items e fits =
-    Applies_from (with_ends before ops behind) items (old_length-with_ends before ops behind ∙ e) (subst (λ P. P) (sym (Fits-with_ends before ops behind items)) fits)
+with_ends_apply : (before : ℕ) (ops : Transaction) (suffix : ℕ) (items : List PlainItem) →
+    before + (old_length ops + suffix) ≡ length items → Fits ops (drop before items) → Applies (with_ends before ops suffix) items
+with_ends_apply before ops suffix items e fits =
+    Applies_from (with_ends before ops suffix) items (old_length-with_ends before ops suffix ∙ e) (subst (λ P. P) (sym (Fits-with_ends before ops suffix items)) fits)
 
 old_length-reach : (ops : Transaction) → old_length ops ≤ reach ops
 old_length-reach [] = omega arith
@@ -159,55 +159,55 @@ module _ (X A B : List PlainItem) where
   drop_two : (n : ℕ) → n ≡ length X + length A → drop n (X ++ (A ++ B)) ≡ B
   drop_two n e = ap (drop n) (sym (append_assoc X A B)) ∙ drop_at (X ++ A) B n (length-append X A ∙ sym e)
 
-  change_first : (ops : Transaction) (behind n : ℕ) → n ≡ length X → reach ops ≤ length A →
-      edited (with_ends n ops behind) (X ++ (A ++ B)) ≡ X ++ (edited ops A ++ B)
-  change_first ops behind n e near =
-      edited-with_ends n ops behind (X ++ (A ++ B))
+  change_first : (ops : Transaction) (suffix n : ℕ) → n ≡ length X → reach ops ≤ length A →
+      edited (with_ends n ops suffix) (X ++ (A ++ B)) ≡ X ++ (edited ops A ++ B)
+  change_first ops suffix n e near =
+      edited-with_ends n ops suffix (X ++ (A ++ B))
       ∙ rw (take_at X (A ++ B) n (sym e), drop_at X (A ++ B) n (sym e)) (ap (λ l. X ++ l) (edited-append B ops A near))
 
-  change_second : (ops : Transaction) (behind n : ℕ) → n ≡ length X + length A →
-      edited (with_ends n ops behind) (X ++ (A ++ B)) ≡ X ++ (A ++ edited ops B)
-  change_second ops behind n e =
-      edited-with_ends n ops behind (X ++ (A ++ B))
+  change_second : (ops : Transaction) (suffix n : ℕ) → n ≡ length X + length A →
+      edited (with_ends n ops suffix) (X ++ (A ++ B)) ≡ X ++ (A ++ edited ops B)
+  change_second ops suffix n e =
+      edited-with_ends n ops suffix (X ++ (A ++ B))
       ∙ rw (take_two n e, drop_two n e) (append_assoc X A (edited ops B))
 
-  first_applies : (ops : Transaction) (behind n : ℕ) → n ≡ length X → n + (old_length ops + behind) ≡ length (X ++ (A ++ B)) → reach ops ≤ length A →
-      Fits ops A → Applies (with_ends n ops behind) (X ++ (A ++ B))
-  first_applies ops behind n e whole near fits =
-      with_ends_apply n ops behind (X ++ (A ++ B)) whole
+  first_applies : (ops : Transaction) (suffix n : ℕ) → n ≡ length X → n + (old_length ops + suffix) ≡ length (X ++ (A ++ B)) → reach ops ≤ length A →
+      Fits ops A → Applies (with_ends n ops suffix) (X ++ (A ++ B))
+  first_applies ops suffix n e whole near fits =
+      with_ends_apply n ops suffix (X ++ (A ++ B)) whole
       (subst (λ l. Fits ops l) (sym (drop_at X (A ++ B) n (sym e))) (Fits-append B ops A near fits))
 
-  second_applies : (ops : Transaction) (behind n : ℕ) → n ≡ length X + length A → n + (old_length ops + behind) ≡ length (X ++ (A ++ B)) →
-      Fits ops B → Applies (with_ends n ops behind) (X ++ (A ++ B))
-  second_applies ops behind n e whole fits =
-      with_ends_apply n ops behind (X ++ (A ++ B)) whole (subst (λ l. Fits ops l) (sym (drop_two n e)) fits)
+  second_applies : (ops : Transaction) (suffix n : ℕ) → n ≡ length X + length A → n + (old_length ops + suffix) ≡ length (X ++ (A ++ B)) →
+      Fits ops B → Applies (with_ends n ops suffix) (X ++ (A ++ B))
+  second_applies ops suffix n e whole fits =
+      with_ends_apply n ops suffix (X ++ (A ++ B)) whole (subst (λ l. Fits ops l) (sym (drop_two n e)) fits)
 
 -- what can be undone
 
-IsRestorable-behind : (ops : Transaction) (n : ℕ) (items : List PlainItem) → IsRestorable (ops ++ retained n) items ≡ IsRestorable ops items
-IsRestorable-behind [] zero items = refl
-IsRestorable-behind [] (suc n) items = refl
-IsRestorable-behind (Retain count ∷ ops) n items = IsRestorable-behind ops n (drop count items)
-IsRestorable-behind (Replace removed inserted ∷ ops) n items = IsRestorable-behind ops n (drop (length removed) items)
-IsRestorable-behind (Attribute c ∷ ops) n items = ap (λ P. FirstPutsBack c items × P) (IsRestorable-behind ops n (on_first (item_changed c) items))
+IsRestorable-suffix : (ops : Transaction) (n : ℕ) (items : List PlainItem) → IsRestorable (ops ++ retained n) items ≡ IsRestorable ops items
+IsRestorable-suffix [] zero items = refl
+IsRestorable-suffix [] (suc n) items = refl
+IsRestorable-suffix (Retain count ∷ ops) n items = IsRestorable-suffix ops n (drop count items)
+IsRestorable-suffix (Replace removed inserted ∷ ops) n items = IsRestorable-suffix ops n (drop (length removed) items)
+IsRestorable-suffix (Attribute c ∷ ops) n items = ap (λ P. FirstPutsBack c items × P) (IsRestorable-suffix ops n (on_first (item_changed c) items))
 
-IsRestorable-with_ends : (before : ℕ) (ops : Transaction) (behind : ℕ) (items : List PlainItem) →
-    IsRestorable (with_ends before ops behind) items ≡ IsRestorable ops (drop before items)
-IsRestorable-with_ends zero ops behind items = IsRestorable-behind ops behind items
-IsRestorable-with_ends (suc n) ops behind items = IsRestorable-behind ops behind (drop (suc n) items)
+IsRestorable-with_ends : (before : ℕ) (ops : Transaction) (suffix : ℕ) (items : List PlainItem) →
+    IsRestorable (with_ends before ops suffix) items ≡ IsRestorable ops (drop before items)
+IsRestorable-with_ends zero ops suffix items = IsRestorable-suffix ops suffix items
+IsRestorable-with_ends (suc n) ops suffix items = IsRestorable-suffix ops suffix (drop (suc n) items)
 
-IsRestorable-append : (ops : Transaction) (items behind : List PlainItem) → reach ops ≤ length items → IsRestorable ops (items ++ behind) ≡ IsRestorable ops items
-IsRestorable-append [] items behind le = refl
-IsRestorable-append (Retain count ∷ ops) items behind le =
+IsRestorable-append : (ops : Transaction) (items suffix : List PlainItem) → reach ops ≤ length items → IsRestorable ops (items ++ suffix) ≡ IsRestorable ops items
+IsRestorable-append [] items suffix le = refl
+IsRestorable-append (Retain count ∷ ops) items suffix le =
     let cut : length (drop count items) ≡ length items - count = length-drop count items in
     let room : count ≤ length items = omega arith in
-    ap (IsRestorable ops) (drop-append-le count items behind room) ∙ IsRestorable-append ops (drop count items) behind (omega arith)
-IsRestorable-append (Replace removed inserted ∷ ops) items behind le =
+    ap (IsRestorable ops) (drop-append-le count items suffix room) ∙ IsRestorable-append ops (drop count items) suffix (omega arith)
+IsRestorable-append (Replace removed inserted ∷ ops) items suffix le =
     let cut : length (drop (length removed) items) ≡ length items - length removed = length-drop (length removed) items in
     let room : length removed ≤ length items = omega arith in
-    ap (IsRestorable ops) (drop-append-le (length removed) items behind room) ∙ IsRestorable-append ops (drop (length removed) items) behind (omega arith)
-IsRestorable-append (Attribute c ∷ ops) [] behind le = absurd (omega arith)
-IsRestorable-append (Attribute c ∷ ops) (item ∷ items) behind le = ap (λ P. PutsBack c item × P) (IsRestorable-append ops (item_changed c item ∷ items) behind (omega arith))
+    ap (IsRestorable ops) (drop-append-le (length removed) items suffix room) ∙ IsRestorable-append ops (drop (length removed) items) suffix (omega arith)
+IsRestorable-append (Attribute c ∷ ops) [] suffix le = absurd (omega arith)
+IsRestorable-append (Attribute c ∷ ops) (item ∷ items) suffix le = ap (λ P. PutsBack c item × P) (IsRestorable-append ops (item_changed c item ∷ items) suffix (omega arith))
 
 -- along an equation of types
 carried : {P Q : Type 0} → P ≡ Q → P → Q
@@ -234,16 +234,16 @@ pub Agree_from_Beside : (a b a2 b2 : Transaction) (items : List PlainItem) → B
 Agree_from_Beside a b a2 b2 items s = record { first_then = s.first_then; second_then = s.second_then; one_list = s.left_then ∙ sym s.right_then }
 
 -- Two changes side by side, each written with its ends, agree when the first one's end and the second one's beginning are moved
-side_by_side : (X A B : List PlainItem) (ops others : Transaction) (n behind m further behind' m' : ℕ) →
+side_by_side : (X A B : List PlainItem) (ops others : Transaction) (n suffix m further suffix' m' : ℕ) →
     n ≡ length X → m ≡ length X + length A → m' ≡ length X + length (edited ops A) →
     reach ops ≤ length A → Fits ops A → Fits others B →
-    n + (old_length ops + behind') ≡ length (X ++ (A ++ edited others B)) →
+    n + (old_length ops + suffix') ≡ length (X ++ (A ++ edited others B)) →
     m' + (old_length others + further) ≡ length (X ++ (edited ops A ++ B)) →
-    Beside (with_ends n ops behind) (with_ends m others further) (with_ends n ops behind') (with_ends m' others further) (X ++ (A ++ B))
-side_by_side X A B ops others n behind m further behind' m' en em em' near fits fits_too whole whole_too =
+    Beside (with_ends n ops suffix) (with_ends m others further) (with_ends n ops suffix') (with_ends m' others further) (X ++ (A ++ B))
+side_by_side X A B ops others n suffix m further suffix' m' en em em' near fits fits_too whole whole_too =
     let A' = edited ops A in
     let B' = edited others B in
-    let after_first : edited (with_ends n ops behind) (X ++ (A ++ B)) ≡ X ++ (A' ++ B) = change_first X A B ops behind n en near in
+    let after_first : edited (with_ends n ops suffix) (X ++ (A ++ B)) ≡ X ++ (A' ++ B) = change_first X A B ops suffix n en near in
     let after_second : edited (with_ends m others further) (X ++ (A ++ B)) ≡ X ++ (A ++ B') = change_second X A B others further m em in
     record {
       X = X;
@@ -255,14 +255,14 @@ side_by_side X A B ops others n behind m further behind' m' en em em' near fits 
       left_only = after_first;
       right_only = after_second;
       left_then = ap (edited (with_ends m' others further)) after_first ∙ change_second X A' B others further m' em';
-      right_then = ap (edited (with_ends n ops behind')) after_second ∙ change_first X A B' ops behind' n en near;
+      right_then = ap (edited (with_ends n ops suffix')) after_second ∙ change_first X A B' ops suffix' n en near;
       first_then = subst (λ l. Applies (with_ends m' others further) l) (sym after_first) (second_applies X A' B others further m' em' whole_too fits_too);
-      second_then = subst (λ l. Applies (with_ends n ops behind') l) (sym after_second) (first_applies X A B' ops behind' n en whole near fits);
+      second_then = subst (λ l. Applies (with_ends n ops suffix') l) (sym after_second) (first_applies X A B' ops suffix' n en whole near fits);
       first_full = λ full.
-          let here : IsRestorable ops (A ++ B) = subst (IsRestorable ops) (drop_at X (A ++ B) n (sym en)) (carried (IsRestorable-with_ends n ops behind (X ++ (A ++ B))) full) in
+          let here : IsRestorable ops (A ++ B) = subst (IsRestorable ops) (drop_at X (A ++ B) n (sym en)) (carried (IsRestorable-with_ends n ops suffix (X ++ (A ++ B))) full) in
           let there : IsRestorable ops (A ++ B') = carried (IsRestorable-append ops A B near ∙ sym (IsRestorable-append ops A B' near)) here in
-          subst (IsRestorable (with_ends n ops behind')) (sym after_second)
-          (carried (sym (IsRestorable-with_ends n ops behind' (X ++ (A ++ B')))) (subst (IsRestorable ops) (sym (drop_at X (A ++ B') n (sym en))) there));
+          subst (IsRestorable (with_ends n ops suffix')) (sym after_second)
+          (carried (sym (IsRestorable-with_ends n ops suffix' (X ++ (A ++ B')))) (subst (IsRestorable ops) (sym (drop_at X (A ++ B') n (sym en))) there));
       second_full = λ full.
           let here : IsRestorable others B = subst (IsRestorable others) (drop_two X A B m em) (carried (IsRestorable-with_ends m others further (X ++ (A ++ B))) full) in
           subst (IsRestorable (with_ends m' others further)) (sym after_first)

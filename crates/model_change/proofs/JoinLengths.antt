@@ -45,12 +45,12 @@ inserts-core (Retain count ∷ ops) = inserts-without_end ops
 inserts-core (Replace removed inserted ∷ ops) = inserts-without_end (Replace removed inserted ∷ ops)
 inserts-core (Attribute c ∷ ops) = inserts-without_end (Attribute c ∷ ops)
 
-inserts-with_ends : (before : ℕ) (t : Transaction) (behind : ℕ) → inserts (with_ends before (core t) behind) ≡ inserts t
-inserts-with_ends before t behind =
-    let a = inserts-append (retained before) (core t ++ retained behind) in
-    let b = inserts-append (core t) (retained behind) in
+inserts-with_ends : (before : ℕ) (t : Transaction) (suffix : ℕ) → inserts (with_ends before (core t) suffix) ≡ inserts t
+inserts-with_ends before t suffix =
+    let a = inserts-append (retained before) (core t ++ retained suffix) in
+    let b = inserts-append (core t) (retained suffix) in
     let c = inserts-retained before in
-    let d = inserts-retained behind in
+    let d = inserts-retained suffix in
     let e = inserts-core t in
     omega arith
 

@@ -37,11 +37,11 @@ reach_within (Attribute c ∷ ops) (item ∷ items) fits le =
     let rest = reach_within ops (item_changed c item ∷ items) fits.1 le in omega arith
 
 -- so an attribute operation at the end is followed by a retain
-retains_after : (before : ℕ) (ops : Transaction) (behind : ℕ) (items : List PlainItem) → Applies (with_ends before ops behind) items → old_length ops < reach ops → 1 ≤ behind
-retains_after before ops behind items applies needs =
-    let p = parts_of_Applies (with_ends before ops behind) items applies in
-    let whole = old_length-with_ends before ops behind in
-    let fits : Fits ops (drop before items) = subst (λ P. P) (Fits-with_ends before ops behind items) p.1 in
+retains_after : (before : ℕ) (ops : Transaction) (suffix : ℕ) (items : List PlainItem) → Applies (with_ends before ops suffix) items → old_length ops < reach ops → 1 ≤ suffix
+retains_after before ops suffix items applies needs =
+    let p = parts_of_Applies (with_ends before ops suffix) items applies in
+    let whole = old_length-with_ends before ops suffix in
+    let fits : Fits ops (drop before items) = subst (λ P. P) (Fits-with_ends before ops suffix items) p.1 in
     let cut : length (drop before items) ≡ length items - before = length-drop before items in
     let within = reach_within ops (drop before items) fits (omega arith) in
     omega arith
@@ -127,18 +127,18 @@ middle_apart (Replace removed inserted ∷ ops) n rest h some = refl
 middle_apart (Attribute c ∷ ops) n rest h some = refl
 
 -- a transaction's middle between two other retains
-reshaped_reduced : (t : Transaction) (before behind : ℕ) → is_reduced t ≡ true → is_active t ≡ true → (old_length (core t) < reach (core t) → 1 ≤ behind) →
-    is_reduced (with_ends before (core t) behind) ≡ true
-reshaped_reduced t before behind reduced active needs =
+reshaped_reduced : (t : Transaction) (before suffix : ℕ) → is_reduced t ≡ true → is_active t ≡ true → (old_length (core t) < reach (core t) → 1 ≤ suffix) →
+    is_reduced (with_ends before (core t) suffix) ≡ true
+reshaped_reduced t before suffix reduced active needs =
     let inner = reduced-without_first t reduced in
-    let middle : is_reduced (core t ++ retained behind) ≡ true =
-    end_changed (core t) (last t) behind (end_retain-without_end (without_first t) inner) needs
+    let middle : is_reduced (core t ++ retained suffix) ≡ true =
+    end_changed (core t) (last t) suffix (end_retain-without_end (without_first t) inner) needs
     (subst (λ ops. is_reduced ops ≡ true) (sym (end_split (without_first t) inner)) inner) in
-    in_front before middle
+    followed_by before middle
   where
-    in_front : (n : ℕ) → is_reduced (core t ++ retained behind) ≡ true → is_reduced (retained n ++ (core t ++ retained behind)) ≡ true
-    in_front zero middle = middle
-    in_front (suc n) middle = reduced_from (Retain (suc n)) (core t ++ retained behind) (some_retain n) (middle_apart (without_first t) (suc n) (retained behind) (begins_apart t (suc n) reduced) active) middle
+    followed_by : (n : ℕ) → is_reduced (core t ++ retained suffix) ≡ true → is_reduced (retained n ++ (core t ++ retained suffix)) ≡ true
+    followed_by zero middle = middle
+    followed_by (suc n) middle = reduced_from (Retain (suc n)) (core t ++ retained suffix) (some_retain n) (middle_apart (without_first t) (suc n) (retained suffix) (begins_apart t (suc n) reduced) active) middle
 
 module _ (a b : Transaction) (items : List PlainItem) (reduced : is_reduced a ≡ true) (reduced_too : is_reduced b ≡ true) where
   reshaped_second : (f l : ℕ) → is_active b ≡ true → Applies (with_ends f (core b) l) (edited a items) → is_reduced (with_ends f (core b) l) ≡ true

@@ -42,7 +42,7 @@ AllPutBack-is : (ops : Transaction) (at : ℕ) (pre items : List PlainItem) → 
 AllPutBack-is [] at pre items e none le = refl
 AllPutBack-is (Retain n ∷ ops) at pre items e none le =
     let cut : length (drop n items) ≡ length items - n = length-drop n items in
-    let front : length (take n items) ≡ n = length-take-le n items (omega arith) in
+    let prefix : length (take n items) ≡ n = length-take-le n items (omega arith) in
     let longer : at + n ≡ length (pre ++ take n items) = rw (length-append pre (take n items)) (omega arith) in
     ap (AllPutBack (placed_changes (at + n) ops)) (sym (regrouped pre items n))
     ∙ AllPutBack-is ops (at + n) (pre ++ take n items) (drop n items) longer none (omega arith)
@@ -135,10 +135,10 @@ InsertedApart-without_first (Retain count ∷ ops) p = p
 InsertedApart-without_first (Replace removed inserted ∷ ops) p = p
 InsertedApart-without_first (Attribute c ∷ ops) p = p
 
-InsertedApart-reshaped : (before : ℕ) (t : Transaction) (behind : ℕ) → InsertedApart t → InsertedApart (with_ends before (core t) behind)
-InsertedApart-reshaped before t behind p =
-    InsertedApart-append (retained before) (core t ++ retained behind) (InsertedApart-retained before)
-    (InsertedApart-append (core t) (retained behind) (InsertedApart-without_end (without_first t) (InsertedApart-without_first t p)) (InsertedApart-retained behind))
+InsertedApart-reshaped : (before : ℕ) (t : Transaction) (suffix : ℕ) → InsertedApart t → InsertedApart (with_ends before (core t) suffix)
+InsertedApart-reshaped before t suffix p =
+    InsertedApart-append (retained before) (core t ++ retained suffix) (InsertedApart-retained before)
+    (InsertedApart-append (core t) (retained suffix) (InsertedApart-without_end (without_first t) (InsertedApart-without_first t p)) (InsertedApart-retained suffix))
 
 module _ (a b : Transaction) (given : InsertedApart a) (given_too : InsertedApart b) where
   apart_by : (r : Transaction × Transaction) → JoinedAs a b r → InsertedApart r.0 × InsertedApart r.1

@@ -66,7 +66,7 @@ pub edited_placed : (ops : Transaction) (at : ℕ) (pre items : List PlainItem) 
 edited_placed [] at pre items e none le = refl
 edited_placed (Retain n ∷ ops) at pre items e none le =
     let cut : length (drop n items) ≡ length items - n = length-drop n items in
-    let front : length (take n items) ≡ n = length-take-le n items (omega arith) in
+    let prefix : length (take n items) ≡ n = length-take-le n items (omega arith) in
     let longer : at + n ≡ length (pre ++ take n items) = rw (length-append pre (take n items)) (omega arith) in
     ap (all_placed (placed_changes (at + n) ops)) (sym (regrouped pre items n))
     ∙ edited_placed ops (at + n) (pre ++ take n items) (drop n items) longer none (omega arith)
@@ -83,7 +83,7 @@ AllFit_from : (ops : Transaction) (at : ℕ) (pre items : List PlainItem) → at
 AllFit_from [] at pre items e none le fits = tt
 AllFit_from (Retain n ∷ ops) at pre items e none le fits =
     let cut : length (drop n items) ≡ length items - n = length-drop n items in
-    let front : length (take n items) ≡ n = length-take-le n items (omega arith) in
+    let prefix : length (take n items) ≡ n = length-take-le n items (omega arith) in
     let longer : at + n ≡ length (pre ++ take n items) = rw (length-append pre (take n items)) (omega arith) in
     subst (AllFit (placed_changes (at + n) ops)) (regrouped pre items n)
     (AllFit_from ops (at + n) (pre ++ take n items) (drop n items) longer none (omega arith) fits)
@@ -101,7 +101,7 @@ Fits_from_AllFit : (ops : Transaction) (at : ℕ) (pre items : List PlainItem) �
 Fits_from_AllFit [] at pre items e none le fit = tt
 Fits_from_AllFit (Retain n ∷ ops) at pre items e none le fit =
     let cut : length (drop n items) ≡ length items - n = length-drop n items in
-    let front : length (take n items) ≡ n = length-take-le n items (omega arith) in
+    let prefix : length (take n items) ≡ n = length-take-le n items (omega arith) in
     let longer : at + n ≡ length (pre ++ take n items) = rw (length-append pre (take n items)) (omega arith) in
     Fits_from_AllFit ops (at + n) (pre ++ take n items) (drop n items) longer none (omega arith)
     (subst (AllFit (placed_changes (at + n) ops)) (sym (regrouped pre items n)) fit)

@@ -54,9 +54,9 @@ flattened-parts (entry ∷ entries) (suc i) h =
     ap (λ ts. entry ++ ts) (flattened-parts entries i (omega arith))
     ∙ sym (append_assoc entry (made_before entries i) (entry_at entries i ++ made_after entries i))
 
-AllRun_front : (ts us : List Transaction) (items : List PlainItem) → AllRun (ts ++ us) items → AllRun ts items × AllRun us (replay ts items)
-AllRun_front [] us items runs = (tt, runs)
-AllRun_front (t ∷ ts) us items runs = let rest = AllRun_front ts us (edited t items) runs.1 in ((runs.0, rest.0), rest.1)
+AllRun_prefix : (ts us : List Transaction) (items : List PlainItem) → AllRun (ts ++ us) items → AllRun ts items × AllRun us (replay ts items)
+AllRun_prefix [] us items runs = (tt, runs)
+AllRun_prefix (t ∷ ts) us items runs = let rest = AllRun_prefix ts us (edited t items) runs.1 in ((runs.0, rest.0), rest.1)
 
 replay_lawful : (ts : List Transaction) (items : List PlainItem) → Lawful items → AllRun ts items → Lawful (replay ts items)
 replay_lawful [] items lawful runs = lawful
@@ -76,9 +76,9 @@ revoke_takes_back entries i back base inside lawful apart runs h =
     let entry = entry_at entries i in
     let j = mine_of-ok (join_list (made_after entries i) (reversal entry)) back h in
     let parts = flattened-parts entries i inside in
-    let first = AllRun_front (made_before entries i) (entry ++ made_after entries i) base (subst (λ ts. AllRun ts base) parts runs) in
+    let first = AllRun_prefix (made_before entries i) (entry ++ made_after entries i) base (subst (λ ts. AllRun ts base) parts runs) in
     let L = replay (made_before entries i) base in
-    let second = AllRun_front entry (made_after entries i) L first.1 in
+    let second = AllRun_prefix entry (made_after entries i) L first.1 in
     let lawful_there = replay_lawful (made_before entries i) base lawful first.0 in
     let undone = reversal_undoes entry L lawful_there (replay_apart (made_before entries i) base apart first.0) second.0 in
     let agree = lists_agree (made_after entries i) (reversal entry) (j.0, back) (replay entry L) (replay_lawful entry L lawful_there second.0) second.1 undone.runs j.1 in
@@ -112,9 +112,9 @@ revoke_is_within entries i back base inside lawful apart runs h =
     let later = made_after entries i in
     let j = mine_of-ok (join_list later (reversal entry)) back h in
     let parts = flattened-parts entries i inside in
-    let first = AllRun_front (made_before entries i) (entry ++ later) base (subst (λ ts. AllRun ts base) parts runs) in
+    let first = AllRun_prefix (made_before entries i) (entry ++ later) base (subst (λ ts. AllRun ts base) parts runs) in
     let L = replay (made_before entries i) base in
-    let second = AllRun_front entry later L first.1 in
+    let second = AllRun_prefix entry later L first.1 in
     let lawful_there = replay_lawful (made_before entries i) base lawful first.0 in
     let undone = reversal_undoes entry L lawful_there (replay_apart (made_before entries i) base apart first.0) second.0 in
     let within = lists_within later (reversal entry) (j.0, back) (replay entry L) (replay_lawful entry L lawful_there second.0) second.1 undone.runs j.1 in

@@ -24,7 +24,7 @@ identified = head_ (attr_ (codes "id") (codes "x") ∷ [])
 abbrev items : List PlainItem
 items = Opening P identified [] (codes " ") None false ∷ Char 97 bold ∷ Char 98 bold ∷ Closing P [] ∷ end_
 
--- in order, head, marks, white text; what is empty cites nothing
+-- in order, head, marks, whitespace; what is empty cites nothing
 in_order : cited items ≡ value.Head identified ∷ value.White (codes " ") ∷ value.Marks bold ∷ value.Marks bold ∷ []
 in_order = refl
 

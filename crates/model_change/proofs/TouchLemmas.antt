@@ -24,9 +24,9 @@ pub nodes_are_counted : NodesAreCounted
 nodes_are_counted items = ap suc (count-nodes_from (tree_of items) TheRoot 0)
 
 -- an item of a list in two parts
-pub get-behind : (xs ys : List PlainItem) (i : ℕ) → slice_get (xs ++ ys) (length xs + i) ≡ slice_get ys i
-get-behind [] ys i = ap (slice_get ys) (omega arith)
-get-behind (x ∷ xs) ys i = let e : suc (length xs) + i ≡ suc (length xs + i) = omega arith in ap (slice_get (x ∷ (xs ++ ys))) e ∙ get-behind xs ys i
+pub get-suffix : (xs ys : List PlainItem) (i : ℕ) → slice_get (xs ++ ys) (length xs + i) ≡ slice_get ys i
+get-suffix [] ys i = ap (slice_get ys) (omega arith)
+get-suffix (x ∷ xs) ys i = let e : suc (length xs) + i ≡ suc (length xs + i) = omega arith in ap (slice_get (x ∷ (xs ++ ys))) e ∙ get-suffix xs ys i
 
 get-drop : (n : ℕ) (xs : List PlainItem) (i : ℕ) → n ≤ i → slice_get (drop n xs) (i - n) ≡ slice_get xs i
 get-drop zero xs i h = ap (slice_get xs) (omega arith)
@@ -84,7 +84,7 @@ stays (Retain count ∷ ops) items at to old placed there =
           let place : to ≡ length (take count items) + on.1.0 = omega arith in
           record {
             item = rest.item;
-            stands = ap (slice_get (edited (Retain count ∷ ops) items)) place ∙ get-behind (take count items) (edited ops (drop count items)) on.1.0 ∙ rest.stands;
+            stands = ap (slice_get (edited (Retain count ∷ ops) items)) place ∙ get-suffix (take count items) (edited ops (drop count items)) on.1.0 ∙ rest.stands;
             shape = rest.shape;
           }
     ]
@@ -94,7 +94,7 @@ stays (Replace removed inserted ∷ ops) items at to old placed there =
     let rest = stays ops (drop (length removed) items) (at - length removed) on.1.0 old on.1.1 (get-drop (length removed) items at past ∙ there) in
     record {
       item = rest.item;
-      stands = ap (slice_get (edited (Replace removed inserted ∷ ops) items)) (sym on.1.2) ∙ get-behind inserted (edited ops (drop (length removed) items)) on.1.0 ∙ rest.stands;
+      stands = ap (slice_get (edited (Replace removed inserted ∷ ops) items)) (sym on.1.2) ∙ get-suffix inserted (edited ops (drop (length removed) items)) on.1.0 ∙ rest.stands;
       shape = rest.shape;
     }
 stays (Attribute c ∷ ops) [] at to old placed there = cc

@@ -88,8 +88,8 @@ MayChange items (at, change) = (item : PlainItem) × (slice_get items at ≡ Som
 pub record FirstAt {A : Type 0} (Holds : ℕ × A → Type 0) (placed : List (ℕ × A)) (at : ℕ) : Type 0 where
   pub before : List (ℕ × A)
   pub one : A
-  pub behind : List (ℕ × A)
-  pub parts : placed ≡ before ++ ((at, one) ∷ behind)
+  pub suffix : List (ℕ × A)
+  pub parts : placed ≡ before ++ ((at, one) ∷ suffix)
   pub fine : All Holds before
   pub fails : ¬ Holds (at, one)
 

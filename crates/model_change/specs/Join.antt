@@ -109,13 +109,13 @@ retained (suc n) = Retain (suc n) ∷ []
 
 -- operations between a first and a last retain
 abbrev pub with_ends : ℕ → Transaction → ℕ → Transaction
-with_ends before ops behind = retained before ++ (ops ++ retained behind)
+with_ends before ops suffix = retained before ++ (ops ++ retained suffix)
 
 -- t after another that lies wholly before it: its first retain changes by the other one's change of length
 abbrev pub moved_on : Transaction → Transaction → Transaction
 moved_on t other = with_ends ((first t + new_length other) - old_length other) (core t) (last t)
 
--- t after another that lies wholly behind it: so does its last retain
+-- t after another that lies wholly after it: so does its last retain
 abbrev pub with_new_end : Transaction → Transaction → Transaction
 with_new_end t other = with_ends (first t) (core t) ((last t + new_length other) - old_length other)
 
@@ -143,7 +143,7 @@ pub record Clash : Type 0 where
 abbrev pub ranges : Transaction → Transaction → Clash
 ranges committed mine = record { committed = (start_of committed, end_of committed); mine = (start_of mine, end_of mine) }
 
--- one more committed transaction in front of a row, and one more of mine in front of a list
+-- one more committed transaction before a row, and one more of mine before a list
 abbrev pub row_with : Transaction → Result (List Transaction × Transaction) Clash → Result (List Transaction × Transaction) Clash
 row_with committed (Ok row) = Ok (committed ∷ row.0, row.1)
 row_with committed (Err clash) = Err clash
@@ -168,7 +168,7 @@ abbrev pub join_list : List Transaction → List Transaction → Result (List Tr
 join_list committed [] = Ok (committed, [])
 join_list committed (one ∷ mine) = after_row (join_row committed one) (λ over. join_list over mine)
 
--- What stands before the active range and behind it stays as it is.
+-- What stands before the active range and after it stays as it is.
 abbrev pub OnlyActiveChanges : Type 0
 OnlyActiveChanges = (t : Transaction) (items : List PlainItem) → is_reduced t ≡ true → Applies t items →
     (piece : List PlainItem) × (edited t items ≡ take (start_of t) items ++ (piece ++ drop (end_of t) items))

@@ -25,7 +25,7 @@ marks_cited (m ∷ ms) = value.Marks (m ∷ ms) ∷ []
 abbrev pub head_cited : Head → List Value
 head_cited head = if head_same head empty_head then [] else value.Head head ∷ []
 
--- in one item the head comes first, then the marks, then the white text
+-- in one item the head comes first, then the marks, then the whitespace
 abbrev pub cited_by : PlainItem → List Value
 cited_by (Char c marks) = marks_cited marks
 cited_by (Opening kind head marks pre origin generated) = head_cited head ++ (marks_cited marks ++ white_cited pre)
@@ -76,7 +76,7 @@ cited_head (Opening kind head marks pre origin generated) = head_cited head
 cited_head (Char c marks) = []
 cited_head (Closing kind pre) = []
 
--- The value is the head that an opening has in the new list, of which an attribute operation speaks. It stands behind what the operations before that one give.
+-- The value is the head that an opening has in the new list, of which an attribute operation speaks. It stands after what the operations before that one give.
 pub record IsChangedHead (t : Transaction) (items : List PlainItem) (v : Value) : Type 0 where
   pub before : Transaction
   pub change : AttrChange

@@ -16,7 +16,7 @@ abbrev pub opens_kind : (Kind → Bool) → PlainItem → Bool
 opens_kind test (Opening kind head marks pre origin generated) = test kind
 opens_kind test _ = false
 
--- an opening of the kind, with the attributes and the white text before it
+-- an opening of the kind, with the attributes and the whitespace before it
 abbrev pub converted : Kind → Option PlainItem → List PlainItem
 converted kind (Some (Opening old head marks pre origin generated)) = Opening kind head marks pre None false ∷ []
 converted kind _ = []

@@ -83,14 +83,14 @@ marks_of (Some (Opening kind head marks pre origin generated)) = marks
 marks_of _ = []
 
 -- the marks of a character, or of the inline leaf that ends here
-abbrev pub marks_behind : Option PlainItem → List PlainItem → ℕ → List Mark
-marks_behind (Some (Char c marks)) items at = marks
-marks_behind (Some (Closing kind pre)) items at = if is_inline_leaf kind then marks_of (slice_get items (partner items at)) else []
-marks_behind _ items at = []
+abbrev pub marks_after : Option PlainItem → List PlainItem → ℕ → List Mark
+marks_after (Some (Char c marks)) items at = marks
+marks_after (Some (Closing kind pre)) items at = if is_inline_leaf kind then marks_of (slice_get items (partner items at)) else []
+marks_after _ items at = []
 
 abbrev pub marks_before : List PlainItem → ℕ → List Mark
 marks_before items zero = []
-marks_before items (suc at) = marks_behind (slice_get items at) items at
+marks_before items (suc at) = marks_after (slice_get items at) items at
 
 -- characters with these marks
 abbrev pub text_pieces : List Mark → List ℕ → List PlainItem

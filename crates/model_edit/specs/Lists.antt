@@ -54,15 +54,15 @@ copy_at items at = copies (slice_get items at)
     copies None = []
 
 -- an item that is last in its list takes what follows the list; else what follows it becomes a list inside it
-abbrev pub begin_behind : List PlainItem → (closing : ℕ) → Open → Edit
-begin_behind items closing list =
+abbrev pub begin_after : List PlainItem → (closing : ℕ) → Open → Edit
+begin_after items closing list =
     if partner items list.from == suc closing then Change closing 2 [] else Change closing 1 (copy_at items list.from)
 
 -- the open nodes are the item's list, and what that stands in
 abbrev pub outdent_from : List PlainItem → ℕ → List Open → Result Transaction ListFault
 outdent_from items at (list ∷ outer ∷ others) =
     if kind_same outer.kind Li
-    then Ok (transaction_of items (end_before at list ∷ begin_behind items (partner items at) list ∷ []))
+    then Ok (transaction_of items (end_before at list ∷ begin_after items (partner items at) list ∷ []))
     else Err (NotNested at)
 outdent_from items at _ = Err (NotNested at)
 

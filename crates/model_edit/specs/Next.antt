@@ -44,10 +44,10 @@ first_above bound places = find (λ n. nat_lt bound n) places
 
 -- the boundary of the run round the offset that comes next; the run begins at `start`
 abbrev pub next_boundary : Dir → Cutting → List ℕ → List ℕ → (start : ℕ) → Option ℕ
-next_boundary Ahead cut before behind start =
-    option_map (λ n. start + n) (first_above (length before) (boundaries cut (before ++ behind)))
-next_boundary Back cut before behind start =
-    option_map (λ n. start + n) (last_below (length before) (boundaries cut (before ++ behind)))
+next_boundary Ahead cut before suffix start =
+    option_map (λ n. start + n) (first_above (length before) (boundaries cut (before ++ suffix)))
+next_boundary Back cut before suffix start =
+    option_map (λ n. start + n) (last_below (length before) (boundaries cut (before ++ suffix)))
 
 abbrev pub boundary_at : Dir → Cutting → List PlainItem → ℕ → Option ℕ
 boundary_at dir cut items at =
@@ -61,7 +61,7 @@ next_ahead (Some (Opening kind head marks pre origin generated)) cut items at = 
 next_ahead (Some (Closing kind pre)) cut items at = None
 next_ahead None cut items at = None
 
--- behind a leaf its beginning comes next, and nothing at the beginning of the branch
+-- after a leaf its beginning comes next, and nothing at the beginning of the branch
 abbrev pub next_back : Option PlainItem → Cutting → List PlainItem → ℕ → Option ℕ
 next_back (Some (Char c marks)) cut items at = boundary_at Back cut items at
 next_back (Some (Closing kind pre)) cut items at = Some (at - 2)

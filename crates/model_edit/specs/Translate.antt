@@ -12,7 +12,7 @@ abbrev pub is_before : Bias → (place offset : ℕ) → Bool
 is_before Left place offset = nat_lt place offset
 is_before Right place offset = nat_le place offset
 
--- the items of the new list that come from old items before the offset, or were inserted before it; `at` old items are behind
+-- the items of the new list that come from old items before the offset, or were inserted before it; `at` old items are after
 abbrev pub items_before : Bias → (offset at : ℕ) → Transaction → ℕ
 items_before bias offset at [] = 0
 items_before bias offset at (Retain count ∷ ops) = min count (offset - at) + items_before bias offset (at + count) ops

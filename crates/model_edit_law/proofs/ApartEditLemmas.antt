@@ -24,7 +24,7 @@ use Rattle.model_edit.specs.Marking.{is_bad_mark, with_mark, without_mark, remar
 use Rattle.model_edit.specs.declared.wrap_plan.Shape.{Shape}
 use Rattle.model_edit.specs.Wrap.{is_bad_wrap, openings_of, closings_of, node_edits, nodes_in, wrong_place, wrapped_unless, wrap_edits}
 use Rattle.model_edit.specs.Convert.{opens_kind, converted}
-use Rattle.model_edit.specs.Lists.{is_list_item, passes_before, list_ends, indent_edits, end_before, copy_at, begin_behind, outdent_from}
+use Rattle.model_edit.specs.Lists.{is_list_item, passes_before, list_ends, indent_edits, end_before, copy_at, begin_after, outdent_from}
 use Rattle.model_edit.specs.declared.table_fault.TableFault.{TableFault}
 use Rattle.model_edit.specs.declared.grid_cell.GridCell.{GridCell}
 use Rattle.model_edit.specs.Grid.{Grid, Row, grid, table_rows, covers_row, covers_column}
@@ -214,7 +214,7 @@ end_pieces at list =
     elim (suc list.from == at) as (λ b. AllNamesApart (pieces_of ((if b then Change list.from 1 (closing_of Li ∷ []) else Change at 0 (list_ends list.kind)) ∷ [])))
     [ true ↦ (tt, tt) | false ↦ (tt, (tt, tt)) ]
 
-begin_pieces : (items : List PlainItem) (closing : ℕ) (list : Open) → AllNamesApart items → AllNamesApart (pieces_of (begin_behind items closing list ∷ []))
+begin_pieces : (items : List PlainItem) (closing : ℕ) (list : Open) → AllNamesApart items → AllNamesApart (pieces_of (begin_after items closing list ∷ []))
 begin_pieces items closing list h =
     elim (partner items list.from == suc closing) as (λ b. AllNamesApart (pieces_of ((if b then Change closing 2 [] else Change closing 1 (copy_at items list.from)) ∷ [])))
     [ true ↦ tt | false ↦ AllNamesApart-append (copy_at items list.from) [] (copy_at_apart items list.from h) tt ]
@@ -226,8 +226,8 @@ outdent_apart items at t apart h = nested (opens_at items at) (if_ok_then (is_li
     nested [] h = cc
     nested (list ∷ []) h = cc
     nested (list ∷ outer ∷ others) h =
-        answered {E = ListFault} items (end_before at list ∷ begin_behind items (partner items at) list ∷ []) t
-        (pieces_apart-append (end_before at list ∷ []) (begin_behind items (partner items at) list ∷ []) (end_pieces at list) (begin_pieces items (partner items at) list apart))
+        answered {E = ListFault} items (end_before at list ∷ begin_after items (partner items at) list ∷ []) t
+        (pieces_apart-append (end_before at list ∷ []) (begin_after items (partner items at) list ∷ []) (end_pieces at list) (begin_pieces items (partner items at) list apart))
         (if_ok_then (kind_same outer.kind Li) _ _ t h).1
 
 -- tables

@@ -24,13 +24,13 @@ pub AllNamesApart-append : (xs ys : List PlainItem) → AllNamesApart xs → All
 AllNamesApart-append [] ys p q = q
 AllNamesApart-append (x ∷ xs) ys p q = (p.0, AllNamesApart-append xs ys p.1 q)
 
-AllNamesApart-front : (xs ys : List PlainItem) → AllNamesApart (xs ++ ys) → AllNamesApart xs
-AllNamesApart-front [] ys p = tt
-AllNamesApart-front (x ∷ xs) ys p = (p.0, AllNamesApart-front xs ys p.1)
+AllNamesApart-prefix : (xs ys : List PlainItem) → AllNamesApart (xs ++ ys) → AllNamesApart xs
+AllNamesApart-prefix [] ys p = tt
+AllNamesApart-prefix (x ∷ xs) ys p = (p.0, AllNamesApart-prefix xs ys p.1)
 
-AllNamesApart-behind : (xs ys : List PlainItem) → AllNamesApart (xs ++ ys) → AllNamesApart ys
-AllNamesApart-behind [] ys p = p
-AllNamesApart-behind (x ∷ xs) ys p = AllNamesApart-behind xs ys p.1
+AllNamesApart-suffix : (xs ys : List PlainItem) → AllNamesApart (xs ++ ys) → AllNamesApart ys
+AllNamesApart-suffix [] ys p = p
+AllNamesApart-suffix (x ∷ xs) ys p = AllNamesApart-suffix xs ys p.1
 
 pub AllNamesApart-take : (n : ℕ) (items : List PlainItem) → AllNamesApart items → AllNamesApart (take n items)
 AllNamesApart-take zero items p = tt
@@ -144,7 +144,7 @@ InsertedApart-from : (t : Transaction) → AllNamesApart (all_inserted t) → In
 InsertedApart-from [] p = tt
 InsertedApart-from (Retain count ∷ ops) p = InsertedApart-from ops p
 InsertedApart-from (Replace removed inserted ∷ ops) p =
-    (AllNamesApart-front inserted (all_inserted ops) p, InsertedApart-from ops (AllNamesApart-behind inserted (all_inserted ops) p))
+    (AllNamesApart-prefix inserted (all_inserted ops) p, InsertedApart-from ops (AllNamesApart-suffix inserted (all_inserted ops) p))
 InsertedApart-from (Attribute change ∷ ops) p = InsertedApart-from ops p
 
 pub edits_are_apart : EditsAreApart
@@ -163,8 +163,8 @@ edits_stay_apart items edits order may apart pieces =
 pub pieces_apart-append : (xs ys : List Edit) → AllNamesApart (pieces_of xs) → AllNamesApart (pieces_of ys) → AllNamesApart (pieces_of (xs ++ ys))
 pieces_apart-append [] ys p q = q
 pieces_apart-append (Change place count inserted ∷ xs) ys p q =
-    AllNamesApart-append inserted (pieces_of (xs ++ ys)) (AllNamesApart-front inserted (pieces_of xs) p)
-    (pieces_apart-append xs ys (AllNamesApart-behind inserted (pieces_of xs) p) q)
+    AllNamesApart-append inserted (pieces_of (xs ++ ys)) (AllNamesApart-prefix inserted (pieces_of xs) p)
+    (pieces_apart-append xs ys (AllNamesApart-suffix inserted (pieces_of xs) p) q)
 pieces_apart-append (Set place name to ∷ xs) ys p q = pieces_apart-append xs ys p q
 
 pub pieces_apart-each : {A : Type 0} (f : A → List Edit) → ((x : A) → AllNamesApart (pieces_of (f x))) → (xs : List A) →

@@ -348,7 +348,7 @@ opened_kept s t inner outer outer' k k' kind seen e h same low =
     not_first false e h = refl
     not_first true e h = absurd (let g : (false && not s.seen) ≡ true = ap (λ b. b && not s.seen) (sym e) ∙ h in cc)
 
--- one more item in front, under which the depth is another
+-- one more item before, under which the depth is another
 closes_more : (x : PlainItem) (inner inner' outer : List Kind) (k : Kind) (items : List PlainItem) →
     ((rest : List PlainItem) → length_to_close (deeper inner 0) (x ∷ rest) ≡ suc (length_to_close (deeper inner' 0) rest)) →
     ((depth : ℕ) (rest : List PlainItem) → length_to_close (deeper inner (suc depth)) (x ∷ rest) ≡ suc (length_to_close (deeper inner' (suc depth)) rest)) →
@@ -426,7 +426,7 @@ closes (Closing kind pre ∷ items) (i ∷ inner) outer k s e h =
     ap (λ b. if b then Ok (state_of (inner ++ k' ∷ outer') seen) else Err (Unlawful 0)) (ap (λ v. kind_same v kind) first ∙ Means-kind_same.itself kind) in
     closes_more x (i ∷ inner) inner outer k items (λ rest. refl) (λ depth rest. refl) (λ k' outer' seen hold low. keeps k' outer' seen hold) (λ k' outer' seen hold. inl (keeps k' outer' seen hold)) (closes items inner outer k p.0 stack p.2)
 
--- where an item stands, the list is what is before it, it, and what is behind it
+-- where an item stands, the list is what is before it, it, and what is after it
 pub slice_get-split : (items : List PlainItem) (n : ℕ) (x : PlainItem) → slice_get items n ≡ Some x →
     (items ≡ take n items ++ x ∷ drop (suc n) items) × (length (take n items) ≡ n)
 slice_get-split [] n x h = cc
@@ -434,7 +434,7 @@ slice_get-split (y ∷ items) zero x h = (ap (λ v. v ∷ items) (let e : y ≡ 
 slice_get-split (y ∷ items) (suc n) x h =
     let r = slice_get-split items n x h in (ap (λ v. y ∷ v) r.0, ap suc r.1)
 
--- A node of a lawful list: what is before it, what it begins with, and what is in it and behind it.
+-- A node of a lawful list: what is before it, what it begins with, and what is in it and after it.
 pub record NodeParts (items : List PlainItem) (at : ℕ) (kind : Kind) : Type 0 where
   pub before : State
   pub reached : after start (take at items) ≡ Ok before

@@ -125,7 +125,7 @@ homes_among items rows [] c h a = absurd a
 homes_among items rows (x ∷ cells) c h (inl e) = subst (Home items rows) e h.0
 homes_among items rows (x ∷ cells) c h (inr a) = homes_among items rows cells c h.1 a
 
--- a row begins before a cell, or behind its end
+-- a row begins before a cell, or after its end
 pub row_clear : (items : List PlainItem) (low high : ℕ) (rows : List Row) (k : ℕ) (r : Row) (c : GridCell) → Chain row_at items (Tr ∷ []) low high rows → slice_get rows k ≡ Some r → Home items rows c →
     (r.at < c.at) ⊎ (end_of_node items c.at ≤ r.at)
 row_clear items low high rows k r c chain e home = by (nat_lt k c.row) (nat_lt c.row k) refl refl
@@ -155,13 +155,13 @@ split_get [] ys k r h = inr (k, h)
 split_get (x ∷ xs) ys zero r h = inl h
 split_get (x ∷ xs) ys (suc k) r h = split_get xs ys k r h
 
-node_behind : (items : List PlainItem) (kinds : List Kind) (nodes : List Open) (low high : ℕ) (o : Open) → Chain from_of items kinds low high nodes → AmongNodes o nodes → low ≤ o.from
-node_behind items kinds [] low high o c a = absurd a
-node_behind items kinds (x ∷ nodes) low high o c (inl e) = subst (λ (v : Open). low ≤ v.from) e c.0
-node_behind items kinds (x ∷ nodes) low high o c (inr a) =
-    let l = node_behind items kinds nodes (end_of_node items x.from) high o c.2 a in let p = c.0 in let q = (c.1.2).ahead in omega arith
+node_after : (items : List PlainItem) (kinds : List Kind) (nodes : List Open) (low high : ℕ) (o : Open) → Chain from_of items kinds low high nodes → AmongNodes o nodes → low ≤ o.from
+node_after items kinds [] low high o c a = absurd a
+node_after items kinds (x ∷ nodes) low high o c (inl e) = subst (λ (v : Open). low ≤ v.from) e c.0
+node_after items kinds (x ∷ nodes) low high o c (inr a) =
+    let l = node_after items kinds nodes (end_of_node items x.from) high o c.2 a in let p = c.0 in let q = (c.1.2).ahead in omega arith
 
--- a section begins before a row, or behind its end
+-- a section begins before a row, or after its end
 pub section_clear : (items : List PlainItem) (kinds : List Kind) (sections : List Open) (low high : ℕ) (o : Open) (k : ℕ) (r : Row) → Lawful items → Chain from_of items kinds low high sections →
     AmongNodes o sections → slice_get (flat_map (λ (section : Open). section_rows (children_of (Tr ∷ []) items section.from)) sections) k ≡ Some r →
     (o.from < r.at) ⊎ (suc (partner items r.at) ≤ o.from)
@@ -185,7 +185,7 @@ section_clear items kinds (x ∷ sections) low high o k r lawful c a h =
       where
         found : (x ≡ o) ⊎ AmongNodes o sections → suc x.from ≤ r.at → suc (partner items r.at) ≤ partner items x.from → (o.from < r.at) ⊎ (suc (partner items r.at) ≤ o.from)
         found (inl same) l m = inl (subst (λ (v : Open). suc v.from ≤ r.at) same l)
-        found (inr a') l m = let b = node_behind items kinds sections (end_of_node items x.from) high o c.2 a' in inr (omega arith)
+        found (inr a') l m = let b = node_after items kinds sections (end_of_node items x.from) high o c.2 a' in inr (omega arith)
     by (inr j) (inl same) next =
         let stand = sections_stand items kinds (end_of_node items x.from) high sections lawful c.2 in
         let w = (row_within items (Tr ∷ []) (end_of_node items x.from) high later j.0 r stand j.1).0 in

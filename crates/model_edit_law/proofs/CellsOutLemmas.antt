@@ -21,10 +21,10 @@ use Rattle.model_edit_law.proofs.BracketLemmas.{node_parts}
 use Rattle.model_edit_law.proofs.TablePlaceLemmas.{Opens, Chain, Chain-ends, cell_kinds, cell_at}
 use Rattle.model_edit_law.proofs.TableFineLemmas.{drop_twice, drop_at, InOrder-within, col_out_order}
 use Rattle.model_edit_law.proofs.TableGrowLemmas.{skip_first}
-use Rattle.model_edit_law.proofs.SiblingLemmas.{siblings-shapes, nodes_in, no_less, node_without, behind_moved, passed}
+use Rattle.model_edit_law.proofs.SiblingLemmas.{siblings-shapes, nodes_in, no_less, node_without, after_moved, passed}
 use Rattle.model_edit_law.proofs.TableSetLemmas.{shapes_first}
 
--- what a walk finds is at or behind where it begins
+-- what a walk finds is at or after where it begins
 siblings_alike : (f g : Open → Option Open) (d at : ℕ) (list : List PlainItem) → ((o : Open) → at ≤ o.from → f o ≡ g o) → filter_map f (siblings d at list) ≡ filter_map g (siblings d at list)
 siblings_alike f g d at [] h = refl
 siblings_alike f g d at (Char c marks ∷ list) h = siblings_alike f g d (suc at) list (λ o l. h o (omega arith))
@@ -39,27 +39,27 @@ slid s o = Some (record { kind = o.kind; from = o.from - s })
 
 moved_all : (d q q' s : ℕ) (list : List PlainItem) → q' + s ≡ q → siblings d q' list ≡ filter_map (slid s) (siblings d q list)
 moved_all d q q' s list e =
-    behind_moved 0 s d q' q list (omega arith) (sym e)
+    after_moved 0 s d q' q list (omega arith) (sym e)
     ∙ siblings_alike (node_without 0 s) (slid s) d q list (λ o l. ap (λ b. if b then Some o else (if nat_lt o.from (0 + s) then None else slid s o)) (no_less o.from 0 (omega arith))
     ∙ ap (λ b. if b then None else slid s o) (no_less o.from (0 + s) (omega arith)))
 
--- a front that stays before what is known at each depth
-front_walk : (f : Open → Option Open) (s p : ℕ) (old new : List PlainItem) → ((d : ℕ) → siblings d (p - s) new ≡ filter_map f (siblings d p old)) →
+-- a prefix that stays before what is known at each depth
+prefix_walk : (f : Open → Option Open) (s p : ℕ) (old new : List PlainItem) → ((d : ℕ) → siblings d (p - s) new ≡ filter_map f (siblings d p old)) →
     ((kind : Kind) (a : ℕ) → a < p → f (record { kind = kind; from = a }) ≡ Some (record { kind = kind; from = a - s })) →
-    (front : List PlainItem) (d q q' : ℕ) → q + length front ≡ p → q' + s ≡ q → siblings d q' (front ++ new) ≡ filter_map f (siblings d q (front ++ old))
-front_walk f s p old new seam before [] d q q' e w =
+    (prefix : List PlainItem) (d q q' : ℕ) → q + length prefix ≡ p → q' + s ≡ q → siblings d q' (prefix ++ new) ≡ filter_map f (siblings d q (prefix ++ old))
+prefix_walk f s p old new seam before [] d q q' e w =
     (let z : p ≡ q = omega arith in let y : p - s ≡ q' = omega arith in ap (λ m. siblings d m new) (sym y) ∙ seam d ∙ ap (λ m. filter_map f (siblings d m old)) z)
-front_walk f s p old new seam before (Char c marks ∷ front) d q q' e w = front_walk f s p old new seam before front d (suc q) (suc q') (omega arith) (omega arith)
-front_walk f s p old new seam before (Opening kind head marks pre origin generated ∷ front) zero q q' e w =
+prefix_walk f s p old new seam before (Char c marks ∷ prefix) d q q' e w = prefix_walk f s p old new seam before prefix d (suc q) (suc q') (omega arith) (omega arith)
+prefix_walk f s p old new seam before (Opening kind head marks pre origin generated ∷ prefix) zero q q' e w =
     let z : q' ≡ q - s = omega arith in
-    (λ i. record { kind = kind; from = z i } ∷ front_walk f s p old new seam before front 1 (suc q) (suc q') (omega arith) (omega arith) i)
-    ∙ ap (λ o. cons_option o (filter_map f (siblings 1 (suc q) (front ++ old)))) (sym (before kind q (omega arith)))
-front_walk f s p old new seam before (Opening kind head marks pre origin generated ∷ front) (suc d) q q' e w =
-    front_walk f s p old new seam before front (suc (suc d)) (suc q) (suc q') (omega arith) (omega arith)
-front_walk f s p old new seam before (Closing kind pre ∷ front) zero q q' e w = refl
-front_walk f s p old new seam before (Closing kind pre ∷ front) (suc d) q q' e w = front_walk f s p old new seam before front d (suc q) (suc q') (omega arith) (omega arith)
+    (λ i. record { kind = kind; from = z i } ∷ prefix_walk f s p old new seam before prefix 1 (suc q) (suc q') (omega arith) (omega arith) i)
+    ∙ ap (λ o. cons_option o (filter_map f (siblings 1 (suc q) (prefix ++ old)))) (sym (before kind q (omega arith)))
+prefix_walk f s p old new seam before (Opening kind head marks pre origin generated ∷ prefix) (suc d) q q' e w =
+    prefix_walk f s p old new seam before prefix (suc (suc d)) (suc q) (suc q') (omega arith) (omega arith)
+prefix_walk f s p old new seam before (Closing kind pre ∷ prefix) zero q q' e w = refl
+prefix_walk f s p old new seam before (Closing kind pre ∷ prefix) (suc d) q q' e w = prefix_walk f s p old new seam before prefix d (suc q) (suc q') (omega arith) (omega arith)
 
--- edits behind leave the front
+-- edits after leave the prefix
 pub substituted_drop : (k q end : ℕ) (list : List PlainItem) (edits : List Edit) → InOrder (q + k) end edits → k ≤ length list →
     drop k (substituted_from q list edits) ≡ substituted_from (q + k) (drop k list) edits
 substituted_drop zero q end list edits h l = (let z : q ≡ q + 0 = omega arith in ap (λ m. substituted_from m list edits) z)
@@ -222,7 +222,7 @@ module _ (items : List PlainItem) where
             let b = (h.1.2).ahead in
             let far = Chain-ends cell_at items cell_kinds (end_of_node items c.at) high cells h.2 in
             let cut : length (take (c.at - q) list) ≡ c.at - q = length-take-le (c.at - q) list (omega arith) in
-            front_walk f s c.at rest new seam before (take (c.at - q) list) d q q' (omega arith) e
+            prefix_walk f s c.at rest new seam before (take (c.at - q) list) d q q' (omega arith) e
             ∙ ap (λ v. filter_map f (siblings d q v)) (take-append-drop (c.at - q) list)
 
         by : (b : Bool) → (c.columns == 1) ≡ b →

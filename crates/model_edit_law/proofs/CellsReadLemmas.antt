@@ -11,7 +11,7 @@ use Rattle.model_edit.specs.Offsets.{end_of_node}
 use Rattle.model_edit.specs.Edits.{setting, substituted_from}
 use Rattle.model_edit.specs.declared.grid_cell.GridCell.{GridCell}
 use Rattle.model_edit_law.proofs.TablePlaceLemmas.{Chain-ends, Chain-filter, cell_kinds, cell_at}
-use Rattle.model_edit_law.proofs.TableSetLemmas.{Among, set_in, set_at, set_before, first_set, later_same, get_drop, get_past, among_behind}
+use Rattle.model_edit_law.proofs.TableSetLemmas.{Among, set_in, set_at, set_before, first_set, later_same, get_drop, get_past, among_after}
 use Rattle.model_edit_law.proofs.CellsOutLemmas.{edits_of, size, fate, Cells, fate_narrow, fate_past, fate_itself, fate_wide, fate_before, narrowed, Tail, one_gone, one_set, tail_gone, tail_set, long_gone, long_set, Clear, fate_low, some_is}
 
 abbrev pub is_wide : GridCell → Bool
@@ -63,8 +63,8 @@ module _ (items : List PlainItem) where
       ahead : x.at < end_of_node items x.at
       ahead = let b = (h.1.2).ahead in omega arith
 
-      behind : Among c cells → end_of_node items x.at ≤ c.at
-      behind a' = among_behind (codes "colspan") one_narrower items cells (end_of_node items x.at) high c h.2 a'
+      suffix : Among c cells → end_of_node items x.at ≤ c.at
+      suffix a' = among_after (codes "colspan") one_narrower items cells (end_of_node items x.at) high c h.2 a'
 
       chain : Cells items (end_of_node items x.at) high F
       chain = Chain-filter cell_at items cell_kinds taken (end_of_node items x.at) high cells h.2
@@ -91,7 +91,7 @@ module _ (items : List PlainItem) where
       by : (t n : Bool) → taken x ≡ t → (x.columns == 1) ≡ n → (x ≡ c) ⊎ Among c cells → (Among c cells → (s' : ℕ) → Both s' F c) → Both s (cond (taken x) (x ∷ F) F) c
       by t n e f (inl same) next = subst (λ v. Both s (cond (taken x) (x ∷ F) F) v) same (subst (λ b. Both s (cond b (x ∷ F) F) x) (sym e) (itself t n e f))
       by true true e f (inr a') next =
-          subst (λ b. Both s (cond b (x ∷ F) F) c) (sym e) (moved (s + size items x) (x ∷ F) (fate_past items s x F c.at f (let d = behind a' in let d' = ahead in omega arith) (behind a')) (next a' (s + size items x)))
+          subst (λ b. Both s (cond b (x ∷ F) F) c) (sym e) (moved (s + size items x) (x ∷ F) (fate_past items s x F c.at f (let d = suffix a' in let d' = ahead in omega arith) (suffix a')) (next a' (s + size items x)))
       by true false e f (inr a') next = subst (λ b. Both s (cond b (x ∷ F) F) c) (sym e) (moved s (x ∷ F) (fate_wide items s x F c.at f) (next a' s))
       by false n e f (inr a') next = subst (λ b. Both s (cond b (x ∷ F) F) c) (sym e) (next a' s)
 

@@ -19,7 +19,7 @@ use Rattle.model_edit.specs.Layout.{Rectangle, without_column}
 use Rattle.model_edit_law.specs.Spans.{Line, rectangle_of, size_of, of_row, lines_left, span_at, line_at, lines_of}
 use Rattle.model_edit_law.proofs.TablePlaceLemmas.{Chain, Chain-ends, Chain-filter, from_of, cell_kinds, cell_at, children_of_stand, Standing}
 use Rattle.model_edit_law.proofs.TableFineLemmas.{row_within, row_ahead}
-use Rattle.model_edit_law.proofs.TableSetLemmas.{map-append, length_map, Among, set_in, set_at, set_before, set_among, among_behind}
+use Rattle.model_edit_law.proofs.TableSetLemmas.{map-append, length_map, Among, set_in, set_at, set_before, set_among, among_after}
 use Rattle.model_edit_law.proofs.TableCellLemmas.{span_read, columns_written, columns_most}
 use Rattle.model_edit_law.proofs.RowOutLemmas.{among_opens}
 use Rattle.model_edit_law.proofs.SiblingLemmas.{no_less}
@@ -301,7 +301,7 @@ module _ (items : List PlainItem) (at column : ℕ) (g : Grid) (lawful : Lawful 
       let own : stays at ≡ Some (at - 0) = fate_before items covering (suc at) (partner items at) 0 at chain (omega arith) in
       let z : at - 0 ≡ at = omega arith in
       let here : stays at ≡ Some at = own ∙ ap Some z in
-      let clear = clear_all at covering (λ c m. inl (among_behind (codes "colspan") one_narrower items covering (suc at) (partner items at) c chain m)) in
+      let clear = clear_all at covering (λ c m. inl (among_after (codes "colspan") one_narrower items covering (suc at) (partner items at) c chain m)) in
       let new_sections = kids kinds at at (omega arith) clear here in
       let all = all_stay rows 0 (λ k r e. let y : k ≡ 0 + k = omega arith in subst (λ m. Stays m r) y (row_stays k r e)) in
       let sections_stay : (o : Open) → AmongNodes o sections → (b : ℕ) × (stays o.from ≡ Some b) × (children_of (Tr ∷ []) without b ≡ left (children_of (Tr ∷ []) items o.from)) =

@@ -167,7 +167,7 @@ module _ (gone : ℕ) where
           ap (λ o. list_any (meet a') (cons_option o (fmc all))) f.1
           ∙ or_from (meet a' f.0) _ (false_from_ne_true (meet a' f.0) (λ t. true≢false (sym (meet_narrow a a' b f.0 x f.2 t) ∙ m))) rest
 
-  -- From the end of the cell before on: the new place is not behind the old one, and what lies between is covered.
+  -- From the end of the cell before on: the new place is not after the old one, and what lies between is covered.
   record Seam (row end end' : ℕ) (before : List Rectangle) : Type 0 where
     pub low : (d : ℕ) → Slid end d → end' ≤ d
     pub filled : (k c : ℕ) → Beside k c → end' ≤ k → c < end → covered before row c ≡ true

@@ -71,11 +71,11 @@ ends-sums n [] = refl
 ends-sums n (p ∷ ps) =
     ap (λ k. (n + k) ∷ ends (n + k) (map encode_utf8_all ps)) (chars_counted p) ∙ ap (λ v. (n + length p) ∷ v) (ends-sums (n + length p) ps)
 
-total-cut : (rule : Rule) (before cs behind : List ℕ) → total (cut rule before cs behind) ≡ length cs
+total-cut : (rule : Rule) (before cs suffix : List ℕ) → total (cut rule before cs suffix) ≡ length cs
 unfolding cut
-total-cut rule before [] behind = refl
-total-cut rule before (c ∷ cs) behind =
-    attached (rule (c ∷ before) (cs ++ behind)) (cut rule (c ∷ before) cs behind) ∙ ap suc (total-cut rule (c ∷ before) cs behind)
+total-cut rule before [] suffix = refl
+total-cut rule before (c ∷ cs) suffix =
+    attached (rule (c ∷ before) (cs ++ suffix)) (cut rule (c ∷ before) cs suffix) ∙ ap suc (total-cut rule (c ∷ before) cs suffix)
   where
     attached : (b : Bool) (ps : List (List ℕ)) → total (if b then (c ∷ []) ∷ ps else prepend (c ∷ []) ps) ≡ suc (total ps)
     attached true ps = omega arith
@@ -158,7 +158,7 @@ above_is rule run bound c more h =
     let whole = c.whole in
     sum_above bound 0 c.pieces (omega arith) (omega arith) rest
 
--- Behind, the last one lies before the bound, and there is one past the beginning.
+-- After, the last one lies before the bound, and there is one past the beginning.
 pub below_fits : (bound n : ℕ) (places : List ℕ) → last_below bound places ≡ Some n → n < bound
 below_fits bound n places h = ltb-true n bound (found (λ n. nat_lt n bound) (reverse places) n h)
 

@@ -93,8 +93,8 @@ module _ (items : List PlainItem) (a : ℕ) (lawful : Lawful items) (r : Sibling
   there : kind_at items (suc a) ≡ k
   there = ap top (stack_at-after items (suc a) u r.parts.reached)
 
-  front_length : length (take a items) ≡ a
-  front_length = (slice_get-split items a c1 r.before).1
+  prefix_length : length (take a items) ≡ a
+  prefix_length = (slice_get-split items a c1 r.before).1
 
   whole : items ≡ take a items ++ (c1 ∷ (x ∷ (inside ++ (cx ∷ rest))))
   whole =
@@ -139,7 +139,7 @@ module _ (items : List PlainItem) (a : ℕ) (lawful : Lawful items) (r : Sibling
   regrouped : (others : List PlainItem) → (x ∷ (inside ++ cx ∷ [])) ++ others ≡ x ∷ (inside ++ cx ∷ others)
   regrouped others = ap (λ v. x ∷ v) (append_assoc inside (cx ∷ []) others)
 
-  -- the item with the closings behind it
+  -- the item with the closings after it
   abbrev moved : List PlainItem
   moved = x ∷ (inside ++ (cx ∷ list_ends k))
 
@@ -161,7 +161,7 @@ module _ (items : List PlainItem) (a : ℕ) (lawful : Lawful items) (r : Sibling
       let edits : indent_edits items at (kind_at items at) ≡ Change (at - 1) 1 (opening_of k [] ∷ []) ∷ Change (end_of_node items at) 0 (list_ends k) ∷ [] =
       ap (λ b. (if b then Change (at - 2) 2 [] else Change (at - 1) 1 (opening_of (kind_at items at) [] ∷ [])) ∷ Change (end_of_node items at) 0 (list_ends (kind_at items at)) ∷ []) joins
       ∙ ap (λ v. Change (at - 1) 1 (opening_of v [] ∷ []) ∷ Change (end_of_node items at) 0 (list_ends v) ∷ []) there in
-      let l = front_length in
+      let l = prefix_length in
       let m = body_length in
       let e = far in
       let two = edited-two (take a items) (c1 ∷ []) (x ∷ (inside ++ cx ∷ [])) [] rest (opening_of k [] ∷ []) (list_ends k)
@@ -195,12 +195,12 @@ module _ (items : List PlainItem) (a : ℕ) (lawful : Lawful items) (r : Sibling
     abbrev ck : PlainItem
     ck = Closing k white
 
-    front_more : take a items ≡ take b items ++ ck ∷ []
-    front_more = ap (λ n. take n items) e ∙ take_more items b ck list
+    prefix_more : take a items ≡ take b items ++ ck ∷ []
+    prefix_more = ap (λ n. take n items) e ∙ take_more items b ck list
 
     whole_more : items ≡ take b items ++ ((ck ∷ c1 ∷ (x ∷ (inside ++ cx ∷ []))) ++ rest)
     whole_more =
-        old_parts ∙ ap (λ v. v ++ ((c1 ∷ (x ∷ (inside ++ cx ∷ []))) ++ rest)) front_more
+        old_parts ∙ ap (λ v. v ++ ((c1 ∷ (x ∷ (inside ++ cx ∷ []))) ++ rest)) prefix_more
         ∙ append_assoc (take b items) (ck ∷ []) ((c1 ∷ (x ∷ (inside ++ cx ∷ []))) ++ rest)
 
     joined_new : joins_list items (suc a) ≡ true →
@@ -221,7 +221,7 @@ module _ (items : List PlainItem) (a : ℕ) (lawful : Lawful items) (r : Sibling
     joined_stays : Stays (take b items ++ (moved ++ rest))
     joined_stays =
         let s = sibling_state in
-        let p = after_parts (take b items) (ck ∷ []) start (state_of (Li ∷ u.stack) u.seen) (ap (after start) (sym front_more) ∙ s.1 ∙ ap Ok s.2) in
+        let p = after_parts (take b items) (ck ∷ []) start (state_of (Li ∷ u.stack) u.seen) (ap (after start) (sym prefix_more) ∙ s.1 ∙ ap Ok s.2) in
         let q = joined-ok 1 (step p.0 ck) (λ next. Ok next) (state_of (Li ∷ u.stack) u.seen) p.2 in
         let c = closed_before (p.0).stack (p.0).seen k q.0 q.1 in
         let same = Ok-same {E = LawFault} q.0 (state_of (Li ∷ u.stack) u.seen) q.2 in

@@ -107,9 +107,9 @@ LowIn-append : (gone : ℕ) (xs ys : List Rectangle) → LowIn gone xs → LowIn
 LowIn-append gone [] ys h g = g
 LowIn-append gone (x ∷ xs) ys h g = (h.0, LowIn-append gone xs ys h.1 g)
 
-LowIn-front : (gone : ℕ) (xs ys : List Rectangle) → LowIn gone (xs ++ ys) → LowIn gone xs × LowIn gone ys
-LowIn-front gone [] ys h = (tt, h)
-LowIn-front gone (x ∷ xs) ys h = let r = LowIn-front gone xs ys h.1 in ((h.0, r.0), r.1)
+LowIn-prefix : (gone : ℕ) (xs ys : List Rectangle) → LowIn gone (xs ++ ys) → LowIn gone xs × LowIn gone ys
+LowIn-prefix gone [] ys h = (tt, h)
+LowIn-prefix gone (x ∷ xs) ys h = let r = LowIn-prefix gone xs ys h.1 in ((h.0, r.0), r.1)
 
 abbrev rect : (row column : ℕ) → Span → Rectangle
 rect row column s = record { row = row; column = column; rows = s.rows; columns = s.columns }
@@ -126,7 +126,7 @@ not_bent row left spans before one all h = by (bent left before one) refl h
     by true e h = cc
     by false e h = (e, h)
 
-module _ (gone row row' left left' : ℕ) (f : Span → Span) (before_ : row < gone → row' ≡ row) (behind_ : gone < row → suc row' ≡ row) (other : row ≡ gone → ⊥)
+module _ (gone row row' left left' : ℕ) (f : Span → Span) (before_ : row < gone → row' ≡ row) (after_ : gone < row → suc row' ≡ row) (other : row ≡ gone → ⊥)
     (without : (column : ℕ) (s : Span) → without_row gone (rect row column s) ≡ Some (rect row' column (f s))) (wide : (s : Span) → (f s).columns ≡ s.columns)
     (short : (s : Span) → nat_lt left s.rows ≡ false → nat_lt left' (f s).rows ≡ false) where
   row_kept : (spans : List Span) (end : ℕ) (B C : List Rectangle) → LowIn gone B → lay_row row left end spans B ≡ Some C → lay_row row' left' end (map f spans) (fm gone B) ≡ Some (fm gone C)
@@ -139,7 +139,7 @@ module _ (gone row row' left left' : ℕ) (f : Span → Span) (before_ : row < g
       let low' : LowIn gone (B ++ one ∷ []) = LowIn-append gone B (one ∷ []) low ((λ e. absurd (other e)), tt) in
       let alike = alike_of gone one new (λ e. absurd (other e)) (without one.column s) in
       let col : free_from (fm gone B) row' end (width (fm gone B)) ≡ one.column =
-      placed_same (fm gone B) B row' row end (λ c. covered_kept gone row row' c B low before_ behind_ other) in
+      placed_same (fm gone B) B row' row end (λ c. covered_kept gone row row' c B low before_ after_ other) in
       let place : laid (fm gone B) row' end (f s) ≡ new = ap (λ c. rect row' c (f s)) col in
       let straight : bent left' (fm gone B) new ≡ false = or_from (nat_lt left' (f s).rows) _ (short s b.0) (no_meets gone one new B low alike b.1) in
       let joined : fm gone (B ++ one ∷ []) ≡ fm gone B ++ new ∷ [] =
@@ -151,36 +151,36 @@ module _ (gone row row' left left' : ℕ) (f : Span → Span) (before_ : row < g
       ∙ (λ i. lay_row row' left' (end' i) (map f spans) (sym joined i))
       ∙ rest
 
--- what is placed before stays in front
-row_front : (spans : List Span) (row left end : ℕ) (B C : List Rectangle) → lay_row row left end spans B ≡ Some C → (more : List Rectangle) × (C ≡ B ++ more)
-row_front [] row left end B C h = let e : B ≡ C = cc in ([], sym e ∙ sym (Rattle.std.proofs.Common.append-nil B))
-row_front (s ∷ spans) row left end B C h =
+-- what is placed before stays before
+row_prefix : (spans : List Span) (row left end : ℕ) (B C : List Rectangle) → lay_row row left end spans B ≡ Some C → (more : List Rectangle) × (C ≡ B ++ more)
+row_prefix [] row left end B C h = let e : B ≡ C = cc in ([], sym e ∙ sym (Rattle.std.proofs.Common.append-nil B))
+row_prefix (s ∷ spans) row left end B C h =
     let one = laid B row end s in
     let n = not_bent row left spans B one C h in
-    let r = row_front spans row left (one.column + one.columns) (B ++ one ∷ []) C n.1 in
+    let r = row_prefix spans row left (one.column + one.columns) (B ++ one ∷ []) C n.1 in
     (one ∷ r.0, r.1 ∙ Rattle.std.proofs.lemmas.List.append_assoc B (one ∷ []) r.0)
 
 lay_none : (row : ℕ) (lines : List Line) → lay row lines None ≡ None
 lay_none row lines = refl
 
-all_front : (lines : List Line) (row : ℕ) (B R : List Rectangle) → lay row lines (Some B) ≡ Some R → (more : List Rectangle) × (R ≡ B ++ more)
-all_front [] row B R h = let e : B ≡ R = cc in ([], sym e ∙ sym (Rattle.std.proofs.Common.append-nil B))
-all_front (line ∷ lines) row B R h = by (λ C g. all_front lines (suc row) C R g) (lay_row row line.left 0 line.spans B) refl h
+all_prefix : (lines : List Line) (row : ℕ) (B R : List Rectangle) → lay row lines (Some B) ≡ Some R → (more : List Rectangle) × (R ≡ B ++ more)
+all_prefix [] row B R h = let e : B ≡ R = cc in ([], sym e ∙ sym (Rattle.std.proofs.Common.append-nil B))
+all_prefix (line ∷ lines) row B R h = by (λ C g. all_prefix lines (suc row) C R g) (lay_row row line.left 0 line.spans B) refl h
   where
     by : ((C : List Rectangle) → lay (suc row) lines (Some C) ≡ Some R → (more : List Rectangle) × (R ≡ C ++ more)) →
         (o : Option (List Rectangle)) → lay_row row line.left 0 line.spans B ≡ o → lay (suc row) lines o ≡ Some R → (more : List Rectangle) × (R ≡ B ++ more)
     by rest None e h = cc
     by rest (Some C) e h =
-        let a = row_front line.spans row line.left 0 B C e in
+        let a = row_prefix line.spans row line.left 0 B C e in
         let b = rest C h in
         (a.0 ++ b.0, b.1 ∙ ap (λ v. v ++ b.0) a.1 ∙ Rattle.std.proofs.lemmas.List.append_assoc B a.0 b.0)
 
 low_before : (gone : ℕ) (lines : List Line) (row : ℕ) (B R : List Rectangle) → LowIn gone R → lay row lines (Some B) ≡ Some R → LowIn gone B
-low_before gone lines row B R low h = let f = all_front lines row B R h in (LowIn-front gone B f.0 (subst (LowIn gone) f.1 low)).0
+low_before gone lines row B R low h = let f = all_prefix lines row B R h in (LowIn-prefix gone B f.0 (subst (LowIn gone) f.1 low)).0
 
--- behind the row that goes each is one further up
-behind_one : (gone row column : ℕ) (s : Span) → gone < row → without_row gone (rect row column s) ≡ Some (rect (row - 1) column s)
-behind_one gone row column s h =
+-- after the row that goes each is one further up
+after_one : (gone row column : ℕ) (s : Span) → gone < row → without_row gone (rect row column s) ≡ Some (rect (row - 1) column s)
+after_one gone row column s h =
     ap (λ b. if b then Some (rect (row - 1) column s) else (if has_row (rect row column s) gone then (if s.rows == 1 then None else Some (record (rect row column s) { rows = s.rows - 1 })) else Some (rect row column s)))
     (lt-ltb gone row h)
 
@@ -188,11 +188,11 @@ map_same : (spans : List Span) → map (λ s. s) spans ≡ spans
 map_same [] = refl
 map_same (s ∷ spans) = ap (λ v. s ∷ v) (map_same spans)
 
-behind_kept : (gone : ℕ) (lines : List Line) (row : ℕ) (B R : List Rectangle) → gone < row → LowIn gone R → lay row lines (Some B) ≡ Some R →
+after_kept : (gone : ℕ) (lines : List Line) (row : ℕ) (B R : List Rectangle) → gone < row → LowIn gone R → lay row lines (Some B) ≡ Some R →
     lay (row - 1) lines (Some (fm gone B)) ≡ Some (fm gone R)
-behind_kept gone [] row B R less low h = let e : B ≡ R = cc in ap (λ v. Some (fm gone v)) e
-behind_kept gone (line ∷ lines) row B R less low h =
-    by (λ C g. behind_kept gone lines (suc row) C R (omega arith) low g) (lay_row row line.left 0 line.spans B) refl h
+after_kept gone [] row B R less low h = let e : B ≡ R = cc in ap (λ v. Some (fm gone v)) e
+after_kept gone (line ∷ lines) row B R less low h =
+    by (λ C g. after_kept gone lines (suc row) C R (omega arith) low g) (lay_row row line.left 0 line.spans B) refl h
   where
     by : ((C : List Rectangle) → lay (suc row) lines (Some C) ≡ Some R → lay (suc row - 1) lines (Some (fm gone C)) ≡ Some (fm gone R)) →
         (o : Option (List Rectangle)) → lay_row row line.left 0 line.spans B ≡ o → lay (suc row) lines o ≡ Some R → lay (row - 1) (line ∷ lines) (Some (fm gone B)) ≡ Some (fm gone R)
@@ -200,7 +200,7 @@ behind_kept gone (line ∷ lines) row B R less low h =
     by rest (Some C) e h =
         let lowB = low_before gone (line ∷ lines) row B R low (ap (lay (suc row) lines) e ∙ h) in
         let kept = row_kept gone row (row - 1) line.left line.left (λ s. s) (λ l. absurd (omega arith)) (λ l. omega arith) (λ z. absurd (omega arith))
-        (λ column s. behind_one gone row column s less) (λ s. refl) (λ s g. g) line.spans 0 B C lowB e in
+        (λ column s. after_one gone row column s less) (λ s. refl) (λ s g. g) line.spans 0 B C lowB e in
         let kept' : lay_row (row - 1) line.left 0 line.spans (fm gone B) ≡ Some (fm gone C) = ap (λ v. lay_row (row - 1) line.left 0 v (fm gone B)) (sym (map_same line.spans)) ∙ kept in
         let z : suc (row - 1) ≡ suc row - 1 = omega arith in
         ap (lay (suc (row - 1)) lines) kept' ∙ ap (λ n. lay n lines (Some (fm gone C))) z ∙ rest C h
@@ -220,8 +220,8 @@ row_gone gone [] left end B C low h = let e : B ≡ C = cc in ap (fm gone) (sym 
 row_gone gone (s ∷ spans) left end B C low h =
     let one = laid B gone end s in
     let n = not_bent gone left spans B one C h in
-    let f = row_front spans gone left (one.column + one.columns) (B ++ one ∷ []) C n.1 in
-    let low1 = (LowIn-front gone B (one ∷ []) (LowIn-front gone (B ++ one ∷ []) f.0 (subst (LowIn gone) f.1 low)).0).1 in
+    let f = row_prefix spans gone left (one.column + one.columns) (B ++ one ∷ []) C n.1 in
+    let low1 = (LowIn-prefix gone B (one ∷ []) (LowIn-prefix gone (B ++ one ∷ []) f.0 (subst (LowIn gone) f.1 low)).0).1 in
     row_gone gone spans left (one.column + one.columns) (B ++ one ∷ []) C low n.1
     ∙ filter_map-append (without_row gone) B (one ∷ [])
     ∙ ap (λ o. fm gone B ++ cons_option o []) (single_one gone one.column s (low1.0 refl))
@@ -277,7 +277,7 @@ lay_kept gone (line ∷ lines) zero row B R at within low h =
         let lowC = low_before gone lines (suc row) C R low h in
         let same = row_gone gone line.spans line.left 0 B C lowC (subst (λ n. lay_row n line.left 0 line.spans B ≡ Some C) here e) in
         let z : row ≡ suc row - 1 = omega arith in
-        ap (λ v. lay row lines (Some v)) (sym same) ∙ ap (λ n. lay n lines (Some (fm gone C))) z ∙ behind_kept gone lines (suc row) C R (omega arith) low h
+        ap (λ v. lay row lines (Some v)) (sym same) ∙ ap (λ n. lay n lines (Some (fm gone C))) z ∙ after_kept gone lines (suc row) C R (omega arith) low h
 lay_kept gone (line ∷ lines) (suc above) row B R at within low h =
     by (λ C g. lay_kept gone lines above (suc row) C R (omega arith) (omega arith) low g) (lay_row row line.left 0 line.spans B) refl h
   where

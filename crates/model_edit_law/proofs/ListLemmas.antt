@@ -23,7 +23,7 @@ use Rattle.model_edit_law.proofs.EditLemmas.{edited-two}
 use Rattle.model_edit_law.proofs.BracketLemmas.{slice_get-at, slice_get-split, partner-opening, Ends, Ends-after, kinds_after, stack_at-after, Closes, closes}
 use Rattle.model_edit.specs.declared.list_fault.ListFault.{ListFault}
 use Rattle.model_edit.specs.declared.list_fault.ListFault.TheVariants.{NotListItem, NotNested, NoSibling}
-use Rattle.model_edit.specs.Lists.{is_list_item, passes_before, list_ends, indent_edits, indent, end_before, begin_behind, outdent_from, outdent}
+use Rattle.model_edit.specs.Lists.{is_list_item, passes_before, list_ends, indent_edits, indent, end_before, begin_after, outdent_from, outdent}
 use Rattle.model_edit_law.specs.ListLaws.{joins_list, new_place, Plain, GivesBack, IndentIsUndone}
 
 pub if_ok_then : {A E : Type 0} (b : Bool) (e : E) (r : Result A E) (t : A) → (if b then r else Err e) ≡ Ok t → (b ≡ true) × (r ≡ Ok t)
@@ -91,9 +91,9 @@ module _ (head : Head) (marks : List Mark) (pre : List ℕ) (origin : Option ℕ
     open_there : opens_at inner_list (length done) ≡ list ∷ outer ∷ others
     open_there = opens_at-whole done (body ++ tail) (length done) refl ∙ opens
 
-    behind : begin_behind inner_list (partner inner_list (length done)) list ≡ Change (length done + suc (length inside)) 2 []
-    behind =
-        ap (λ n. begin_behind inner_list n list) its_closing
+    suffix : begin_after inner_list (partner inner_list (length done)) list ≡ Change (length done + suc (length inside)) 2 []
+    suffix =
+        ap (λ n. begin_after inner_list n list) its_closing
         ∙ ap (λ b. if b then Change (length done + suc (length inside)) 2 [] else Change (length done + suc (length inside)) 1 (Rattle.model_edit.specs.Lists.copy_at inner_list list.from))
         (eq-eqb _ _ list_closing)
 
@@ -103,8 +103,8 @@ module _ (head : Head) (marks : List Mark) (pre : List ℕ) (origin : Option ℕ
         ap (λ x. if passes (is_opening_of Li) x then outdent_from inner_list (length done) (opens_at inner_list (length done)) else Err (NotListItem (length done)))
         (slice_get-at done (Opening Li head marks pre origin generated) (inside ++ tail))
         ∙ ap (outdent_from inner_list (length done)) open_there
-        ∙ ap (λ k. if kind_same k Li then Ok (transaction_of inner_list (end_before (length done) list ∷ begin_behind inner_list (partner inner_list (length done)) list ∷ [])) else Err (NotNested (length done))) nested
-        ∙ ap (λ e. Ok (transaction_of inner_list (end_before (length done) list ∷ e ∷ []))) behind
+        ∙ ap (λ k. if kind_same k Li then Ok (transaction_of inner_list (end_before (length done) list ∷ begin_after inner_list (partner inner_list (length done)) list ∷ [])) else Err (NotNested (length done))) nested
+        ∙ ap (λ e. Ok (transaction_of inner_list (end_before (length done) list ∷ e ∷ []))) suffix
 
   regroup : (x : PlainItem) (others : List PlainItem) → (body ++ x ∷ []) ++ others ≡ body ++ x ∷ others
   regroup x others = append_assoc body (x ∷ []) others
@@ -116,13 +116,13 @@ module _ (head : Head) (marks : List Mark) (pre : List ℕ) (origin : Option ℕ
 
     joined_closing : (at : ℕ) → at ≡ suc (suc (length done)) → partner old_joined at ≡ at + suc (length inside)
     joined_closing at e =
-        let front = done ++ (Closing list.kind [] ∷ Closing Li [] ∷ []) in
-        let n : length front ≡ at = omega (arith, length-append done (Closing list.kind [] ∷ Closing Li [] ∷ [])) in
-        let whole : old_joined ≡ front ++ (body ++ (Closing Li [] ∷ rest)) = sym (append_assoc done (Closing list.kind [] ∷ Closing Li [] ∷ []) (body ++ (Closing Li [] ∷ rest))) in
+        let prefix = done ++ (Closing list.kind [] ∷ Closing Li [] ∷ []) in
+        let n : length prefix ≡ at = omega (arith, length-append done (Closing list.kind [] ∷ Closing Li [] ∷ [])) in
+        let whole : old_joined ≡ prefix ++ (body ++ (Closing Li [] ∷ rest)) = sym (append_assoc done (Closing list.kind [] ∷ Closing Li [] ∷ []) (body ++ (Closing Li [] ∷ rest))) in
         ap (λ v. partner v at) whole
-        ∙ ap (partner (front ++ (body ++ (Closing Li [] ∷ rest)))) (sym n)
-        ∙ partner-opening front Li head marks pre origin generated (inside ++ (Closing Li [] ∷ rest))
-        ∙ ap (λ v. length front + v) (ends rest)
+        ∙ ap (partner (prefix ++ (body ++ (Closing Li [] ∷ rest)))) (sym n)
+        ∙ partner-opening prefix Li head marks pre origin generated (inside ++ (Closing Li [] ∷ rest))
+        ∙ ap (λ v. length prefix + v) (ends rest)
         ∙ ap (λ v. v + suc (length inside)) n
 
     joined : (at : ℕ) → at ≡ suc (suc (length done)) → joins_list old_joined at ≡ true → kind_at old_joined at ≡ list.kind →
@@ -160,39 +160,39 @@ module _ (head : Head) (marks : List Mark) (pre : List ℕ) (origin : Option ℕ
         different m n h = elim (cases_Bool (m == n)) [ inl same ↦ absurd (h (eqb-true m n same)) | inr other ↦ other ]
 
   -- a new list is made at the end of the sibling before it
-  module _ (front rest : List PlainItem) (k : Kind) (outer : Open) (others : List Open) (opens : opens_after [] 0 front ≡ outer ∷ others) (nested : outer.kind ≡ Li) where
+  module _ (prefix rest : List PlainItem) (k : Kind) (outer : Open) (others : List Open) (opens : opens_after [] 0 prefix ≡ outer ∷ others) (nested : outer.kind ≡ Li) where
     abbrev old_alone : List PlainItem
-    old_alone = front ++ (Closing Li [] ∷ (body ++ (Closing Li [] ∷ rest)))
+    old_alone = prefix ++ (Closing Li [] ∷ (body ++ (Closing Li [] ∷ rest)))
 
     abbrev list_made : Open
-    list_made = record { kind = k; from = length front }
+    list_made = record { kind = k; from = length prefix }
 
     abbrev with_list : List PlainItem
-    with_list = front ++ opening_of k [] ∷ []
+    with_list = prefix ++ opening_of k [] ∷ []
 
     opens_made : opens_after [] 0 with_list ≡ list_made ∷ outer ∷ others
-    opens_made = snoc_opens front [] 0 ∙ (λ i. record { kind = k; from = zero-add (length front) i } ∷ opens i)
+    opens_made = snoc_opens prefix [] 0 ∙ (λ i. record { kind = k; from = zero-add (length prefix) i } ∷ opens i)
       where
         snoc_opens : (xs : List PlainItem) (nodes : List Open) (n : ℕ) →
             opens_after nodes n (xs ++ opening_of k [] ∷ []) ≡ record { kind = k; from = n + length xs } ∷ opens_after nodes n xs
         snoc_opens [] nodes n = ap (λ v. record { kind = k; from = v } ∷ nodes) (omega arith)
         snoc_opens (x ∷ xs) nodes n = snoc_opens xs (Rattle.model_items.specs.Tree.opens_with x n nodes) (suc n) ∙ ap (λ v. record { kind = k; from = v } ∷ opens_after (Rattle.model_items.specs.Tree.opens_with x n nodes) (suc n) xs) (omega arith)
 
-    made_length : length with_list ≡ suc (length front)
-    made_length = snoc front (opening_of k [])
+    made_length : length with_list ≡ suc (length prefix)
+    made_length = snoc prefix (opening_of k [])
 
-    alone_closing : (at : ℕ) → at ≡ suc (length front) → partner old_alone at ≡ at + suc (length inside)
+    alone_closing : (at : ℕ) → at ≡ suc (length prefix) → partner old_alone at ≡ at + suc (length inside)
     alone_closing at e =
-        let start = front ++ (Closing Li [] ∷ []) in
-        let n : length start ≡ at = omega (arith, length-append front (Closing Li [] ∷ [])) in
-        let whole : old_alone ≡ start ++ (body ++ (Closing Li [] ∷ rest)) = sym (append_assoc front (Closing Li [] ∷ []) (body ++ (Closing Li [] ∷ rest))) in
+        let start = prefix ++ (Closing Li [] ∷ []) in
+        let n : length start ≡ at = omega (arith, length-append prefix (Closing Li [] ∷ [])) in
+        let whole : old_alone ≡ start ++ (body ++ (Closing Li [] ∷ rest)) = sym (append_assoc prefix (Closing Li [] ∷ []) (body ++ (Closing Li [] ∷ rest))) in
         ap (λ v. partner v at) whole
         ∙ ap (partner (start ++ (body ++ (Closing Li [] ∷ rest)))) (sym n)
         ∙ partner-opening start Li head marks pre origin generated (inside ++ (Closing Li [] ∷ rest))
         ∙ ap (λ v. length start + v) (ends rest)
         ∙ ap (λ v. v + suc (length inside)) n
 
-    alone : (at : ℕ) → at ≡ suc (length front) → joins_list old_alone at ≡ false → kind_at old_alone at ≡ k →
+    alone : (at : ℕ) → at ≡ suc (length prefix) → joins_list old_alone at ≡ false → kind_at old_alone at ≡ k →
         edited (transaction_of old_alone (indent_edits old_alone at (kind_at old_alone at))) old_alone ≡ inner_list with_list rest list_made outer others opens_made nested
     alone at e joins same_kind =
         let second = Change (end_of_node old_alone at) 0 (list_ends k) in
@@ -200,26 +200,26 @@ module _ (head : Head) (marks : List Mark) (pre : List ℕ) (origin : Option ℕ
         ap (λ b. (if b then Change (at - 2) 2 [] else Change (at - 1) 1 (opening_of (kind_at old_alone at) [] ∷ [])) ∷ Change (end_of_node old_alone at) 0 (list_ends (kind_at old_alone at)) ∷ []) joins
         ∙ ap (λ v. Change (at - 1) 1 (opening_of v [] ∷ []) ∷ Change (end_of_node old_alone at) 0 (list_ends v) ∷ []) same_kind in
         let p = alone_closing at e in
-        let two = edited-two front (Closing Li [] ∷ []) (body ++ Closing Li [] ∷ []) [] rest (opening_of k [] ∷ []) (list_ends k)
+        let two = edited-two prefix (Closing Li [] ∷ []) (body ++ Closing Li [] ∷ []) [] rest (opening_of k [] ∷ []) (list_ends k)
         old_alone (at - 1) 1 (end_of_node old_alone at) 0
-        (ap (λ v. front ++ (Closing Li [] ∷ v)) (sym (regroup (Closing Li []) rest)))
+        (ap (λ v. prefix ++ (Closing Li [] ∷ v)) (sym (regroup (Closing Li []) rest)))
         (omega arith) refl (omega (arith, length-append body (Closing Li [] ∷ []))) refl in
         ap (λ v. edited (transaction_of old_alone v) old_alone) edits
         ∙ two.0
-        ∙ ap (λ v. front ++ (opening_of k [] ∷ v)) (regroup (Closing Li []) (Closing k [] ∷ Closing Li [] ∷ rest))
-        ∙ sym (append_assoc front (opening_of k [] ∷ []) _)
+        ∙ ap (λ v. prefix ++ (opening_of k [] ∷ v)) (regroup (Closing Li []) (Closing k [] ∷ Closing Li [] ∷ rest))
+        ∙ sym (append_assoc prefix (opening_of k [] ∷ []) _)
 
-    undone_alone : (at : ℕ) → at ≡ suc (length front) → joins_list old_alone at ≡ false → kind_at old_alone at ≡ k →
+    undone_alone : (at : ℕ) → at ≡ suc (length prefix) → joins_list old_alone at ≡ false → kind_at old_alone at ≡ k →
         GivesBack old_alone (edited (transaction_of old_alone (indent_edits old_alone at (kind_at old_alone at))) old_alone) (new_place old_alone at)
     undone_alone at e joins same_kind =
         let new = inner_list with_list rest list_made outer others opens_made nested in
         let place : new_place old_alone at ≡ length with_list = ap (λ b. if b then at - 2 else at) joins ∙ e ∙ sym made_length in
-        let first : end_before (length with_list) list_made ≡ Change (length front) 1 (closing_of Li ∷ []) =
-        ap (λ b. if b then Change (length front) 1 (closing_of Li ∷ []) else Change (length with_list) 0 (list_ends k)) (eq-eqb _ _ (sym made_length)) in
+        let first : end_before (length with_list) list_made ≡ Change (length prefix) 1 (closing_of Li ∷ []) =
+        ap (λ b. if b then Change (length prefix) 1 (closing_of Li ∷ []) else Change (length with_list) 0 (list_ends k)) (eq-eqb _ _ (sym made_length)) in
         let back = transaction_of new (end_before (length with_list) list_made ∷ Change (length with_list + suc (length inside)) 2 [] ∷ []) in
         let n = made_length in
-        let two = edited-two front (opening_of k [] ∷ []) body (Closing Li [] ∷ Closing k [] ∷ []) (Closing Li [] ∷ rest) (closing_of Li ∷ []) []
-        new (length front) 1 (length with_list + suc (length inside)) 2 (append_assoc front (opening_of k [] ∷ []) _) refl refl (omega arith) refl in
+        let two = edited-two prefix (opening_of k [] ∷ []) body (Closing Li [] ∷ Closing k [] ∷ []) (Closing Li [] ∷ rest) (closing_of Li ∷ []) []
+        new (length prefix) 1 (length with_list + suc (length inside)) 2 (append_assoc prefix (opening_of k [] ∷ []) _) refl refl (omega arith) refl in
         let same : edited back new ≡ old_alone = ap (λ v. edited (transaction_of new (v ∷ Change (length with_list + suc (length inside)) 2 [] ∷ [])) new) first ∙ two.0 in
         let all : GivesBack old_alone new (length with_list) = record { back = back; outdented = outdented with_list rest list_made outer others opens_made nested; same = same } in
         subst (λ v. GivesBack old_alone v (new_place old_alone at)) (sym (alone at e joins same_kind)) (subst (GivesBack old_alone new) (sym place) all)
@@ -235,15 +235,15 @@ Some-same x y h = cc
 
 -- the parts of the list round the item
 record Round (items : List PlainItem) (a : ℕ) : Type 0 where
-  pub front : List PlainItem
+  pub prefix : List PlainItem
   pub head : Head
   pub marks : List Mark
   pub pre : List ℕ
   pub origin : Option ℕ
   pub generated : Bool
-  pub behind : List PlainItem
-  pub whole : items ≡ front ++ (Closing Li [] ∷ Opening Li head marks pre origin generated ∷ behind)
-  pub place : length front ≡ a
+  pub suffix : List PlainItem
+  pub whole : items ≡ prefix ++ (Closing Li [] ∷ Opening Li head marks pre origin generated ∷ suffix)
+  pub place : length prefix ≡ a
 
 round : (items : List PlainItem) (a : ℕ) → slice_get items a ≡ Some (closing_of Li) → is_list_item items (suc a) ≡ true → Round items a
 round items a before item =
@@ -252,13 +252,13 @@ round items a before item =
     let next : slice_get (drop (suc a) items) 0 ≡ Some (Opening Li x.0 x.1 x.2 x.3 x.4) = slice_get-drop (suc a) items ∙ x.5 in
     let rest = first_item (drop (suc a) items) (Opening Li x.0 x.1 x.2 x.3 x.4) next in
     record {
-      front = take a items;
+      prefix = take a items;
       head = x.0;
       marks = x.1;
       pre = x.2;
       origin = x.3;
       generated = x.4;
-      behind = rest.0;
+      suffix = rest.0;
       whole = s.0 ∙ ap (λ v. take a items ++ (Closing Li [] ∷ v)) rest.1;
       place = s.1;
     }
@@ -274,37 +274,37 @@ round items a before item =
     first_item (y ∷ ys) x h = (ys, ap (λ v. v ∷ ys) (Some-same y x h))
 
 -- what the law tells of the parts
-record Parts (front : List PlainItem) (behind : List PlainItem) : Type 0 where
+record Parts (prefix : List PlainItem) (suffix : List PlainItem) : Type 0 where
   pub state : State
   pub outer_state : State
-  pub reached : after start front ≡ Ok outer_state
+  pub reached : after start prefix ≡ Ok outer_state
   pub in_item : outer_state.stack ≡ Li ∷ state.stack
-  pub closed : Closes [] state.stack Li behind
+  pub closed : Closes [] state.stack Li suffix
 
-parts : (front behind : List PlainItem) (head : Head) (marks : List Mark) (pre : List ℕ) (origin : Option ℕ) (generated : Bool) →
-    Lawful (front ++ (Closing Li [] ∷ Opening Li head marks pre origin generated ∷ behind)) → Parts front behind
-parts front behind head marks pre origin generated lawful =
+parts : (prefix suffix : List PlainItem) (head : Head) (marks : List Mark) (pre : List ℕ) (origin : Option ℕ) (generated : Bool) →
+    Lawful (prefix ++ (Closing Li [] ∷ Opening Li head marks pre origin generated ∷ suffix)) → Parts prefix suffix
+parts prefix suffix head marks pre origin generated lawful =
     let x = Opening Li head marks pre origin generated in
-    let p = after_parts front (Closing Li [] ∷ x ∷ behind) start finish (after_from_Lawful (front ++ (Closing Li [] ∷ x ∷ behind)) lawful) in
-    let q = joined-ok 1 (step p.0 (Closing Li [])) (λ next. after next (x ∷ behind)) finish p.2 in
-    let r = joined-ok 1 (step q.0 x) (λ next. after next behind) finish q.2 in
+    let p = after_parts prefix (Closing Li [] ∷ x ∷ suffix) start finish (after_from_Lawful (prefix ++ (Closing Li [] ∷ x ∷ suffix)) lawful) in
+    let q = joined-ok 1 (step p.0 (Closing Li [])) (λ next. after next (x ∷ suffix)) finish p.2 in
+    let r = joined-ok 1 (step q.0 x) (λ next. after next suffix) finish q.2 in
     let c = closed_before (p.0).stack (p.0).seen Li q.0 q.1 in
     let o = opened_before q.0 r.0 Li r.1 in
-    record { state = q.0; outer_state = p.0; reached = p.1; in_item = c.0; closed = closes behind [] (q.0).stack Li r.0 (sym o.0) r.2 }
+    record { state = q.0; outer_state = p.0; reached = p.1; in_item = c.0; closed = closes suffix [] (q.0).stack Li r.0 (sym o.0) r.2 }
 
 -- the state just before the item
-before_item : (front behind : List PlainItem) (p : Parts front behind) → after start (front ++ Closing Li [] ∷ []) ≡ Ok (record { stack = p.state.stack; seen = p.outer_state.seen })
-before_item front behind p =
+before_item : (prefix suffix : List PlainItem) (p : Parts prefix suffix) → after start (prefix ++ Closing Li [] ∷ []) ≡ Ok (record { stack = p.state.stack; seen = p.outer_state.seen })
+before_item prefix suffix p =
     let s = p.outer_state in
     let stacks = p.in_item in
     let one : after s (Closing Li [] ∷ []) ≡ Ok (record { stack = p.state.stack; seen = s.seen }) =
     ap (λ st. after (record { stack = st; seen = s.seen }) (Closing Li [] ∷ [])) stacks in
-    Rattle.model_items.proofs.LawLemmas.after_whole front (Closing Li [] ∷ []) start s _ p.reached one
+    Rattle.model_items.proofs.LawLemmas.after_whole prefix (Closing Li [] ∷ []) start s _ p.reached one
 
-slice_get-front : (xs ys : List PlainItem) (n : ℕ) → n < length xs → slice_get (xs ++ ys) n ≡ slice_get xs n
-slice_get-front [] ys n h = absurd (omega arith)
-slice_get-front (x ∷ xs) ys zero h = refl
-slice_get-front (x ∷ xs) ys (suc n) h = slice_get-front xs ys n (omega arith)
+slice_get-prefix : (xs ys : List PlainItem) (n : ℕ) → n < length xs → slice_get (xs ++ ys) n ≡ slice_get xs n
+slice_get-prefix [] ys n h = absurd (omega arith)
+slice_get-prefix (x ∷ xs) ys zero h = refl
+slice_get-prefix (x ∷ xs) ys (suc n) h = slice_get-prefix xs ys n (omega arith)
 
 -- a list whose last item is known
 pub last_item : (xs : List PlainItem) (n : ℕ) (x : PlainItem) → length xs ≡ suc n → slice_get xs n ≡ Some x → xs ≡ take n xs ++ x ∷ []
@@ -326,23 +326,23 @@ GivesBack-along items items' at at' e f g =
     let P : List PlainItem → ℕ → Type 0 = λ v n. GivesBack v (edited (transaction_of v (indent_edits v n (kind_at v n))) v) (new_place v n) in
     subst (λ n. P items n) f (subst (λ v. P v at') e g)
 
-module _ (items : List PlainItem) (a : ℕ) (r : Round items a) (p : Parts r.front r.behind) (plain : Plain items (suc a)) where
+module _ (items : List PlainItem) (a : ℕ) (r : Round items a) (p : Parts r.prefix r.suffix) (plain : Plain items (suc a)) where
   abbrev x : PlainItem
   x = Opening Li r.head r.marks r.pre r.origin r.generated
 
   abbrev start_part : List PlainItem
-  start_part = r.front ++ Closing Li [] ∷ []
+  start_part = r.prefix ++ Closing Li [] ∷ []
 
-  ahead : items ≡ start_part ++ (x ∷ r.behind)
-  ahead = r.whole ∙ sym (append_assoc r.front (Closing Li [] ∷ []) (x ∷ r.behind))
+  ahead : items ≡ start_part ++ (x ∷ r.suffix)
+  ahead = r.whole ∙ sym (append_assoc r.prefix (Closing Li [] ∷ []) (x ∷ r.suffix))
 
   ahead_length : length start_part ≡ suc a
-  ahead_length = snoc r.front (Closing Li []) ∙ ap suc r.place
+  ahead_length = snoc r.prefix (Closing Li []) ∙ ap suc r.place
 
   kind_there : kind_at items (suc a) ≡ top p.state.stack
   kind_there =
-      let e : take (suc a) items ≡ start_part = ap (λ n. take n items) (sym ahead_length) ∙ ap (take (length start_part)) ahead ∙ take_whole start_part (x ∷ r.behind) in
-      let h : after start (take (suc a) items) ≡ Ok (record { stack = p.state.stack; seen = p.outer_state.seen }) = ap (after start) e ∙ before_item r.front r.behind p in
+      let e : take (suc a) items ≡ start_part = ap (λ n. take n items) (sym ahead_length) ∙ ap (take (length start_part)) ahead ∙ take_whole start_part (x ∷ r.suffix) in
+      let h : after start (take (suc a) items) ≡ Ok (record { stack = p.state.stack; seen = p.outer_state.seen }) = ap (after start) e ∙ before_item r.prefix r.suffix p in
       ap top (stack_at-after items (suc a) (record { stack = p.state.stack; seen = p.outer_state.seen }) h)
     where
       take_whole : (xs ys : List PlainItem) → take (length xs) (xs ++ ys) ≡ xs
@@ -352,9 +352,9 @@ module _ (items : List PlainItem) (a : ℕ) (r : Round items a) (p : Parts r.fro
   item_end : partner items (suc a) ≡ suc a + suc (length p.closed.inside)
   item_end =
       ap (λ v. partner v (suc a)) ahead
-      ∙ ap (partner (start_part ++ (x ∷ r.behind))) (sym ahead_length)
-      ∙ partner-opening start_part Li r.head r.marks r.pre r.origin r.generated r.behind
-      ∙ ap (λ n. n + length_to_close 0 r.behind) ahead_length
+      ∙ ap (partner (start_part ++ (x ∷ r.suffix))) (sym ahead_length)
+      ∙ partner-opening start_part Li r.head r.marks r.pre r.origin r.generated r.suffix
+      ∙ ap (λ n. n + length_to_close 0 r.suffix) ahead_length
       ∙ ap (λ v. suc a + length_to_close 0 v) p.closed.whole
       ∙ ap (λ n. suc a + n) (p.closed.ends p.closed.rest)
 
@@ -382,20 +382,20 @@ module _ (items : List PlainItem) (a : ℕ) (r : Round items a) (p : Parts r.fro
   through' : (depth : ℕ) (other : List PlainItem) → length_to_close (suc depth) (inside ++ Closing Li [] ∷ other) ≡ suc (length inside + length_to_close depth other)
   through' depth other = subst (λ w. length_to_close (suc depth) (inside ++ Closing Li w ∷ other) ≡ suc (length inside + length_to_close depth other)) no_white (p.closed.through depth other)
 
-  whole_list : items ≡ r.front ++ (Closing Li [] ∷ (x ∷ (inside ++ (Closing Li [] ∷ rest))))
-  whole_list = r.whole ∙ ap (λ v. r.front ++ (Closing Li [] ∷ (x ∷ v))) (p.closed.whole ∙ ap (λ w. inside ++ (Closing Li w ∷ rest)) no_white)
+  whole_list : items ≡ r.prefix ++ (Closing Li [] ∷ (x ∷ (inside ++ (Closing Li [] ∷ rest))))
+  whole_list = r.whole ∙ ap (λ v. r.prefix ++ (Closing Li [] ∷ (x ∷ v))) (p.closed.whole ∙ ap (λ w. inside ++ (Closing Li w ∷ rest)) no_white)
 
   abbrev Goal : Type 0
   Goal = GivesBack items (edited (transaction_of items (indent_edits items (suc a) (kind_at items (suc a)))) items) (new_place items (suc a))
 
   by_itself : joins_list items (suc a) ≡ false → Goal
   by_itself joins =
-      let nodes = one_node (opens_after [] 0 r.front) Li p.state.stack (kinds_after r.front 0 [] start p.outer_state p.reached refl ∙ p.in_item) in
-      let old = r.front ++ (Closing Li [] ∷ (x ∷ (inside ++ (Closing Li [] ∷ rest)))) in
+      let nodes = one_node (opens_after [] 0 r.prefix) Li p.state.stack (kinds_after r.prefix 0 [] start p.outer_state p.reached refl ∙ p.in_item) in
+      let old = r.prefix ++ (Closing Li [] ∷ (x ∷ (inside ++ (Closing Li [] ∷ rest)))) in
       let joins' : joins_list old (suc a) ≡ false = subst (λ v. joins_list v (suc a) ≡ false) whole_list joins in
       let kind' : kind_at old (suc a) ≡ kind_at items (suc a) = ap (λ v. kind_at v (suc a)) (sym whole_list) in
       GivesBack-along items old (suc a) (suc a) (sym whole_list) refl
-      (undone_alone r.head r.marks r.pre r.origin r.generated inside ends' through' r.front rest (kind_at items (suc a)) nodes.0 nodes.1 nodes.2 nodes.3
+      (undone_alone r.head r.marks r.pre r.origin r.generated inside ends' through' r.prefix rest (kind_at items (suc a)) nodes.0 nodes.1 nodes.2 nodes.3
       (suc a) (ap suc (sym r.place)) joins' kind')
 
   into_list : joins_list items (suc a) ≡ true → Goal
@@ -407,12 +407,12 @@ module _ (items : List PlainItem) (a : ℕ) (r : Round items a) (p : Parts r.fro
       let there : slice_get items (a - 1) ≡ Some (closing_of k) = ap (slice_get items) (sym back_two) ∙ plain.list joins in
       let positive : 0 < a = some a (subst (λ n. passes_before (is_closing_of k) items n ≡ true) back_one joins) in
       let place = r.place in
-      let inner : slice_get r.front (a - 1) ≡ Some (closing_of k) =
-      sym (slice_get-front r.front (Closing Li [] ∷ x ∷ r.behind) (a - 1) (omega arith)) ∙ ap (λ v. slice_get v (a - 1)) (sym r.whole) ∙ there in
-      let done = take (a - 1) r.front in
-      let front : r.front ≡ done ++ closing_of k ∷ [] = last_item r.front (a - 1) (closing_of k) (omega arith) inner in
-      let n : length done ≡ a - 1 = (slice_get-split r.front (a - 1) (closing_of k) inner).1 in
-      let q = after_parts done (closing_of k ∷ []) start p.outer_state (ap (after start) (sym front) ∙ p.reached) in
+      let inner : slice_get r.prefix (a - 1) ≡ Some (closing_of k) =
+      sym (slice_get-prefix r.prefix (Closing Li [] ∷ x ∷ r.suffix) (a - 1) (omega arith)) ∙ ap (λ v. slice_get v (a - 1)) (sym r.whole) ∙ there in
+      let done = take (a - 1) r.prefix in
+      let prefix : r.prefix ≡ done ++ closing_of k ∷ [] = last_item r.prefix (a - 1) (closing_of k) (omega arith) inner in
+      let n : length done ≡ a - 1 = (slice_get-split r.prefix (a - 1) (closing_of k) inner).1 in
+      let q = after_parts done (closing_of k ∷ []) start p.outer_state (ap (after start) (sym prefix) ∙ p.reached) in
       let c = joined-ok 1 (step q.0 (closing_of k)) (λ next. Ok next) p.outer_state q.2 in
       let d = closed_before (q.0).stack (q.0).seen k c.0 c.1 in
       let stacks : (q.0).stack ≡ k ∷ Li ∷ p.state.stack =
@@ -422,7 +422,7 @@ module _ (items : List PlainItem) (a : ℕ) (r : Round items a) (p : Parts r.fro
       let old = done ++ (Closing list.kind [] ∷ Closing Li [] ∷ (x ∷ (inside ++ (Closing Li [] ∷ rest)))) in
       let same : items ≡ old =
       whole_list
-      ∙ ap (λ v. v ++ (Closing Li [] ∷ (x ∷ (inside ++ (Closing Li [] ∷ rest))))) front
+      ∙ ap (λ v. v ++ (Closing Li [] ∷ (x ∷ (inside ++ (Closing Li [] ∷ rest))))) prefix
       ∙ append_assoc done (closing_of k ∷ []) _
       ∙ ap (λ v. done ++ (Closing v [] ∷ Closing Li [] ∷ (x ∷ (inside ++ (Closing Li [] ∷ rest))))) (sym nodes.4) in
       let joins' : joins_list old (suc a) ≡ true = subst (λ v. joins_list v (suc a) ≡ true) same joins in
@@ -454,6 +454,6 @@ indent_is_undone items (suc a) t lawful h plain =
     let q = if_ok_then (passes_before (is_closing_of Li) items (suc a)) _ _ t p.1 in
     let at_before : slice_get items a ≡ Some (closing_of Li) = ap (slice_get items) (omega arith) ∙ plain.before in
     let r = round items a at_before p.0 in
-    let parts_ = parts r.front r.behind r.head r.marks r.pre r.origin r.generated (subst Lawful r.whole lawful) in
+    let parts_ = parts r.prefix r.suffix r.head r.marks r.pre r.origin r.generated (subst Lawful r.whole lawful) in
     let same : transaction_of items (indent_edits items (suc a) (kind_at items (suc a))) ≡ t = Ok-same {E = ListFault} _ t q.1 in
     subst (λ v. GivesBack items (edited v items) (new_place items (suc a))) same (undone items a r parts_ plain)

@@ -61,11 +61,11 @@ run_within (Char c marks ∷ items) = let rest = run_within items in omega arith
 run_within (Opening kind head marks pre origin generated ∷ items) = omega arith
 run_within (Closing kind pre ∷ items) = omega arith
 
-front_is_chars : (xs ys : List PlainItem) → length xs ≤ length (first_run (xs ++ ys)) → AllChars xs
-front_is_chars [] ys h = tt
-front_is_chars (Char c marks ∷ xs) ys h = front_is_chars xs ys (omega arith)
-front_is_chars (Opening kind head marks pre origin generated ∷ xs) ys h = absurd (omega arith)
-front_is_chars (Closing kind pre ∷ xs) ys h = absurd (omega arith)
+prefix_is_chars : (xs ys : List PlainItem) → length xs ≤ length (first_run (xs ++ ys)) → AllChars xs
+prefix_is_chars [] ys h = tt
+prefix_is_chars (Char c marks ∷ xs) ys h = prefix_is_chars xs ys (omega arith)
+prefix_is_chars (Opening kind head marks pre origin generated ∷ xs) ys h = absurd (omega arith)
+prefix_is_chars (Closing kind pre ∷ xs) ys h = absurd (omega arith)
 
 AllChars-append : (xs ys : List PlainItem) → AllChars xs → AllChars ys → AllChars (xs ++ ys)
 AllChars-append [] ys p q = q
@@ -97,7 +97,7 @@ run_back items to count within h =
     let long' = length-reverse piece in
     let run = length-reverse (first_run (reverse (take (to + count) items))) in
     let same : length (first_run (reverse (take (to + count) items))) ≡ length (first_run (reverse piece ++ reverse (take to items))) = ap (λ v. length (first_run v)) back in
-    let turned = front_is_chars (reverse piece) (reverse (take to items)) (omega arith) in
+    let turned = prefix_is_chars (reverse piece) (reverse (take to items)) (omega arith) in
     let chars = subst AllChars (reverse-reverse piece) (AllChars-reverse (reverse piece) turned) in
     sym (opens_at-on items to count ∙ opens_after-chars piece (opens_at items to) (0 + length (take to items)) chars)
 
@@ -132,12 +132,12 @@ next_state items n x h a =
     let p = joined-ok 1 (step a.state x) (λ next. after next (drop (suc n) items)) finish (ap (after a.state) (sym here) ∙ a.rest) in
     let one : after a.state (x ∷ []) ≡ Ok p.0 = ap (λ r. joined 1 r (λ next. Ok next)) p.1 in
     let one_past : suc n ≡ n + 1 = omega arith in
-    let front : take (suc n) items ≡ take n items ++ x ∷ [] =
+    let prefix : take (suc n) items ≡ take n items ++ x ∷ [] =
     ap (λ k. take k items) one_past ∙ take-add n 1 items ∙ ap (λ v. take n items ++ take 1 v) here in
     record {
       state = p.0;
       stepped = p.1;
-      reached = ap (after start) front ∙ after_whole (take n items) (x ∷ []) start a.state p.0 a.reached one;
+      reached = ap (after start) prefix ∙ after_whole (take n items) (x ∷ []) start a.state p.0 a.reached one;
       rest = p.2;
     }
 
@@ -167,11 +167,11 @@ leaf_has_no_text _ h = cc
 content_at : (items : List PlainItem) (n : ℕ) (s : State) → after start (take n items) ≡ Ok s → is_content items n ≡ true → is_content_branch (top s.stack) ≡ true
 content_at items n s h content = ap (λ st. is_content_branch (top st)) (sym (stack_at-after items n s h)) ∙ content
 
-none_behind : (items : List PlainItem) (n : ℕ) → slice_get items n ≡ None → drop n items ≡ []
-none_behind [] zero h = refl
-none_behind [] (suc n) h = refl
-none_behind (x ∷ items) zero h = cc
-none_behind (x ∷ items) (suc n) h = none_behind items n h
+none_after : (items : List PlainItem) (n : ℕ) → slice_get items n ≡ None → drop n items ≡ []
+none_after [] zero h = refl
+none_after [] (suc n) h = refl
+none_after (x ∷ items) zero h = cc
+none_after (x ∷ items) (suc n) h = none_after items n h
 
 abbrev IsLike : (PlainItem → Bool) → List PlainItem → ℕ → Type 0
 IsLike test items n = (x : PlainItem) × (slice_get items n ≡ Some x) × (test x ≡ true)
@@ -182,7 +182,7 @@ leaf_closes items n k outer a stack leaf = by_item (slice_get items n) refl
   where
     by_item : (o : Option PlainItem) → slice_get items n ≡ o → IsLike is_closing items n
     by_item None e =
-        let over : a.state ≡ finish = Ok-same {E = LawFault} a.state finish (ap (after a.state) (sym (none_behind items n e)) ∙ a.rest) in
+        let over : a.state ≡ finish = Ok-same {E = LawFault} a.state finish (ap (after a.state) (sym (none_after items n e)) ∙ a.rest) in
         absurd (let none : k ∷ outer ≡ [] = sym stack ∙ ap (λ (v : State). v.stack) over in cc)
     by_item (Some (Char c marks)) e =
         let next = next_state items n (Char c marks) e a in
@@ -208,7 +208,7 @@ leaf_opens items (suc m) k outer lawful within a stack leaf = by_item (slice_get
     before = state_at items m lawful
 
     by_item : (o : Option PlainItem) → slice_get items m ≡ o → (l : ℕ) × (suc m ≡ suc l) × IsLike is_opening items l
-    by_item None e = absurd (let long = ap length (none_behind items m e) in let none : ⊥ = omega (arith, length-drop m items) in none)
+    by_item None e = absurd (let long = ap length (none_after items m e) in let none : ⊥ = omega (arith, length-drop m items) in none)
     by_item (Some (Opening kind head marks pre origin generated)) e = (m, refl, (Opening kind head marks pre origin generated, e, refl))
     by_item (Some (Char c marks)) e =
         let next = next_state items m (Char c marks) e before in
@@ -257,16 +257,16 @@ goes dir items at to content far within branch = record { farther = far; within 
 char_ahead : (items : List PlainItem) (at to : ℕ) (by : By) → at ≤ length items → is_content items at ≡ true → boundary_at Ahead (cutting by) items at ≡ Some to → Goes Ahead items at to
 char_ahead items at to by within content h =
     let before = run_before items at in
-    let behind = run_from items at in
-    let m = mapped (at - length before) (first_above (length before) (boundaries (cutting by) (before ++ behind))) to h in
-    let fit = above_fits (cutting by) (before ++ behind) (length before) m.0 (cuts by (before ++ behind)) m.1 in
+    let suffix = run_from items at in
+    let m = mapped (at - length before) (first_above (length before) (boundaries (cutting by) (before ++ suffix))) to h in
+    let fit = above_fits (cutting by) (before ++ suffix) (length before) m.0 (cuts by (before ++ suffix)) m.1 in
     let low = fit.0 in
     let high = fit.1 in
     let short = length-run_before items at within in
     let sum = m.2 in
     let count = m.0 - length before in
     let e : at + count ≡ to = omega arith in
-    let room : count ≤ length behind = omega (arith, length-append before behind) in
+    let room : count ≤ length suffix = omega (arith, length-append before suffix) in
     let inside = run_within (drop at items) in
     let same : opens_at items (at + count) ≡ opens_at items at =
     opens_at-on items at count ∙ opens_after-chars (take count (drop at items)) (opens_at items at) (0 + length (take at items)) (run_is_chars count (drop at items) room) in
@@ -275,9 +275,9 @@ char_ahead items at to by within content h =
 char_back : (items : List PlainItem) (at to : ℕ) (by : By) → at ≤ length items → is_content items at ≡ true → boundary_at Back (cutting by) items at ≡ Some to → Goes Back items at to
 char_back items at to by within content h =
     let before = run_before items at in
-    let behind = run_from items at in
-    let m = mapped (at - length before) (last_below (length before) (boundaries (cutting by) (before ++ behind))) to h in
-    let low = below_fits (length before) m.0 (boundaries (cutting by) (before ++ behind)) m.1 in
+    let suffix = run_from items at in
+    let m = mapped (at - length before) (last_below (length before) (boundaries (cutting by) (before ++ suffix))) to h in
+    let low = below_fits (length before) m.0 (boundaries (cutting by) (before ++ suffix)) m.1 in
     let short = length-run_before items at within in
     let sum = m.2 in
     let count = length before - m.0 in
@@ -348,7 +348,7 @@ caret_stays_in_branch items at to Back by = back_stays items at to by
 content_goes_on : (items : List PlainItem) (at : ℕ) → Lawful items → is_content items at ≡ true → slice_get items at ≡ None → ⊥
 content_goes_on items at lawful content e =
     let a = state_at items at lawful in
-    let over : a.state ≡ finish = Ok-same {E = LawFault} a.state finish (ap (after a.state) (sym (none_behind items at e)) ∙ a.rest) in
+    let over : a.state ≡ finish = Ok-same {E = LawFault} a.state finish (ap (after a.state) (sym (none_after items at e)) ∙ a.rest) in
     let none : is_content_branch (top finish.stack) ≡ true = ap (λ (v : State). is_content_branch (top v.stack)) (sym over) ∙ content_at items at a.state a.reached content in
     absurd (let no : false ≡ true = none in cc)
 
@@ -359,11 +359,11 @@ ahead_stops items at by lawful content h = by_item (slice_get items at) refl h
     by_item None e h = absurd (content_goes_on items at lawful content e)
     by_item (Some (Char c marks)) e h =
         let before = run_before items at in
-        let behind = run_from items at in
-        let none = mapped_none (at - length before) (first_above (length before) (boundaries (cutting by) (before ++ behind))) h in
-        let some : behind ≡ c ∷ first_run (drop (suc at) items) = ap first_run (from_place items at (Char c marks) e) in
-        let long : length behind ≡ suc (length (first_run (drop (suc at) items))) = ap length some in
-        absurd (above_is (cutting by) (before ++ behind) (length before) (cuts by (before ++ behind)) (omega (arith, length-append before behind)) none)
+        let suffix = run_from items at in
+        let none = mapped_none (at - length before) (first_above (length before) (boundaries (cutting by) (before ++ suffix))) h in
+        let some : suffix ≡ c ∷ first_run (drop (suc at) items) = ap first_run (from_place items at (Char c marks) e) in
+        let long : length suffix ≡ suc (length (first_run (drop (suc at) items))) = ap length some in
+        absurd (above_is (cutting by) (before ++ suffix) (length before) (cuts by (before ++ suffix)) (omega (arith, length-append before suffix)) none)
     by_item (Some (Opening kind head marks pre origin generated)) e h = cc
     by_item (Some (Closing kind pre)) e h = refl
 
@@ -377,8 +377,8 @@ ahead_stays_put items at by h = by_item (slice_get items at) h
     by_item (Some (Closing kind pre)) h = refl
 
 -- a letter just before an offset begins the run before it
-run_behind : (items : List PlainItem) (m : ℕ) (x : PlainItem) → slice_get items m ≡ Some x → reverse (take (suc m) items) ≡ x ∷ reverse (take m items)
-run_behind items m x e =
+run_after : (items : List PlainItem) (m : ℕ) (x : PlainItem) → slice_get items m ≡ Some x → reverse (take (suc m) items) ≡ x ∷ reverse (take m items)
+run_after items m x e =
     let one_past : suc m ≡ m + 1 = omega arith in
     ap (λ k. reverse (take k items)) one_past ∙ ap reverse (take-add m 1 items ∙ ap (λ v. take m items ++ take 1 v) (from_place items m x e))
     ∙ reverse-append (take m items) (x ∷ [])
@@ -399,11 +399,11 @@ back_stops items (suc m) by lawful content h =
         no_more (x ∷ items) (suc m) e = no_more items m e
     by_item (Some (Char c marks)) e h =
         let before = run_before items (suc m) in
-        let behind = run_from items (suc m) in
-        let none = mapped_none (suc m - length before) (last_below (length before) (boundaries (cutting by) (before ++ behind))) h in
-        let some = ap (λ v. length (first_run v)) (run_behind items m (Char c marks) e) in
+        let suffix = run_from items (suc m) in
+        let none = mapped_none (suc m - length before) (last_below (length before) (boundaries (cutting by) (before ++ suffix))) h in
+        let some = ap (λ v. length (first_run v)) (run_after items m (Char c marks) e) in
         let long = length-reverse (first_run (reverse (take (suc m) items))) in
-        absurd (below_is (cutting by) (before ++ behind) (length before) (cuts by (before ++ behind)) (omega arith) none)
+        absurd (below_is (cutting by) (before ++ suffix) (length before) (cuts by (before ++ suffix)) (omega arith) none)
     by_item (Some (Opening kind head marks pre origin generated)) e h = refl
     by_item (Some (Closing kind pre)) e h = cc
 

@@ -24,7 +24,7 @@ use Rattle.model_edit_law.proofs.EditLemmas.{edited-two, filter-append}
 use Rattle.model_edit_law.proofs.BracketLemmas.{state_of, fits, fits-after, fits_parts, opened_fits, kinds_after, slice_get-split, HoldsSame-itself, Ends, Ends-after, Opened, Opened-after, Closes, closes, NodeParts, node_parts}
 use Rattle.model_edit_law.proofs.NodeLemmas.{whole_node, opened_state}
 use Rattle.model_edit.specs.declared.list_fault.ListFault.{ListFault}
-use Rattle.model_edit.specs.Lists.{list_ends, end_before, begin_behind, copy_at, is_list_item, outdent_from, outdent}
+use Rattle.model_edit.specs.Lists.{list_ends, end_before, begin_after, copy_at, is_list_item, outdent_from, outdent}
 use Rattle.model_edit_law.specs.ListLaws.{OutdentIsFine, is_text, OutdentKeepsText, OutdentStaysLawful}
 use Rattle.model_edit_law.specs.Fine.{Fine}
 use Rattle.model_edit_law.proofs.OrderLemmas.{Fine-edits}
@@ -94,7 +94,7 @@ module _ (items : List PlainItem) (at : ℕ) (lawful : Lawful items) (head : Hea
       whole_node u Li Li x n.closed.pre (drop (suc at) items) n.closed (HoldsSame-itself Li) (n.allowed.1 ∙ ap Ok o.2)
 
   -- what is put before the item
-  record Front : Type 0 where
+  record Prefix : Type 0 where
     pub kept : List PlainItem
     pub gone : List PlainItem
     pub new : List PlainItem
@@ -113,7 +113,7 @@ module _ (items : List PlainItem) (at : ℕ) (lawful : Lawful items) (head : Hea
     pub new : List PlainItem
     pub state : State
     pub parts : cx ∷ rest ≡ gone ++ kept
-    pub edit : begin_behind items (partner items at) list ≡ Change (at + suc (length inside)) (length gone) new
+    pub edit : begin_after items (partner items at) list ≡ Change (at + suc (length inside)) (length gone) new
     pub old_way : after (state_of (Li ∷ u.stack) u.seen) gone ≡ Ok state
     pub new_way : after (state_of (Li ∷ g) u.seen) new ≡ Ok state
     pub no_text : (only gone ≡ []) × (only new ≡ [])
@@ -134,8 +134,8 @@ module _ (items : List PlainItem) (at : ℕ) (lawful : Lawful items) (head : Hea
   silent_list = ap (λ b. cond b (closing_of k ∷ []) []) facts.2
 
   -- the item isn't the first of its list
-  front_else : (suc list.from == at) ≡ false → Front
-  front_else other = record {
+  prefix_else : (suc list.from == at) ≡ false → Prefix
+  prefix_else other = record {
     kept = done;
     gone = [];
     new = list_ends k;
@@ -150,8 +150,8 @@ module _ (items : List PlainItem) (at : ℕ) (lawful : Lawful items) (head : Hea
   }
 
   -- it is: the list's opening stands just before it
-  front_first : (suc list.from == at) ≡ true → Front
-  front_first same =
+  prefix_first : (suc list.from == at) ≡ true → Prefix
+  prefix_first same =
       let e : suc list.from ≡ at = eqb-true (suc list.from) at same in
       let l = place in
       let o = list_opening in
@@ -177,8 +177,8 @@ module _ (items : List PlainItem) (at : ℕ) (lawful : Lawful items) (head : Hea
         no_text = (ap (λ b. cond b (o ∷ []) []) facts.2, refl);
       }
 
-  front : Front
-  front = elim (cases_Bool (suc list.from == at)) [ inl same ↦ front_first same | inr other ↦ front_else other ]
+  prefix : Prefix
+  prefix = elim (cases_Bool (suc list.from == at)) [ inl same ↦ prefix_first same | inr other ↦ prefix_else other ]
 
   closing_place : partner items at ≡ at + suc (length inside)
   closing_place = n.its_partner
@@ -189,8 +189,8 @@ module _ (items : List PlainItem) (at : ℕ) (lawful : Lawful items) (head : Hea
   abbrev choice : ℕ → Bool → Edit
   choice closing b = if b then Change closing 2 [] else Change closing 1 (copy_at items list.from)
 
-  behind_edit : (b : Bool) → (partner items list.from == suc (partner items at)) ≡ b → begin_behind items (partner items at) list ≡ choice (at + suc (length inside)) b
-  behind_edit b e = ap (choice (partner items at)) e ∙ ap (λ c. choice c b) closing_place
+  after_edit : (b : Bool) → (partner items list.from == suc (partner items at)) ≡ b → begin_after items (partner items at) list ≡ choice (at + suc (length inside)) b
+  after_edit b e = ap (choice (partner items at)) e ∙ ap (λ c. choice c b) closing_place
 
   copied : copy_at items list.from ≡ copy_of list_opening ∷ []
   copied = copy_found items list.from list_opening list_in_items
@@ -208,7 +208,7 @@ module _ (items : List PlainItem) (at : ℕ) (lawful : Lawful items) (head : Hea
     new = copy_of list_opening ∷ [];
     state = u;
     parts = refl;
-    edit = behind_edit false other ∙ ap (λ v. Change (at + suc (length inside)) 1 v) copied;
+    edit = after_edit false other ∙ ap (λ v. Change (at + suc (length inside)) 1 v) copied;
     old_way = close_step Li n.closed.pre u.stack u.seen [] u refl;
     new_way = ap (λ r. joined 1 r (λ next. Ok next)) (opened_fits k (Li ∷ g) u.seen facts.1 fitting) ∙ ap Ok (sym same_state);
     no_text = (refl, ap (λ b. cond b (copy_of list_opening ∷ []) []) facts.2);
@@ -223,7 +223,7 @@ module _ (items : List PlainItem) (at : ℕ) (lawful : Lawful items) (head : Hea
       let same : p.0 ≡ u = Ok-same {E = LawFault} p.0 u (sym p.1 ∙ after_whole done (x ∷ (inside ++ cx ∷ [])) start u u n.reached item_kept) in
       closes rest [] (Li ∷ g) k p.0 (ap (λ (s : State). s.stack) same ∙ stacks) p.2
 
-  -- the list's closing stands just behind it
+  -- the list's closing stands just after it
   back_last : (partner items list.from == suc (partner items at)) ≡ true → Back
   back_last same =
       let e : partner items list.from ≡ suc (partner items at) = eqb-true _ _ same in
@@ -243,7 +243,7 @@ module _ (items : List PlainItem) (at : ℕ) (lawful : Lawful items) (head : Hea
         new = [];
         state = state_of (Li ∷ g) u.seen;
         parts = ap (λ v. cx ∷ v) parts_;
-        edit = behind_edit true same;
+        edit = after_edit true same;
         old_way = close_step Li n.closed.pre u.stack u.seen (ck ∷ []) (state_of (Li ∷ g) u.seen)
             (ap (λ s. after s (ck ∷ [])) same_state ∙ close_step k later.pre (Li ∷ g) u.seen [] (state_of (Li ∷ g) u.seen) refl);
         new_way = refl;
@@ -257,7 +257,7 @@ module _ (items : List PlainItem) (at : ℕ) (lawful : Lawful items) (head : Hea
   back : Back
   back = elim (cases_Bool (partner items list.from == suc (partner items at))) [ inl same ↦ back_last same | inr other ↦ back_else other ]
 
-  module _ (f : Front) (b : Back) where
+  module _ (f : Prefix) (b : Back) where
     abbrev new_list : List PlainItem
     new_list = f.kept ++ (f.new ++ ((x ∷ inside) ++ (b.new ++ b.kept)))
 
@@ -266,23 +266,23 @@ module _ (items : List PlainItem) (at : ℕ) (lawful : Lawful items) (head : Hea
         whole ∙ ap (λ v. v ++ (x ∷ (inside ++ (cx ∷ rest)))) f.parts ∙ append_assoc f.kept f.gone (x ∷ (inside ++ (cx ∷ rest)))
         ∙ ap (λ v. f.kept ++ (f.gone ++ (x ∷ (inside ++ v)))) b.parts
 
-    gives : (edited (transaction_of items (end_before at list ∷ begin_behind items (partner items at) list ∷ [])) items ≡ new_list)
-        × Fine items (transaction_of items (end_before at list ∷ begin_behind items (partner items at) list ∷ []))
+    gives : (edited (transaction_of items (end_before at list ∷ begin_after items (partner items at) list ∷ [])) items ≡ new_list)
+        × Fine items (transaction_of items (end_before at list ∷ begin_after items (partner items at) list ∷ []))
     gives =
         let l : at ≡ length f.kept + length f.gone = sym place ∙ ap length f.parts ∙ length-append f.kept f.gone in
         let two = edited-two f.kept f.gone (x ∷ inside) b.gone b.kept f.new b.new items (length f.kept) (length f.gone) (at + suc (length inside)) (length b.gone)
         five refl refl (omega arith) refl in
-        let edits : end_before at list ∷ begin_behind items (partner items at) list ∷ []
+        let edits : end_before at list ∷ begin_after items (partner items at) list ∷ []
         ≡ Change (length f.kept) (length f.gone) f.new ∷ Change (at + suc (length inside)) (length b.gone) b.new ∷ [] =
-        ap (λ v. v ∷ begin_behind items (partner items at) list ∷ []) f.edit ∙ ap (λ v. Change (length f.kept) (length f.gone) f.new ∷ v ∷ []) b.edit in
+        ap (λ v. v ∷ begin_after items (partner items at) list ∷ []) f.edit ∙ ap (λ v. Change (length f.kept) (length f.gone) f.new ∷ v ∷ []) b.edit in
         (ap (λ v. edited (transaction_of items v) items) edits ∙ two.0, subst (λ v. Fine items (transaction_of items v)) (sym edits) (Fine-edits items (Change (length f.kept) (length f.gone) f.new ∷ Change (at + suc (length inside)) (length b.gone) b.new ∷ []) two.1 tt))
 
     stays_lawful : Lawful new_list
     stays_lawful =
         let old = f.gone ++ ((x ∷ inside) ++ b.gone) in
         let new = f.new ++ ((x ∷ inside) ++ b.new) in
-        let regroup : (front middle_ behind_ : List PlainItem) → front ++ ((x ∷ inside) ++ (middle_ ++ behind_)) ≡ (front ++ ((x ∷ inside) ++ middle_)) ++ behind_ =
-        λ front middle_ behind_. ap (λ v. front ++ v) (sym (append_assoc (x ∷ inside) middle_ behind_)) ∙ sym (append_assoc front ((x ∷ inside) ++ middle_) behind_) in
+        let regroup : (prefix middle_ after_ : List PlainItem) → prefix ++ ((x ∷ inside) ++ (middle_ ++ after_)) ≡ (prefix ++ ((x ∷ inside) ++ middle_)) ++ after_ =
+        λ prefix middle_ after_. ap (λ v. prefix ++ v) (sym (append_assoc (x ∷ inside) middle_ after_)) ∙ sym (append_assoc prefix ((x ∷ inside) ++ middle_) after_) in
         let o = opened_state u n.allowed.0 Li refl n.allowed.1 in
         let opens_old : opened u Li ≡ Ok (state_of (Li ∷ u.stack) u.seen) = n.allowed.1 ∙ ap Ok o.2 in
         let in_old : after u ((x ∷ inside) ++ b.gone) ≡ Ok b.state =
@@ -303,15 +303,15 @@ module _ (items : List PlainItem) (at : ℕ) (lawful : Lawful items) (head : Hea
         (piece_fits f.kept old b.kept new f.state b.state
         (subst Lawful (five ∙ ap (λ v. f.kept ++ v) (regroup f.gone b.gone b.kept)) lawful) f.reached all_old all_new)
 
-    only_five : (front behind_ : List PlainItem) → only front ≡ [] → only behind_ ≡ [] →
-        only (f.kept ++ (front ++ ((x ∷ inside) ++ (behind_ ++ b.kept)))) ≡ only f.kept ++ (only (x ∷ inside) ++ only b.kept)
-    only_five front behind_ p q =
-        filter-append is_text f.kept (front ++ ((x ∷ inside) ++ (behind_ ++ b.kept)))
+    only_five : (prefix after_ : List PlainItem) → only prefix ≡ [] → only after_ ≡ [] →
+        only (f.kept ++ (prefix ++ ((x ∷ inside) ++ (after_ ++ b.kept)))) ≡ only f.kept ++ (only (x ∷ inside) ++ only b.kept)
+    only_five prefix after_ p q =
+        filter-append is_text f.kept (prefix ++ ((x ∷ inside) ++ (after_ ++ b.kept)))
         ∙ ap (λ v. only f.kept ++ v)
-        (filter-append is_text front ((x ∷ inside) ++ (behind_ ++ b.kept))
-        ∙ ap (λ v. v ++ only ((x ∷ inside) ++ (behind_ ++ b.kept))) p
-        ∙ filter-append is_text (x ∷ inside) (behind_ ++ b.kept)
-        ∙ ap (λ v. only (x ∷ inside) ++ v) (filter-append is_text behind_ b.kept ∙ ap (λ v. v ++ only b.kept) q))
+        (filter-append is_text prefix ((x ∷ inside) ++ (after_ ++ b.kept))
+        ∙ ap (λ v. v ++ only ((x ∷ inside) ++ (after_ ++ b.kept))) p
+        ∙ filter-append is_text (x ∷ inside) (after_ ++ b.kept)
+        ∙ ap (λ v. only (x ∷ inside) ++ v) (filter-append is_text after_ b.kept ∙ ap (λ v. v ++ only b.kept) q))
 
     keeps_text : only new_list ≡ only items
     keeps_text = only_five f.new b.new f.no_text.1 b.no_text.1 ∙ sym (only_five f.gone b.gone f.no_text.0 b.no_text.0) ∙ ap only (sym five)
@@ -323,7 +323,7 @@ record Nested (items : List PlainItem) (at : ℕ) (nodes : List Open) (t : Trans
   pub others : List Open
   pub opens : nodes ≡ list ∷ outer ∷ others
   pub nested : outer.kind ≡ Li
-  pub made : transaction_of items (end_before at list ∷ begin_behind items (partner items at) list ∷ []) ≡ t
+  pub made : transaction_of items (end_before at list ∷ begin_after items (partner items at) list ∷ []) ≡ t
 
 nested_in : (items : List PlainItem) (at : ℕ) (nodes : List Open) (t : Transaction) → outdent_from items at nodes ≡ Ok t → Nested items at nodes t
 nested_in items at [] t h = cc
@@ -339,7 +339,7 @@ outdent_keeps items at t lawful h =
     let o = opening_shape Li (slice_get items at) p.0 in
     let m = nested_in items at (opens_at items at) t p.1 in
     let n = node_parts items at Li o.0 o.1 o.2 o.3 o.4 lawful o.5 in
-    let f = front items at lawful o.0 o.1 o.2 o.3 o.4 o.5 n m.list m.outer m.others m.opens m.nested in
+    let f = prefix items at lawful o.0 o.1 o.2 o.3 o.4 o.5 n m.list m.outer m.others m.opens m.nested in
     let b = back items at lawful o.0 o.1 o.2 o.3 o.4 o.5 n m.list m.outer m.others m.opens m.nested in
     let g = gives items at lawful o.0 o.1 o.2 o.3 o.4 o.5 n m.list m.outer m.others m.opens m.nested f b in
     let e = ap (λ v. edited v items) (sym m.made) ∙ g.0 in (

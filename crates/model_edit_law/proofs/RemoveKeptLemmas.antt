@@ -179,16 +179,16 @@ through_none (Closing kind pre ∷ items) (suc m) at d rest c e =
 
 -- the first that stays, and what is on both sides of it
 pub record FirstStay (at : ℕ) (items : List PlainItem) (a : Stay) (later : List Stay) : Type 0 where
-  pub front : List PlainItem
-  pub behind : List PlainItem
-  pub whole : items ≡ front ++ a.item ∷ behind
-  pub stands : a.place ≡ at + length front
-  pub next : stays 0 (a.place + 1) behind ≡ later
+  pub prefix : List PlainItem
+  pub suffix : List PlainItem
+  pub whole : items ≡ prefix ++ a.item ∷ suffix
+  pub stands : a.place ≡ at + length prefix
+  pub next : stays 0 (a.place + 1) suffix ≡ later
 
 FirstStay-more : (at : ℕ) (x : PlainItem) (items : List PlainItem) (a : Stay) (later : List Stay) → FirstStay (at + 1) items a later → FirstStay at (x ∷ items) a later
 FirstStay-more at x items a later r = record {
-  front = x ∷ r.front;
-  behind = r.behind;
+  prefix = x ∷ r.prefix;
+  suffix = r.suffix;
   whole = ap (λ v. x ∷ v) r.whole;
   stands = (let e = r.stands in omega arith);
   next = r.next;
@@ -200,7 +200,7 @@ FirstStay-here at x items a later e =
     let first : record { place = at; item = x } ≡ a = cc in
     let rest : stays 0 (at + 1) items ≡ later = cc in
     subst (λ v. FirstStay at (x ∷ items) v later) first
-    (record { front = []; behind = items; whole = refl; stands = omega arith; next = rest })
+    (record { prefix = []; suffix = items; whole = refl; stands = omega arith; next = rest })
 
 pub first_stay : (items : List PlainItem) (m at : ℕ) (a : Stay) (later : List Stay) → all_close m items ≡ true → stays m at items ≡ a ∷ later → FirstStay at items a later
 first_stay [] m at a later c e = cc

@@ -39,12 +39,12 @@ skip_one (Change place count inserted ∷ edits) at end x items h =
     ap (λ n. take n (x ∷ items) ++ (inserted ++ substituted_from (place + count) (drop count (drop n (x ∷ items))) edits)) e
 skip_one (Set place name to ∷ edits) at end x items h = absurd h
 
-skip_all : (front : List PlainItem) (edits : List Edit) (at here end : ℕ) (items : List PlainItem) → here ≡ at + length front → Rising here end edits →
-    substituted_from at (front ++ items) edits ≡ front ++ substituted_from here items edits
+skip_all : (prefix : List PlainItem) (edits : List Edit) (at here end : ℕ) (items : List PlainItem) → here ≡ at + length prefix → Rising here end edits →
+    substituted_from at (prefix ++ items) edits ≡ prefix ++ substituted_from here items edits
 skip_all [] edits at here end items e h = let z : at ≡ here = omega arith in ap (λ n. substituted_from n items edits) z
-skip_all (x ∷ front) edits at here end items e h =
-    skip_one edits at end x (front ++ items) (Rising-within here (at + 1) end end edits (omega arith) (omega arith) h)
-    ∙ ap (λ v. x ∷ v) (skip_all front edits (at + 1) here end items (omega arith) h)
+skip_all (x ∷ prefix) edits at here end items e h =
+    skip_one edits at end x (prefix ++ items) (Rising-within here (at + 1) end end edits (omega arith) (omega arith) h)
+    ∙ ap (λ v. x ∷ v) (skip_all prefix edits (at + 1) here end items (omega arith) h)
 
 -- what is not removed one by one
 picked_stays : (u : ℕ → Bool) (items rest : List PlainItem) (at : ℕ) →
@@ -91,26 +91,26 @@ Outer-Before whole y rest from to c (n ∷ nodes) b = (inl b.0, Outer-Before who
 
 -- a lawful list in three parts, of which the second is a range that may be removed
 record Parts (items : List PlainItem) (from to : ℕ) : Type 0 where
-  pub front : List PlainItem
+  pub prefix : List PlainItem
   pub range : List PlainItem
   pub next : PlainItem
-  pub behind : List PlainItem
-  pub whole : items ≡ front ++ (range ++ next ∷ behind)
-  pub begins : from ≡ length front
+  pub suffix : List PlainItem
+  pub whole : items ≡ prefix ++ (range ++ next ∷ suffix)
+  pub begins : from ≡ length prefix
   pub ends : to ≡ from + length range
   pub free : list_any is_internal_bracket range ≡ false
   pub before : State
   pub later : State
-  pub reached : after start front ≡ Ok before
+  pub reached : after start prefix ≡ Ok before
   pub through : after before range ≡ Ok later
-  pub last : after later (next ∷ behind) ≡ Ok finish
+  pub last : after later (next ∷ suffix) ≡ Ok finish
 
 parts_of : (items : List PlainItem) (from to : ℕ) → Lawful items → from < to → to ≤ length items → list_any is_internal_bracket (take (to - from) (drop from items)) ≡ false → Parts items from to
 parts_of items from to lawful low high free =
     split (drop (to - from) (drop from items)) refl
   where
-    length_front : length (take from items) ≡ from
-    length_front = length-take-le from items (omega arith)
+    length_prefix : length (take from items) ≡ from
+    length_prefix = length-take-le from items (omega arith)
 
     length_range : length (take (to - from) (drop from items)) ≡ to - from
     length_range = length-take-le (to - from) (drop from items) (omega (arith, length-drop from items))
@@ -119,28 +119,28 @@ parts_of items from to lawful low high free =
     none s [] h g r f = absurd (omega arith)
     none s (x ∷ range) h g r f = last_internal x range s (fits-after (take from items) start s g refl) f r
 
-    split : (behind : List PlainItem) → drop (to - from) (drop from items) ≡ behind → Parts items from to
-    split behind e =
-        let front = take from items in
+    split : (suffix : List PlainItem) → drop (to - from) (drop from items) ≡ suffix → Parts items from to
+    split suffix e =
+        let prefix = take from items in
         let range = take (to - from) (drop from items) in
-        let w : items ≡ front ++ (range ++ behind) =
-        sym (take-append-drop from items) ∙ ap (λ v. front ++ v) (sym (take-append-drop (to - from) (drop from items)) ∙ ap (λ v. range ++ v) e) in
-        let p = after_parts front (range ++ behind) start finish (ap (after start) (sym w) ∙ after_from_Lawful items lawful) in
-        let q = after_parts range behind p.0 finish p.2 in
-        by behind w p.0 q.0 p.1 q.1 q.2
+        let w : items ≡ prefix ++ (range ++ suffix) =
+        sym (take-append-drop from items) ∙ ap (λ v. prefix ++ v) (sym (take-append-drop (to - from) (drop from items)) ∙ ap (λ v. range ++ v) e) in
+        let p = after_parts prefix (range ++ suffix) start finish (ap (after start) (sym w) ∙ after_from_Lawful items lawful) in
+        let q = after_parts range suffix p.0 finish p.2 in
+        by suffix w p.0 q.0 p.1 q.1 q.2
       where
-        by : (behind : List PlainItem) → items ≡ take from items ++ (take (to - from) (drop from items) ++ behind) → (s t : State) → after start (take from items) ≡ Ok s →
-            after s (take (to - from) (drop from items)) ≡ Ok t → after t behind ≡ Ok finish → Parts items from to
+        by : (suffix : List PlainItem) → items ≡ take from items ++ (take (to - from) (drop from items) ++ suffix) → (s t : State) → after start (take from items) ≡ Ok s →
+            after s (take (to - from) (drop from items)) ≡ Ok t → after t suffix ≡ Ok finish → Parts items from to
         by [] w s t g r l =
             absurd (none s (take (to - from) (drop from items)) (let e = length_range in omega arith) g (r ∙ l) free)
-        by (y ∷ behind) w s t g r l =
+        by (y ∷ suffix) w s t g r l =
             record {
-              front = take from items;
+              prefix = take from items;
               range = take (to - from) (drop from items);
               next = y;
-              behind = behind;
+              suffix = suffix;
               whole = w;
-              begins = sym length_front;
+              begins = sym length_prefix;
               ends = (let e = length_range in omega arith);
               free = free;
               before = s;
@@ -153,7 +153,7 @@ parts_of items from to lawful low high free =
 -- the walk over the whole range
 range_walk : (items : List PlainItem) (from to : ℕ) (p : Parts items from to) → Both (is_unmatched items from to) from p.range (stays 0 from p.range)
 range_walk items from to p =
-    walk items p.next p.behind from to p.range p.front from [] (opens_after [] 0 p.front) p.before p.later
+    walk items p.next p.suffix from to p.range p.prefix from [] (opens_after [] 0 p.prefix) p.before p.later
     (record {
       parts = p.whole;
       here = p.begins;
@@ -161,8 +161,8 @@ range_walk items from to p =
       low = omega arith;
       opens = refl;
       range = tt;
-      others = Outer-Before items p.next p.behind from to _ (opens_after [] 0 p.front) (Before-after p.front [] 0 from (p.begins ∙ sym (zero-add (length p.front))) tt);
-      kinds = kinds_after p.front 0 [] start p.before p.reached refl;
+      others = Outer-Before items p.next p.suffix from to _ (opens_after [] 0 p.prefix) (Before-after p.prefix [] 0 from (p.begins ∙ sym (zero-add (length p.prefix))) tt);
+      kinds = kinds_after p.prefix 0 [] start p.before p.reached refl;
       leads = p.through;
     })
     refl
@@ -170,7 +170,7 @@ range_walk items from to p =
 stay_leads : (items : List PlainItem) (from to : ℕ) (p : Parts items from to) → after p.before (map item_of (stays 0 from p.range)) ≡ Ok p.later
 stay_leads items from to p = stays_lead p.range from [] (p.before).stack (p.before).seen p.later refl p.free p.through
 
-parts_lawful : (items : List PlainItem) (from to : ℕ) (p : Parts items from to) → Lawful items → Lawful (p.front ++ (p.range ++ p.next ∷ p.behind))
+parts_lawful : (items : List PlainItem) (from to : ℕ) (p : Parts items from to) → Lawful items → Lawful (p.prefix ++ (p.range ++ p.next ∷ p.suffix))
 parts_lawful items from to p lawful = subst Lawful p.whole lawful
 
 -- the matched items go one by one
@@ -178,7 +178,7 @@ matched_lawful : (items : List PlainItem) (from to : ℕ) (p : Parts items from 
     Lawful (edited (transaction_of items (removal_edits items from to None)) items)
 matched_lawful items from to p lawful =
     let u = is_unmatched items from to in
-    let Z = p.next ∷ p.behind in
+    let Z = p.next ∷ p.suffix in
     let kept = map item_of (stays 0 from p.range) in
     let f : ℕ → Bool = λ at. not (u at) in
     let edits : List Edit = map (λ at. Change at 1 []) (filter f (range_with_len from (to - from))) in
@@ -187,18 +187,18 @@ matched_lawful items from to p lawful =
     let begins = p.begins in
     let count : to - from ≡ length p.range = omega arith in
     let same : edits ≡ edits' = ap (λ (n : ℕ). map (λ at. Change at 1 []) (filter f (range_with_len from n))) count in
-    let lengths : length items ≡ length p.front + (length p.range + suc (length p.behind)) =
-    ap length p.whole ∙ omega (arith, length-append p.front (p.range ++ Z), length-append p.range Z) in
+    let lengths : length items ≡ length p.prefix + (length p.range + suc (length p.suffix)) =
+    ap length p.whole ∙ omega (arith, length-append p.prefix (p.range ++ Z), length-append p.range Z) in
     let rise' : Rising from (from + length p.range) edits' = Rising-filter f from (length p.range) in
     let rise : Rising 0 (0 + length items) edits' = Rising-within from 0 (from + length p.range) (0 + length items) edits' (omega arith) (omega arith) rise' in
-    let gives : edited (transaction_of items edits) items ≡ p.front ++ (kept ++ Z) =
+    let gives : edited (transaction_of items edits) items ≡ p.prefix ++ (kept ++ Z) =
     ap (λ v. edited (transaction_of items v) items) same
     ∙ edited-transaction_from 0 items edits' (InOrder-Rising 0 (0 + length items) edits' rise)
     ∙ ap (λ v. substituted_from 0 v edits') p.whole
-    ∙ skip_all p.front edits' 0 from (from + length p.range) (p.range ++ Z) (omega arith) rise'
-    ∙ ap (λ v. p.front ++ v) (picked_stays u p.range Z from ∙ ap (λ v. v ++ Z) (range_walk items from to p).1) in
+    ∙ skip_all p.prefix edits' 0 from (from + length p.range) (p.range ++ Z) (omega arith) rise'
+    ∙ ap (λ v. p.prefix ++ v) (picked_stays u p.range Z from ∙ ap (λ v. v ++ Z) (range_walk items from to p).1) in
     subst Lawful (sym gives)
-    (piece_fits p.front p.range Z kept p.before p.later (parts_lawful items from to p lawful) p.reached p.through (stay_leads items from to p))
+    (piece_fits p.prefix p.range Z kept p.before p.later (parts_lawful items from to p lawful) p.reached p.through (stay_leads items from to p))
 
 -- what a join tells
 record Joining (first second : Option PlainItem) (closing : ℕ) (j : Join) : Type 0 where
@@ -247,7 +247,7 @@ record Meeting (items : List PlainItem) (from to : ℕ) (p : Parts items from to
   pub later : p.later ≡ state_of (j.second ∷ base) (p.before).seen
   pub content : is_content_branch j.first ≡ true
   pub content' : is_content_branch j.second ≡ true
-  pub closed : Closes [] base j.second (p.next ∷ p.behind)
+  pub closed : Closes [] base j.second (p.next ∷ p.suffix)
   pub ends : j.second_closing ≡ to + length closed.inside
 
 meeting : (items : List PlainItem) (from to : ℕ) (p : Parts items from to) (j : Join) (all : List Stay) → stays 0 from p.range ≡ all → join_at items (map place_of all) ≡ Some j →
@@ -256,25 +256,25 @@ meeting items from to p j [] e h = cc
 meeting items from to p j (a ∷ []) e h = cc
 meeting items from to p j (a ∷ b ∷ c ∷ all) e h = cc
 meeting items from to p j (a ∷ b ∷ []) e h =
-    let Z = p.next ∷ p.behind in
+    let Z = p.next ∷ p.suffix in
     let r = joining (slice_get items a.place) (slice_get items b.place) (partner items b.place) j h in
     let f = first_stay p.range 0 from a (b ∷ []) refl e in
-    let g = first_stay f.behind 0 (a.place + 1) b [] refl f.next in
+    let g = first_stay f.suffix 0 (a.place + 1) b [] refl f.next in
     let begins = p.begins in
     let af = f.stands in
     let bg = g.stands in
     -- the list, cut before each of the two
-    let cut1 : items ≡ (p.front ++ f.front) ++ a.item ∷ (f.behind ++ Z) =
-    p.whole ∙ ap (λ v. p.front ++ (v ++ Z)) f.whole ∙ ap (λ v. p.front ++ v) (append_assoc f.front (a.item ∷ f.behind) Z)
-    ∙ sym (append_assoc p.front f.front (a.item ∷ (f.behind ++ Z))) in
-    let front2 = (p.front ++ f.front) ++ a.item ∷ g.front in
-    let cut2 : items ≡ front2 ++ b.item ∷ (g.behind ++ Z) =
-    cut1 ∙ ap (λ v. (p.front ++ f.front) ++ a.item ∷ v) (ap (λ v. v ++ Z) g.whole ∙ append_assoc g.front (b.item ∷ g.behind) Z)
-    ∙ sym (append_assoc (p.front ++ f.front) (a.item ∷ g.front) (b.item ∷ (g.behind ++ Z))) in
-    let l1 : a.place ≡ length (p.front ++ f.front) = omega (arith, length-append p.front f.front) in
-    let l2 : b.place ≡ length front2 = omega (arith, length-append (p.front ++ f.front) (a.item ∷ g.front), length-append p.front f.front) in
-    let at1 : slice_get items a.place ≡ Some a.item = (λ i. slice_get (cut1 i) (l1 i)) ∙ slice_get-at (p.front ++ f.front) a.item (f.behind ++ Z) in
-    let at2 : slice_get items b.place ≡ Some b.item = (λ i. slice_get (cut2 i) (l2 i)) ∙ slice_get-at front2 b.item (g.behind ++ Z) in
+    let cut1 : items ≡ (p.prefix ++ f.prefix) ++ a.item ∷ (f.suffix ++ Z) =
+    p.whole ∙ ap (λ v. p.prefix ++ (v ++ Z)) f.whole ∙ ap (λ v. p.prefix ++ v) (append_assoc f.prefix (a.item ∷ f.suffix) Z)
+    ∙ sym (append_assoc p.prefix f.prefix (a.item ∷ (f.suffix ++ Z))) in
+    let prefix2 = (p.prefix ++ f.prefix) ++ a.item ∷ g.prefix in
+    let cut2 : items ≡ prefix2 ++ b.item ∷ (g.suffix ++ Z) =
+    cut1 ∙ ap (λ v. (p.prefix ++ f.prefix) ++ a.item ∷ v) (ap (λ v. v ++ Z) g.whole ∙ append_assoc g.prefix (b.item ∷ g.suffix) Z)
+    ∙ sym (append_assoc (p.prefix ++ f.prefix) (a.item ∷ g.prefix) (b.item ∷ (g.suffix ++ Z))) in
+    let l1 : a.place ≡ length (p.prefix ++ f.prefix) = omega (arith, length-append p.prefix f.prefix) in
+    let l2 : b.place ≡ length prefix2 = omega (arith, length-append (p.prefix ++ f.prefix) (a.item ∷ g.prefix), length-append p.prefix f.prefix) in
+    let at1 : slice_get items a.place ≡ Some a.item = (λ i. slice_get (cut1 i) (l1 i)) ∙ slice_get-at (p.prefix ++ f.prefix) a.item (f.suffix ++ Z) in
+    let at2 : slice_get items b.place ≡ Some b.item = (λ i. slice_get (cut2 i) (l2 i)) ∙ slice_get-at prefix2 b.item (g.suffix ++ Z) in
     let ia : a.item ≡ Closing j.first r.pre = some_item (sym at1 ∙ r.ends) in
     let x = Opening j.second r.head r.marks r.pre' r.origin r.generated in
     let ib : b.item ≡ x = some_item (sym at2 ∙ r.begins) in
@@ -289,14 +289,14 @@ meeting items from to p j (a ∷ b ∷ []) e h =
     sym (Ok-same {E = LawFault} v.0 p.later v.2) ∙ os.2 ∙ ap (state_of (j.second ∷ (u.0).stack)) (sym cb.1) in
     let c = closes Z [] (u.0).stack j.second p.later (ap (λ (s : State). s.stack) lat) p.last in
     -- where the second branch ends
-    let n1 = partner-opening front2 j.second r.head r.marks r.pre' r.origin r.generated (g.behind ++ Z) in
-    let n2 : partner items b.place ≡ length front2 + length_to_close 0 (g.behind ++ Z) =
-    (λ i. partner ((cut2 ∙ ap (λ y. front2 ++ y ∷ (g.behind ++ Z)) ib) i) (l2 i)) ∙ n1 in
-    let n3 = through_none g.behind 0 (b.place + 1) 0 Z refl g.next in
+    let n1 = partner-opening prefix2 j.second r.head r.marks r.pre' r.origin r.generated (g.suffix ++ Z) in
+    let n2 : partner items b.place ≡ length prefix2 + length_to_close 0 (g.suffix ++ Z) =
+    (λ i. partner ((cut2 ∙ ap (λ y. prefix2 ++ y ∷ (g.suffix ++ Z)) ib) i) (l2 i)) ∙ n1 in
+    let n3 = through_none g.suffix 0 (b.place + 1) 0 Z refl g.next in
     let n4 : length_to_close 0 Z ≡ suc (length c.inside) = ap (length_to_close 0) c.whole ∙ c.ends c.rest in
-    let n5 : length_to_close (0 + 0) (g.behind ++ Z) ≡ length_to_close 0 (g.behind ++ Z) = refl in
-    let n6 : length p.range ≡ length f.front + suc (length g.front + suc (length g.behind)) =
-    ap length f.whole ∙ length-append f.front (a.item ∷ f.behind) ∙ ap (λ y. length f.front + suc y) (ap length g.whole ∙ length-append g.front (b.item ∷ g.behind)) in
+    let n5 : length_to_close (0 + 0) (g.suffix ++ Z) ≡ length_to_close 0 (g.suffix ++ Z) = refl in
+    let n6 : length p.range ≡ length f.prefix + suc (length g.prefix + suc (length g.suffix)) =
+    ap length f.whole ∙ length-append f.prefix (a.item ∷ f.suffix) ∙ ap (λ y. length f.prefix + suc y) (ap length g.whole ∙ length-append g.prefix (b.item ∷ g.suffix)) in
     let n7 = p.ends in
     let n8 = r.at in
     record {
@@ -313,35 +313,35 @@ meeting items from to p j (a ∷ b ∷ []) e h =
 joined_alike : (items : List PlainItem) (from to : ℕ) (p : Parts items from to) (j : Join) → Lawful items → Meeting items from to p j → j.first ≡ j.second →
     Lawful (edited (transaction_of items (Change from (to - from) [] ∷ [])) items)
 joined_alike items from to p j lawful m same =
-    let Z = p.next ∷ p.behind in
+    let Z = p.next ∷ p.suffix in
     let ends = p.ends in
     let begins = p.begins in
-    let lengths : length items ≡ length p.front + (length p.range + suc (length p.behind)) =
-    ap length p.whole ∙ omega (arith, length-append p.front (p.range ++ Z), length-append p.range Z) in
-    let skip : from - 0 ≡ length p.front = omega arith in
+    let lengths : length items ≡ length p.prefix + (length p.range + suc (length p.suffix)) =
+    ap length p.whole ∙ omega (arith, length-append p.prefix (p.range ++ Z), length-append p.range Z) in
+    let skip : from - 0 ≡ length p.prefix = omega arith in
     let count : to - from ≡ length p.range = omega arith in
-    let rest : drop (from - 0) items ≡ p.range ++ Z = (λ i. drop (skip i) (p.whole i)) ∙ drop-whole p.front (p.range ++ Z) in
-    let left : take (from - 0) items ≡ p.front = (λ i. take (skip i) (p.whole i)) ∙ take-whole p.front (p.range ++ Z) in
+    let rest : drop (from - 0) items ≡ p.range ++ Z = (λ i. drop (skip i) (p.whole i)) ∙ drop-whole p.prefix (p.range ++ Z) in
+    let left : take (from - 0) items ≡ p.prefix = (λ i. take (skip i) (p.whole i)) ∙ take-whole p.prefix (p.range ++ Z) in
     let right : drop (to - from) (drop (from - 0) items) ≡ Z = (λ i. drop (count i) (rest i)) ∙ drop-whole p.range Z in
-    let gives : edited (transaction_of items (Change from (to - from) [] ∷ [])) items ≡ p.front ++ Z =
+    let gives : edited (transaction_of items (Change from (to - from) [] ∷ [])) items ≡ p.prefix ++ Z =
     edited-transaction_from 0 items (Change from (to - from) [] ∷ []) (omega arith, omega arith) ∙ (λ i. left i ++ ([] ++ right i)) in
     let states : p.before ≡ p.later = m.before ∙ ap (λ k. state_of (k ∷ m.base) (p.before).seen) same ∙ sym m.later in
     subst Lawful (sym gives)
-    (piece_fits p.front p.range Z [] p.before p.later (parts_lawful items from to p lawful) p.reached p.through (ap Ok states))
+    (piece_fits p.prefix p.range Z [] p.before p.later (parts_lawful items from to p lawful) p.reached p.through (ap Ok states))
 
 -- and its end gets the kind of the first
 joined_changed : (items : List PlainItem) (from to : ℕ) (p : Parts items from to) (j : Join) → Lawful items → Meeting items from to p j →
     Lawful (edited (transaction_of items (Change from (to - from) [] ∷ Change j.second_closing 1 (closing_of j.first ∷ []) ∷ [])) items)
 joined_changed items from to p j lawful m =
-    let Z = p.next ∷ p.behind in
+    let Z = p.next ∷ p.suffix in
     let c = m.closed in
     let old = Closing j.second c.pre in
     let new = closing_of j.first in
     let ends = p.ends in
     let begins = p.begins in
     let place = m.ends in
-    let five : items ≡ p.front ++ (p.range ++ (c.inside ++ ((old ∷ []) ++ c.rest))) = p.whole ∙ ap (λ v. p.front ++ (p.range ++ v)) c.whole in
-    let two = edited-two p.front p.range c.inside (old ∷ []) c.rest [] (new ∷ []) items from (to - from) j.second_closing 1 five begins (omega arith) (omega arith) refl in
+    let five : items ≡ p.prefix ++ (p.range ++ (c.inside ++ ((old ∷ []) ++ c.rest))) = p.whole ∙ ap (λ v. p.prefix ++ (p.range ++ v)) c.whole in
+    let two = edited-two p.prefix p.range c.inside (old ∷ []) c.rest [] (new ∷ []) items from (to - from) j.second_closing 1 five begins (omega arith) (omega arith) refl in
     let seen = (p.before).seen in
     let a = state_of (j.first ∷ m.base) seen in
     let b = state_of (j.second ∷ m.base) seen in
@@ -353,12 +353,12 @@ joined_changed items from to p j lawful m =
     let old_end : after p.later (c.inside ++ old ∷ []) ≡ Ok u = after_whole c.inside (old ∷ []) p.later b u old_inside (closes_with j.second c.pre) in
     let new_end : after p.before (c.inside ++ new ∷ []) ≡ Ok u = after_whole c.inside (new ∷ []) p.before a u new_inside (closes_with j.first []) in
     let old_all : after p.before (p.range ++ (c.inside ++ old ∷ [])) ≡ Ok u = after_whole p.range (c.inside ++ old ∷ []) p.before p.later u p.through old_end in
-    let was : items ≡ p.front ++ ((p.range ++ (c.inside ++ old ∷ [])) ++ c.rest) =
-    five ∙ ap (λ v. p.front ++ v) (ap (λ v. p.range ++ v) (sym (append_assoc c.inside (old ∷ []) c.rest)) ∙ sym (append_assoc p.range (c.inside ++ old ∷ []) c.rest)) in
-    let gives : edited (transaction_of items (Change from (to - from) [] ∷ Change j.second_closing 1 (new ∷ []) ∷ [])) items ≡ p.front ++ ((c.inside ++ new ∷ []) ++ c.rest) =
-    two.0 ∙ ap (λ v. p.front ++ v) (sym (append_assoc c.inside (new ∷ []) c.rest)) in
+    let was : items ≡ p.prefix ++ ((p.range ++ (c.inside ++ old ∷ [])) ++ c.rest) =
+    five ∙ ap (λ v. p.prefix ++ v) (ap (λ v. p.range ++ v) (sym (append_assoc c.inside (old ∷ []) c.rest)) ∙ sym (append_assoc p.range (c.inside ++ old ∷ []) c.rest)) in
+    let gives : edited (transaction_of items (Change from (to - from) [] ∷ Change j.second_closing 1 (new ∷ []) ∷ [])) items ≡ p.prefix ++ ((c.inside ++ new ∷ []) ++ c.rest) =
+    two.0 ∙ ap (λ v. p.prefix ++ v) (sym (append_assoc c.inside (new ∷ []) c.rest)) in
     subst Lawful (sym gives)
-    (piece_fits p.front (p.range ++ (c.inside ++ old ∷ [])) c.rest (c.inside ++ new ∷ []) p.before u (subst Lawful was lawful) p.reached old_all new_end)
+    (piece_fits p.prefix (p.range ++ (c.inside ++ old ∷ [])) c.rest (c.inside ++ new ∷ []) p.before u (subst Lawful was lawful) p.reached old_all new_end)
 
 join_lawful : (items : List PlainItem) (from to : ℕ) (p : Parts items from to) (j : Join) → Lawful items → Meeting items from to p j →
     Lawful (edited (transaction_of items (removal_edits items from to (Some j))) items)

@@ -133,8 +133,8 @@ module _ (items : List PlainItem) (at row : ℕ) (g : Grid) (lawful : Lawful ite
   pub get_before : (q : ℕ) → q < p → slice_get without q ≡ slice_get set_list q
   get_before q l = get-take-append p set_list (drop (n + p) items) q l (let a = set_length in let b = room in let c = ends in omega arith)
 
-  get_behind : (q : ℕ) → p + n ≤ q → slice_get without (q - n) ≡ slice_get items q
-  get_behind q l =
+  get_after : (q : ℕ) → p + n ≤ q → slice_get without (q - n) ≡ slice_get items q
+  get_after q l =
       let cut : length (take p set_list) ≡ p = length-take-le p set_list (let a = set_length in let b = room in let c = ends in omega arith) in
       let j = q - (n + p) in
       let z : q - n ≡ length (take p set_list) + j = omega arith in
@@ -184,7 +184,7 @@ module _ (items : List PlainItem) (at row : ℕ) (g : Grid) (lawful : Lawful ite
       let b = c.0 in
       let far : p + n ≤ o.from = omega arith in
       ap (λ r. map (span_at without) (cons_option r (fm cells))) (node_outside p n o (inr far))
-      ∙ (λ i. span_read ((ap (slice_get without) (place_moved p n o.from far) ∙ get_behind o.from far) i) ∷ cells_below cells (end_of_node items o.from) high (omega arith) c.2 i)
+      ∙ (λ i. span_read ((ap (slice_get without) (place_moved p n o.from far) ∙ get_after o.from far) i) ∷ cells_below cells (end_of_node items o.from) high (omega arith) c.2 i)
 
   row_kept : (k : ℕ) (r : Row) → slice_get (table_rows items at) k ≡ Some r → (k ≡ row → ⊥) → Kept items without p n row k r
   row_kept k r e other =

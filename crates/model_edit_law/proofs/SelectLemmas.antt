@@ -92,11 +92,11 @@ place_by true at to o n h = let e : at ≡ to = cc in inl (refl, e)
 place_by false at to None n h = cc
 place_by false at to (Some p) n h = let e : n + p ≡ to = cc in inr (refl, (p, refl, e))
 
-place_behind : (b : Bool) (to : ℕ) (o : Option ℕ) (n : ℕ) → (if b then None else option_map (λ p. n + p) o) ≡ Some to →
+place_after : (b : Bool) (to : ℕ) (o : Option ℕ) (n : ℕ) → (if b then None else option_map (λ p. n + p) o) ≡ Some to →
     (b ≡ false) × ((p : ℕ) × (o ≡ Some p) × (n + p ≡ to))
-place_behind true to o n h = cc
-place_behind false to None n h = cc
-place_behind false to (Some p) n h = let e : n + p ≡ to = cc in (refl, (p, refl, e))
+place_after true to o n h = cc
+place_after false to None n h = cc
+place_after false to (Some p) n h = let e : n + p ≡ to = cc in (refl, (p, refl, e))
 
 -- the operations begin at old place `start`
 to_its_right : (ops : Transaction) (start at to : ℕ) → new_place ops at ≡ Some to → items_before Right (start + at) start ops ≡ to
@@ -117,7 +117,7 @@ to_its_right (Retain count ∷ ops) start at to h =
           omega arith
     ]
 to_its_right (Replace removed inserted ∷ ops) start at to h =
-    let later = place_behind (nat_lt at (length removed)) to (new_place ops (at - length removed)) (length inserted) h in
+    let later = place_after (nat_lt at (length removed)) to (new_place ops (at - length removed)) (length inserted) h in
     let past = ltb-false at (length removed) later.0 in
     let rest = to_its_right ops (start + length removed) (at - length removed) later.1.0 later.1.1 in
     let e : (start + length removed) + (at - length removed) ≡ start + at = omega arith in
@@ -144,7 +144,7 @@ to_its_left (Retain count ∷ ops) start at to h =
           omega arith
     ]
 to_its_left (Replace removed inserted ∷ ops) start at to h =
-    let later = place_behind (nat_lt at (length removed)) to (new_place ops (at - length removed)) (length inserted) h in
+    let later = place_after (nat_lt at (length removed)) to (new_place ops (at - length removed)) (length inserted) h in
     let past = ltb-false at (length removed) later.0 in
     let rest = to_its_left ops (start + length removed) (at - length removed) later.1.0 later.1.1 in
     let e : (start + length removed) + suc (at - length removed) ≡ start + suc at = omega arith in
@@ -162,39 +162,39 @@ offsets_keep_neighbours t at to h =
 
 -- outside the active range
 
--- the offset lies behind what the operations change, and is not passed
+-- the offset lies after what the operations change, and is not passed
 module _ (bias : Bias) (offset : ℕ) where
   -- an insertion at the end counts where it is to the left
-  abbrev Behind : ℕ → Type 0
-  Behind at = (place : ℕ) → place ≤ at → is_before bias place offset ≡ true
+  abbrev Following : ℕ → Type 0
+  Following at = (place : ℕ) → place ≤ at → is_before bias place offset ≡ true
 
-  behind_all : (ops : Transaction) (at : ℕ) → Behind (at + reach (without_end ops)) → at + reach (without_end ops) ≤ offset → offset ≤ at + old_length ops →
+  after_all : (ops : Transaction) (at : ℕ) → Following (at + reach (without_end ops)) → at + reach (without_end ops) ≤ offset → offset ≤ at + old_length ops →
       items_before bias offset at ops + (at + old_length ops) ≡ offset + new_length ops
-  behind_all [] at b low high = omega arith
-  behind_all (Retain count ∷ []) at b low high = omega arith
-  behind_all (Retain count ∷ (op ∷ ops)) at b low high =
+  after_all [] at b low high = omega arith
+  after_all (Retain count ∷ []) at b low high = omega arith
+  after_all (Retain count ∷ (op ∷ ops)) at b low high =
       let e : (at + count) + reach (without_end (op ∷ ops)) ≡ at + (count + reach (without_end (op ∷ ops))) = omega arith in
-      let rest = behind_all (op ∷ ops) (at + count) (subst Behind (sym e) b) (omega arith) (omega arith) in
+      let rest = after_all (op ∷ ops) (at + count) (subst Following (sym e) b) (omega arith) (omega arith) in
       omega arith
-  behind_all (Replace removed inserted ∷ ops) at b low high =
+  after_all (Replace removed inserted ∷ ops) at b low high =
       let e : (at + length removed) + reach (without_end ops) ≡ at + (length removed + reach (without_end ops)) = omega arith in
-      let rest = behind_all ops (at + length removed) (subst Behind (sym e) b) (omega arith) (omega arith) in
+      let rest = after_all ops (at + length removed) (subst Following (sym e) b) (omega arith) (omega arith) in
       let here : is_before bias at offset ≡ true = b at (omega arith) in
       ap (λ d. ((if d then length inserted else 0) + items_before bias offset (at + length removed) ops) + (at + (length removed + old_length ops))) here ∙ omega arith
-  behind_all (Attribute change ∷ ops) at b low high =
-      behind_all ops at (λ place h. b place (omega arith)) (omega arith) high
+  after_all (Attribute change ∷ ops) at b low high =
+      after_all ops at (λ place h. b place (omega arith)) (omega arith) high
 
-  behind_by : (t : Transaction) → Behind (end_of t) → end_of t ≤ offset → offset ≤ old_length t → translate t offset bias + old_length t ≡ offset + new_length t
-  behind_by [] b low high = omega arith
-  behind_by (Retain count ∷ ops) b low high =
+  after_by : (t : Transaction) → Following (end_of t) → end_of t ≤ offset → offset ≤ old_length t → translate t offset bias + old_length t ≡ offset + new_length t
+  after_by [] b low high = omega arith
+  after_by (Retain count ∷ ops) b low high =
       let e : 0 + count ≡ count = omega arith in
-      let rest = behind_all ops count b low high in
+      let rest = after_all ops count b low high in
       let rest' : items_before bias offset (0 + count) ops + (count + old_length ops) ≡ offset + new_length ops = subst (λ n. items_before bias offset n ops + (count + old_length ops) ≡ offset + new_length ops) (sym e) rest in
       omega arith
-  behind_by (Replace removed inserted ∷ ops) b low high =
-      let all = behind_all (Replace removed inserted ∷ ops) 0 b low (omega arith) in omega arith
-  behind_by (Attribute change ∷ ops) b low high =
-      let all = behind_all (Attribute change ∷ ops) 0 b low (omega arith) in omega arith
+  after_by (Replace removed inserted ∷ ops) b low high =
+      let all = after_all (Replace removed inserted ∷ ops) 0 b low (omega arith) in omega arith
+  after_by (Attribute change ∷ ops) b low high =
+      let all = after_all (Attribute change ∷ ops) 0 b low (omega arith) in omega arith
 
 before_by : (bias : Bias) (t : Transaction) (offset : ℕ) → offset ≤ start_of t → ((ops : Transaction) → items_before bias offset (start_of t) ops ≡ 0) → translate t offset bias ≡ offset
 before_by bias [] offset h none = omega arith
@@ -208,9 +208,9 @@ before_by bias (Attribute change ∷ ops) offset h none = let z = none (Attribut
 pub offsets_outside_stay : OffsetsOutsideStay
 offsets_outside_stay t offset = record {
   before = before;
-  behind = λ h inside bias. behind_by bias offset t (λ place p. counted bias place (omega arith)) (omega arith) inside;
+  suffix = λ h inside bias. after_by bias offset t (λ place p. counted bias place (omega arith)) (omega arith) inside;
   at_start = λ h. before_by Left t offset (omega arith) (λ ops. none_left offset (start_of t) ops (omega arith));
-  at_end = λ h inside. behind_by Right offset t (λ place p. le-leb place offset (omega arith)) (omega arith) inside;
+  at_end = λ h inside. after_by Right offset t (λ place p. le-leb place offset (omega arith)) (omega arith) inside;
 }
   where
     before : offset < start_of t → (bias : Bias) → translate t offset bias ≡ offset

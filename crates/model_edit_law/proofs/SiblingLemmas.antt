@@ -1,4 +1,4 @@
--- A list without one node: in each other node stand the same nodes but for that one, and those behind it are moved.
+-- A list without one node: in each other node stand the same nodes but for that one, and those after it are moved.
 use Rattle.std.specs.Prelude.{filter, filter_map}
 use Rattle.std.specs.List.{cons_option}
 use Rattle.std.proofs.Common.{◌≡◌, ◌⊎◌, inl, inr, ℕ, zero, suc, ◌+◌, ◌-◌, ◌<◌, ◌≤◌, Bool, true, false, cond, if◌then◌else◌, nat_lt, List, [], ◌∷◌, ◌++◌, length, map, drop, Option, Some, None, refl, sym, ap, ◌∙◌, subst, arith, length-append, length-drop}
@@ -54,7 +54,7 @@ node_without p n o = if nat_lt o.from p then Some o else (if nat_lt o.from (p + 
 pub no_less : (m n : ℕ) → n ≤ m → nat_lt m n ≡ false
 no_less m n l = false_from_ne_true (nat_lt m n) (λ t. let g = ltb-true m n t in omega arith)
 
--- before them, or behind
+-- before them, or after
 abbrev pub Outside : (p n at : ℕ) → Type 0
 Outside p n at = (at < p) ⊎ (p + n ≤ at)
 
@@ -82,19 +82,19 @@ node_gone p n o some e =
     ap (λ b. if b then Some o else (if nat_lt o.from (p + n) then None else Some (record { kind = o.kind; from = o.from - n }))) (no_less o.from p (omega arith))
     ∙ ap (λ b. if b then None else Some (record { kind = o.kind; from = o.from - n })) (lt-ltb o.from (p + n) (omega arith))
 
--- behind them nodes are moved
-pub behind_moved : (p n d q far : ℕ) (items : List PlainItem) → p ≤ q → far ≡ q + n → siblings d q items ≡ filter_map (node_without p n) (siblings d far items)
-behind_moved p n d q far [] l e = refl
-behind_moved p n d q far (Char c marks ∷ items) l e = behind_moved p n d (suc q) (suc far) items (omega arith) (omega arith)
-behind_moved p n zero q far (Opening kind head marks pre origin generated ∷ items) l e =
+-- after them nodes are moved
+pub after_moved : (p n d q far : ℕ) (items : List PlainItem) → p ≤ q → far ≡ q + n → siblings d q items ≡ filter_map (node_without p n) (siblings d far items)
+after_moved p n d q far [] l e = refl
+after_moved p n d q far (Char c marks ∷ items) l e = after_moved p n d (suc q) (suc far) items (omega arith) (omega arith)
+after_moved p n zero q far (Opening kind head marks pre origin generated ∷ items) l e =
     let z : far - n ≡ q = omega arith in
     let one : node_without p n (record { kind = kind; from = far }) ≡ Some (record { kind = kind; from = q }) =
     node_moved p n kind far (omega arith) ∙ ap (λ at. Some (record { kind = kind; from = at })) z in
-    ap (λ v. record { kind = kind; from = q } ∷ v) (behind_moved p n 1 (suc q) (suc far) items (omega arith) (omega arith))
+    ap (λ v. record { kind = kind; from = q } ∷ v) (after_moved p n 1 (suc q) (suc far) items (omega arith) (omega arith))
     ∙ ap (λ o. cons_option o (filter_map (node_without p n) (siblings 1 (suc far) items))) (sym one)
-behind_moved p n (suc d) q far (Opening kind head marks pre origin generated ∷ items) l e = behind_moved p n (suc (suc d)) (suc q) (suc far) items (omega arith) (omega arith)
-behind_moved p n zero q far (Closing kind pre ∷ items) l e = refl
-behind_moved p n (suc d) q far (Closing kind pre ∷ items) l e = behind_moved p n d (suc q) (suc far) items (omega arith) (omega arith)
+after_moved p n (suc d) q far (Opening kind head marks pre origin generated ∷ items) l e = after_moved p n (suc (suc d)) (suc q) (suc far) items (omega arith) (omega arith)
+after_moved p n zero q far (Closing kind pre ∷ items) l e = refl
+after_moved p n (suc d) q far (Closing kind pre ∷ items) l e = after_moved p n d (suc q) (suc far) items (omega arith) (omega arith)
 
 -- what stands in a node is passed
 module _ (k : Kind) (pre : List ℕ) (rest : List PlainItem) where
@@ -131,45 +131,45 @@ module _ (p n : ℕ) (kind : Kind) (head : Head) (marks : List Mark) (pre : List
   node_passed : (d : ℕ) → siblings d p rest ≡ filter_map (node_without p n) (siblings d p with_node)
   node_passed zero =
       let far : p + n ≡ suc p + suc (length inside) = omega arith in
-      behind_moved p n 0 p (p + n) rest (omega arith) refl
+      after_moved p n 0 p (p + n) rest (omega arith) refl
       ∙ ap (filter_map (node_without p n)) (sym (passed kind white rest inside 0 0 (suc p) (p + n) ends far))
       ∙ ap (λ o. cons_option o (filter_map (node_without p n) (siblings 1 (suc p) (inside ++ Closing kind white ∷ rest)))) (sym (node_gone p n (record { kind = kind; from = p }) (omega arith) refl))
   node_passed (suc d) =
       let far : p + n ≡ suc p + suc (length inside) = omega arith in
       let z : suc (0 + suc d) ≡ suc (suc d) = omega arith in
-      behind_moved p n (suc d) p (p + n) rest (omega arith) refl
+      after_moved p n (suc d) p (p + n) rest (omega arith) refl
       ∙ ap (filter_map (node_without p n)) (sym (ap (λ m. siblings m (suc p) (inside ++ Closing kind white ∷ rest)) (sym z) ∙ passed kind white rest inside 0 (suc d) (suc p) (p + n) ends far))
 
-  walked : (front : List PlainItem) (d q : ℕ) → q + length front ≡ p → siblings d q (front ++ rest) ≡ filter_map (node_without p n) (siblings d q (front ++ with_node))
+  walked : (prefix : List PlainItem) (d q : ℕ) → q + length prefix ≡ p → siblings d q (prefix ++ rest) ≡ filter_map (node_without p n) (siblings d q (prefix ++ with_node))
   walked [] d q e = (let z : p ≡ q = omega arith in subst (λ m. siblings d m rest ≡ filter_map (node_without p n) (siblings d m with_node)) z (node_passed d))
-  walked (Char c marks' ∷ front) d q e = walked front d (suc q) (omega arith)
-  walked (Opening kind' head' marks' pre' origin' generated' ∷ front) zero q e =
-      ap (λ v. record { kind = kind'; from = q } ∷ v) (walked front 1 (suc q) (omega arith))
-      ∙ ap (λ o. cons_option o (filter_map (node_without p n) (siblings 1 (suc q) (front ++ with_node)))) (sym (node_kept p n kind' q (omega arith)))
-  walked (Opening kind' head' marks' pre' origin' generated' ∷ front) (suc d) q e = walked front (suc (suc d)) (suc q) (omega arith)
-  walked (Closing kind' pre' ∷ front) zero q e = refl
-  walked (Closing kind' pre' ∷ front) (suc d) q e = walked front d (suc q) (omega arith)
+  walked (Char c marks' ∷ prefix) d q e = walked prefix d (suc q) (omega arith)
+  walked (Opening kind' head' marks' pre' origin' generated' ∷ prefix) zero q e =
+      ap (λ v. record { kind = kind'; from = q } ∷ v) (walked prefix 1 (suc q) (omega arith))
+      ∙ ap (λ o. cons_option o (filter_map (node_without p n) (siblings 1 (suc q) (prefix ++ with_node)))) (sym (node_kept p n kind' q (omega arith)))
+  walked (Opening kind' head' marks' pre' origin' generated' ∷ prefix) (suc d) q e = walked prefix (suc (suc d)) (suc q) (omega arith)
+  walked (Closing kind' pre' ∷ prefix) zero q e = refl
+  walked (Closing kind' pre' ∷ prefix) (suc d) q e = walked prefix d (suc q) (omega arith)
 
-  pub children_without : (front : List PlainItem) (at : ℕ) → length front ≡ p → Outside p n at →
-      children (front ++ rest) (place_without p n at) ≡ filter_map (node_without p n) (children (front ++ with_node) at)
-  children_without front at e (inl l) =
-      ap (children (front ++ rest)) (place_kept p n at l)
-      ∙ ap (siblings 0 (suc at)) (drop-append-le (suc at) front rest (omega arith))
-      ∙ walked (drop (suc at) front) 0 (suc at) (omega (arith, length-drop (suc at) front))
-      ∙ ap (λ v. filter_map (node_without p n) (siblings 0 (suc at) v)) (sym (drop-append-le (suc at) front with_node (omega arith)))
-  children_without front at e (inr l) =
+  pub children_without : (prefix : List PlainItem) (at : ℕ) → length prefix ≡ p → Outside p n at →
+      children (prefix ++ rest) (place_without p n at) ≡ filter_map (node_without p n) (children (prefix ++ with_node) at)
+  children_without prefix at e (inl l) =
+      ap (children (prefix ++ rest)) (place_kept p n at l)
+      ∙ ap (siblings 0 (suc at)) (drop-append-le (suc at) prefix rest (omega arith))
+      ∙ walked (drop (suc at) prefix) 0 (suc at) (omega (arith, length-drop (suc at) prefix))
+      ∙ ap (λ v. filter_map (node_without p n) (siblings 0 (suc at) v)) (sym (drop-append-le (suc at) prefix with_node (omega arith)))
+  children_without prefix at e (inr l) =
       let node = Opening kind head marks pre origin generated ∷ (inside ++ Closing kind white ∷ []) in
       let k = suc at - (p + n) in
-      let parts : front ++ with_node ≡ (front ++ node) ++ rest =
-      ap (λ v. front ++ Opening kind head marks pre origin generated ∷ v) (sym (append_assoc inside (Closing kind white ∷ []) rest)) ∙ sym (append_assoc front node rest) in
-      let long : length (front ++ node) ≡ p + n = omega (arith, length-append front node, length-append inside (Closing kind white ∷ [])) in
-      let there : suc at ≡ length (front ++ node) + k = omega arith in
-      let here : suc (at - n) ≡ length front + k = omega arith in
-      let old : drop (suc at) (front ++ with_node) ≡ drop k rest = (λ i. drop (there i) (parts i)) ∙ drop-append-add (front ++ node) rest k in
-      let new : drop (suc (at - n)) (front ++ rest) ≡ drop k rest = ap (λ m. drop m (front ++ rest)) here ∙ drop-append-add front rest k in
-      ap (children (front ++ rest)) (place_moved p n at l)
+      let parts : prefix ++ with_node ≡ (prefix ++ node) ++ rest =
+      ap (λ v. prefix ++ Opening kind head marks pre origin generated ∷ v) (sym (append_assoc inside (Closing kind white ∷ []) rest)) ∙ sym (append_assoc prefix node rest) in
+      let long : length (prefix ++ node) ≡ p + n = omega (arith, length-append prefix node, length-append inside (Closing kind white ∷ [])) in
+      let there : suc at ≡ length (prefix ++ node) + k = omega arith in
+      let here : suc (at - n) ≡ length prefix + k = omega arith in
+      let old : drop (suc at) (prefix ++ with_node) ≡ drop k rest = (λ i. drop (there i) (parts i)) ∙ drop-append-add (prefix ++ node) rest k in
+      let new : drop (suc (at - n)) (prefix ++ rest) ≡ drop k rest = ap (λ m. drop m (prefix ++ rest)) here ∙ drop-append-add prefix rest k in
+      ap (children (prefix ++ rest)) (place_moved p n at l)
       ∙ ap (siblings 0 (suc (at - n))) new
-      ∙ behind_moved p n 0 (suc (at - n)) (suc at) (drop k rest) (omega arith) (omega arith)
+      ∙ after_moved p n 0 (suc (at - n)) (suc at) (drop k rest) (omega arith) (omega arith)
       ∙ ap (λ v. filter_map (node_without p n) (siblings 0 (suc at) v)) (sym old)
 
 -- of some kinds

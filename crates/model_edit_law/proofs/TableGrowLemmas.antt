@@ -146,15 +146,15 @@ is_Tr : (k : Kind) → is_among (Tr ∷ []) k ≡ true → k ≡ Tr
 is_Tr Tr h = refl
 is_Tr _ h = cc
 
--- where a row begins, a row may open; and so behind it
+-- where a row begins, a row may open; and so after it
 may_at : (items : List PlainItem) (at : ℕ) → Lawful items → Opens items Tr at → (s : State) → after start (take at items) ≡ Ok s → may_open s Tr ≡ true
 may_at items at lawful o s h =
     let p = node_parts items at Tr o.head o.marks o.pre o.origin o.generated lawful o.here in
     let e : p.before ≡ s = Ok-same {E = LawFault} p.before s (sym p.reached ∙ h) in
     subst (λ (v : State). may_open v Tr ≡ true) e (opened_state p.before p.allowed.0 Tr refl p.allowed.1).0
 
-may_behind : (items : List PlainItem) (at : ℕ) → Lawful items → Opens items Tr at → (s : State) → after start (take (end_of_node items at) items) ≡ Ok s → may_open s Tr ≡ true
-may_behind items at lawful o s h =
+may_after : (items : List PlainItem) (at : ℕ) → Lawful items → Opens items Tr at → (s : State) → after start (take (end_of_node items at) items) ≡ Ok s → may_open s Tr ≡ true
+may_after items at lawful o s h =
     let ahead = o.ahead in
     let p = after_parts (take at items) (take (end_of_node items at - at) (drop at items)) start s (ap (after start) (sym (take_split at (end_of_node items at - at) (end_of_node items at) items (omega arith))) ∙ h) in
     let back = node_back items Tr at lawful refl o p.0 s p.2 in
@@ -167,7 +167,7 @@ opens_Tr items at o = subst (λ k. Opens items k at) (is_Tr o.0 o.1) o.2
 may_place : (items : List PlainItem) (low high : ℕ) (one : Row) (rows : List Row) (k : ℕ) → Lawful items → Chain row_at items (Tr ∷ []) low high (one ∷ rows) → (s : State) →
     after start (take (row_place items (one ∷ rows) k) items) ≡ Ok s → may_open s Tr ≡ true
 may_place items low high one [] zero lawful c s h = may_at items one.at lawful (opens_Tr items one.at c.1) s h
-may_place items low high one [] (suc k) lawful c s h = may_behind items one.at lawful (opens_Tr items one.at c.1) s h
+may_place items low high one [] (suc k) lawful c s h = may_after items one.at lawful (opens_Tr items one.at c.1) s h
 may_place items low high one (next ∷ rows) zero lawful c s h = may_at items one.at lawful (opens_Tr items one.at c.1) s h
 may_place items low high one (next ∷ rows) (suc k) lawful c s h = may_place items (end_of_node items one.at) high next rows k lawful c.2 s h
 
@@ -202,9 +202,9 @@ cell_may_at items kind at lawful other o s h =
     let e : p.before ≡ s = Ok-same {E = LawFault} p.before s (sym p.reached ∙ h) in
     subst (λ (v : State). may_open v kind ≡ true) e (opened_state p.before p.allowed.0 kind other p.allowed.1).0
 
-cell_may_behind : (items : List PlainItem) (kind : Kind) (at : ℕ) → Lawful items → kind_same kind InternalList ≡ false → Opens items kind at → (s : State) →
+cell_may_after : (items : List PlainItem) (kind : Kind) (at : ℕ) → Lawful items → kind_same kind InternalList ≡ false → Opens items kind at → (s : State) →
     after start (take (end_of_node items at) items) ≡ Ok s → may_open s kind ≡ true
-cell_may_behind items kind at lawful other o s h =
+cell_may_after items kind at lawful other o s h =
     let ahead = o.ahead in
     let p = after_parts (take at items) (take (end_of_node items at - at) (drop at items)) start s (ap (after start) (sym (take_split at (end_of_node items at - at) (end_of_node items at) items (omega arith))) ∙ h) in
     let e : p.0 ≡ s = Ok-same {E = LawFault} p.0 s (node_back items kind at lawful other o p.0 s p.2) in
@@ -244,7 +244,7 @@ cell_place_may items row column low high (cell ∷ []) lawful o c s h = by (nat_
   where
     by : (b : Bool) → after start (take (if b then cell.at else end_of_node items cell.at) items) ≡ Ok s → may_open s Td ≡ true
     by true h = as_Td s c.1.0 c.1.1 (cell_may_at items c.1.0 cell.at lawful (cell_not_first c.1.0 c.1.1) c.1.2 s h)
-    by false h = as_Td s c.1.0 c.1.1 (cell_may_behind items c.1.0 cell.at lawful (cell_not_first c.1.0 c.1.1) c.1.2 s h)
+    by false h = as_Td s c.1.0 c.1.1 (cell_may_after items c.1.0 cell.at lawful (cell_not_first c.1.0 c.1.1) c.1.2 s h)
 cell_place_may items row column low high (cell ∷ next ∷ cells) lawful o c s h =
     by (λ g. cell_place_may items row column (end_of_node items cell.at) high (next ∷ cells) lawful o c.2 s g) (nat_le column cell.column) h
   where

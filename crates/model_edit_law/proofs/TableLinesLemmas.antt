@@ -122,7 +122,7 @@ module _ (items new : List PlainItem) (p n gone : ℕ) where
       abbrev Sections : (low high : ℕ) → List Open → Type 0
       Sections low high sections = Chain from_of items kinds low high sections
 
-      -- one section and those behind it
+      -- one section and those after it
       section_lines : (section : Open) (sections : List Open) → Outside p n section.from →
           map (line_at new) (flat_map (rows_in new) (fm (section ∷ sections))) ≡ new_lines (fm (children_of (Tr ∷ []) items section.from)) ++ map (line_at new) (flat_map (rows_in new) (fm sections))
       section_lines section sections out =

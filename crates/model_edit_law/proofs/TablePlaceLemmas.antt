@@ -184,7 +184,7 @@ sections_stand items kinds low high (n ∷ nodes) lawful c =
     (Chain-within row_at items (Tr ∷ []) (suc n.from) low (partner items n.from) (end_of_node items n.from) _ (omega arith) (omega arith) rows)
     (sections_stand items kinds (end_of_node items n.from) high nodes lawful c.2)
 
--- the rows of a table stand in it, one behind the other
+-- the rows of a table stand in it, one after the other
 pub rows_stand : (items : List PlainItem) (at : ℕ) → Lawful items → Opens items Table at → Chain row_at items (Tr ∷ []) (suc at) (partner items at) (table_rows items at)
 rows_stand items at lawful o =
     sections_stand items (Thead ∷ Tbody ∷ Tfoot ∷ []) (suc at) (partner items at) (children_of (Thead ∷ Tbody ∷ Tfoot ∷ []) items at) lawful

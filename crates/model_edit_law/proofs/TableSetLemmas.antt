@@ -81,7 +81,7 @@ module _ (name : List ℕ) (f : GridCell → Option (List ℕ)) where
       ∙ sym (map-append shape_of (take m items) rest)
       ∙ ap (map shape_of) (take-append-drop m items)
 
-  -- the list after they are set and a part behind them is taken out
+  -- the list after they are set and a part after them is taken out
   pub taken_out : (cells : List GridCell) (at end place count : ℕ) (items : List PlainItem) → InOrder at end (sets name f cells ++ Change place count [] ∷ []) → end ≤ at + length items →
       substituted_from at items (sets name f cells ++ Change place count [] ∷ []) ≡ take (place - at) (substituted_from at items (sets name f cells)) ++ drop (count + (place - at)) items
   taken_out [] at end place count items h fit =
@@ -189,11 +189,11 @@ module _ (name : List ℕ) (f : GridCell → Option (List ℕ)) where
             ∙ ap (set_at (one.at + j) cells) (put j)
             ∙ (λ i. set_at (there i) cells (if one.at == there i then set_in name (f one) (old i) else old i))
 
-    pub among_behind : (cells : List GridCell) (low high : ℕ) (c : GridCell) → Cells low high cells → Among c cells → low ≤ c.at
-    among_behind [] low high c h a = absurd a
-    among_behind (x ∷ cells) low high c h (inl e) = subst (λ (v : GridCell). low ≤ v.at) e h.0
-    among_behind (x ∷ cells) low high c h (inr a) =
-        let s = h.0 in let b = (h.1.2).ahead in let l = among_behind cells (end_of_node whole x.at) high c h.2 a in omega arith
+    pub among_after : (cells : List GridCell) (low high : ℕ) (c : GridCell) → Cells low high cells → Among c cells → low ≤ c.at
+    among_after [] low high c h a = absurd a
+    among_after (x ∷ cells) low high c h (inl e) = subst (λ (v : GridCell). low ≤ v.at) e h.0
+    among_after (x ∷ cells) low high c h (inr a) =
+        let s = h.0 in let b = (h.1.2).ahead in let l = among_after cells (end_of_node whole x.at) high c h.2 a in omega arith
 
     -- where those of some cells are set, each of these is, and no other
     pub set_among : (test : GridCell → Bool) (cells : List GridCell) (low high : ℕ) (c : GridCell) (o : Option PlainItem) → Cells low high cells → Among c cells →
@@ -202,7 +202,7 @@ module _ (name : List ℕ) (f : GridCell → Option (List ℕ)) where
     set_among test (x ∷ cells) low high c o h a =
         by (test x) refl a (λ a' o'. set_among test cells (end_of_node whole x.at) high c o' h.2 a')
         (λ q o' l. set_before (filter test cells) (end_of_node whole x.at) high q o' (Chain-filter cell_at whole cell_kinds test (end_of_node whole x.at) high cells h.2) l)
-        (λ a'. among_behind cells (end_of_node whole x.at) high c h.2 a')
+        (λ a'. among_after cells (end_of_node whole x.at) high c h.2 a')
       where
         ahead : suc x.at ≤ end_of_node whole x.at
         ahead = let b = (h.1.2).ahead in omega arith
@@ -212,17 +212,17 @@ module _ (name : List ℕ) (f : GridCell → Option (List ℕ)) where
             ((q : ℕ) (o' : Option PlainItem) → q < end_of_node whole x.at → set_at q (filter test cells) o' ≡ o') →
             (Among c cells → end_of_node whole x.at ≤ c.at) →
             set_at c.at (cond b (x ∷ filter test cells) (filter test cells)) o ≡ (if test c then set_in name (f c) o else o)
-        by true e (inl same) next before behind =
+        by true e (inl same) next before suffix =
             subst (λ (v : GridCell). set_at v.at (x ∷ filter test cells) o ≡ (if test v then set_in name (f v) o else o)) same
             (before x.at (if x.at == x.at then set_in name (f x) o else o) (let d = ahead in omega arith)
             ∙ ap (λ t. if t then set_in name (f x) o else o) (eq-eqb x.at x.at refl ∙ sym e))
-        by true e (inr a') next before behind =
-            ap (λ t. set_at c.at (filter test cells) (if t then set_in name (f x) o else o)) (ne_eqb x.at c.at (λ z. let l = behind a' in let d = ahead in omega arith))
+        by true e (inr a') next before suffix =
+            ap (λ t. set_at c.at (filter test cells) (if t then set_in name (f x) o else o)) (ne_eqb x.at c.at (λ z. let l = suffix a' in let d = ahead in omega arith))
             ∙ next a' o
-        by false e (inl same) next before behind =
+        by false e (inl same) next before suffix =
             subst (λ (v : GridCell). set_at v.at (filter test cells) o ≡ (if test v then set_in name (f v) o else o)) same
             (before x.at o (let d = ahead in omega arith) ∙ ap (λ t. if t then set_in name (f x) o else o) (sym e))
-        by false e (inr a') next before behind = next a' o
+        by false e (inr a') next before suffix = next a' o
 
 -- the value that is set is read back
 value_put : (name value : List ℕ) (attrs : List Attr) → value_of name attrs ≡ None → value_of name (attrs ++ record { name = name; value = value } ∷ []) ≡ Some value

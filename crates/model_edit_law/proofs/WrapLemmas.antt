@@ -34,7 +34,7 @@ both_hold [] ys h = (refl, h)
 both_hold ((at, true) ∷ xs) ys h = both_hold xs ys h
 both_hold ((at, false) ∷ xs) ys h = cc
 
--- the partner of an opening stands behind it, in the list
+-- the partner of an opening stands after it, in the list
 abbrev Ahead : List PlainItem → ℕ → Type 0
 Ahead items n = (suc n ≤ partner items n) × (suc (partner items n) ≤ length items)
 
@@ -190,13 +190,13 @@ wrap_fine items from to plan t lawful h =
             let first = from - length plan.unwrap_outer in
             let c1 = both_hold (opening_claims items first plan.unwrap_outer) _ e in
             let c2 = both_hold (flat_map (λ (node : Open). node_claims items plan.unwrap_each node.from) (nodes_in items from to)) _ c1.1 in
-            let front = take from items in
+            let prefix = take from items in
             let range = take (to - from) (drop from items) in
             let rest = drop (to - from) (drop from items) in
-            let parts : items ≡ front ++ (range ++ rest) = sym (take-append-drop from items) ∙ ap (λ y. front ++ y) (sym (take-append-drop (to - from) (drop from items))) in
-            let lf : length front ≡ from = length-take-le from items (omega arith) in
+            let parts : items ≡ prefix ++ (range ++ rest) = sym (take-append-drop from items) ∙ ap (λ y. prefix ++ y) (sym (take-append-drop (to - from) (drop from items))) in
+            let lf : length prefix ≡ from = length-take-le from items (omega arith) in
             let lr : length range ≡ to - from = length-take-le (to - from) (drop from items) (omega (arith, length-drop from items)) in
-            let nodes = nodes_rise items rest from to plan.unwrap_each plan.wrap_each lawful m range front 0 from parts (sym lf) (omega arith) (omega arith) (omega arith) c2.0 in
+            let nodes = nodes_rise items rest from to plan.unwrap_each plan.wrap_each lawful m range prefix 0 from parts (sym lf) (omega arith) (omega arith) (omega arith) c2.0 in
             let last = outer_fits items plan.unwrap_outer first to lawful high c1.0 c2.1 in
             let all : Rising 0 (length items) (wrap_edits items from to plan) = (
               omega arith,

@@ -87,7 +87,7 @@ PlanApart plan = ShapesApart plan.wrap_outer × ShapesApart plan.wrap_each
 abbrev pub WrapIsApart : Type 0
 WrapIsApart = (items : List PlainItem) (from to : ℕ) (plan : WrapPlan) (t : Transaction) → PlanApart plan → wrap items from to plan ≡ Ok t → InsertedApart t
 
--- A list that an item begins by moving deeper has no attributes, and one that is continued behind an item moved out is a copy.
+-- A list that an item begins by moving deeper has no attributes, and one that is continued after an item moved out is a copy.
 abbrev pub IndentIsApart : Type 0
 IndentIsApart = (items : List PlainItem) (at : ℕ) (t : Transaction) → indent items at ≡ Ok t → InsertedApart t
 

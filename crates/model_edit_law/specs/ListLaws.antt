@@ -20,7 +20,7 @@ joins_list items at = passes_before (is_closing_of (kind_at items at)) items (at
 abbrev pub new_place : List PlainItem → ℕ → ℕ
 new_place items at = if joins_list items at then at - 2 else at
 
--- no white text is lost, and a list that the item joins is not empty
+-- no whitespace is lost, and a list that the item joins is not empty
 pub record Plain (items : List PlainItem) (at : ℕ) : Type 0 where
   pub before : slice_get items (at - 1) ≡ Some (closing_of Li)
   pub its_own : slice_get items (partner items at) ≡ Some (closing_of Li)

@@ -23,14 +23,14 @@ pub record KeptInOrder (t : Transaction) (low high : ℕ) : Type 0 where
 abbrev pub OffsetsKeepOrder : Type 0
 OffsetsKeepOrder = (t : Transaction) (low high : ℕ) → KeptInOrder t low high
 
--- Beside a retained item an offset stays beside it: just before it one that keeps to the right, just behind it one that keeps to the left.
+-- Beside a retained item an offset stays beside it: just before it one that keeps to the right, just after it one that keeps to the left.
 abbrev pub OffsetsKeepNeighbours : Type 0
 OffsetsKeepNeighbours = (t : Transaction) (at to : ℕ) → new_place t at ≡ Some to → (translate t at Right ≡ to) × (translate t (suc at) Left ≡ suc to)
 
--- Before the active range an offset stays, and behind it it moves by the difference of the lengths. At an end of the range it does so on the outer side.
+-- Before the active range an offset stays, and after it it moves by the difference of the lengths. At an end of the range it does so on the outer side.
 pub record StaysOutside (t : Transaction) (offset : ℕ) : Type 0 where
   pub before : offset < start_of t → (bias : Bias) → translate t offset bias ≡ offset
-  pub behind : end_of t < offset → offset ≤ old_length t → (bias : Bias) → translate t offset bias + old_length t ≡ offset + new_length t
+  pub suffix : end_of t < offset → offset ≤ old_length t → (bias : Bias) → translate t offset bias + old_length t ≡ offset + new_length t
   pub at_start : offset ≡ start_of t → translate t offset Left ≡ offset
   pub at_end : offset ≡ end_of t → offset ≤ old_length t → translate t offset Right + old_length t ≡ offset + new_length t
 

@@ -83,7 +83,7 @@ pub fn moves_are_fine()
     ensures outdent { OutdentIsFine }
 {}
 
-/// An item moved in and out again: the list is as it was, where no white text was lost and the item did not join an empty list.
+/// An item moved in and out again: the list is as it was, where no whitespace was lost and the item did not join an empty list.
 #[tactic(auto, using(crate::proofs::ListLemmas::indent_is_undone))]
 pub fn indent_is_undone()
     ensures { IndentIsUndone }

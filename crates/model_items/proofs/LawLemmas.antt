@@ -207,10 +207,10 @@ step_at_once s (Closing kind pre) = closed_at_once s.stack s.seen kind
 record FirstBad (items : List PlainItem) (s : State) (fault : LawFault) : Type 0 where
   before : List PlainItem
   item : PlainItem
-  behind : List PlainItem
+  suffix : List PlainItem
   there : State
   offence : LawFault
-  parts : items ≡ before ++ (item ∷ behind)
+  parts : items ≡ before ++ (item ∷ suffix)
   went : after s before ≡ Ok there
   bad : step there item ≡ Err offence
   moved : fault ≡ fault_moved (length before) offence
@@ -230,14 +230,14 @@ first_bad (x ∷ xs) s fault h = by_step (first_bad xs) (step s x) refl h
         joined 1 r (λ next. after next xs) ≡ Err fault → FirstBad (x ∷ xs) s fault
     by_step rest (Err f) e h =
         let same : f ≡ fault = cc in
-        record { before = []; item = x; behind = xs; there = s; offence = f; parts = refl; went = refl; bad = e; moved = sym same ∙ sym (fault_moved-zero f) }
+        record { before = []; item = x; suffix = xs; there = s; offence = f; parts = refl; went = refl; bad = e; moved = sym same ∙ sym (fault_moved-zero f) }
     by_step rest (Ok next) e h =
         let m = moved_err (after next xs) h in
         let r = rest next m.0 m.1 in
         record {
           before = x ∷ r.before;
           item = r.item;
-          behind = r.behind;
+          suffix = r.suffix;
           there = r.there;
           offence = r.offence;
           parts = ap (λ l. x ∷ l) r.parts;
@@ -254,7 +254,7 @@ verdict_is_first_offence items fault h = by_end (after start items) refl h
     by_end (Err f) e h =
         let same : f ≡ fault = cc in
         let r = first_bad items start fault (e ∙ ap Err same) in
-        AtItem r.before r.behind r.item r.there r.offence r.parts r.went r.bad r.moved
+        AtItem r.before r.suffix r.item r.there r.offence r.parts r.went r.bad r.moved
     by_end (Ok s) e h = by_over (is_over s) refl h
       where
         by_over : (b : Bool) → is_over s ≡ b → (if b then None else Some (Unlawful (length items))) ≡ Some fault → IsFirstOffence items fault
@@ -265,9 +265,9 @@ verdict_place : (items : List PlainItem) (fault : LawFault) → verdict items �
 verdict_place items fault h = by_offence (verdict_is_first_offence items fault h)
   where
     by_offence : IsFirstOffence items fault → place_of fault ≤ length items
-    by_offence (AtItem before behind item s f e went bad moved) =
+    by_offence (AtItem before suffix item s f e went bad moved) =
         let at = step_at_once s item f bad in
-        rw (e, moved, place_of-fault_moved (length before) f, at, length-append before (item ∷ behind)) (omega arith)
+        rw (e, moved, place_of-fault_moved (length before) f, at, length-append before (item ∷ suffix)) (omega arith)
     by_offence (AtEnd s e over same) = rw same (omega arith)
 
 pub piece_differs : PieceDiffers

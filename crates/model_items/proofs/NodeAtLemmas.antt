@@ -314,7 +314,7 @@ record Searched (d : Place) (at : ℕ) (f : Forest) (o : ℕ) (p : Place) : Type
 contains_first : (p : Place) (ps : List Place) → Contains (p ∷ ps) p
 contains_first p ps = (0, omega arith, refl)
 
--- a node of a branch is the branch itself, stands in it or behind it
+-- a node of a branch is the branch itself, stands in it or after it
 module _ (kind : Kind) (at : ℕ) (inside later : Forest) (o : ℕ) where
   end : ℕ
   end = at + (item_count inside + 2)
@@ -349,8 +349,8 @@ module _ (kind : Kind) (at : ℕ) (inside later : Forest) (o : ℕ) where
       round (inl e) = subst (λ (x : Place). (at ≤ x.from) × (x.to ≤ at + (item_count inside + 2))) (sym e) (omega arith, omega arith)
       round (inr c) = let b = places_bounds inside (suc at) p c.0 in let x = b.0 in let y = b.1 in (omega arith, omega arith)
 
-  behind_branch : (d : Place) (p : Place) → ((at < o) × (o < at + (item_count inside + 2)) → ⊥) → Searched d (at + (item_count inside + 2)) later o p → Searched d at (Branch kind inside later) o p
-  behind_branch d p outside r = record {
+  after_branch : (d : Place) (p : Place) → ((at < o) × (o < at + (item_count inside + 2)) → ⊥) → Searched d (at + (item_count inside + 2)) later o p → Searched d at (Branch kind inside later) o p
+  after_branch d p outside r = record {
     node = elim (r.node) [
       | inl e ↦ inl e
       | inr c ↦ inr (
@@ -377,8 +377,8 @@ search_tree (Branch kind inside later) d at o =
         Searched d at (Branch kind inside later) o
         (if a && b then search (branch_at kind at inside) (suc at) inside o else search d (at + (item_count inside + 2)) later o)
     by_test true true p q one two = in_branch kind at inside later o d _ (ltb-true at o p) (ltb-true o (at + (item_count inside + 2)) q) one
-    by_test true false p q one two = behind_branch kind at inside later o d _ (λ h. let yes = lt-ltb o (at + (item_count inside + 2)) h.1 in cc) two
-    by_test false b p q one two = behind_branch kind at inside later o d _ (λ h. let yes = lt-ltb at o h.0 in cc) two
+    by_test true false p q one two = after_branch kind at inside later o d _ (λ h. let yes = lt-ltb o (at + (item_count inside + 2)) h.1 in cc) two
+    by_test false b p q one two = after_branch kind at inside later o d _ (λ h. let yes = lt-ltb at o h.0 in cc) two
 
 pub count_all : TreeHasAllItems
 count_all items lawful =

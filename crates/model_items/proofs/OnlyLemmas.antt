@@ -46,8 +46,8 @@ read_back (Run count later) rest whole h =
     ap reading_of (append_assoc (replicate count Letter) (shapes later) rest)
     ∙ letters count later (shapes later ++ rest) (reading_of rest).outer whole.0 whole.1 (read_back later rest whole.2 h)
 read_back (Branch kind inside later) rest whole h =
-    let behind = End kind ∷ (shapes later ++ rest) in
-    let within = read_back inside behind whole.0 refl in
+    let suffix = End kind ∷ (shapes later ++ rest) in
+    let within = read_back inside suffix whole.0 refl in
     let after_it = read_back later rest whole.1 h in
     ap (λ ss. reading_by (Begin kind) (reading_of ss)) (append_assoc (shapes inside) (End kind ∷ shapes later) rest)
     ∙ ap (reading_by (Begin kind)) within

@@ -98,7 +98,7 @@ Lawful items = verdict items ≡ None
 
 -- The verdict names the first offence: all items before it may be gone through, and the item there may not; or all may, and the list ends in the wrong state.
 pub data IsFirstOffence (items : List PlainItem) (fault : LawFault) : Type 0 where
-  AtItem : (before behind : List PlainItem) (item : PlainItem) (s : State) (f : LawFault) → items ≡ before ++ (item ∷ behind) →
+  AtItem : (before suffix : List PlainItem) (item : PlainItem) (s : State) (f : LawFault) → items ≡ before ++ (item ∷ suffix) →
       after start before ≡ Ok s → step s item ≡ Err f → fault ≡ fault_moved (length before) f →
       IsFirstOffence items fault
   AtEnd : (s : State) → after start items ≡ Ok s → is_over s ≡ false → fault ≡ Unlawful (length items) → IsFirstOffence items fault

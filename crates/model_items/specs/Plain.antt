@@ -16,7 +16,7 @@ abbrev pub value_at : List Value → Option ValueId → Option Value
 value_at values None = None
 value_at values (Some id) = slice_get values id.0
 
--- what a value gives as a head, as marks or as white text: nothing cited, or a value of another sort, gives the empty one
+-- what a value gives as a head, as marks or as whitespace: nothing cited, or a value of another sort, gives the empty one
 abbrev pub head_in : Option Value → Head
 head_in (Some (value.Head head)) = head
 head_in _ = empty_head
@@ -52,7 +52,7 @@ abbrev pub CitesWhite : List Value → Option ValueId → Type 0
 CitesWhite values None = Unit {0}
 CitesWhite values (Some id) = (text : List ℕ) × (slice_get values id.0 ≡ Some (value.White text)) × (text ≢ [])
 
--- an item's head cites only heads, its marks only marks and its white text only white text, and nothing that is empty
+-- an item's head cites only heads, its marks only marks and its whitespace only whitespace, and nothing that is empty
 abbrev pub CitesWell : List Value → Item → Type 0
 CitesWell values (item.Char ch marks) = CitesMarks values marks
 CitesWell values (item.Opening kind generated head marks pre origin) = CitesHead values head × CitesMarks values marks × CitesWhite values pre

@@ -20,7 +20,7 @@ pub data Forest : Type 0 where
   -- a node of a kind, with the nodes inside it, and those after it
   Branch : (kind : Kind) (inside later : Forest) → Forest
 
--- one more character in front
+-- one more character before
 abbrev pub with_char : Forest → Forest
 with_char (Run count later) = Run (suc count) later
 with_char Empty = Run 1 Empty

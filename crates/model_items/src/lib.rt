@@ -45,7 +45,7 @@ pub fn values_are_not_read()
 {}
 
 /// What a changed piece of a lawful list tells of the whole: where the piece fails from the state before it, the list fails there; where it ends
-/// in the state in which the old piece ends, the list stays lawful; else the first offence lies behind the piece.
+/// in the state in which the old piece ends, the list stays lawful; else the first offence lies after the piece.
 #[tactic(auto, using(crate::proofs::LawLemmas::piece_fails, crate::proofs::LawLemmas::piece_fits, crate::proofs::LawLemmas::piece_differs))]
 pub fn piece_decides()
     ensures fails { PieceFails }

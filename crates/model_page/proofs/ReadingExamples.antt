@@ -1,4 +1,4 @@
--- What conversion makes of the corners, by computation: white text, comments, misfits, marks, references, fragments, and texts of `data-mw`.
+-- What conversion makes of the corners, by computation: whitespace, comments, misfits, marks, references, fragments, and texts of `data-mw`.
 use Rattle.std.specs.Prelude.{is_some, map, ◌≡◌, ℕ, true, false, List, [], ◌∷◌, ◌++◌, Option, Some, None, codes, refl, option_map}
 use Rattle.ve_kinds.specs.declared.kind.Kind.{Kind}
 use Rattle.ve_kinds.specs.declared.kind.Kind.TheVariants.{P, H2, Ul, Li, AlienBlock, AlienInline, InternalList}
@@ -18,7 +18,7 @@ use Rattle.model_page.specs.Fragment.{pieces_of}
 use Rattle.model_page.proofs.OnLiterals.{page_on_literals}
 use Rattle.model_page.proofs.PageExamples.{text_, open_, made_, close_, whole_, empty_list, items_in, b}
 
--- white text goes before what follows it
+-- whitespace goes before what follows it
 white : items_in (codes " <ul> <li>a</li> </ul> ") ≡ Some (
     Opening Ul empty_head [] (codes " ") (Some 0) false ∷ Opening Li empty_head [] (codes " ") (Some 1) false
     ∷ made_ 2 ∷ Char 97 [] ∷ close_ P ∷ close_ Li ∷ Closing Ul (codes " ")

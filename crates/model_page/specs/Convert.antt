@@ -27,11 +27,11 @@ marked_around around name attrs = Content (marks_at around ++ record { tag = cha
 abbrev pub element_source : List ℕ → List Spelled → Parts → List ℕ
 element_source name attrs children = start_text name attrs false ++ source_of children ++ end_text name
 
--- the place behind a start tag
+-- the place after a start tag
 abbrev pub inside_of : Place → List ℕ → List Spelled → Place
 inside_of place name attrs = past place (start_text name attrs false) []
 
--- what a branch holds, and the white text before its closing: content is a run without a paragraph
+-- what a branch holds, and the whitespace before its closing: content is a run without a paragraph
 abbrev pub inside_piece : Around → Place → Made → Made
 inside_piece (Content marks) place made = record made { later = made.run }
 inside_piece (Flow kind) place made = run_closed place made
@@ -39,7 +39,7 @@ inside_piece (Structural kind) place made = made
 
 -- ---- one part, before what the later ones make
 
--- a text in front; in a structural parent it is white
+-- a text before; in a structural parent it is whitespace
 abbrev pub words_before : Around → List ℕ → Made → Made
 words_before (Structural kind) text made = with_white (chars text) made
 words_before around text made = in_run (chars_piece (marks_at around) (characters text)) text [] made
@@ -66,8 +66,8 @@ element_made around name attrs source children later place Annotation =
 element_made around name attrs source children later place (Branch kind) =
     let at = inside_of place name attrs in
     let inside = inside_piece (around_in kind) at (children (around_in kind) at) in
-    let behind = past place source inside.owners in
-    before_run behind (node kind (head_with attrs) [] false (span_at place source) inside.later inside.pre) inside.owners (later behind)
+    let suffix = past place source inside.owners in
+    before_run suffix (node kind (head_with attrs) [] false (span_at place source) inside.later inside.pre) inside.owners (later suffix)
 element_made around name attrs source children later place (Leaf kind) = leaf_made around attrs source later place (Leaf kind)
 element_made around name attrs source children later place (Whole kind) = leaf_made around attrs source later place (Whole kind)
 

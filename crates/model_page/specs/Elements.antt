@@ -7,7 +7,7 @@ use Rattle.model_spelling.specs.Written.{decoded}
 abbrev pub is_white_char : ℕ → Bool
 is_white_char c = c == 9 || c == 10 || c == 12 || c == 32
 
--- white text has no other character
+-- whitespace has no other character
 abbrev pub is_white : List ℕ → Bool
 is_white text = list_all is_white_char text
 
@@ -20,7 +20,7 @@ abbrev pub with_letter : ℕ → List (List ℕ) → List (List ℕ)
 with_letter c [] = (c ∷ []) ∷ []
 with_letter c (word ∷ words) = (c ∷ word) ∷ words
 
--- the words between white characters; some may be empty
+-- the words between whitespace characters; some may be empty
 abbrev pub words_of : List ℕ → List (List ℕ)
 words_of [] = [] ∷ []
 words_of (c ∷ cs) = if is_white_char c then [] ∷ words_of cs else with_letter c (words_of cs)

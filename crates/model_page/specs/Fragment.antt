@@ -28,7 +28,7 @@ fits_content (Parent name attrs children later) = is_inline_tag name && fits_con
 abbrev pub may_hold_tag : Kind → List ℕ → Bool
 may_hold_tag k name = elim (kind_of_tag name) [ Some kind ↦ may_hold k kind | None ↦ false ]
 
--- all are white texts, comments, or elements that are not held and whose kind k may hold
+-- all are whitespace texts, comments, or elements that are not held and whose kind k may hold
 abbrev pub fits_structural : Kind → Parts → Bool
 fits_structural k Ended = true
 fits_structural k (Words text later) = is_white text && fits_structural k later
@@ -58,7 +58,7 @@ item_unmade (Char c marks) = Char c marks
 abbrev pub pieces_in : Kind → Parts → Made
 pieces_in k parts = let w : Place = record { at = 0; owners = []; editable = false } in inside_piece (around_in k) w (made_of (around_in k) parts w)
 
--- the items of a fragment where these kinds are open, innermost first; white text alone is a paragraph where blocks may stand
+-- the items of a fragment where these kinds are open, innermost first; whitespace alone is a paragraph where blocks may stand
 abbrev pub pieces_of : List Kind → Forest → List PlainItem
 pieces_of stack forest =
     let parts = parts_of forest in

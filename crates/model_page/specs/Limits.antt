@@ -48,14 +48,14 @@ marked_at around (Group nodes later) at = marked_at around later (at + length (s
 marked_at around (Single name attrs source later) at = marked_at around later (at + length source)
 marked_at around (Parent name attrs children later) at =
     let inside = at + length (start_text name attrs false) in
-    let behind = at + length (element_source name attrs children) in
+    let suffix = at + length (element_source name attrs children) in
     elim (fit_of around name children) [
       | Annotation ↦
           if nat_lt (length (marks_at around)) 64
-          then or_else (marked_at (marked_around around name attrs) children inside) (marked_at around later behind)
+          then or_else (marked_at (marked_around around name attrs) children inside) (marked_at around later suffix)
           else Some at
-      | Branch kind ↦ or_else (marked_at (around_in kind) children inside) (marked_at around later behind)
-      | _ ↦ marked_at around later behind
+      | Branch kind ↦ or_else (marked_at (around_in kind) children inside) (marked_at around later suffix)
+      | _ ↦ marked_at around later suffix
     ]
 
 -- of what stands in a flow parent with so many kinds open

@@ -40,7 +40,7 @@ internal_item o =
     let body = body_made (or_nothing (forest_of o.html)) in
     Opening InternalItem (item_head o.key) [] [] None false ∷ body.later.items ++ Closing InternalItem body.pre ∷ []
 
--- the internal list, after the white text at the end of the page
+-- the internal list, after the whitespace at the end of the page
 abbrev pub internal_list : List ℕ → List Owner → List PlainItem
 internal_list pre owners = Opening InternalList empty_head [] pre None false ∷ flat_map internal_item owners ++ Closing InternalList [] ∷ []
 

@@ -1,5 +1,5 @@
 -- A forest with the groups of its held elements formed: that comes before anything else.
--- A group is the most sibling elements that share one `about`, with white text alone between them. A held element without `about` is a group
+-- A group is the most sibling elements that share one `about`, with whitespace alone between them. A held element without `about` is a group
 -- by itself.
 use Rattle.std.specs.Prelude.{ℕ, Bool, false, ◌&&◌, List, [], ◌++◌, Option, Some, None, if◌then◌else◌, bytes_eq}
 use Rattle.model_spelling.specs.Grammar.{Attr, Comment, token_text, start_text, end_text}
@@ -31,7 +31,7 @@ is_shared (Some a) (Some b) = bytes_eq a b
 is_shared (Some a) None = false
 is_shared None b = false
 
--- a held element in front, in one group with the first one where they share their `about`
+-- a held element before, in one group with the first one where they share their `about`
 abbrev pub with_held : Option (List ℕ) → (Forest → Forest) → Parts → Parts
 with_held about element (Group nodes later) =
     if is_shared about (about_in nodes) then Group (element nodes) later else Group (element Nothing) (Group nodes later)

@@ -29,7 +29,7 @@ pub record Owner : Type 0 where
   pub key : RefKey
   pub html : List ℕ
 
--- What sibling parts become: the items of the run that they begin with, and its source; the items after it; the white text after these; and
+-- What sibling parts become: the items of the run that they begin with, and its source; the items after it; the whitespace after these; and
 -- the owners among them.
 pub record Made : Type 0 where
   pub run : Piece
@@ -44,7 +44,7 @@ pub record Place : Type 0 where
   pub owners : List Owner
   pub editable : Bool
 
--- the place behind this source with these owners
+-- the place after this source with these owners
 abbrev pub past : Place → List ℕ → List Owner → Place
 past place source owners = record { at = place.at + length source; owners = place.owners ++ owners; editable = place.editable }
 
@@ -59,7 +59,7 @@ no_piece = record { items = []; spans = [] }
 abbrev pub joined_pieces : Piece → Piece → Piece
 joined_pieces a b = record { items = a.items ++ b.items; spans = a.spans ++ b.spans }
 
--- a node: its opening, what is in it, and its closing after this white text
+-- a node: its opening, what is in it, and its closing after this whitespace
 abbrev pub node : Kind → Head → List Mark → Bool → Span → Piece → List ℕ → Piece
 node kind head marks generated span inside pre = record {
   items = Opening kind head marks [] None generated ∷ inside.items ++ Closing kind pre ∷ [];
@@ -72,7 +72,7 @@ leaf kind head marks span = node kind head marks false span no_piece []
 abbrev pub chars_piece : List Mark → List ℕ → Piece
 chars_piece marks text = record { items = map (λ c. Char c marks) text; spans = [] }
 
--- ---- white text before an item
+-- ---- whitespace before an item
 
 abbrev pub item_after : List ℕ → PlainItem → PlainItem
 item_after white (Opening kind head marks pre origin generated) = Opening kind head marks (white ++ pre) origin generated
@@ -83,12 +83,12 @@ abbrev pub items_after : List ℕ → List PlainItem → List PlainItem
 items_after white [] = []
 items_after white (item ∷ items) = item_after white item ∷ items
 
--- where there are no items, the white text stays
+-- where there are no items, the whitespace stays
 abbrev pub white_left : List ℕ → List PlainItem → List ℕ → List ℕ
 white_left white [] pre = white ++ pre
 white_left white (item ∷ items) pre = pre
 
--- white text in front: it belongs to the first item, or stands after what there is
+-- whitespace before: it belongs to the first item, or stands after what there is
 abbrev pub with_white : List ℕ → Made → Made
 with_white white made = record made {
   later = record { items = items_after white made.later.items; spans = made.later.spans };
@@ -108,7 +108,7 @@ paragraph_before span made = record made {
   later = joined_pieces (node P empty_head [] true span made.run []) made.later;
 }
 
--- the run of this source is over: there was none, it was white text alone, or it becomes a paragraph
+-- the run of this source is over: there was none, it was whitespace alone, or it becomes a paragraph
 abbrev pub run_ended : List ℕ → Place → Made → Made
 run_ended [] place made = run_dropped made
 run_ended (b ∷ bs) place made =
@@ -120,7 +120,7 @@ run_ended (b ∷ bs) place made =
 abbrev pub run_closed : Place → Made → Made
 run_closed place made = run_ended made.source place made
 
--- one more part of a run or of content in front
+-- one more part of a run or of content before
 abbrev pub in_run : Piece → List ℕ → List Owner → Made → Made
 in_run piece source owners made = record made {
   run = joined_pieces piece made.run;
@@ -128,13 +128,13 @@ in_run piece source owners made = record made {
   owners = owners ++ made.owners;
 }
 
--- a block in front; the place is the one behind it
+-- a block before; the place is the one after it
 abbrev pub before_run : Place → Piece → List Owner → Made → Made
 before_run place piece owners made =
     let closed = run_closed place made in
     record closed { later = joined_pieces piece closed.later; owners = owners ++ closed.owners }
 
--- a leaf in front of what is made behind it
+-- a leaf before what is made after it
 abbrev pub leaf_before : Place → Kind → Head → List Mark → List ℕ → List Owner → Made → Made
 leaf_before place kind head marks source owners made =
     if is_inline_leaf kind

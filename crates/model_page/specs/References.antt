@@ -50,7 +50,7 @@ carrier_of key refs = or_else (first_place (filter (λ r. has_key key r && r.own
 abbrev pub is_carrier : List RefAt → RefAt → Bool
 is_carrier refs r = option_same (λ m n. m == n) (carrier_of r.key refs) (Some r.at)
 
--- a body: the place of the internal item, what stands inside it, and the white text before its closing
+-- a body: the place of the internal item, what stands inside it, and the whitespace before its closing
 pub record Body : Type 0 where
   pub at : ℕ
   pub items : List PlainItem
@@ -65,9 +65,9 @@ inside_from depth (Char c marks ∷ items) = let r = inside_from depth items in 
 inside_from depth (Opening kind head marks pre origin generated ∷ items) =
     let r = inside_from (suc depth) items in (Opening kind head marks pre origin generated ∷ r.0, r.1)
 
--- the body of the internal item at this place, behind whose opening these items stand
-abbrev pub body_behind : ℕ → List PlainItem → Body
-body_behind at items = let r = inside_from 0 items in record { at = at; items = r.0; pre = r.1 }
+-- the body of the internal item at this place, after whose opening these items stand
+abbrev pub body_after : ℕ → List PlainItem → Body
+body_after at items = let r = inside_from 0 items in record { at = at; items = r.0; pre = r.1 }
 
 -- the body of the first internal item of the key
 abbrev pub body_from : ℕ → RefKey → List PlainItem → Option Body
@@ -76,7 +76,7 @@ body_from at key (Char c marks ∷ items) = body_from (suc at) key items
 body_from at key (Closing kind pre ∷ items) = body_from (suc at) key items
 body_from at key (Opening kind head marks pre origin generated ∷ items) =
     if kind_same kind InternalItem && option_same ref_key_same head.reference (Some key)
-    then Some (body_behind at items)
+    then Some (body_after at items)
     else body_from (suc at) key items
 
 abbrev pub body_of : RefKey → List PlainItem → Option Body

@@ -290,9 +290,9 @@ Ready-element_made k name attrs source children later w Annotation f t h =
 Ready-element_made k name attrs source children later w (Branch kind) f t h =
     let at = inside_of w name attrs in
     let inside = inside_piece (around_in kind) at (made_of (around_in kind) children at) in
-    let behind = past w source inside.owners in
-    Ready-before_run behind kind (head_with attrs) [] (span_at w source) inside.later inside.pre inside.owners (later behind)
-    (Shaped-inside_piece (around_in kind) at (made_of (around_in kind) children at) (Fine-made_of (around_in kind) children at)) (h behind)
+    let suffix = past w source inside.owners in
+    Ready-before_run suffix kind (head_with attrs) [] (span_at w source) inside.later inside.pre inside.owners (later suffix)
+    (Shaped-inside_piece (around_in kind) at (made_of (around_in kind) children at) (Fine-made_of (around_in kind) children at)) (h suffix)
 Ready-element_made k name attrs source children later w (Leaf kind) f t h = Ready-leaf_made k attrs source later w children (Leaf kind) f h
 Ready-element_made k name attrs source children later w (Whole kind) f t h = Ready-leaf_made k attrs source later w children (Whole kind) f h
 

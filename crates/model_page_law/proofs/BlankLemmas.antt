@@ -1,4 +1,4 @@
--- Content that has something isn't written as white text, leaves no white text, and no forest without held elements has owners.
+-- Content that has something isn't written as whitespace, leaves no whitespace, and no forest without held elements has owners.
 use Rattle.std.proofs.Common.{◌≡◌, ℕ, Bool, true, false, not, ◌||◌, ◌==◌, if◌then◌else◌, List, [], ◌∷◌, ◌++◌, map, refl, sym, ap, ◌∙◌, subst, arith, inl, inr}
 use Rattle.std.proofs.lemmas.Bool.{and_parts, cases_Bool}
 use Rattle.std.proofs.lemmas.Grind.{common_steps}
@@ -26,9 +26,9 @@ use Rattle.model_page_law.proofs.ContentLemmas.{Reads, content_items, parts_if_f
 use Rattle.model_page_law.proofs.BlockReads.{Loose, white_chars, leaf_made-inline}
 use Rattle.model_page_law.proofs.CleanLemmas.{Clean}
 
--- ---- white text
+-- ---- whitespace
 
--- white characters without marks
+-- whitespace characters without marks
 abbrev Blank : List PlainItem → Type 0
 Blank [] = Unit {0}
 Blank (Char c [] ∷ items) = (is_white_char c ≡ true) × Blank items
@@ -69,7 +69,7 @@ Blank-made_of k (RawElement name attrs text rest) l h w = absurd l
 Blank-made_of k (Void name attrs slash rest) l h w = cc
 Blank-made_of k (Element name attrs children rest) l h w = cc
 
--- content that has something is not written as white text
+-- content that has something is not written as whitespace
 pub content-not_white : (k : Kind) (n : Nodes) (f : Forest) → Loose k f → Reads [] f (content_items n) → has_content n ≡ true → is_white (spelling f) ≡ false
 content-not_white k n f l reads has =
     elim (cases_Bool (is_white (spelling f))) [
@@ -83,7 +83,7 @@ content-not_white k n f l reads has =
     true_is_false : true ≡ false → ⊥
     true_is_false e = cc
 
--- ---- content leaves no white text
+-- ---- content leaves no whitespace
 
 pub Loose-pre : (k : Kind) (f : Forest) → Loose k f → (w : Place) → (made_of (Content []) (parts_of f) w).pre ≡ []
 Loose-pre k Nothing l w = refl
@@ -142,8 +142,8 @@ element_made-owners around name attrs part children later w Annotation g h =
 element_made-owners around name attrs part children later w (Branch kind) g h =
     let at : Place = inside_of w name attrs in
     let inside : Made = inside_piece (around_in kind) at (children (around_in kind) at) in
-    let behind : Place = past w part inside.owners in
-    (λ i. (inside_piece-owners (around_in kind) at (children (around_in kind) at) ∙ g (around_in kind) at) i ++ (run_ended-owners (later behind).source behind (later behind) ∙ h behind) i)
+    let suffix : Place = past w part inside.owners in
+    (λ i. (inside_piece-owners (around_in kind) at (children (around_in kind) at) ∙ g (around_in kind) at) i ++ (run_ended-owners (later suffix).source suffix (later suffix) ∙ h suffix) i)
 element_made-owners around name attrs part children later w (Leaf kind) g h = leaf_made-owners around attrs part later w (Leaf kind) h
 element_made-owners around name attrs part children later w (Whole kind) g h = leaf_made-owners around attrs part later w (Whole kind) h
 

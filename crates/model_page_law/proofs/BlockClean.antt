@@ -21,7 +21,7 @@ use Rattle.model_page_law.proofs.FormedNodes.{IsContent, AreBlocks}
 use Rattle.model_page_law.proofs.NeatForests.{without}
 use Rattle.model_page_law.proofs.EscapeLemmas.{pick_true, pick_false}
 use Rattle.model_page_law.proofs.ContentLemmas.{content_levels, parts_if_false}
-use Rattle.model_page_law.proofs.BlockText.{white_before, in_front, block_element, blocks_forest, TextBlocks}
+use Rattle.model_page_law.proofs.BlockText.{white_before, followed_by, block_element, blocks_forest, TextBlocks}
 use Rattle.model_page_law.proofs.BlockReads.{white_bytes}
 use Rattle.model_page_law.proofs.TagLemmas.{BranchTag, branch_tag, no_paragraph}
 use Rattle.model_page_law.proofs.CleanLemmas.{CleanTag, Clean, clean_tag, leaf_texts, content-Sound}
@@ -108,21 +108,21 @@ Clean-white_before : (white : List ℕ) (f : Forest) → is_white white ≡ true
 Clean-white_before [] f h s c = c
 Clean-white_before (x ∷ xs) f h s c = (white-nonempty x xs h, ap (without 60) (white_bytes (x ∷ xs) h) ∙ white-without (x ∷ xs) h, s, c)
 
-starts-in_front : (a b : Forest) → starts_with_text a ≡ false → starts_with_text b ≡ false → starts_with_text (in_front a b) ≡ false
-starts-in_front Nothing b e f = f
-starts-in_front (Text text rest) b e f = e
-starts-in_front (Remark text rest) b e f = refl
-starts-in_front (Void name attrs slash rest) b e f = refl
-starts-in_front (RawElement name attrs text rest) b e f = refl
-starts-in_front (Element name attrs children rest) b e f = refl
+starts-followed_by : (a b : Forest) → starts_with_text a ≡ false → starts_with_text b ≡ false → starts_with_text (followed_by a b) ≡ false
+starts-followed_by Nothing b e f = f
+starts-followed_by (Text text rest) b e f = e
+starts-followed_by (Remark text rest) b e f = refl
+starts-followed_by (Void name attrs slash rest) b e f = refl
+starts-followed_by (RawElement name attrs text rest) b e f = refl
+starts-followed_by (Element name attrs children rest) b e f = refl
 
-Clean-in_front : (a b : Forest) → Clean a → Clean b → starts_with_text b ≡ false → Clean (in_front a b)
-Clean-in_front Nothing b c d e = d
-Clean-in_front (Text text rest) b c d e = (c.0, c.1, starts-in_front rest b c.2 e, Clean-in_front rest b c.3 d e)
-Clean-in_front (Remark text rest) b c d e = absurd c
-Clean-in_front (RawElement name attrs text rest) b c d e = absurd c
-Clean-in_front (Void name attrs slash rest) b c d e = (c.0, c.1, Clean-in_front rest b c.2 d e)
-Clean-in_front (Element name attrs children rest) b c d e = (c.0, c.1, Clean-in_front rest b c.2 d e)
+Clean-followed_by : (a b : Forest) → Clean a → Clean b → starts_with_text b ≡ false → Clean (followed_by a b)
+Clean-followed_by Nothing b c d e = d
+Clean-followed_by (Text text rest) b c d e = (c.0, c.1, starts-followed_by rest b c.2 e, Clean-followed_by rest b c.3 d e)
+Clean-followed_by (Remark text rest) b c d e = absurd c
+Clean-followed_by (RawElement name attrs text rest) b c d e = absurd c
+Clean-followed_by (Void name attrs slash rest) b c d e = (c.0, c.1, Clean-followed_by rest b c.2 d e)
+Clean-followed_by (Element name attrs children rest) b c d e = (c.0, c.1, Clean-followed_by rest b c.2 d e)
 
 pub record BlockClean (before : Bool) (after : List ℕ) (f : Forest) : Type 0 where
   pub clean : Clean f
@@ -143,11 +143,11 @@ Clean-inner s inside pre f g =
 -- a node that is bare, and one that isn't
 Clean-node : (before : Bool) (s : Start) (inside : Nodes) (after : List ℕ) (bare : Bool) (inner rest : Forest) → is_bare before s inside after ≡ bare → is_white s.pre ≡ true →
     CleanTag false (tag_of s.kind) (canon_attrs (map attr_bytes s.head.attrs)) → Clean inner → BlockClean bare after rest →
-    BlockClean before s.pre (white_before s.pre (if bare then in_front inner rest else block_element s inner rest))
+    BlockClean before s.pre (white_before s.pre (if bare then followed_by inner rest else block_element s inner rest))
 Clean-node before s inside after true inner rest e h t i r =
     let b = bare_is before s inside after e in
     record {
-      clean = subst (λ white. Clean (white_before white (in_front inner rest))) (sym b.white) (Clean-in_front inner rest i r.clean (r.starts refl b.after_is));
+      clean = subst (λ white. Clean (white_before white (followed_by inner rest))) (sym b.white) (Clean-followed_by inner rest i r.clean (r.starts refl b.after_is));
       starts = λ k. absurd (both k b.first);
     }
   where
@@ -185,7 +185,7 @@ blocks-alone k (Node s inside pre later) before closing st b h =
     let attrs = canon_attrs (map attr_bytes s.head.attrs) in
     let inner : Forest = inner_forest s inside pre in
     let rest : Forest = blocks_forest bare closing later in
-    ap (λ f. has_blocks_alone (parts_of (white_before s.pre f))) (pick_false bare (in_front inner rest) (block_element s inner rest) (never_bare k before s inside (white_after later closing) st b.0.held))
+    ap (λ f. has_blocks_alone (parts_of (white_before s.pre f))) (pick_false bare (followed_by inner rest) (block_element s inner rest) (never_bare k before s inside (white_after later closing) st b.0.held))
     ∙ alone-white_before s.pre (block_element s inner rest) b.0.before
     (ap has_blocks_alone (parts_if_false (is_held attrs) _ (Parent (tag_of s.kind) attrs (parts_of inner) (parts_of rest)) (clean_tag false (tag_of s.kind) s.head.attrs t.name_is t.void_is t.raw_is b.0.head.attrs).1)
     ∙ and_from (not (is_inline_tag (tag_of s.kind))) (has_blocks_alone (parts_of rest)) (ap not t.block) (blocks-alone k later bare closing st b.3 h))

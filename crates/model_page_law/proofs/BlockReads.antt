@@ -25,9 +25,9 @@ use Rattle.model_page_write.specs.Nodes.{Start}
 use Rattle.model_page_write.specs.Written.{attr_bytes}
 use Rattle.model_page_law.proofs.TileLemmas.{white-IsAscii, run_ended-source}
 use Rattle.model_page_law.proofs.ContentLemmas.{Reads}
-use Rattle.model_page_law.proofs.BlockText.{in_front, white_before, block_element}
+use Rattle.model_page_law.proofs.BlockText.{followed_by, white_before, block_element}
 
--- where so placed, the forest makes no run in front, these items (but for what is generated), and this white text after them
+-- where so placed, the forest makes no run before, these items (but for what is generated), and this whitespace after them
 pub record AtBlock (around : Around) (f : Forest) (items : List PlainItem) (pre : List ℕ) : Type 0 where
   pub source : (w : Place) → (made_of around (parts_of f) w).source ≡ []
   pub run : (w : Place) → (made_of around (parts_of f) w).run.items ≡ []
@@ -79,52 +79,52 @@ pub leaf_made-inline : (around : Around) (attrs : List Spelled) (part : List ℕ
     leaf_made around attrs part later w fit ≡ in_run (leaf kind (head_with attrs) (marks_at around) (span_at w part)) part [] (later (past w part []))
 leaf_made-inline around attrs part later w kind fit i e = ap (leaf_made around attrs part later w) e ∙ made_if_true (is_inline_leaf kind) _ _ i
 
-pub run-in_front : (k : Kind) (f rest : Forest) (items : List PlainItem) (pre : List ℕ) → Loose k f → AtBlock (Flow k) rest items pre → (w : Place) →
-    RunBefore (made_of (Flow k) (parts_of (in_front f rest)) w) (made_of (Content []) (parts_of f) w) (spelling f) items pre
-run-in_front k Nothing rest items pre l b w = record { run = b.run w; source_is = b.source w; later = b.later w; white = b.white w }
-run-in_front k (Text text more) rest items pre l b w =
+pub run-followed_by : (k : Kind) (f rest : Forest) (items : List PlainItem) (pre : List ℕ) → Loose k f → AtBlock (Flow k) rest items pre → (w : Place) →
+    RunBefore (made_of (Flow k) (parts_of (followed_by f rest)) w) (made_of (Content []) (parts_of f) w) (spelling f) items pre
+run-followed_by k Nothing rest items pre l b w = record { run = b.run w; source_is = b.source w; later = b.later w; white = b.white w }
+run-followed_by k (Text text more) rest items pre l b w =
     let p : Place = past w text [] in
-    RunBefore-in_run (chars_piece [] (characters text)) text [] (made_of (Flow k) (parts_of (in_front more rest)) p) (made_of (Content []) (parts_of more) p) (spelling more) items pre
-    (run-in_front k more rest items pre l b p)
-run-in_front k (Remark text more) rest items pre l b w = absurd l
-run-in_front k (RawElement name attrs text more) rest items pre l b w = absurd l
-run-in_front k (Void name attrs slash more) rest items pre l b w =
+    RunBefore-in_run (chars_piece [] (characters text)) text [] (made_of (Flow k) (parts_of (followed_by more rest)) p) (made_of (Content []) (parts_of more) p) (spelling more) items pre
+    (run-followed_by k more rest items pre l b p)
+run-followed_by k (Remark text more) rest items pre l b w = absurd l
+run-followed_by k (RawElement name attrs text more) rest items pre l b w = absurd l
+run-followed_by k (Void name attrs slash more) rest items pre l b w =
     let part : List ℕ = start_text name attrs slash in
     let p : Place = past w part [] in
     let fit = l.1 in
-    let flow : Place → Made = made_of (Flow k) (parts_of (in_front more rest)) in
+    let flow : Place → Made = made_of (Flow k) (parts_of (followed_by more rest)) in
     let content : Place → Made = made_of (Content []) (parts_of more) in
     let piece : Piece = leaf fit.0 (head_with attrs) [] (span_at w part) in
-    let e : made_of (Flow k) (parts_of (in_front (Void name attrs slash more) rest)) w ≡ in_run piece part [] (flow p) =
-    ap (λ x. made_of (Flow k) x w) (parts_if_false (is_held attrs) _ (Single name attrs part (parts_of (in_front more rest))) l.0)
+    let e : made_of (Flow k) (parts_of (followed_by (Void name attrs slash more) rest)) w ≡ in_run piece part [] (flow p) =
+    ap (λ x. made_of (Flow k) x w) (parts_if_false (is_held attrs) _ (Single name attrs part (parts_of (followed_by more rest))) l.0)
     ∙ leaf_made-inline (Flow k) attrs part flow w fit.0 (fit_of (Flow k) name Ended) fit.1 fit.2 in
     let g : made_of (Content []) (parts_of (Void name attrs slash more)) w ≡ in_run piece part [] (content p) =
     ap (λ x. made_of (Content []) x w) (parts_if_false (is_held attrs) _ (Single name attrs part (parts_of more)) l.0)
     ∙ leaf_made-inline (Content []) attrs part content w fit.0 (fit_of (Content []) name Ended) fit.1 fit.3 in
     subst (λ m. RunBefore m (made_of (Content []) (parts_of (Void name attrs slash more)) w) (part ++ spelling more) items pre) (sym e)
     (subst (λ m. RunBefore (in_run piece part [] (flow p)) m (part ++ spelling more) items pre) (sym g)
-    (RunBefore-in_run piece part [] (flow p) (content p) (spelling more) items pre (run-in_front k more rest items pre l.2 b p)))
-run-in_front k (Element name attrs children more) rest items pre l b w =
+    (RunBefore-in_run piece part [] (flow p) (content p) (spelling more) items pre (run-followed_by k more rest items pre l.2 b p)))
+run-followed_by k (Element name attrs children more) rest items pre l b w =
     let part : List ℕ = element_source name attrs (parts_of children) in
     let inside : Made = made_of (marked_around (Flow k) name attrs) (parts_of children) (inside_of w name attrs) in
     let p : Place = past w part inside.owners in
-    let flow : Place → Made = made_of (Flow k) (parts_of (in_front more rest)) in
+    let flow : Place → Made = made_of (Flow k) (parts_of (followed_by more rest)) in
     let content : Place → Made = made_of (Content []) (parts_of more) in
-    let e : made_of (Flow k) (parts_of (in_front (Element name attrs children more) rest)) w ≡ in_run inside.run part inside.owners (flow p) =
-    ap (λ x. made_of (Flow k) x w) (parts_if_false (is_held attrs) _ (Parent name attrs (parts_of children) (parts_of (in_front more rest))) l.0)
+    let e : made_of (Flow k) (parts_of (followed_by (Element name attrs children more) rest)) w ≡ in_run inside.run part inside.owners (flow p) =
+    ap (λ x. made_of (Flow k) x w) (parts_if_false (is_held attrs) _ (Parent name attrs (parts_of children) (parts_of (followed_by more rest))) l.0)
     ∙ ap (element_made (Flow k) name attrs part (λ a. made_of a (parts_of children)) flow w) l.1 in
     let g : made_of (Content []) (parts_of (Element name attrs children more)) w ≡ in_run inside.run part inside.owners (content p) =
     ap (λ x. made_of (Content []) x w) (parts_if_false (is_held attrs) _ (Parent name attrs (parts_of children) (parts_of more)) l.0)
     ∙ ap (element_made (Content []) name attrs part (λ a. made_of a (parts_of children)) content w) l.2 in
     let same : part ++ spelling more ≡ spelling (Element name attrs children more) = ap (λ s. start_text name attrs false ++ s ++ end_text name ++ spelling more) (parts_of-source children) in
-    subst (λ s. RunBefore (made_of (Flow k) (parts_of (in_front (Element name attrs children more) rest)) w) (made_of (Content []) (parts_of (Element name attrs children more)) w) s items pre) same
+    subst (λ s. RunBefore (made_of (Flow k) (parts_of (followed_by (Element name attrs children more) rest)) w) (made_of (Content []) (parts_of (Element name attrs children more)) w) s items pre) same
     (subst (λ m. RunBefore m (made_of (Content []) (parts_of (Element name attrs children more)) w) (part ++ spelling more) items pre) (sym e)
     (subst (λ m. RunBefore (in_run inside.run part inside.owners (flow p)) m (part ++ spelling more) items pre) (sym g)
-    (RunBefore-in_run inside.run part inside.owners (flow p) (content p) (spelling more) items pre (run-in_front k more rest items pre l.3 b p))))
+    (RunBefore-in_run inside.run part inside.owners (flow p) (content p) (spelling more) items pre (run-followed_by k more rest items pre l.3 b p))))
 
 -- ---- blocks, and what stands before them
 
--- where so placed, the forest makes these items, its run closed, and leaves this white text
+-- where so placed, the forest makes these items, its run closed, and leaves this whitespace
 pub record Closes (around : Around) (f : Forest) (items : List PlainItem) (pre : List ℕ) : Type 0 where
   pub later : (w : Place) → map item_unmade (run_closed w (made_of around (parts_of f) w)).later.items ≡ items
   pub white : (w : Place) → (run_closed w (made_of around (parts_of f) w)).pre ≡ pre
@@ -146,7 +146,7 @@ run_ended-run (b ∷ bs) w m = chosen_run (is_white (b ∷ bs)) (with_white (cha
     chosen_run true a b e f = e
     chosen_run false a b e f = f
 
--- what stands inside of a branch reads as these items, and this white text before its closing
+-- what stands inside of a branch reads as these items, and this whitespace before its closing
 pub record Inside (kind : Kind) (f : Forest) (items : List PlainItem) (pre : List ℕ) : Type 0 where
   pub later : (w : Place) → map item_unmade (inside_piece (around_in kind) w (made_of (around_in kind) (parts_of f) w)).later.items ≡ items
   pub white : (w : Place) → (inside_piece (around_in kind) w (made_of (around_in kind) (parts_of f) w)).pre ≡ pre
@@ -157,15 +157,15 @@ pub AtBlock-element : (around : Around) (s : Start) (inner rest : Forest) (xs ys
     AtBlock around (block_element s inner rest) (Opening s.kind s.head [] [] None false ∷ xs ++ Closing s.kind pre ∷ ys) closing
 AtBlock-element around s inner rest xs ys pre closing fits free head i c =
     record {
-      source = λ w. ap (λ m. m.source) (is w) ∙ run_ended-source (made_of around (parts_of rest) (behind w)).source (behind w) (made_of around (parts_of rest) (behind w));
-      run = λ w. ap (λ m. m.run.items) (is w) ∙ run_ended-run (made_of around (parts_of rest) (behind w)).source (behind w) (made_of around (parts_of rest) (behind w));
+      source = λ w. ap (λ m. m.source) (is w) ∙ run_ended-source (made_of around (parts_of rest) (suffix w)).source (suffix w) (made_of around (parts_of rest) (suffix w));
+      run = λ w. ap (λ m. m.run.items) (is w) ∙ run_ended-run (made_of around (parts_of rest) (suffix w)).source (suffix w) (made_of around (parts_of rest) (suffix w));
       later = λ w.
           ap (λ m. map item_unmade m.later.items) (is w)
-          ∙ map-append item_unmade (Opening s.kind (head_with attrs) [] [] None false ∷ (inside w).later.items ++ Closing s.kind (inside w).pre ∷ []) (run_closed (behind w) (made_of around (parts_of rest) (behind w))).later.items
-          ∙ ap (λ zs. Opening s.kind (head_with attrs) [] [] None false ∷ zs ++ map item_unmade (run_closed (behind w) (made_of around (parts_of rest) (behind w))).later.items) (map-append item_unmade (inside w).later.items (Closing s.kind (inside w).pre ∷ []))
-          ∙ (λ j. Opening s.kind (head j) [] [] None false ∷ (i.later (at w) j ++ Closing s.kind (i.white (at w) j) ∷ []) ++ c.later (behind w) j)
+          ∙ map-append item_unmade (Opening s.kind (head_with attrs) [] [] None false ∷ (inside w).later.items ++ Closing s.kind (inside w).pre ∷ []) (run_closed (suffix w) (made_of around (parts_of rest) (suffix w))).later.items
+          ∙ ap (λ zs. Opening s.kind (head_with attrs) [] [] None false ∷ zs ++ map item_unmade (run_closed (suffix w) (made_of around (parts_of rest) (suffix w))).later.items) (map-append item_unmade (inside w).later.items (Closing s.kind (inside w).pre ∷ []))
+          ∙ (λ j. Opening s.kind (head j) [] [] None false ∷ (i.later (at w) j ++ Closing s.kind (i.white (at w) j) ∷ []) ++ c.later (suffix w) j)
           ∙ ap (λ zs. Opening s.kind s.head [] [] None false ∷ zs) (append_assoc xs (Closing s.kind pre ∷ []) ys);
-      white = λ w. ap (λ m. m.pre) (is w) ∙ c.white (behind w);
+      white = λ w. ap (λ m. m.pre) (is w) ∙ c.white (suffix w);
     }
   where
     attrs : List Spelled
@@ -183,15 +183,15 @@ AtBlock-element around s inner rest xs ys pre closing fits free head i c =
     inside : Place → Made
     inside w = inside_piece (around_in s.kind) (at w) (made_of (around_in s.kind) (parts_of inner) (at w))
 
-    behind : Place → Place
-    behind w = past w part (inside w).owners
+    suffix : Place → Place
+    suffix w = past w part (inside w).owners
 
-    is : (w : Place) → made_of around (parts_of (block_element s inner rest)) w ≡ before_run (behind w) (node s.kind (head_with attrs) [] false (span_at w part) (inside w).later (inside w).pre) (inside w).owners (made_of around (parts_of rest) (behind w))
+    is : (w : Place) → made_of around (parts_of (block_element s inner rest)) w ≡ before_run (suffix w) (node s.kind (head_with attrs) [] false (span_at w part) (inside w).later (inside w).pre) (inside w).owners (made_of around (parts_of rest) (suffix w))
     is w =
         ap (λ x. made_of around x w) (parts_if_false (is_held attrs) _ (Parent name attrs (parts_of inner) (parts_of rest)) free)
         ∙ ap (element_made around name attrs part (λ a. made_of a (parts_of inner)) (made_of around (parts_of rest)) w) fits
 
--- ---- white text before blocks
+-- ---- whitespace before blocks
 
 unmade-after : (white : List ℕ) (ys : List PlainItem) → map item_unmade (items_after white ys) ≡ items_after white (map item_unmade ys)
 unmade-after white [] = refl
@@ -271,7 +271,7 @@ run_ended-paragraph (b ∷ bs) w m h = made_if_false (is_white (b ∷ bs)) _ _ h
 
 -- content before a block is read as a paragraph
 pub Closes-bare : (k : Kind) (f rest : Forest) (xs ys : List PlainItem) (pre : List ℕ) → Loose k f → is_white (spelling f) ≡ false → Reads [] f xs → AtBlock (Flow k) rest ys pre →
-    Closes (Flow k) (in_front f rest) (Opening P empty_head [] [] None false ∷ map item_unmade xs ++ Closing P [] ∷ ys) pre
+    Closes (Flow k) (followed_by f rest) (Opening P empty_head [] [] None false ∷ map item_unmade xs ++ Closing P [] ∷ ys) pre
 Closes-bare k f rest xs ys pre l h reads b = record {
   later = λ w.
       let m = made w in
@@ -284,10 +284,10 @@ Closes-bare k f rest xs ys pre l h reads b = record {
 }
   where
     made : Place → Made
-    made w = made_of (Flow k) (parts_of (in_front f rest)) w
+    made w = made_of (Flow k) (parts_of (followed_by f rest)) w
 
     before : (w : Place) → RunBefore (made w) (made_of (Content []) (parts_of f) w) (spelling f) ys pre
-    before w = run-in_front k f rest ys pre l b w
+    before w = run-followed_by k f rest ys pre l b w
 
     is : (w : Place) → run_closed w (made w) ≡ paragraph_before (span_at w (spelling f)) (made w)
     is w = ap (λ s. run_ended s w (made w)) (before w).source_is ∙ run_ended-paragraph (spelling f) w (made w) h

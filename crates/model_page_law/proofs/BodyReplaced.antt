@@ -26,10 +26,10 @@ use Rattle.model_page_law.proofs.FormLemmas.{fresh_is_read_back}
 
 -- ---- what a text begins with
 
--- it is told by its front
-same-front : (w a x y : List ℕ) → length w ≤ length a → begins_with w (a ++ x) ≡ begins_with w (a ++ y)
+-- it is told by its prefix
+same-prefix : (w a x y : List ℕ) → length w ≤ length a → begins_with w (a ++ x) ≡ begins_with w (a ++ y)
 unfolding begins_with
-same-front w a x y l = ap (pointwise nat_eq w) (take-append-le (length w) a x l ∙ sym (take-append-le (length w) a y l))
+same-prefix w a x y l = ap (pointwise nat_eq w) (take-append-le (length w) a x l ∙ sym (take-append-le (length w) a y l))
 
 start-long : (attrs : List Attr) → 6 ≤ length (start_text (codes "body") attrs false)
 start-long attrs = let l = length-append (60 ∷ codes "body" ++ flat_map attr_text attrs) (62 ∷ []) in omega (arith, l)
@@ -39,13 +39,13 @@ starts-same : (before : List ℕ) (attrs : List Attr) (x y : List ℕ) (n : ℕ)
     starts_body (drop n ((before ++ start_text (codes "body") attrs false) ++ x)) ≡ starts_body (drop n ((before ++ start_text (codes "body") attrs false) ++ y))
 starts-same before attrs x y n l =
     let start : List ℕ = start_text (codes "body") attrs false in
-    let front : List ℕ = drop n (before ++ start) in
+    let prefix : List ℕ = drop n (before ++ start) in
     let whole = length-append before start in
     let long = start-long attrs in
     let within : n ≤ length (before ++ start) = omega (arith, whole, l) in
-    let left : 6 ≤ length front = let d = length-drop n (before ++ start) in omega (arith, d, whole, long, l) in
+    let left : 6 ≤ length prefix = let d = length-drop n (before ++ start) in omega (arith, d, whole, long, l) in
     ap starts_body (drop-append-le n (before ++ start) x within)
-    ∙ (λ i. same-front (codes "<body ") front x y left i || same-front (codes "<body>") front x y left i)
+    ∙ (λ i. same-prefix (codes "<body ") prefix x y left i || same-prefix (codes "<body>") prefix x y left i)
     ∙ ap starts_body (sym (drop-append-le n (before ++ start) y within))
 
 -- ---- whether the page is whole
@@ -61,14 +61,14 @@ late (a ∷ b ∷ []) attrs x h =
     cc
 late (a ∷ b ∷ c ∷ before) attrs x h = omega arith
 
-whole-same : (front x y : List ℕ) → 9 ≤ length front → is_whole (front ++ x) ≡ is_whole (front ++ y)
-whole-same front x y l = ap (λ t. bytes_eq (map to_ascii_lowercase t) (codes "<!doctype")) (take-append-le 9 front x l ∙ sym (take-append-le 9 front y l))
+whole-same : (prefix x y : List ℕ) → 9 ≤ length prefix → is_whole (prefix ++ x) ≡ is_whole (prefix ++ y)
+whole-same prefix x y l = ap (λ t. bytes_eq (map to_ascii_lowercase t) (codes "<!doctype")) (take-append-le 9 prefix x l ∙ sym (take-append-le 9 prefix y l))
 
 -- ---- a whole page
 
--- what stands behind so many bytes of three parts
-behind : (a b c : List ℕ) (n m : ℕ) → n ≡ length a + (length b + m) → drop n (a ++ (b ++ c)) ≡ drop m c
-behind a b c n m e = ap (λ k. drop k (a ++ (b ++ c))) e ∙ drop-append-add a (b ++ c) (length b + m) ∙ drop-append-add b c m
+-- what stands after so many bytes of three parts
+suffix : (a b c : List ℕ) (n m : ℕ) → n ≡ length a + (length b + m) → drop n (a ++ (b ++ c)) ≡ drop m c
+suffix a b c n m e = ap (λ k. drop k (a ++ (b ++ c))) e ∙ drop-append-add a (b ++ c) (length b + m) ∙ drop-append-add b c m
 
 -- its body in words, with another text
 replaced-whole : (page : List ℕ) (from to : ℕ) (text : List ℕ) → is_whole page ≡ true → IsBody page from to → body_at (take from page ++ text ++ drop to page) ≡ Ok (from, from + length text)
@@ -79,10 +79,10 @@ replaced-whole page from to text w b =
     let tail : List ℕ = close ++ b.after in
     let page_is : page ≡ head ++ (b.body ++ tail) = b.page_is ∙ append_assoc (head ++ b.body) close b.after ∙ append_assoc head b.body tail in
     let at : from ≡ length head = omega (arith, b.from_is, length-append b.before start) in
-    let front : take from page ≡ head = ap (λ n. take n page) at ∙ ap (take (length head)) page_is ∙ take-append_seam head (b.body ++ tail) in
-    let rest : drop to page ≡ tail = ap (drop to) page_is ∙ behind head b.body tail to 0 (omega (arith, at, b.to_is)) in
+    let prefix : take from page ≡ head = ap (λ n. take n page) at ∙ ap (take (length head)) page_is ∙ take-append_seam head (b.body ++ tail) in
+    let rest : drop to page ≡ tail = ap (drop to) page_is ∙ suffix head b.body tail to 0 (omega (arith, at, b.to_is)) in
     let new : List ℕ = take from page ++ text ++ drop to page in
-    let new_is : new ≡ head ++ (text ++ tail) = (λ i. front i ++ text ++ rest i) ∙ append_assoc head text tail in
+    let new_is : new ≡ head ++ (text ++ tail) = (λ i. prefix i ++ text ++ rest i) ∙ append_assoc head text tail in
     let still : is_whole (head ++ (b.body ++ tail)) ≡ true = ap is_whole (sym page_is) ∙ w in
     let three = late b.before b.attrs (b.body ++ tail) still in
     let long : 9 ≤ length head = omega (arith, three, start-long b.attrs, length-append b.before start) in
@@ -104,7 +104,7 @@ replaced-whole page from to text w b =
       last = λ n l.
           let m : ℕ = n - (from + length text) in
           ap (λ t. ends_body (drop n t)) new_is
-          ∙ ap ends_body (behind head text tail n m (omega (arith, at, l)) ∙ sym (behind head b.body tail (to + m) m (omega (arith, at, b.to_is))))
+          ∙ ap ends_body (suffix head text tail n m (omega (arith, at, l)) ∙ sym (suffix head b.body tail (to + m) m (omega (arith, at, b.to_is))))
           ∙ ap (λ t. ends_body (drop (to + m) t)) (sym page_is)
           ∙ b.last (to + m) (omega (arith, l));
     })

@@ -1,4 +1,4 @@
--- The body of a page that is UTF-8 is UTF-8: it begins behind a tag, and ends before one.
+-- The body of a page that is UTF-8 is UTF-8: it begins after a tag, and ends before one.
 use Rattle.std.proofs.Common.{◌≡◌, ℕ, ◌+◌, Bool, true, false, cond, ◌||◌, ◌&&◌, List, [], ◌∷◌, ◌++◌, length, drop, Option, Some, None, Result, Ok, Err, refl, sym, ap, ◌∙◌, subst, append_assoc, arith, inl, inr, eqb-true, add-zero, get_or, IsUtf8, IsCharBoundary}
 use Rattle.std.specs.Prelude.{codes, nat_eq}
 use Rattle.std.specs.List.{flat_map}
@@ -18,10 +18,10 @@ use Rattle.model_page.specs.PageItems.{slice}
 -- ---- where a test first or last holds
 
 record FoundAt (test : List ℕ → Bool) (at : ℕ) (text : List ℕ) (p : ℕ) : Type 0 where
-  front : List ℕ
+  prefix : List ℕ
   rest : List ℕ
-  text_is : text ≡ front ++ rest
-  place_is : p ≡ at + length front
+  text_is : text ≡ prefix ++ rest
+  place_is : p ≡ at + length prefix
   holds : test rest ≡ true
 
 some_same : (a b : ℕ) → Some a ≡ Some b → a ≡ b
@@ -31,10 +31,10 @@ none_never : (a : ℕ) → None ≡ Some a → ⊥
 none_never a e = cc
 
 found_later : (test : List ℕ → Bool) (at b : ℕ) (bs : List ℕ) (p : ℕ) → FoundAt test (at + 1) bs p → FoundAt test at (b ∷ bs) p
-found_later test at b bs p f = record { front = b ∷ f.front; rest = f.rest; text_is = ap (λ s. b ∷ s) f.text_is; place_is = omega (arith, f.place_is); holds = f.holds }
+found_later test at b bs p f = record { prefix = b ∷ f.prefix; rest = f.rest; text_is = ap (λ s. b ∷ s) f.text_is; place_is = omega (arith, f.place_is); holds = f.holds }
 
 found_here : (test : List ℕ → Bool) (at : ℕ) (text : List ℕ) (p : ℕ) → at ≡ p → test text ≡ true → FoundAt test at text p
-found_here test at text p e h = record { front = []; rest = text; text_is = refl; place_is = omega (arith, e); holds = h }
+found_here test at text p e h = record { prefix = []; rest = text; text_is = refl; place_is = omega (arith, e); holds = h }
 
 first_by : (test : List ℕ → Bool) (at b : ℕ) (bs : List ℕ) (p : ℕ) (c : Bool) → test (b ∷ bs) ≡ c → cond c (Some at) (first_place test (at + 1) bs) ≡ Some p → (first_place test (at + 1) bs ≡ Some p → FoundAt test (at + 1) bs p) → FoundAt test at (b ∷ bs) p
 first_by test at b bs p true h e rec = found_here test at (b ∷ bs) p (some_same at p e) h
@@ -84,7 +84,7 @@ body-ends text h = begins-tag (codes "/body>") text h
 -- ---- what ends with `>`
 
 abbrev pub EndsTag : List ℕ → Type 0
-EndsTag text = (front : List ℕ) × (text ≡ front ++ (62 ∷ []))
+EndsTag text = (prefix : List ℕ) × (text ≡ prefix ++ (62 ∷ []))
 
 pub start-ends : (name : List ℕ) (attrs : List Attr) (slash : Bool) → EndsTag (start_text name attrs slash)
 start-ends name attrs true = ((60 ∷ name ++ flat_map attr_text attrs) ++ (47 ∷ []), sym (append_assoc (60 ∷ name ++ flat_map attr_text attrs) (47 ∷ []) (62 ∷ [])))
@@ -115,18 +115,18 @@ at_seam : (a b : List ℕ) → get_or (a ++ b) (length a) 0 ≡ get_or b 0 0
 at_seam a b = ap (λ (k : ℕ). get_or (a ++ b) k 0) (sym (add-zero (length a))) ∙ sym (get_or-drop (length a) (a ++ b) 0 0) ∙ ap (λ (l : List ℕ). get_or l 0 0) (drop-append_seam a b)
 
 -- a boundary before `<`
-before_tag : (page front rest : List ℕ) → page ≡ front ++ rest → BeginsTag rest → IsCharBoundary page (length front)
-before_tag page front rest e t =
-    let whole : page ≡ front ++ (60 ∷ t.0) = e ∙ ap (λ s. front ++ s) t.1 in
-    let byte : get_or page (length front) 0 ≡ 60 = ap (λ s. get_or s (length front) 0) whole ∙ at_seam front (60 ∷ t.0) in
-    IsCharBoundary-before_ascii page (length front) (omega (arith, ap length whole, length-append front (60 ∷ t.0))) (omega (arith, byte))
+before_tag : (page prefix rest : List ℕ) → page ≡ prefix ++ rest → BeginsTag rest → IsCharBoundary page (length prefix)
+before_tag page prefix rest e t =
+    let whole : page ≡ prefix ++ (60 ∷ t.0) = e ∙ ap (λ s. prefix ++ s) t.1 in
+    let byte : get_or page (length prefix) 0 ≡ 60 = ap (λ s. get_or s (length prefix) 0) whole ∙ at_seam prefix (60 ∷ t.0) in
+    IsCharBoundary-before_ascii page (length prefix) (omega (arith, ap length whole, length-append prefix (60 ∷ t.0))) (omega (arith, byte))
 
--- a boundary behind `>`
-after_tag : (page front rest : List ℕ) → IsUtf8 page → page ≡ front ++ rest → EndsTag front → IsCharBoundary page (length front)
-after_tag page front rest u e t =
+-- a boundary after `>`
+after_tag : (page prefix rest : List ℕ) → IsUtf8 page → page ≡ prefix ++ rest → EndsTag prefix → IsCharBoundary page (length prefix)
+after_tag page prefix rest u e t =
     let whole : page ≡ t.0 ++ (62 ∷ rest) = e ∙ ap (λ s. s ++ rest) t.1 ∙ append_assoc t.0 (62 ∷ []) rest in
     let byte : get_or page (length t.0) 0 ≡ 62 = ap (λ s. get_or s (length t.0) 0) whole ∙ at_seam t.0 (62 ∷ rest) in
-    let len : length t.0 + 1 ≡ length front = omega (arith, ap length t.1, length-append t.0 (62 ∷ [])) in
+    let len : length t.0 + 1 ≡ length prefix = omega (arith, ap length t.1, length-append t.0 (62 ∷ [])) in
     subst (IsCharBoundary page) len (IsCharBoundary-after_ascii page (length t.0) u (omega (arith, ap length whole, length-append t.0 (62 ∷ rest))) (omega (arith, byte)))
 
 ends-longer : (a b : List ℕ) → EndsTag b → EndsTag (a ++ b)
@@ -135,40 +135,40 @@ ends-longer a b t = (a ++ t.0, ap (λ s. a ++ s) t.1 ∙ sym (append_assoc a t.0
 abbrev body_to : ℕ → ℕ → Result (ℕ × ℕ) ScanFault
 body_to from to = Ok (from, to)
 
-abbrev body_behind : List ℕ → Token × ℕ → Result (ℕ × ℕ) ScanFault
-body_behind page head = or_no_body head.1 (last_place ends_body head.1 (drop head.1 page)) >>= body_to head.1
+abbrev body_after : List ℕ → Token × ℕ → Result (ℕ × ℕ) ScanFault
+body_after page head = or_no_body head.1 (last_place ends_body head.1 (drop head.1 page)) >>= body_to head.1
 
 abbrev body_from : List ℕ → ℕ → Result (ℕ × ℕ) ScanFault
-body_from page tag = tag_at tag (drop (tag + 1) page) >>= body_behind page
+body_from page tag = tag_at tag (drop (tag + 1) page) >>= body_after page
 
 abbrev pub Cut : List ℕ → ℕ → ℕ → Type 0
 Cut page from to = IsCharBoundary page from × IsCharBoundary page to
 
 -- the page up to the end of the body's start tag, and the rest
 abbrev Cut_at : List ℕ → ℕ → Type 0
-Cut_at page at = (front : List ℕ) × (rest : List ℕ) × (page ≡ front ++ rest) × (at ≡ length front) × EndsTag front
+Cut_at page at = (prefix : List ℕ) × (rest : List ℕ) × (page ≡ prefix ++ rest) × (at ≡ length prefix) × EndsTag prefix
 
 end-cut : (page : List ℕ) (at from to : ℕ) (p : Option ℕ) → IsUtf8 page → Cut_at page at → last_place ends_body at (drop at page) ≡ p → (or_no_body at p >>= body_to at) ≡ ok {A = ℕ × ℕ} (from, to) → Cut page from to
 end-cut page at from to None u c e h = absurd (not_ok (or_no_body {A = ℕ} at None >>= body_to at) _ (from, to) refl h)
-end-cut page at from to (Some p) u (front, rest, page_is, at_is, ends) e h =
+end-cut page at from to (Some p) u (prefix, rest, page_is, at_is, ends) e h =
     let same = ok_same {A = ℕ × ℕ} (at, p) (from, to) h in
-    let a : length front ≡ from = sym at_is ∙ ap (λ (x : ℕ × ℕ). x.0) same in
+    let a : length prefix ≡ from = sym at_is ∙ ap (λ (x : ℕ × ℕ). x.0) same in
     let b : p ≡ to = ap (λ (x : ℕ × ℕ). x.1) same in
-    let behind : drop at page ≡ rest = ap (λ k. drop k page) at_is ∙ ap (drop (length front)) page_is ∙ drop-append_seam front rest in
-    let f = last_found ends_body at rest p (sym (ap (last_place ends_body at) behind) ∙ e) in
-    let whole : page ≡ (front ++ f.front) ++ f.rest = page_is ∙ ap (λ s. front ++ s) f.text_is ∙ sym (append_assoc front f.front f.rest) in
-    let long : length (front ++ f.front) ≡ to = omega (arith, length-append front f.front, f.place_is, at_is, b) in
-    (subst (IsCharBoundary page) a (after_tag page front rest u page_is ends), subst (IsCharBoundary page) long (before_tag page (front ++ f.front) f.rest whole (body-ends f.rest f.holds)))
+    let suffix : drop at page ≡ rest = ap (λ k. drop k page) at_is ∙ ap (drop (length prefix)) page_is ∙ drop-append_seam prefix rest in
+    let f = last_found ends_body at rest p (sym (ap (last_place ends_body at) suffix) ∙ e) in
+    let whole : page ≡ (prefix ++ f.prefix) ++ f.rest = page_is ∙ ap (λ s. prefix ++ s) f.text_is ∙ sym (append_assoc prefix f.prefix f.rest) in
+    let long : length (prefix ++ f.prefix) ≡ to = omega (arith, length-append prefix f.prefix, f.place_is, at_is, b) in
+    (subst (IsCharBoundary page) a (after_tag page prefix rest u page_is ends), subst (IsCharBoundary page) long (before_tag page (prefix ++ f.prefix) f.rest whole (body-ends f.rest f.holds)))
 
-head-cut : (page : List ℕ) (tag from to : ℕ) (f : FoundAt starts_body 0 page tag) (more : List ℕ) → f.rest ≡ 60 ∷ more → (h : Result (Token × ℕ) ScanFault) → IsUtf8 page → tag_at tag more ≡ h → (h >>= body_behind page) ≡ ok {A = ℕ × ℕ} (from, to) → Cut page from to
-head-cut page tag from to f more m (Err x) u e h = absurd (not_ok (Err x >>= body_behind page) x (from, to) refl h)
+head-cut : (page : List ℕ) (tag from to : ℕ) (f : FoundAt starts_body 0 page tag) (more : List ℕ) → f.rest ≡ 60 ∷ more → (h : Result (Token × ℕ) ScanFault) → IsUtf8 page → tag_at tag more ≡ h → (h >>= body_after page) ≡ ok {A = ℕ × ℕ} (from, to) → Cut page from to
+head-cut page tag from to f more m (Err x) u e h = absurd (not_ok (Err x >>= body_after page) x (from, to) refl h)
 head-cut page tag from to f more m (Ok head) u e h =
     let r = law_token_found tag (60 ∷ more) head.0 head.1 (read-tag tag more head.0 head.1 e) in
     let start : List ℕ = token_text head.0 in
-    let whole : page ≡ (f.front ++ start) ++ r.rest = f.text_is ∙ ap (λ s. f.front ++ s) (m ∙ r.text_is) ∙ sym (append_assoc f.front start r.rest) in
-    let at : head.1 ≡ length (f.front ++ start) = omega (arith, r.to_is, f.place_is, length-append f.front start) in
+    let whole : page ≡ (f.prefix ++ start) ++ r.rest = f.text_is ∙ ap (λ s. f.prefix ++ s) (m ∙ r.text_is) ∙ sym (append_assoc f.prefix start r.rest) in
+    let at : head.1 ≡ length (f.prefix ++ start) = omega (arith, r.to_is, f.place_is, length-append f.prefix start) in
     end-cut page head.1 from to (last_place ends_body head.1 (drop head.1 page)) u
-    (f.front ++ start, r.rest, whole, at, ends-longer f.front start (token-ends head.0 r.rest more r.allowed r.text_is))
+    (f.prefix ++ start, r.rest, whole, at, ends-longer f.prefix start (token-ends head.0 r.rest more r.allowed r.text_is))
     refl h
 
 tag-cut : (page : List ℕ) (from to : ℕ) (t : Option ℕ) → IsUtf8 page → first_place starts_body 0 page ≡ t → (or_no_body 0 t >>= body_from page) ≡ ok {A = ℕ × ℕ} (from, to) → Cut page from to
@@ -176,9 +176,9 @@ tag-cut page from to None u e h = absurd (not_ok (or_no_body {A = ℕ} 0 None >>
 tag-cut page from to (Some tag) u e h =
     let f = first_found starts_body 0 page tag e in
     let b = body-begins f.rest f.holds in
-    let whole : page ≡ (f.front ++ (60 ∷ [])) ++ b.0 = f.text_is ∙ ap (λ s. f.front ++ s) b.1 ∙ sym (append_assoc f.front (60 ∷ []) b.0) in
-    let place : tag + 1 ≡ length (f.front ++ (60 ∷ [])) = omega (arith, f.place_is, length-append f.front (60 ∷ [])) in
-    let more : drop (tag + 1) page ≡ b.0 = ap (λ k. drop k page) place ∙ ap (drop (length (f.front ++ (60 ∷ [])))) whole ∙ drop-append_seam (f.front ++ (60 ∷ [])) b.0 in
+    let whole : page ≡ (f.prefix ++ (60 ∷ [])) ++ b.0 = f.text_is ∙ ap (λ s. f.prefix ++ s) b.1 ∙ sym (append_assoc f.prefix (60 ∷ []) b.0) in
+    let place : tag + 1 ≡ length (f.prefix ++ (60 ∷ [])) = omega (arith, f.place_is, length-append f.prefix (60 ∷ [])) in
+    let more : drop (tag + 1) page ≡ b.0 = ap (λ k. drop k page) place ∙ ap (drop (length (f.prefix ++ (60 ∷ [])))) whole ∙ drop-append_seam (f.prefix ++ (60 ∷ [])) b.0 in
     head-cut page tag from to f b.0 b.1 (tag_at tag (drop (tag + 1) page)) u (ap (tag_at tag) (sym more)) h
 
 page-cut : (page : List ℕ) (from to : ℕ) (c : Bool) → IsUtf8 page → cond c (or_no_body 0 (first_place starts_body 0 page) >>= body_from page) (ok {A = ℕ × ℕ} (0, length page)) ≡ ok {A = ℕ × ℕ} (from, to) → Cut page from to

@@ -31,7 +31,7 @@ pub differ : (xs ys : List ℕ) (b : Bool) → bytes_eq xs ys ≡ b → (xs ≡ 
 differ xs ys true e other = absurd (other ((bytes_eq-Decides xs ys).0 e))
 differ xs ys false e other = refl
 
--- another member in front
+-- another member before
 skips : (q l : List ℕ) (d : Data) (ms : Members) → bytes_eq q l ≡ false → get_member q (member l d ms) ≡ get_member q ms
 skips q l d ms other = either (slice_cmp nat_cmp q l) (get_member q ms) (Some d) (is_eq-slice_cmp q l ∙ other)
 

@@ -41,12 +41,12 @@ abbrev pub wrapped : Mark → Forest → List Forest → Levels
 wrapped m here [] = record { here = mark_element m here Nothing; outer = [] }
 wrapped m here (o ∷ outer) = record { here = mark_element m here o; outer = outer }
 
--- these marks are opened in front, the first outermost
+-- these marks are opened before, the first outermost
 abbrev pub opens : List Mark → Levels → Levels
 opens [] e = e
 opens (m ∷ ms) e = let inner = opens ms e in wrapped m inner.here inner.outer
 
--- these marks are closed in front, the first outermost
+-- these marks are closed before, the first outermost
 abbrev pub closes : List Mark → Levels → Levels
 closes [] e = e
 closes (m ∷ ms) e = closes ms (record { here = Nothing; outer = e.here ∷ e.outer })
@@ -107,7 +107,7 @@ Reads-mark m ms inside rest xs ys g child f h w =
     ∙ ap (λ n. (made_of (Content (ms ++ n ∷ [])) (parts_of inside) w1).run.items ++ (made_of (Content ms) (parts_of rest) w2).run.items) g.same
     ∙ (λ i. f w1 i ++ h w2 i)
 
--- a character in front of text or of anything else
+-- a character before text or of anything else
 abbrev pub LettersBack : Type 0
 LettersBack = (c : ℕ) (t : List ℕ) → IsScalar c → characters (letter c ++ t) ≡ c ∷ characters t
 
@@ -116,7 +116,7 @@ unfolding chars decoded_from
 characters-nil = refl
 
 letter-alone : LettersBack → (c : ℕ) → IsScalar c → characters (letter c) ≡ c ∷ []
-letter-alone back c is = ap characters (sym (append-nil (letter c))) ∙ back c [] is ∙ ap (λ cs. c ∷ cs) characters-nil
+letter-alone suffix c is = ap characters (sym (append-nil (letter c))) ∙ suffix c [] is ∙ ap (λ cs. c ∷ cs) characters-nil
 
 same_place : (w : Place) (a t : List ℕ) → past (past w a []) t [] ≡ past w (a ++ t) []
 same_place w a t =
@@ -125,20 +125,20 @@ same_place w a t =
     λ i. record { at = e i; owners = f i; editable = w.editable }
 
 Reads-first : LettersBack → (c : ℕ) → IsScalar c → (ms : List Mark) (f : Forest) (xs : List PlainItem) → Reads ms f xs → Reads ms (Text (letter c) f) (Char c ms ∷ xs)
-Reads-first back c is ms f xs h w =
-    ap (λ cs. map (λ d. Char d ms) cs ++ (made_of (Content ms) (parts_of f) (past w (letter c) [])).run.items) (letter-alone back c is)
+Reads-first suffix c is ms f xs h w =
+    ap (λ cs. map (λ d. Char d ms) cs ++ (made_of (Content ms) (parts_of f) (past w (letter c) [])).run.items) (letter-alone suffix c is)
     ∙ ap (λ ys. Char c ms ∷ ys) (h (past w (letter c) []))
 
 pub Reads-text : LettersBack → (c : ℕ) → IsScalar c → (ms : List Mark) (f : Forest) (xs : List PlainItem) → Reads ms f xs → Reads ms (with_text (letter c) f) (Char c ms ∷ xs)
-Reads-text back c is ms (Text t rest) xs h w =
-    ap (λ cs. map (λ d. Char d ms) cs ++ (made_of (Content ms) (parts_of rest) (past w (letter c ++ t) [])).run.items) (back c t is)
+Reads-text suffix c is ms (Text t rest) xs h w =
+    ap (λ cs. map (λ d. Char d ms) cs ++ (made_of (Content ms) (parts_of rest) (past w (letter c ++ t) [])).run.items) (suffix c t is)
     ∙ ap (λ p. Char c ms ∷ map (λ d. Char d ms) (characters t) ++ (made_of (Content ms) (parts_of rest) p).run.items) (sym (same_place w (letter c) t))
     ∙ ap (λ ys. Char c ms ∷ ys) (h (past w (letter c) []))
-Reads-text back c is ms Nothing xs h w = Reads-first back c is ms Nothing xs h w
-Reads-text back c is ms (Remark text rest) xs h w = Reads-first back c is ms (Remark text rest) xs h w
-Reads-text back c is ms (Void name attrs slash rest) xs h w = Reads-first back c is ms (Void name attrs slash rest) xs h w
-Reads-text back c is ms (RawElement name attrs text rest) xs h w = Reads-first back c is ms (RawElement name attrs text rest) xs h w
-Reads-text back c is ms (Element name attrs children rest) xs h w = Reads-first back c is ms (Element name attrs children rest) xs h w
+Reads-text suffix c is ms Nothing xs h w = Reads-first suffix c is ms Nothing xs h w
+Reads-text suffix c is ms (Remark text rest) xs h w = Reads-first suffix c is ms (Remark text rest) xs h w
+Reads-text suffix c is ms (Void name attrs slash rest) xs h w = Reads-first suffix c is ms (Void name attrs slash rest) xs h w
+Reads-text suffix c is ms (RawElement name attrs text rest) xs h w = Reads-first suffix c is ms (RawElement name attrs text rest) xs h w
+Reads-text suffix c is ms (Element name attrs children rest) xs h w = Reads-first suffix c is ms (Element name attrs children rest) xs h w
 
 made_if_true : (c : Bool) (a b : Made) → c ≡ true → (if c then a else b) ≡ a
 made_if_true true a b e = refl
@@ -154,12 +154,12 @@ Reads-leaf s f xs g h w =
     let attrs = canon_attrs (map attr_bytes s.head.attrs) in
     let source : List ℕ = start_text name attrs false in
     let later : Place → Made = made_of (Content s.marks) (parts_of f) in
-    let behind : Place = past w source [] in
+    let beyond : Place = past w source [] in
     ap (λ p. (made_of (Content s.marks) p w).run.items) (parts_if_false (is_held attrs) _ (Single name attrs source (parts_of f)) g.free)
     ∙ ap (λ t. (leaf_made (Content s.marks) attrs source later w t).run.items) (g.fits s.marks)
-    ∙ ap (λ m. m.run.items) (made_if_true (is_inline_leaf s.kind) (in_run (leaf s.kind (head_with attrs) s.marks (span_at w source)) source [] (later behind)) _ g.inline)
-    ∙ ap (λ k. Opening s.kind k s.marks [] None false ∷ Closing s.kind [] ∷ (later behind).run.items) g.same
-    ∙ ap (λ ys. leaf_items s ys) (h behind)
+    ∙ ap (λ m. m.run.items) (made_if_true (is_inline_leaf s.kind) (in_run (leaf s.kind (head_with attrs) s.marks (span_at w source)) source [] (later beyond)) _ g.inline)
+    ∙ ap (λ k. Opening s.kind k s.marks [] None false ∷ Closing s.kind [] ∷ (later beyond).run.items) g.same
+    ∙ ap (λ ys. leaf_items s ys) (h beyond)
 
 -- ---- levels
 
@@ -181,19 +181,19 @@ same_marks ms ns here (o ∷ outer) xs e r = (
 )
 
 -- at the innermost level
-at_level : (ms : List Mark) (here here2 : Forest) (outer : List Forest) (xs : List PlainItem) (front : List PlainItem) →
-    ((zs : List PlainItem) → Reads (take (length outer) ms) here zs → Reads (take (length outer) ms) here2 (front ++ zs)) →
-    ReadsLevels ms here outer xs → ReadsLevels ms here2 outer (front ++ xs)
-at_level ms here here2 [] xs front f r = f xs r
-at_level ms here here2 (o ∷ outer) xs front f r = (
-  front ++ r.0,
+at_level : (ms : List Mark) (here here2 : Forest) (outer : List Forest) (xs : List PlainItem) (prefix : List PlainItem) →
+    ((zs : List PlainItem) → Reads (take (length outer) ms) here zs → Reads (take (length outer) ms) here2 (prefix ++ zs)) →
+    ReadsLevels ms here outer xs → ReadsLevels ms here2 outer (prefix ++ xs)
+at_level ms here here2 [] xs prefix f r = f xs r
+at_level ms here here2 (o ∷ outer) xs prefix f r = (
+  prefix ++ r.0,
   r.1,
-  ap (λ ys. front ++ ys) r.2 ∙ sym (append_assoc front r.0 r.1),
+  ap (λ ys. prefix ++ ys) r.2 ∙ sym (append_assoc prefix r.0 r.1),
   f r.0 r.3,
   r.4,
 )
 
--- a level is closed in front
+-- a level is closed before
 closed_level : (ms : List Mark) (here : Forest) (outer : List Forest) (xs : List PlainItem) → ReadsLevels ms here outer xs → ReadsLevels ms Nothing (here ∷ outer) xs
 closed_level ms here outer xs r = ([], xs, refl, Reads-nothing (take (suc (length outer)) ms), r)
 
@@ -263,7 +263,7 @@ length-closes (c ∷ cs) e = let l = length-closes cs (record { here = Nothing; 
 
 -- both lists begin with the same marks, so many
 pub record Common (opened marks : List Mark) (n : ℕ) : Type 0 where
-  pub front : (k : ℕ) → k ≤ n → take k marks ≡ take k opened
+  pub prefix : (k : ℕ) → k ≤ n → take k marks ≡ take k opened
   pub left : n + length (drop n opened) ≡ length opened
   pub right : n + length (drop n marks) ≡ length marks
 
@@ -276,7 +276,7 @@ take_none zero a b le = refl
 take_none (suc k) a b le = absurd (omega (arith, le))
 
 Common-zero : (opened marks : List Mark) → Common opened marks 0
-Common-zero opened marks = record { front = λ k le. take_none k marks opened le; left = omega arith; right = omega arith }
+Common-zero opened marks = record { prefix = λ k le. take_none k marks opened le; left = omega arith; right = omega arith }
 
 take_both : (m n : Mark) (opened marks : List Mark) (c k : ℕ) → m ≡ n → ((j : ℕ) → j ≤ c → take j marks ≡ take j opened) → k ≤ suc c → take k (n ∷ marks) ≡ take k (m ∷ opened)
 take_both m n opened marks c zero e f le = refl
@@ -289,7 +289,7 @@ Common-count mean (m ∷ opened) (n ∷ marks) =
     let c = Common-count mean opened marks in
     common-chosen (m ∷ opened) (n ∷ marks) (mark_same m n) (suc (common_count opened marks))
     (λ h. record {
-      front = λ k le. take_both m n opened marks (common_count opened marks) k (mean m n h) c.front le;
+      prefix = λ k le. take_both m n opened marks (common_count opened marks) k (mean m n h) c.prefix le;
       left = let l = c.left in omega (arith, l);
       right = let r = c.right in omega (arith, r);
     })
@@ -308,7 +308,7 @@ changes-AtMarks mean opened marks e xs g child r =
     let o = opens-Opened (drop n marks) marks n e xs (GoodMarks-drop n marks g) refl (c.right ∙ sym r.level) child r.reads in
     let inner : Levels = opens (drop n marks) e in
     record {
-      reads = closes-ReadsLevels (drop n opened) opened inner xs (same_marks marks opened inner.here inner.outer xs (λ k le. let l = o.level in c.front k (omega (arith, le, l))) o.reads);
+      reads = closes-ReadsLevels (drop n opened) opened inner xs (same_marks marks opened inner.here inner.outer xs (λ k le. let l = o.level in c.prefix k (omega (arith, le, l))) o.reads);
       level = let l = length-closes (drop n opened) inner in let m = o.level in let d = c.left in omega (arith, l, m, d);
     }
 
@@ -338,25 +338,25 @@ child-text text (RawElement name attrs t rest) = refl
 child-text text (Element name attrs children rest) = refl
 
 pub content-AtMarks : MarksMean → LettersBack → (opened : List Mark) (n : Nodes) → GoodContent n → AtMarks opened (content_levels opened n) (content_items n)
-content-AtMarks mean back opened Empty g = record {
+content-AtMarks mean suffix opened Empty g = record {
   reads = closes-ReadsLevels opened opened (record { here = Nothing; outer = [] }) [] (Reads-nothing []);
   level = let l = length-closes opened (record { here = Nothing; outer = [] }) in omega (arith, l);
 }
-content-AtMarks mean back opened (Letter c marks later) g =
+content-AtMarks mean suffix opened (Letter c marks later) g =
     let e : Levels = content_levels marks later in
-    let r = content-AtMarks mean back marks later g.2 in
+    let r = content-AtMarks mean suffix marks later g.2 in
     let whole : take (length e.outer) marks ≡ marks = take_whole marks (length e.outer) r.level in
     changes-AtMarks mean opened marks (record { here = with_text (letter c) e.here; outer = e.outer }) (Char c marks ∷ content_items later) g.0 (child-text (letter c) e.here)
     (record {
       reads =
           subst (λ l. ReadsLevels marks (with_text (letter c) e.here) e.outer (Char c l ∷ content_items later)) whole
           (at_level marks e.here (with_text (letter c) e.here) e.outer (content_items later) (Char c (take (length e.outer) marks) ∷ [])
-          (λ zs h. Reads-text back c g.1 (take (length e.outer) marks) e.here zs h) r.reads);
+          (λ zs h. Reads-text suffix c g.1 (take (length e.outer) marks) e.here zs h) r.reads);
       level = r.level;
     })
-content-AtMarks mean back opened (Node s inside pre later) g =
+content-AtMarks mean suffix opened (Node s inside pre later) g =
     let e : Levels = content_levels s.marks later in
-    let r = content-AtMarks mean back s.marks later g.2 in
+    let r = content-AtMarks mean suffix s.marks later g.2 in
     let whole : take (length e.outer) s.marks ≡ s.marks = take_whole s.marks (length e.outer) r.level in
     changes-AtMarks mean opened s.marks (record { here = leaf_element s e.here; outer = e.outer }) (leaf_items s (content_items later)) g.0
     (ap has_child (parts_if_false (is_held (canon_attrs (map attr_bytes s.head.attrs))) _ (Single (tag_of s.kind) (canon_attrs (map attr_bytes s.head.attrs)) (start_text (tag_of s.kind) (canon_attrs (map attr_bytes s.head.attrs)) false) (parts_of e.here)) g.1.free))
@@ -369,7 +369,7 @@ content-AtMarks mean back opened (Node s inside pre later) g =
 
 -- content that is written is read as that content
 pub content-Reads : MarksMean → LettersBack → (n : Nodes) → GoodContent n → Reads [] (content_levels [] n).here (content_items n)
-content-Reads mean back n g = levels_alone (content_levels [] n).here (content_levels [] n).outer (content-AtMarks mean back [] n g).level (content-AtMarks mean back [] n g).reads
+content-Reads mean suffix n g = levels_alone (content_levels [] n).here (content_levels [] n).outer (content-AtMarks mean suffix [] n g).level (content-AtMarks mean suffix [] n g).reads
   where
     levels_alone : (here : Forest) (outer : List Forest) → length outer ≡ 0 → ReadsLevels [] here outer (content_items n) → Reads [] here (content_items n)
     levels_alone here [] l r = r

@@ -22,10 +22,10 @@ abbrev pub levels_text : List Mark → Forest → List Forest → List ℕ
 levels_text ms here [] = spelling here
 levels_text ms here (o ∷ outer) = spelling here ++ (end_at (length outer) ms ++ levels_text ms o outer)
 
--- a longer text in front
-front_text : (ms : List Mark) (a b : Forest) (outer : List Forest) (text : List ℕ) → spelling b ≡ text ++ spelling a → levels_text ms b outer ≡ text ++ levels_text ms a outer
-front_text ms a b [] text e = e
-front_text ms a b (o ∷ outer) text e =
+-- a longer text before
+prefix_text : (ms : List Mark) (a b : Forest) (outer : List Forest) (text : List ℕ) → spelling b ≡ text ++ spelling a → levels_text ms b outer ≡ text ++ levels_text ms a outer
+prefix_text ms a b [] text e = e
+prefix_text ms a b (o ∷ outer) text e =
     ap (λ s. s ++ (end_at (length outer) ms ++ levels_text ms o outer)) e ∙ append_assoc text (spelling a) (end_at (length outer) ms ++ levels_text ms o outer)
 
 spelling-with_text : (text : List ℕ) (f : Forest) → spelling (with_text text f) ≡ text ++ spelling f
@@ -39,11 +39,11 @@ spelling-with_text text (Element name attrs children rest) = refl
 end_at-next : (k : ℕ) (M : List Mark) (m : Mark) (ms : List Mark) → drop k M ≡ m ∷ ms → end_at k M ≡ mark_end m
 end_at-next k M m ms e = ap (λ l. flat_map mark_end (take 1 l)) e ∙ append-nil (mark_end m)
 
--- a mark is opened in front
+-- a mark is opened before
 wrapped-text : (M : List Mark) (m : Mark) (here o : Forest) (outer : List Forest) → end_at (length outer) M ≡ mark_end m →
     levels_text M (mark_element m here o) outer ≡ mark_start m ++ levels_text M here (o ∷ outer)
 wrapped-text M m here o outer e =
-    front_text M o (mark_element m here o) outer (mark_start m ++ spelling here ++ mark_end m) refl
+    prefix_text M o (mark_element m here o) outer (mark_start m ++ spelling here ++ mark_end m) refl
     ∙ append_assoc (mark_start m ++ spelling here) (mark_end m) (levels_text M o outer)
     ∙ append_assoc (mark_start m) (spelling here) (mark_end m ++ levels_text M o outer)
     ∙ ap (λ s. mark_start m ++ (spelling here ++ (s ++ levels_text M o outer))) (sym e)
@@ -110,7 +110,7 @@ changes-text mean opened marks e l =
     let o = opens-text (drop n marks) marks n e refl (c.right ∙ sym l) in
     closes-text (drop n opened) opened n inner refl o.level
     ∙ ap (λ s. flat_map mark_end (reverse (drop n opened)) ++ s)
-    (sym (same_text marks opened inner.here inner.outer (λ k le. let m = o.level in c.front k (omega (arith, le, m)))) ∙ o.is)
+    (sym (same_text marks opened inner.here inner.outer (λ k le. let m = o.level in c.prefix k (omega (arith, le, m)))) ∙ o.is)
     ∙ sym (append_assoc (flat_map mark_end (reverse (drop n opened))) (flat_map mark_start (drop n marks)) (levels_text marks e.here e.outer))
 
 changes-level : MarksMean → (opened marks : List Mark) (e : Levels) → length e.outer ≡ length marks → length (changes opened marks e).outer ≡ length opened
@@ -148,7 +148,7 @@ content-text mean w none opened (Letter c marks later) t =
     let e2 : Levels = record { here = with_text (letter c) e.here; outer = e.outer } in (
       ap (λ s. marks_changed opened marks ++ letter c ++ s) r.0
           ∙ append_assoc (marks_changed opened marks) (letter c) (levels_text marks e.here e.outer)
-          ∙ ap (λ s. marks_changed opened marks ++ s) (sym (front_text marks e.here e2.here e.outer (letter c) (spelling-with_text (letter c) e.here)))
+          ∙ ap (λ s. marks_changed opened marks ++ s) (sym (prefix_text marks e.here e2.here e.outer (letter c) (spelling-with_text (letter c) e.here)))
           ∙ sym (changes-text mean opened marks e2 r.1),
       changes-level mean opened marks e2 r.1,
     )
@@ -160,7 +160,7 @@ content-text mean w none opened (Node s inside pre later) t =
       ap (λ o. marks_changed opened s.marks ++ unwrap_or o (leaf_text w s s.kind) ++ content w s.marks later) (none s (node_items s inside pre))
           ∙ (λ i. marks_changed opened s.marks ++ t.0 i ++ r.0 i)
           ∙ append_assoc (marks_changed opened s.marks) tag (levels_text s.marks e.here e.outer)
-          ∙ ap (λ x. marks_changed opened s.marks ++ x) (sym (front_text s.marks e.here e2.here e.outer tag refl))
+          ∙ ap (λ x. marks_changed opened s.marks ++ x) (sym (prefix_text s.marks e.here e2.here e.outer tag refl))
           ∙ sym (changes-text mean opened s.marks e2 r.1),
       changes-level mean opened s.marks e2 r.1,
     )

@@ -140,10 +140,10 @@ inserts-without_first (Retain count ∷ ops) p = p
 inserts-without_first (Replace removed inserted ∷ ops) p = p
 inserts-without_first (Attribute c ∷ ops) p = p
 
-inserts-reshaped : (before : ℕ) (t : Transaction) (behind : ℕ) → inserts_referring t ≡ true → inserts_referring (with_ends before (core t) behind) ≡ true
-inserts-reshaped before t behind p =
-    inserts-append (retained before) (core t ++ retained behind) (inserts-retained before)
-    (inserts-append (core t) (retained behind) (inserts-without_end (without_first t) (inserts-without_first t p)) (inserts-retained behind))
+inserts-reshaped : (before : ℕ) (t : Transaction) (suffix : ℕ) → inserts_referring t ≡ true → inserts_referring (with_ends before (core t) suffix) ≡ true
+inserts-reshaped before t suffix p =
+    inserts-append (retained before) (core t ++ retained suffix) (inserts-retained before)
+    (inserts-append (core t) (retained suffix) (inserts-without_end (without_first t) (inserts-without_first t p)) (inserts-retained suffix))
 
 abbrev BothRefer : Transaction × Transaction → Type 0
 BothRefer r = (inserts_referring r.0 ≡ true) × (inserts_referring r.1 ≡ true)
@@ -182,7 +182,7 @@ reversals_refer (t ∷ ts) items run i r =
     insert-both (reversal ts) (inverse t ∷ []) (reversals_refer ts (edited t items) run.1 p.1 (edits_refer t items run.0.applies p.0 r))
     (and_from (inserts_referring (inverse t)) true (inverses_refer t items run.0.applies r) refl)
 
--- a row of transactions with one of mine behind it
+-- a row of transactions with one of mine after it
 abbrev RowRefers : Result (List Transaction × Transaction) Clash → Type 0
 RowRefers (Ok row) = (all_insert_referring row.0 ≡ true) × (inserts_referring row.1 ≡ true)
 RowRefers (Err clash) = Unit {0}

@@ -7,7 +7,7 @@ use Rattle.std.proofs.lemmas.Str.{chars-append, chars-encodes}
 use Rattle.std.specs.Prelude.{codes, encode_utf8_all, nat_eq, bytes_eq}
 use Rattle.std.specs.Str.{chars, all_scalars}
 use Rattle.model_spelling.specs.Grammar.{begins_with, is_same_name}
-use Rattle.model_spelling.specs.Written.{meanings, front_of, decoded_from, decoded, escaped_byte, escaped, canon_attr, canon_attrs}
+use Rattle.model_spelling.specs.Written.{meanings, prefix_of, decoded_from, decoded, escaped_byte, escaped, canon_attr, canon_attrs}
 use Rattle.ve_base.specs.declared.attrs.Attr.{Attr}
 use Rattle.ve_base.specs.declared.marks.Mark.{Mark}
 use Rattle.ve_kinds.specs.declared.kind.Kind.TheVariants.{AlienInline}
@@ -50,13 +50,13 @@ pub pick_true : {A : Type 0} (c : Bool) (x y : A) → c ≡ true → (if c then 
 pick_true true x y e = refl
 pick_true false x y e = cc
 
-front-byte : (ms : List (List ℕ × List ℕ)) → Ampersands ms → (b : ℕ) (bs : List ℕ) → (b == 38) ≡ false → front_of ms b bs ≡ (b ∷ [], b ∷ [])
-front-byte [] a b bs h = refl
-front-byte (m ∷ ms) a b bs h = pick_false (begins_with m.0 (b ∷ bs)) m (front_of ms b bs) (a.0 b bs h) ∙ front-byte ms a.1 b bs h
+prefix-byte : (ms : List (List ℕ × List ℕ)) → Ampersands ms → (b : ℕ) (bs : List ℕ) → (b == 38) ≡ false → prefix_of ms b bs ≡ (b ∷ [], b ∷ [])
+prefix-byte [] a b bs h = refl
+prefix-byte (m ∷ ms) a b bs h = pick_false (begins_with m.0 (b ∷ bs)) m (prefix_of ms b bs) (a.0 b bs h) ∙ prefix-byte ms a.1 b bs h
 
 pub decoded-byte : (b : ℕ) (t : List ℕ) → (b == 38) ≡ false → decoded_from 0 (b ∷ t) ≡ b ∷ decoded_from 0 t
 unfolding decoded_from
-decoded-byte b t h = ap (λ m. m.1 ++ decoded_from (length m.0 - 1) t) (front-byte meanings meanings-Ampersands b t h)
+decoded-byte b t h = ap (λ m. m.1 ++ decoded_from (length m.0 - 1) t) (prefix-byte meanings meanings-Ampersands b t h)
 
 -- ---- each reference is decoded
 

@@ -50,10 +50,10 @@ Parsed [] true cs = cs ≡ []
 Parsed [] false cs = (n : Nodes) × (l : Start) × (cs ≡ items_of (with_list n l)) × AreBlocks Root n × IsList l
 Parsed (k ∷ outer) seen cs = (n : Nodes) × (pre : List ℕ) × (rest : List Carried) × (cs ≡ items_of n ++ closing_of k pre ∷ rest) × Held k n pre × Parsed outer seen rest
 
-front_char : (c : ℕ) (marks : List Mark) (stack : List Kind) (seen : Bool) (cs : List Carried) → is_content_branch (top stack) ≡ true → IsFormed (Char c marks) → Parsed stack seen cs →
+prefix_char : (c : ℕ) (marks : List Mark) (stack : List Kind) (seen : Bool) (cs : List Carried) → is_content_branch (top stack) ≡ true → IsFormed (Char c marks) → Parsed stack seen cs →
     Parsed stack seen (record { item = Char c marks; body = None } ∷ cs)
-front_char c marks [] seen cs h f p = cc
-front_char c marks (k ∷ outer) seen cs h f p =
+prefix_char c marks [] seen cs h f p = cc
+prefix_char c marks (k ∷ outer) seen cs h f p =
     let held = p.4 in (
       Letter c marks p.0,
       p.1,
@@ -100,10 +100,10 @@ Held-empty k pre f = record {
     third false false true e = refl
     third false false false e = cc
 
-front_closing : (kind : Kind) (pre : List ℕ) (stack : List Kind) (seen : Bool) (t : State) (cs : List Carried) → closed stack seen kind ≡ Ok t → IsFormedClosing kind pre → Parsed t.stack t.seen cs →
+prefix_closing : (kind : Kind) (pre : List ℕ) (stack : List Kind) (seen : Bool) (t : State) (cs : List Carried) → closed stack seen kind ≡ Ok t → IsFormedClosing kind pre → Parsed t.stack t.seen cs →
     Parsed stack seen (closing_of kind pre ∷ cs)
-front_closing kind pre [] seen t cs e f p = cc
-front_closing kind pre (inner ∷ outer) seen t cs e f p =
+prefix_closing kind pre [] seen t cs e f p = cc
+prefix_closing kind pre (inner ∷ outer) seen t cs e f p =
     let i = if_ok (kind_same inner kind) (Ok (record { stack = outer; seen = seen })) (Unlawful 0) t e in
     let same : inner ≡ kind = same_true the_type tt inner kind i.0 in
     let s : record { stack = outer; seen = seen } ≡ t = ok_same (record { stack = outer; seen = seen }) t i.1 in (
@@ -200,16 +200,16 @@ Held-node k s n later pre closing h l f held b = record {
   list = λ e. absurd (no_item s.kind (ap (λ x. may_hold x s.kind) (sym (same_true the_type tt k InternalList e)) ∙ h) f.item);
 }
 
--- the items of a node in front of more
-node_front : (s : Start) (n later : Nodes) (pre : List ℕ) (cs rest more : List Carried) → cs ≡ items_of n ++ closing_of s.kind pre ∷ rest → rest ≡ items_of later ++ more →
+-- the items of a node before more
+node_prefix : (s : Start) (n later : Nodes) (pre : List ℕ) (cs rest more : List Carried) → cs ≡ items_of n ++ closing_of s.kind pre ∷ rest → rest ≡ items_of later ++ more →
     opening_of s ∷ cs ≡ items_of (Node s n pre later) ++ more
-node_front s n later pre cs rest more e r =
+node_prefix s n later pre cs rest more e r =
     ap (λ xs. opening_of s ∷ xs) (e ∙ ap (λ xs. items_of n ++ closing_of s.kind pre ∷ xs) r ∙ sym (append_assoc (items_of n) (closing_of s.kind pre ∷ items_of later) more))
 
-front_branch : (s : Start) (stack : List Kind) (seen : Bool) (cs : List Carried) → may_hold (top stack) s.kind ≡ true → kind_same s.kind InternalList ≡ false → (is_empty stack && seen) ≡ false →
+prefix_branch : (s : Start) (stack : List Kind) (seen : Bool) (cs : List Carried) → may_hold (top stack) s.kind ≡ true → kind_same s.kind InternalList ≡ false → (is_empty stack && seen) ≡ false →
     IsFormedOpening s.kind s.head s.marks s.pre → Parsed (s.kind ∷ stack) seen cs → Parsed stack seen (opening_of s ∷ cs)
-front_branch s [] true cs h l o f p = cc
-front_branch s [] false cs h l o f p =
+prefix_branch s [] true cs h l o f p = cc
+prefix_branch s [] false cs h l o f p =
     let q = p.5 in (
       Node s p.0 p.1 q.0,
       q.1,
@@ -217,22 +217,22 @@ front_branch s [] false cs h l o f p =
       as_blocks Root s p.0 q.0 p.1 refl h l f p.4 q.3,
       q.4,
     )
-front_branch s (k ∷ outer) seen cs h l o f p =
+prefix_branch s (k ∷ outer) seen cs h l o f p =
     let q = p.5 in (
       Node s p.0 p.1 q.0,
       q.1,
       q.2,
-      node_front s p.0 q.0 p.1 cs p.2 (closing_of k q.1 ∷ q.2) p.3 q.3,
+      node_prefix s p.0 q.0 p.1 cs p.2 (closing_of k q.1 ∷ q.2) p.3 q.3,
       Held-node k s p.0 q.0 p.1 q.1 h l f p.4 q.4,
       q.5,
     )
 
 -- the internal list
-front_list : (s : Start) (stack : List Kind) (seen : Bool) (cs : List Carried) → kind_same s.kind InternalList ≡ true → (is_empty stack && not seen) ≡ true → IsFormedOpening s.kind s.head s.marks s.pre →
+prefix_list : (s : Start) (stack : List Kind) (seen : Bool) (cs : List Carried) → kind_same s.kind InternalList ≡ true → (is_empty stack && not seen) ≡ true → IsFormedOpening s.kind s.head s.marks s.pre →
     Parsed (s.kind ∷ stack) true cs → Parsed stack seen (opening_of s ∷ cs)
-front_list s (k ∷ outer) seen cs l o f p = cc
-front_list s [] true cs l o f p = cc
-front_list s [] false cs l o f p =
+prefix_list s (k ∷ outer) seen cs l o f p = cc
+prefix_list s [] true cs l o f p = cc
+prefix_list s [] false cs l o f p =
     let e = p.4.list l in
     let k : s.kind ≡ InternalList = same_true the_type tt s.kind InternalList l in
     let head : s.head ≡ empty_head = f.head.alone ∙ ap (λ a. record { tag = []; attrs = a; raw = []; reference = None; owner = false }) (f.list l) in (
@@ -243,9 +243,9 @@ front_list s [] false cs l o f p =
       record { kind = k; head = head; marks = f.branch (ap is_leaf k); before = f.white },
     )
 
-front_opening : (s : Start) (stack : List Kind) (seen : Bool) (t : State) (cs : List Carried) → opened (record { stack = stack; seen = seen }) s.kind ≡ Ok t → IsFormedOpening s.kind s.head s.marks s.pre →
+prefix_opening : (s : Start) (stack : List Kind) (seen : Bool) (t : State) (cs : List Carried) → opened (record { stack = stack; seen = seen }) s.kind ≡ Ok t → IsFormedOpening s.kind s.head s.marks s.pre →
     Parsed t.stack t.seen cs → Parsed stack seen (opening_of s ∷ cs)
-front_opening s stack seen t cs e f p =
+prefix_opening s stack seen t cs e f p =
     let old : State = record { stack = stack; seen = seen } in
     let next : State = record { stack = s.kind ∷ stack; seen = seen || kind_same s.kind InternalList } in
     let a = if_ok (may_open old s.kind) (if nat_lt (length stack) 100 then Ok next else Err (TooDeep 0)) (Unlawful 0) t e in
@@ -254,8 +254,8 @@ front_opening s stack seen t cs e f p =
     let m = and_parts (may_hold (top stack) s.kind) (if kind_same s.kind InternalList then is_empty stack && not seen else not (is_over old)) a.0 in
     let q : Parsed (s.kind ∷ stack) (seen || kind_same s.kind InternalList) cs = subst (λ x. Parsed x.stack x.seen cs) (sym same) p in
     elim (cases_Bool (kind_same s.kind InternalList)) [
-      | inl l ↦ front_list s stack seen cs l (sym (pick (kind_same s.kind InternalList) (is_empty stack && not seen) (not (is_over old)) l) ∙ m.1) f (subst (λ b. Parsed (s.kind ∷ stack) b cs) (last seen (kind_same s.kind InternalList) l) q)
-      | inr l ↦ front_branch s stack seen cs m.0 l (not_true (is_over old) (sym (pick_other (kind_same s.kind InternalList) (is_empty stack && not seen) (not (is_over old)) l) ∙ m.1)) f
+      | inl l ↦ prefix_list s stack seen cs l (sym (pick (kind_same s.kind InternalList) (is_empty stack && not seen) (not (is_over old)) l) ∙ m.1) f (subst (λ b. Parsed (s.kind ∷ stack) b cs) (last seen (kind_same s.kind InternalList) l) q)
+      | inr l ↦ prefix_branch s stack seen cs m.0 l (not_true (is_over old) (sym (pick_other (kind_same s.kind InternalList) (is_empty stack && not seen) (not (is_over old)) l) ∙ m.1)) f
           (subst (λ b. Parsed (s.kind ∷ stack) b cs) (first seen (kind_same s.kind InternalList) l) q)
     ]
   where
@@ -300,14 +300,14 @@ parsed (Char c marks ∷ items) bodies at s u e o f =
     let j = joined_ok (step s (Char c marks)) (λ next. after next items) u e in
     let i = if_ok (is_content_branch (top s.stack)) (Ok s) (Unlawful 0) j.0 j.1 in
     let same : s ≡ j.0 = ok_same s j.0 i.1 in
-    front_char c marks s.stack s.seen (carried_from bodies (suc at) items) i.0 f.0
+    prefix_char c marks s.stack s.seen (carried_from bodies (suc at) items) i.0 f.0
     (subst (λ x. Parsed x.stack x.seen (carried_from bodies (suc at) items)) (sym same) (parsed items bodies (suc at) j.0 u j.2 o f.1))
 parsed (Closing kind pre ∷ items) bodies at s u e o f =
     let j = joined_ok (step s (Closing kind pre)) (λ next. after next items) u e in
-    front_closing kind pre s.stack s.seen j.0 (carried_from bodies (suc at) items) j.1 f.0 (parsed items bodies (suc at) j.0 u j.2 o f.1)
+    prefix_closing kind pre s.stack s.seen j.0 (carried_from bodies (suc at) items) j.1 f.0 (parsed items bodies (suc at) j.0 u j.2 o f.1)
 parsed (Opening kind head marks pre origin generated ∷ items) bodies at s u e o f =
     let j = joined_ok (step s (Opening kind head marks pre origin generated)) (λ next. after next items) u e in
-    front_opening (start_of kind head marks pre origin generated (bodies at)) s.stack s.seen j.0 (carried_from bodies (suc at) items) j.1 f.0 (parsed items bodies (suc at) j.0 u j.2 o f.1)
+    prefix_opening (start_of kind head marks pre origin generated (bodies at)) s.stack s.seen j.0 (carried_from bodies (suc at) items) j.1 f.0 (parsed items bodies (suc at) j.0 u j.2 o f.1)
 
 lawful_end : (end : ℕ) (r : Result State LawFault) → verdict_at end r ≡ None → (u : State) × (r ≡ Ok u) × (is_over u ≡ true)
 lawful_end end (Err f) h = cc

@@ -6,7 +6,7 @@ use Rattle.std.proofs.lemmas.Str.{encodes-IsAscii, encodes-chars}
 use Rattle.std.specs.Prelude.{chars, encode_utf8_all, IsUtf8, unwrap_or, option_map}
 use Rattle.model_spelling.specs.Grammar.{start_text, end_text, begins_with, is_text, is_start, is_void, is_raw, is_verbatim, comment_close}
 use Rattle.model_spelling.specs.Forest.{Forest, Nothing, Text, Remark, Void, RawElement, Element, spelling, is_forest, starts_with_text}
-use Rattle.model_spelling.specs.Written.{meanings, front_of, decoded_from, decoded}
+use Rattle.model_spelling.specs.Written.{meanings, prefix_of, decoded_from, decoded}
 use Rattle.model_page.specs.Elements.{is_white_char, is_white, about_of, is_held}
 use Rattle.model_spelling.specs.Parsed.{forest_of}
 use Rattle.model_page.specs.Parts.{Parts, Ended, Words, Note, Group, Single, Parent, about_in, is_shared, with_held, parts_of}
@@ -169,22 +169,22 @@ NoWhite (m ∷ ms) = (is_white m.1 ≡ false) × (is_empty m.1 ≡ false) × NoW
 meanings-NoWhite : NoWhite meanings
 meanings-NoWhite = (refl, refl, (refl, refl, (refl, refl, (refl, refl, (refl, refl, (refl, refl, tt))))))
 
-Front : Type 0
-Front = List ℕ × List ℕ
+Prefix : Type 0
+Prefix = List ℕ × List ℕ
 
-chosen_front : (c : Bool) (m n : List ℕ × List ℕ) → is_white m.1 ≡ false → is_white (if c then m else n).1 ≡ true → (if c then m else n) ≡ n
-chosen_front true m n h g = absurd (let e : true ≡ false = sym g ∙ h in cc)
-chosen_front false m n h g = refl
+chosen_prefix : (c : Bool) (m n : List ℕ × List ℕ) → is_white m.1 ≡ false → is_white (if c then m else n).1 ≡ true → (if c then m else n) ≡ n
+chosen_prefix true m n h g = absurd (let e : true ≡ false = sym g ∙ h in cc)
+chosen_prefix false m n h g = refl
 
-front-white : (ms : List (List ℕ × List ℕ)) → NoWhite ms → (b : ℕ) (bs : List ℕ) → is_white (front_of ms b bs).1 ≡ true → front_of ms b bs ≡ (b ∷ [], b ∷ [])
-front-white [] h b bs g = refl
-front-white (m ∷ ms) h b bs g =
-    let e = chosen_front (begins_with m.0 (b ∷ bs)) m (front_of ms b bs) h.0 g in
-    e ∙ front-white ms h.2 b bs (ap (λ f. is_white f.1) (sym e) ∙ g)
+prefix-white : (ms : List (List ℕ × List ℕ)) → NoWhite ms → (b : ℕ) (bs : List ℕ) → is_white (prefix_of ms b bs).1 ≡ true → prefix_of ms b bs ≡ (b ∷ [], b ∷ [])
+prefix-white [] h b bs g = refl
+prefix-white (m ∷ ms) h b bs g =
+    let e = chosen_prefix (begins_with m.0 (b ∷ bs)) m (prefix_of ms b bs) h.0 g in
+    e ∙ prefix-white ms h.2 b bs (ap (λ f. is_white f.1) (sym e) ∙ g)
 
-front-nonempty : (ms : List (List ℕ × List ℕ)) → NoWhite ms → (b : ℕ) (bs : List ℕ) → is_empty (front_of ms b bs).1 ≡ false
-front-nonempty [] h b bs = refl
-front-nonempty (m ∷ ms) h b bs = chosen_nonempty (begins_with m.0 (b ∷ bs)) m (front_of ms b bs) h.1 (front-nonempty ms h.2 b bs)
+prefix-nonempty : (ms : List (List ℕ × List ℕ)) → NoWhite ms → (b : ℕ) (bs : List ℕ) → is_empty (prefix_of ms b bs).1 ≡ false
+prefix-nonempty [] h b bs = refl
+prefix-nonempty (m ∷ ms) h b bs = chosen_nonempty (begins_with m.0 (b ∷ bs)) m (prefix_of ms b bs) h.1 (prefix-nonempty ms h.2 b bs)
   where
     chosen_nonempty : (c : Bool) (m n : List ℕ × List ℕ) → is_empty m.1 ≡ false → is_empty n.1 ≡ false → is_empty (if c then m else n).1 ≡ false
     chosen_nonempty true m n h g = h
@@ -194,9 +194,9 @@ decoded-white : (bs : List ℕ) → is_white (decoded_from 0 bs) ≡ true → is
 unfolding decoded_from
 decoded-white [] h = refl
 decoded-white (b ∷ bs) h =
-    let m = front_of meanings b bs in
+    let m = prefix_of meanings b bs in
     let p = is_white-parts m.1 (decoded_from (length m.0 - 1) bs) h in
-    let e = front-white meanings meanings-NoWhite b bs p.0 in
+    let e = prefix-white meanings meanings-NoWhite b bs p.0 in
     let first : is_white (b ∷ []) ≡ true = ap (λ f. is_white f.1) (sym e) ∙ p.0 in
     let rest : is_white (decoded_from 0 bs) ≡ true = ap (λ f. is_white (decoded_from (length f.0 - 1) bs)) (sym e) ∙ p.1 in
     and_from (is_white_char b) (is_white bs) (and_parts (is_white_char b) true first).0 (decoded-white bs rest)
@@ -209,7 +209,7 @@ decoded-nonempty : (bs : List ℕ) → is_text bs ≡ true → is_empty (decoded
 unfolding decoded_from
 decoded-nonempty [] h = cc
 decoded-nonempty (b ∷ bs) h =
-    let m = front_of meanings b bs in nonempty-append m.1 (decoded_from (length m.0 - 1) bs) (front-nonempty meanings meanings-NoWhite b bs)
+    let m = prefix_of meanings b bs in nonempty-append m.1 (decoded_from (length m.0 - 1) bs) (prefix-nonempty meanings meanings-NoWhite b bs)
 
 encodes-nonempty : (cs d : List ℕ) → encode_utf8_all cs ≡ d → is_empty d ≡ false → is_empty cs ≡ false
 encodes-nonempty [] d e h = ap is_empty e ∙ h

@@ -36,9 +36,9 @@ slice_get-append [] ys y (suc n) e = cc
 slice_get-append (x ∷ xs) ys y zero e = cc
 slice_get-append (x ∷ xs) ys y (suc n) e = slice_get-append xs ys y n (omega (arith, e))
 
-slice-part : (front part back : List ℕ) (from to : ℕ) → length front ≡ from → from + length part ≡ to → slice (front ++ (part ++ back)) from to ≡ part
-slice-part front part back from to e f =
-    ap (λ s. take (to - from) s) (drop_at front (part ++ back) from e) ∙ take_at part back (to - from) (omega (arith, f))
+slice-part : (prefix part suffix : List ℕ) (from to : ℕ) → length prefix ≡ from → from + length part ≡ to → slice (prefix ++ (part ++ suffix)) from to ≡ part
+slice-part prefix part suffix from to e f =
+    ap (λ s. take (to - from) s) (drop_at prefix (part ++ suffix) from e) ∙ take_at part suffix (to - from) (omega (arith, f))
 
 -- ---- what is bare stays so with origins and bodies
 
@@ -120,10 +120,10 @@ pub record Standing (o : Opened) (items : List Carried) (k at : ℕ) (spans : Li
   pub done : List Span
   pub all_spans : o.spans ≡ done ++ spans
   pub count : length done ≡ k
-  pub front : List ℕ
-  pub back : List ℕ
-  pub page : o.page ≡ front ++ (source ++ back)
-  pub byte : length front ≡ at
+  pub prefix : List ℕ
+  pub suffix : List ℕ
+  pub page : o.page ≡ prefix ++ (source ++ suffix)
+  pub byte : length prefix ≡ at
 
 pub blocks-Tiles : (o : Opened) (bodies : ℕ → Option Body) (last : List ℕ) (x : Nodes) (n : Nodes) (k place at : ℕ) (before : Bool) (spans : List Span) (source : List ℕ) →
     Standing o (items_of (placed bodies place k (last_node last x) n)) k at spans source →
@@ -153,14 +153,14 @@ blocks-Tiles o bodies last x (Node s inside pre later) k place at before spans s
     let is_first : node_with k (carried_items o.items) ≡ items =
     ap (node_with k) st.first ∙ node_with-node k st.before s2 inside2 pre later2 st.below refl in
     let all_spans : o.spans ≡ st.done ++ span ∷ (inner ++ after) = st.all_spans ∙ ap (λ xs. st.done ++ xs) t.5 in
-    let front : List ℕ = st.front ++ white in
-    let page : o.page ≡ front ++ (part ++ (rest ++ st.back)) =
-    st.page ∙ ap (λ y. st.front ++ (y ++ st.back)) t.4
-    ∙ ap (λ y. st.front ++ y) (append_assoc white (part ++ rest) st.back ∙ ap (λ y. white ++ y) (append_assoc part rest st.back))
-    ∙ sym (append_assoc st.front white (part ++ (rest ++ st.back))) in
-    let front_length : length front ≡ at + length white = length-append st.front white ∙ ap (λ m. m + length white) st.byte in
+    let prefix : List ℕ = st.prefix ++ white in
+    let page : o.page ≡ prefix ++ (part ++ (rest ++ st.suffix)) =
+    st.page ∙ ap (λ y. st.prefix ++ (y ++ st.suffix)) t.4
+    ∙ ap (λ y. st.prefix ++ y) (append_assoc white (part ++ rest) st.suffix ∙ ap (λ y. white ++ y) (append_assoc part rest st.suffix))
+    ∙ sym (append_assoc st.prefix white (part ++ (rest ++ st.suffix))) in
+    let prefix_length : length prefix ≡ at + length white = length-append st.prefix white ∙ ap (λ m. m + length white) st.byte in
     let is_part : slice o.page span.from span.to ≡ part =
-    ap (λ y. slice y span.from span.to) page ∙ slice-part front part (rest ++ st.back) span.from span.to front_length refl in
+    ap (λ y. slice y span.from span.to) page ∙ slice-part prefix part (rest ++ st.suffix) span.from span.to prefix_length refl in
     let original : original_of w bare2 s2 items ≡ Some part =
     if_false (s.generated && not bare2) _ _ (not_unbare s.generated bare2 (λ g. same_bare ∙ b.0 g))
     ∙ original-kept o (carried_items o.items) k items part span is_first (ap (λ xs. slice_get xs k) all_spans ∙ slice_get-append st.done (inner ++ after) span k st.count) is_part in
@@ -177,10 +177,10 @@ blocks-Tiles o bodies last x (Node s inside pre later) k place at before spans s
       done = st.done ++ span ∷ inner;
       all_spans = all_spans ∙ sym (append_assoc st.done (span ∷ inner) after);
       count = let e = length-append st.done (span ∷ inner) in let f = st.count in let g = t.6 in omega (arith, e, f, g);
-      front = front ++ part;
-      back = st.back;
-      page = page ∙ sym (append_assoc front part (rest ++ st.back));
-      byte = length-append front part ∙ ap (λ m. m + length part) front_length;
+      prefix = prefix ++ part;
+      suffix = st.suffix;
+      page = page ∙ sym (append_assoc prefix part (rest ++ st.suffix));
+      byte = length-append prefix part ∙ ap (λ m. m + length part) prefix_length;
     } in
     ap (λ y. white ++ y ++ blocks w bare2 [] later2) (unwrapped (original_of w bare2 s2 items) part fresh original)
     ∙ ap (λ c. white ++ part ++ blocks w c [] later2) same_bare
@@ -264,8 +264,8 @@ write-opened head tail f to at_end bare =
       done = [];
       all_spans = refl;
       count = refl;
-      front = head;
-      back = encode_utf8_all m.pre ++ tail;
+      prefix = head;
+      suffix = encode_utf8_all m.pre ++ tail;
       page = ap (λ s. head ++ (s ++ tail)) (sym source) ∙ ap (λ s. head ++ s) (append_assoc c.rest (encode_utf8_all m.pre) tail);
       byte = refl;
     } in
@@ -275,6 +275,6 @@ write-opened head tail f to at_end bare =
     ∙ blocks-Tiles o bodies m.pre p.inside c.nodes 0 0 (length head) false m.later.spans c.rest standing c.tiles bare
     ∙ source in
     let before : take (length head) page ≡ head = take_at head (spelling f ++ tail) (length head) refl in
-    let behind : drop to page ≡ tail =
+    let beyond : drop to page ≡ tail =
     ap (drop to) (sym (append_assoc head (spelling f) tail)) ∙ drop_at (head ++ spelling f) tail to (length-append head (spelling f) ∙ at_end) in
-    (λ i. before i ++ body i ++ behind i) ∙ append_assoc head (spelling f) tail
+    (λ i. before i ++ body i ++ beyond i) ∙ append_assoc head (spelling f) tail

@@ -241,10 +241,10 @@ Refers-element_made editable around name attrs source children later w Annotatio
 Refers-element_made editable around name attrs source children later w (Branch kind) f s g h =
     let at = inside_of w name attrs in
     let inside = inside_piece (around_in kind) at (children (around_in kind) at) in
-    let behind = past w source inside.owners in
-    Refers-before_run behind (node kind (head_with attrs) [] false (span_at w source) inside.later inside.pre) inside.owners (later behind)
+    let suffix = past w source inside.owners in
+    Refers-before_run suffix (node kind (head_with attrs) [] false (span_at w source) inside.later inside.pre) inside.owners (later suffix)
     (refers-node kind (head_with attrs) [] false (span_at w source) inside.later inside.pre (other_refers kind f (head_with attrs)) (Refers-inside_piece (around_in kind) at (children (around_in kind) at) (g (around_in kind) at s)))
-    (h behind s)
+    (h suffix s)
 Refers-element_made editable around name attrs source children later w (Leaf kind) f s g h = Refers-leaf_made editable around attrs source later w (Leaf kind) f s h
 Refers-element_made editable around name attrs source children later w (Whole kind) f s g h = Refers-leaf_made editable around attrs source later w (Whole kind) f s h
 

@@ -260,10 +260,10 @@ Meets-element_made around s name attrs source children later w Annotation f g h 
 Meets-element_made around s name attrs source children later w (Branch kind) f g h =
     let at = inside_of w name attrs in
     let inside = inside_piece (around_in kind) at (children (around_in kind) at) in
-    let behind = past w source inside.owners in
-    Meets-before_run around s behind (node kind (head_with attrs) [] false (span_at w source) inside.later inside.pre) inside.owners (later behind)
+    let suffix = past w source inside.owners in
+    Meets-before_run around s suffix (node kind (head_with attrs) [] false (span_at w source) inside.later inside.pre) inside.owners (later suffix)
     (Blocks-node around kind (head_with attrs) [] false (span_at w source) inside.later inside.pre f.1 f.0 (Holds-inside kind (around_in kind) (matches kind) f.2 at (children (around_in kind) at) (g (around_in kind) f.2 at)))
-    (h behind)
+    (h suffix)
 Meets-element_made around s name attrs source children later w (Leaf kind) f g h = Meets-leaf_made around s attrs source later w (Leaf kind) f h
 Meets-element_made around s name attrs source children later w (Whole kind) f g h = Meets-leaf_made around s attrs source later w (Whole kind) f h
 

@@ -24,7 +24,7 @@ use Rattle.model_page_law.proofs.FormedNodes.{MarksMean, IsContent, IsBranch, Ar
 use Rattle.model_page_law.specs.Formed.{IsHead}
 use Rattle.model_page_law.proofs.EscapeLemmas.{pick_true, pick_false, letters_back}
 use Rattle.model_page_law.proofs.ContentLemmas.{Reads, content_levels, content_items, leaf_items, content-Reads}
-use Rattle.model_page_law.proofs.BlockText.{white_before, in_front, block_element, blocks_forest}
+use Rattle.model_page_law.proofs.BlockText.{white_before, followed_by, block_element, blocks_forest}
 use Rattle.model_page_law.proofs.BlockReads.{AtBlock, Closes, Inside, Closes-AtBlock, AtBlock-nothing, AtBlock-element, AtBlock-white, Closes-white, Closes-bare}
 use Rattle.model_page_law.proofs.TagLemmas.{BranchTag, branch_tag}
 use Rattle.model_page_law.proofs.CleanLemmas.{head_back, clean_tag, good_content, content-Sound}
@@ -109,7 +109,7 @@ fits_block k s inner t held c =
 fits_flow : (k : Kind) (s : Start) (inner : Parts) → BranchTag s.kind → may_hold k s.kind ≡ true → is_convertible s.kind inner ≡ true → fit_of (Flow k) (tag_of s.kind) inner ≡ Branch s.kind
 fits_flow k s inner t held c = pick_false (is_inline_tag (tag_of s.kind)) _ _ t.block ∙ fits_block k s inner t held c
 
--- its opening with the white text before it
+-- its opening with the whitespace before it
 with_pre : (s : Start) (xs : List PlainItem) → s.marks ≡ [] → Opening s.kind s.head [] (s.pre ++ []) None false ∷ xs ≡ Opening s.kind s.head s.marks s.pre None false ∷ xs
 with_pre s xs m = (λ i. Opening s.kind s.head (sym m i) (append-nil s.pre i) None false ∷ xs)
 
@@ -155,20 +155,20 @@ bare_items s inside pre ys kind attrs white marks closing head content =
 
 bare_read : MarksMean → (k : Kind) (before : Bool) (s : Start) (inside : Nodes) (after : List ℕ) (rest : Forest) (ys : List PlainItem) (pre closing : List ℕ) → IsBranch k s →
     IsBare before s inside after → (is_content_branch s.kind ≡ true → IsContent inside × (pre ≡ [])) → (is_among structural_kinds k ≡ true → ⊥) → AtBlock (Flow k) rest ys closing →
-    BlocksRead k before closing s.pre (white_before s.pre (in_front (inner_forest s inside pre) rest)) (Opening s.kind s.head s.marks s.pre None false ∷ said_items inside ++ Closing s.kind pre ∷ ys)
+    BlocksRead k before closing s.pre (white_before s.pre (followed_by (inner_forest s inside pre) rest)) (Opening s.kind s.head s.marks s.pre None false ∷ said_items inside ++ Closing s.kind pre ∷ ys)
 bare_read mean k before s inside after rest ys pre closing b bare f st r =
     let e : is_content_branch s.kind ≡ true = ap is_content_branch bare.kind in
     let p = f e in
     let content : Forest = (content_levels [] inside).here in
     let sound = (content-Sound k inside [] p.0).0 in
     let reads : Reads [] content (content_items inside) = content-Reads mean letters_back inside (good_content inside p.0) in
-    let c : Closes (Flow k) (in_front content rest) (Opening P empty_head [] [] None false ∷ map item_unmade (content_items inside) ++ Closing P [] ∷ ys) closing =
+    let c : Closes (Flow k) (followed_by content rest) (Opening P empty_head [] [] None false ∷ map item_unmade (content_items inside) ++ Closing P [] ∷ ys) closing =
     Closes-bare k content rest (content_items inside) ys closing sound.loose (content-not_white k inside content sound.loose reads bare.content) reads r in
     record {
       closes =
           subst (λ g. Closes (Flow k) g (Opening s.kind s.head s.marks s.pre None false ∷ said_items inside ++ Closing s.kind pre ∷ ys) closing)
-          (ap (λ x. in_front x rest) (sym (pick_true (is_content_branch s.kind) content (blocks_forest false pre inside) e)) ∙ white_nothing s.pre (in_front (inner_forest s inside pre) rest) bare.white)
-          (closes_same (Flow k) (in_front content rest) _ _ closing (bare_items s inside pre ys bare.kind bare.attrs bare.white b.marks p.1 b.head p.0) c);
+          (ap (λ x. followed_by x rest) (sym (pick_true (is_content_branch s.kind) content (blocks_forest false pre inside) e)) ∙ white_nothing s.pre (followed_by (inner_forest s inside pre) rest) bare.white)
+          (closes_same (Flow k) (followed_by content rest) _ _ closing (bare_items s inside pre ys bare.kind bare.attrs bare.white b.marks p.1 b.head p.0) c);
       stands = λ h empty. absurd (both h bare.first);
       structural = λ h. absurd (st h);
     }
@@ -182,7 +182,7 @@ node_read : MarksMean → (k : Kind) (before : Bool) (s : Start) (inside : Nodes
     is_bare before s inside after ≡ bare → (is_content_branch s.kind ≡ true → IsContent inside × (pre ≡ [])) → (is_content_branch s.kind ≡ false → AreBlocks s.kind inside × (is_white pre ≡ true)) →
     (is_content_branch s.kind ≡ false → BlocksRead s.kind false pre (white_after inside pre) (blocks_forest false pre inside) (said_items inside)) →
     BlocksRead k bare closing after rest ys →
-    BlocksRead k before closing s.pre (white_before s.pre (if bare then in_front (inner_forest s inside pre) rest else block_element s (inner_forest s inside pre) rest))
+    BlocksRead k before closing s.pre (white_before s.pre (if bare then followed_by (inner_forest s inside pre) rest else block_element s (inner_forest s inside pre) rest))
     (Opening s.kind s.head s.marks s.pre None false ∷ said_items inside ++ Closing s.kind pre ∷ ys)
 node_read mean k before s inside after true rest ys pre closing b e f g i r =
     let bare = bare_is before s inside after e in

@@ -78,12 +78,12 @@ tag_name-none (b ∷ bs) h = let p = tag_letter b bs h in names-none (b ∷ bs) 
 abbrev close : Bool → List ℕ
 close slash = if slash then codes "/>" else codes ">"
 
-attr_front : (a : Attr) (z : List ℕ) → attr_text a ++ z ≡ 32 ∷ (a.name ++ (61 ∷ a.quote ∷ (a.value ++ (a.quote ∷ z))))
-attr_front a z =
+attr_prefix : (a : Attr) (z : List ℕ) → attr_text a ++ z ≡ 32 ∷ (a.name ++ (61 ∷ a.quote ∷ (a.value ++ (a.quote ∷ z))))
+attr_prefix a z =
     ap (λ t. 32 ∷ t) (append_assoc (a.name ++ (61 ∷ a.quote ∷ a.value)) (a.quote ∷ []) z ∙ append_assoc a.name (61 ∷ a.quote ∷ a.value) (a.quote ∷ z))
 
-attrs_front : (a : Attr) (al : List Attr) (z : List ℕ) → flat_map attr_text (a ∷ al) ++ z ≡ 32 ∷ (a.name ++ (61 ∷ a.quote ∷ (a.value ++ (a.quote ∷ (flat_map attr_text al ++ z)))))
-attrs_front a al z = append_assoc (attr_text a) (flat_map attr_text al) z ∙ attr_front a (flat_map attr_text al ++ z)
+attrs_prefix : (a : Attr) (al : List Attr) (z : List ℕ) → flat_map attr_text (a ∷ al) ++ z ≡ 32 ∷ (a.name ++ (61 ∷ a.quote ∷ (a.value ++ (a.quote ∷ (flat_map attr_text al ++ z)))))
+attrs_prefix a al z = append_assoc (attr_text a) (flat_map attr_text al) z ∙ attr_prefix a (flat_map attr_text al ++ z)
 
 is_attr-parts : (a : Attr) → is_attr a ≡ true → (is_attr_name a.name ≡ true) × (is_run a.quote a.value ≡ true)
 is_attr-parts a h =
@@ -98,17 +98,17 @@ attrs_same [] [] true true x y h n e = (refl, refl, ap (λ l. drop 2 l) e)
 attrs_same [] [] false false x y h n e = (refl, refl, ap (λ l. drop 1 l) e)
 attrs_same [] [] true false x y h n e = absurd (other (ap (λ l. head_or 0 l == 47) e))
 attrs_same [] [] false true x y h n e = absurd (other (ap (λ l. head_or 0 l == 62) e))
-attrs_same [] (b ∷ bs) true u x y h n e = absurd (other (ap (λ l. head_or 0 l == 47) (e ∙ attrs_front b bs (close u ++ y))))
-attrs_same [] (b ∷ bs) false u x y h n e = absurd (other (ap (λ l. head_or 0 l == 62) (e ∙ attrs_front b bs (close u ++ y))))
-attrs_same (a ∷ al) [] s true x y h n e = absurd (other (ap (λ l. head_or 0 l == 32) (sym (attrs_front a al (close s ++ x)) ∙ e)))
-attrs_same (a ∷ al) [] s false x y h n e = absurd (other (ap (λ l. head_or 0 l == 32) (sym (attrs_front a al (close s ++ x)) ∙ e)))
+attrs_same [] (b ∷ bs) true u x y h n e = absurd (other (ap (λ l. head_or 0 l == 47) (e ∙ attrs_prefix b bs (close u ++ y))))
+attrs_same [] (b ∷ bs) false u x y h n e = absurd (other (ap (λ l. head_or 0 l == 62) (e ∙ attrs_prefix b bs (close u ++ y))))
+attrs_same (a ∷ al) [] s true x y h n e = absurd (other (ap (λ l. head_or 0 l == 32) (sym (attrs_prefix a al (close s ++ x)) ∙ e)))
+attrs_same (a ∷ al) [] s false x y h n e = absurd (other (ap (λ l. head_or 0 l == 32) (sym (attrs_prefix a al (close s ++ x)) ∙ e)))
 attrs_same (a ∷ al) (b ∷ bs) s u x y h n e =
     let all = and_parts (is_attr a) (list_all is_attr al) h in
     let good = is_attr-parts a all.0 in
     let xs : List ℕ = flat_map attr_text al ++ (close s ++ x) in
     let ys : List ℕ = flat_map attr_text bs ++ (close u ++ y) in
     let e1 : a.name ++ (61 ∷ a.quote ∷ (a.value ++ (a.quote ∷ xs))) ≡ b.name ++ (61 ∷ b.quote ∷ (b.value ++ (b.quote ∷ ys))) =
-    ap (λ l. drop 1 l) (sym (attrs_front a al (close s ++ x)) ∙ e ∙ attrs_front b bs (close u ++ y)) in
+    ap (λ l. drop 1 l) (sym (attrs_prefix a al (close s ++ x)) ∙ e ∙ attrs_prefix b bs (close u ++ y)) in
     let names = split no_name a.name b.name (61 ∷ a.quote ∷ (a.value ++ (a.quote ∷ xs))) (61 ∷ b.quote ∷ (b.value ++ (b.quote ∷ ys))) (attr_name-none a.name good.0) (attr_name-none b.name n.0) refl refl e1 in
     let quotes : a.quote ≡ b.quote = ap (λ l. head_or 0 (drop 1 l)) names.1 in
     let values = split (λ c. c == a.quote) a.value b.value (a.quote ∷ xs) (b.quote ∷ ys) (run-none a.quote a.value good.1) (without-none a.quote b.value (subst (λ q. without q b.value ≡ true) (sym quotes) n.1))
@@ -116,13 +116,13 @@ attrs_same (a ∷ al) (b ∷ bs) s u x y h n e =
     let more = attrs_same al bs s u x y all.1 n.2 (ap (λ l. drop 1 l) values.1) in
     ((λ i. record { name = names.0 i; value = values.0 i; quote = quotes i } ∷ more.0 i), more.1, more.2)
 
-tag_front : (name : List ℕ) (attrs : List Attr) (s : Bool) (x : List ℕ) → start_text name attrs s ++ x ≡ 60 ∷ (name ++ (flat_map attr_text attrs ++ (close s ++ x)))
-tag_front name attrs s x = ap (λ t. 60 ∷ t) (append_assoc (name ++ flat_map attr_text attrs) (close s) x ∙ append_assoc name (flat_map attr_text attrs) (close s ++ x))
+tag_prefix : (name : List ℕ) (attrs : List Attr) (s : Bool) (x : List ℕ) → start_text name attrs s ++ x ≡ 60 ∷ (name ++ (flat_map attr_text attrs ++ (close s ++ x)))
+tag_prefix name attrs s x = ap (λ t. 60 ∷ t) (append_assoc (name ++ flat_map attr_text attrs) (close s) x ∙ append_assoc name (flat_map attr_text attrs) (close s ++ x))
 
 stops-attrs : (attrs : List Attr) (s : Bool) (x : List ℕ) → stops no_name (flat_map attr_text attrs ++ (close s ++ x)) ≡ true
 stops-attrs [] true x = refl
 stops-attrs [] false x = refl
-stops-attrs (a ∷ al) s x = ap (stops no_name) (attrs_front a al (close s ++ x))
+stops-attrs (a ∷ al) s x = ap (stops no_name) (attrs_prefix a al (close s ++ x))
 
 pub is_start-parts : (name : List ℕ) (attrs : List Attr) (s : Bool) → is_start name attrs s ≡ true → (is_tag_name name ≡ true) × (list_all is_attr attrs ≡ true)
 is_start-parts name attrs s h =
@@ -134,7 +134,7 @@ tag_same : (n m : List ℕ) (al bs : List Attr) (s u : Bool) (x y : List ℕ) �
     (n ≡ m) × (al ≡ bs) × (s ≡ u) × (x ≡ y)
 tag_same n m al bs s u x y h named attrs_are e =
     let p = is_start-parts n al s h in
-    let e1 = ap (λ l. drop 1 l) (sym (tag_front n al s x) ∙ e ∙ tag_front m bs u y) in
+    let e1 = ap (λ l. drop 1 l) (sym (tag_prefix n al s x) ∙ e ∙ tag_prefix m bs u y) in
     let names = split no_name n m (flat_map attr_text al ++ (close s ++ x)) (flat_map attr_text bs ++ (close u ++ y)) (tag_name-none n p.0) (tag_name-none m named) (stops-attrs al s x) (stops-attrs bs u y) e1 in
     let attrs = attrs_same al bs s u x y p.1 attrs_are names.1 in
     (names.0, attrs.0, attrs.1, attrs.2)
@@ -171,7 +171,7 @@ tag_class [] z h = cc
 tag_class (b ∷ bs) z h = let l = letter_not b (tag_letter b bs h).0 in class_if (b == 47) 0 (if b == 33 then 2 else 3) l.0 ∙ class_if (b == 33) 2 3 l.1
 
 start_class : (name : List ℕ) (attrs : List Attr) (s : Bool) (x : List ℕ) → is_tag_name name ≡ true → class (start_text name attrs s ++ x) ≡ 3
-start_class name attrs s x h = ap class (tag_front name attrs s x) ∙ tag_class name (flat_map attr_text attrs ++ (close s ++ x)) h
+start_class name attrs s x h = ap class (tag_prefix name attrs s x) ∙ tag_class name (flat_map attr_text attrs ++ (close s ++ x)) h
 
 text_class : (text x : List ℕ) → is_empty text ≡ false → none (λ c. c == 60) text ≡ true → class (text ++ x) ≡ 1
 text_class [] x e h = cc
@@ -181,8 +181,8 @@ text_class (b ∷ bs) x e h = class_if (b == 60) (second_class (bs ++ x)) 1 (not
     not_is true h = cc
     not_is false h = refl
 
-inside_front : (start middle end rest r : List ℕ) → (start ++ middle ++ end ++ rest) ++ r ≡ start ++ (middle ++ (end ++ (rest ++ r)))
-inside_front start middle end rest r =
+inside_prefix : (start middle end rest r : List ℕ) → (start ++ middle ++ end ++ rest) ++ r ≡ start ++ (middle ++ (end ++ (rest ++ r)))
+inside_prefix start middle end rest r =
     append_assoc (start ++ middle ++ end) rest r ∙ append_assoc (start ++ middle) end (rest ++ r) ∙ append_assoc start middle (end ++ (rest ++ r))
 
 -- ---- what may be spelled
@@ -252,10 +252,10 @@ class-spelled (Remark text rest) room r h e = refl
 class-spelled (Void name attrs s rest) room r h e =
     ap class (append_assoc (start_text name attrs s) (spelling rest) r) ∙ start_class name attrs s (spelling rest ++ r) (is_start-parts name attrs s (void_parts room name attrs s rest h).tag).0
 class-spelled (RawElement name attrs text rest) room r h e =
-    ap class (inside_front (start_text name attrs false) text (end_text name) (spelling rest) r)
+    ap class (inside_prefix (start_text name attrs false) text (end_text name) (spelling rest) r)
     ∙ start_class name attrs false (text ++ (end_text name ++ (spelling rest ++ r))) (is_start-parts name attrs false (raw_parts room name attrs text rest h).tag).0
 class-spelled (Element name attrs children rest) room r h e =
-    ap class (inside_front (start_text name attrs false) (spelling children) (end_text name) (spelling rest) r)
+    ap class (inside_prefix (start_text name attrs false) (spelling children) (end_text name) (spelling rest) r)
     ∙ start_class name attrs false (spelling children ++ (end_text name ++ (spelling rest ++ r))) (is_start-parts name attrs false (element_parts room name attrs children rest h).tag).0
 
 pub class-neat : (g : Forest) (r : List ℕ) → Neat g → class r ≡ 0 → class (spelling g ++ r) ≡ code g
@@ -263,11 +263,11 @@ class-neat Nothing r n e = e
 class-neat (Text text rest) r n e = ap class (append_assoc text (spelling rest) r) ∙ text_class text (spelling rest ++ r) n.0 (without-none 60 text n.1)
 class-neat (Remark text rest) r n e = refl
 class-neat (RawElement name attrs text rest) r n e =
-    ap class (inside_front (start_text name attrs false) text (end_text name) (spelling rest) r)
+    ap class (inside_prefix (start_text name attrs false) text (end_text name) (spelling rest) r)
     ∙ start_class name attrs false (text ++ (end_text name ++ (spelling rest ++ r))) n.0.name_is
 class-neat (Void name attrs s rest) r n e = ap class (append_assoc (start_text name attrs s) (spelling rest) r) ∙ start_class name attrs s (spelling rest ++ r) n.0.name_is
 class-neat (Element name attrs children rest) r n e =
-    ap class (inside_front (start_text name attrs false) (spelling children) (end_text name) (spelling rest) r)
+    ap class (inside_prefix (start_text name attrs false) (spelling children) (end_text name) (spelling rest) r)
     ∙ start_class name attrs false (spelling children ++ (end_text name ++ (spelling rest ++ r))) n.0.name_is
 
 -- no characters
@@ -299,12 +299,12 @@ same_end n m x y e h = cut (end_text n) x y (h ∙ ap (λ k. end_text k ++ y) (s
 
 -- ---- texts up to their end
 
-begins-itself : (front x : List ℕ) → begins_with front (front ++ x) ≡ true
+begins-itself : (prefix x : List ℕ) → begins_with prefix (prefix ++ x) ≡ true
 unfolding begins_with
 begins-itself [] x = refl
 begins-itself (c ∷ cs) x = and_from _ _ (nat_same c) (begins-itself cs x)
 
-begins-longer : (front a y : List ℕ) → length front ≤ length a → begins_with front (a ++ y) ≡ begins_with front a
+begins-longer : (prefix a y : List ℕ) → length prefix ≤ length a → begins_with prefix (a ++ y) ≡ begins_with prefix a
 unfolding begins_with
 begins-longer [] a y h = refl
 begins-longer (c ∷ cs) [] y h = absurd (omega (arith, h))
@@ -333,8 +333,8 @@ verbatim-ends close (b ∷ bs) h =
     let p = and_parts (not (is_barred b) && not (begins_with close (b ∷ bs ++ close))) (is_verbatim close bs) h in
     and_from _ _ (and_parts (not (is_barred b)) (not (begins_with close (b ∷ bs ++ close))) p.0).1 (verbatim-ends close bs p.1)
 
-comment_front : (text rest r : List ℕ) → (token_text (Comment text) ++ rest) ++ r ≡ comment_open ++ (text ++ (comment_close ++ (rest ++ r)))
-comment_front text rest r = inside_front comment_open text comment_close rest r
+comment_prefix : (text rest r : List ℕ) → (token_text (Comment text) ++ rest) ++ r ≡ comment_open ++ (text ++ (comment_close ++ (rest ++ r)))
+comment_prefix text rest r = inside_prefix comment_open text comment_close rest r
 
 both_raw : (name m : List ℕ) → is_raw name ≡ true → name ≡ m → is_raw m ≡ false → ⊥
 both_raw name m a e b = let c : is_raw name ≡ false = ap is_raw e ∙ b in cc
@@ -376,33 +376,33 @@ same_forest (Void name al s rest) (Void m bs u more) room r t h n er et c e =
 same_forest (Void name al s rest) (Element m bs inside more) room r t h n er et c e =
     let p = void_parts room name al s rest h in
     let g = tag_same name m al bs s false (spelling rest ++ r) (spelling inside ++ (end_text m ++ (spelling more ++ t))) p.tag n.0.name_is n.0.attrs_are
-    (sym (append_assoc (start_text name al s) (spelling rest) r) ∙ e ∙ inside_front (start_text m bs false) (spelling inside) (end_text m) (spelling more) t) in
+    (sym (append_assoc (start_text name al s) (spelling rest) r) ∙ e ∙ inside_prefix (start_text m bs false) (spelling inside) (end_text m) (spelling more) t) in
     absurd (both_void name m p.kind g.0 n.0.void_is)
 same_forest (RawElement name al text rest) Nothing room r t h n er et c e = absurd (omega (arith, c))
 same_forest (RawElement name al text rest) (Text b more) room r t h n er et c e = absurd (omega (arith, c))
 same_forest (RawElement name al text rest) (Void m bs u more) room r t h n er et c e =
     let p = raw_parts room name al text rest h in
     let g = tag_same name m al bs false u (text ++ (end_text name ++ (spelling rest ++ r))) (spelling more ++ t) p.tag n.0.name_is n.0.attrs_are
-    (sym (inside_front (start_text name al false) text (end_text name) (spelling rest) r) ∙ e ∙ append_assoc (start_text m bs u) (spelling more) t) in
+    (sym (inside_prefix (start_text name al false) text (end_text name) (spelling rest) r) ∙ e ∙ append_assoc (start_text m bs u) (spelling more) t) in
     absurd (both_raw name m p.kind g.0 n.0.raw_is)
 same_forest (RawElement name al text rest) (Element m bs inside more) room r t h n er et c e =
     let p = raw_parts room name al text rest h in
     let g = tag_same name m al bs false false (text ++ (end_text name ++ (spelling rest ++ r))) (spelling inside ++ (end_text m ++ (spelling more ++ t))) p.tag n.0.name_is n.0.attrs_are
-    (sym (inside_front (start_text name al false) text (end_text name) (spelling rest) r) ∙ e ∙ inside_front (start_text m bs false) (spelling inside) (end_text m) (spelling more) t) in
+    (sym (inside_prefix (start_text name al false) text (end_text name) (spelling rest) r) ∙ e ∙ inside_prefix (start_text m bs false) (spelling inside) (end_text m) (spelling more) t) in
     absurd (both_raw name m p.kind g.0 n.0.raw_is)
 same_forest (Element name al children rest) Nothing room r t h n er et c e = absurd (omega (arith, c))
 same_forest (Element name al children rest) (Text b more) room r t h n er et c e = absurd (omega (arith, c))
 same_forest (Element name al children rest) (Void m bs u more) room r t h n er et c e =
     let p = element_parts room name al children rest h in
     let g = tag_same name m al bs false u (spelling children ++ (end_text name ++ (spelling rest ++ r))) (spelling more ++ t) p.tag n.0.name_is n.0.attrs_are
-    (sym (inside_front (start_text name al false) (spelling children) (end_text name) (spelling rest) r) ∙ e ∙ append_assoc (start_text m bs u) (spelling more) t) in
+    (sym (inside_prefix (start_text name al false) (spelling children) (end_text name) (spelling rest) r) ∙ e ∙ append_assoc (start_text m bs u) (spelling more) t) in
     absurd (clash (is_void name) (ap is_void g.0 ∙ n.0.void_is) p.kind)
 same_forest (Element name al children rest) (Element m bs inside more) room r t h n er et c e =
     let p = element_parts room name al children rest h in
     let rf : List ℕ = end_text name ++ (spelling rest ++ r) in
     let rg : List ℕ = end_text m ++ (spelling more ++ t) in
     let g = tag_same name m al bs false false (spelling children ++ rf) (spelling inside ++ rg) p.tag n.0.name_is n.0.attrs_are
-    (sym (inside_front (start_text name al false) (spelling children) (end_text name) (spelling rest) r) ∙ e ∙ inside_front (start_text m bs false) (spelling inside) (end_text m) (spelling more) t) in
+    (sym (inside_prefix (start_text name al false) (spelling children) (end_text name) (spelling rest) r) ∙ e ∙ inside_prefix (start_text m bs false) (spelling inside) (end_text m) (spelling more) t) in
     let inner = same_forest children inside p.inner rf rg p.inside n.1 refl refl (sym (class-spelled children p.inner rf p.inside refl) ∙ ap class g.3 ∙ class-neat inside rg n.1 refl) g.3 in
     let after : spelling rest ++ r ≡ spelling more ++ t = same_end name m (spelling rest ++ r) (spelling more ++ t) g.0 inner.1 in
     let k = same_forest rest more room r t p.more n.2 er et (sym (class-spelled rest room r p.more er) ∙ ap class after ∙ class-neat more t n.2 et) after in
@@ -418,18 +418,18 @@ same_forest (Remark a rest) (RawElement m bs b more) room r t h n er et c e = ab
 same_forest (Remark a rest) (Remark b more) room r t h n er et c e =
     let p = and_parts (is_verbatim comment_close a) (is_forest room rest) h in
     let s = cut_end comment_close a b (spelling rest ++ r) (spelling more ++ t) (verbatim-ends comment_close a p.0) n.0
-    (ap (λ l. drop 4 l) (sym (comment_front a (spelling rest) r) ∙ e ∙ comment_front b (spelling more) t)) in
+    (ap (λ l. drop 4 l) (sym (comment_prefix a (spelling rest) r) ∙ e ∙ comment_prefix b (spelling more) t)) in
     let k = same_forest rest more room r t p.1 n.1 er et (sym (class-spelled rest room r p.1 er) ∙ ap class s.1 ∙ class-neat more t n.1 et) s.1 in
     ((λ i. Remark (s.0 i) (k.0 i)), k.1)
 same_forest (Void name al s rest) (RawElement m bs b more) room r t h n er et c e =
     let p = void_parts room name al s rest h in
     let g = tag_same name m al bs s false (spelling rest ++ r) (b ++ (end_text m ++ (spelling more ++ t))) p.tag n.0.name_is n.0.attrs_are
-    (sym (append_assoc (start_text name al s) (spelling rest) r) ∙ e ∙ inside_front (start_text m bs false) b (end_text m) (spelling more) t) in
+    (sym (append_assoc (start_text name al s) (spelling rest) r) ∙ e ∙ inside_prefix (start_text m bs false) b (end_text m) (spelling more) t) in
     absurd (both_void name m p.kind g.0 n.0.void_is)
 same_forest (RawElement name al text rest) (RawElement m bs b more) room r t h n er et c e =
     let p = raw_parts room name al text rest h in
     let g = tag_same name m al bs false false (text ++ (end_text name ++ (spelling rest ++ r))) (b ++ (end_text m ++ (spelling more ++ t))) p.tag n.0.name_is n.0.attrs_are
-    (sym (inside_front (start_text name al false) text (end_text name) (spelling rest) r) ∙ e ∙ inside_front (start_text m bs false) b (end_text m) (spelling more) t) in
+    (sym (inside_prefix (start_text name al false) text (end_text name) (spelling rest) r) ∙ e ∙ inside_prefix (start_text m bs false) b (end_text m) (spelling more) t) in
     let s = cut_end (end_text name) text b (spelling rest ++ r) (spelling more ++ t) (verbatim-ends (end_text name) text p.ends) (ap (λ k. ends_at (end_text k) b) g.0 ∙ n.0.ends)
     (g.3 ∙ ap (λ k. b ++ (end_text k ++ (spelling more ++ t))) (sym g.0)) in
     let k = same_forest rest more room r t p.more n.1 er et (sym (class-spelled rest room r p.more er) ∙ ap class s.1 ∙ class-neat more t n.1 et) s.1 in
@@ -437,7 +437,7 @@ same_forest (RawElement name al text rest) (RawElement m bs b more) room r t h n
 same_forest (Element name al children rest) (RawElement m bs b more) room r t h n er et c e =
     let p = element_parts room name al children rest h in
     let g = tag_same name m al bs false false (spelling children ++ (end_text name ++ (spelling rest ++ r))) (b ++ (end_text m ++ (spelling more ++ t))) p.tag n.0.name_is n.0.attrs_are
-    (sym (inside_front (start_text name al false) (spelling children) (end_text name) (spelling rest) r) ∙ e ∙ inside_front (start_text m bs false) b (end_text m) (spelling more) t) in
+    (sym (inside_prefix (start_text name al false) (spelling children) (end_text name) (spelling rest) r) ∙ e ∙ inside_prefix (start_text m bs false) b (end_text m) (spelling more) t) in
     absurd (clash (is_raw name) (ap is_raw g.0 ∙ n.0.raw_is) p.raw)
 
 pub one_forest : OneForest

@@ -21,7 +21,7 @@ use Rattle.model_page_law.proofs.PlaceLemmas.{numbered_nodes, with_origins-nodes
 
 -- ---- what is inside of a node ends with its closing
 
--- with these items in front
+-- with these items before
 abbrev led : List PlainItem → List PlainItem × List ℕ → List PlainItem × List ℕ
 led items r = (items ++ r.0, r.1)
 
@@ -48,13 +48,13 @@ not_below i n e = grind arith
 abbrev Stands : List PlainItem → ℕ → Type 0
 Stands items k = (from : ℕ) × (to : ℕ) × NodeAt items k from to
 
-stands-later : (front items : List PlainItem) (k : ℕ) → Stands items k → Stands (front ++ items) k
-stands-later front items k s =
+stands-later : (prefix items : List PlainItem) (k : ℕ) → Stands items k → Stands (prefix ++ items) k
+stands-later prefix items k s =
     let n = s.2 in (
-      length front + s.0,
-      length front + s.1,
+      length prefix + s.0,
+      length prefix + s.1,
       record {
-        before = front ++ n.before;
+        before = prefix ++ n.before;
         kind = n.kind;
         head = n.head;
         marks = n.marks;
@@ -64,10 +64,10 @@ stands-later front items k s =
         white = n.white;
         after = n.after;
         items_are =
-            ap (λ xs. front ++ xs) n.items_are
-            ∙ sym (append_assoc front n.before (Opening n.kind n.head n.marks n.pre (Some k) n.generated ∷ n.inside ++ Closing n.kind n.white ∷ n.after));
+            ap (λ xs. prefix ++ xs) n.items_are
+            ∙ sym (append_assoc prefix n.before (Opening n.kind n.head n.marks n.pre (Some k) n.generated ∷ n.inside ++ Closing n.kind n.white ∷ n.after));
         closes = n.closes;
-        from_is = omega (arith, n.from_is, length-append front n.before);
+        from_is = omega (arith, n.from_is, length-append prefix n.before);
         to_is = omega (arith, n.to_is);
       },
     )
@@ -75,7 +75,7 @@ stands-later front items k s =
 stands-same : (xs ys : List PlainItem) (j k : ℕ) → xs ≡ ys → j ≡ k → Stands xs j → Stands ys k
 stands-same xs ys j k e f s = subst (λ zs. Stands zs k) e (subst (Stands xs) f s)
 
--- in a node whose inside has so many openings: inside, or behind
+-- in a node whose inside has so many openings: inside, or after
 deeper : (opening closing : PlainItem) (inner outer rest : List PlainItem) (k i count : ℕ) → (i < count → Stands (inner ++ (closing ∷ outer ++ rest)) (suc k + i)) →
     (count ≤ i → Stands (outer ++ rest) (suc k + count + (i - count))) → Stands ((opening ∷ inner ++ closing ∷ outer) ++ rest) (k + suc i)
 deeper opening closing inner outer rest k i count f g = by (nat_lt i count) refl

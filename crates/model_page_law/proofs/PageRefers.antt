@@ -46,11 +46,11 @@ before_byte a b c small u =
 
 pub after_byte : (a b : List ℕ) (c : ℕ) → c < 128 → IsUtf8 (a ++ (c ∷ b)) → IsUtf8 b
 after_byte a b c small u =
-    let front : List ℕ = a ++ (c ∷ []) in
-    let whole : a ++ (c ∷ b) ≡ front ++ b = sym (append_assoc a (c ∷ []) b) in
+    let prefix : List ℕ = a ++ (c ∷ []) in
+    let whole : a ++ (c ∷ b) ≡ prefix ++ b = sym (append_assoc a (c ∷ []) b) in
     let boundary : IsCharBoundary (a ++ (c ∷ b)) (length a + 1) = IsCharBoundary-after_ascii (a ++ (c ∷ b)) (length a) u (omega (arith, length-append a (c ∷ b))) (omega (arith, at_seam a (c ∷ b), small)) in
-    let place : length a + 1 ≡ length front = omega (arith, length-append a (c ∷ [])) in
-    subst IsUtf8 (ap (drop (length a + 1)) whole ∙ ap (λ k. drop k (front ++ b)) place ∙ drop-append_seam front b) (IsUtf8-drop (a ++ (c ∷ b)) (length a + 1) u boundary)
+    let place : length a + 1 ≡ length prefix = omega (arith, length-append a (c ∷ [])) in
+    subst IsUtf8 (ap (drop (length a + 1)) whole ∙ ap (λ k. drop k (prefix ++ b)) place ∙ drop-append_seam prefix b) (IsUtf8-drop (a ++ (c ∷ b)) (length a + 1) u boundary)
 
 -- ---- attributes
 
@@ -138,8 +138,8 @@ element-attrs (suc room) name attrs children h u =
     let p = and_parts (not (is_void name) && not (is_raw name) && is_start name attrs false && is_forest room children) (is_forest (suc room) Nothing) h in
     let q = and_parts (not (is_void name) && not (is_raw name) && is_start name attrs false) (is_forest room children) p.0 in
     let s = and_parts (not (is_void name) && not (is_raw name)) (is_start name attrs false) q.0 in
-    let behind : List ℕ = codes ">" ++ (spelling children ++ (end_text name ++ [])) in
-    attrs_utf8 attrs (60 ∷ name) behind (is_start-parts name attrs false s.1).1
+    let suffix : List ℕ = codes ">" ++ (spelling children ++ (end_text name ++ [])) in
+    attrs_utf8 attrs (60 ∷ name) suffix (is_start-parts name attrs false s.1).1
     (subst IsUtf8 (all_right (60 ∷ name) (flat_map attr_text attrs) (codes ">") (spelling children) (end_text name) []) u)
 
 group-attrs : (room : ℕ) (nodes : Forest) → is_forest room nodes ≡ true → IsUtf8 (spelling nodes) → (name : List ℕ) (attrs : List Spelled) (children : Forest) → nodes ≡ Element name attrs children Nothing → AttrsUtf8 attrs

@@ -9,7 +9,7 @@ use Rattle.model_page.specs.Elements.{is_white, about_of, is_held}
 use Rattle.model_page.specs.Parts.{Parts, Ended, Words, Note, Group, Single, Parent, about_in, is_shared, with_held, parts_of}
 use Rattle.model_page.specs.Convert.{element_source}
 use Rattle.model_page_law.proofs.Premises.{AllUtf8}
-use Rattle.model_page_law.proofs.SourceLemmas.{Front, parts_of-source}
+use Rattle.model_page_law.proofs.SourceLemmas.{Prefix, parts_of-source}
 
 -- each text and each source is UTF-8
 abbrev pub PartsUtf8 : Parts → Type 0
@@ -24,14 +24,14 @@ chosen : (c : Bool) (a b : Parts) → PartsUtf8 a → PartsUtf8 b → PartsUtf8 
 chosen true a b f g = f
 chosen false a b f g = g
 
--- an element of this source in front of nodes
-led : (element : Forest → Forest) (source : List ℕ) → Front element source → IsUtf8 source → (nodes : Forest) → IsUtf8 (spelling nodes) → IsUtf8 (spelling (element nodes))
+-- an element of this source before nodes
+led : (element : Forest → Forest) (source : List ℕ) → Prefix element source → IsUtf8 source → (nodes : Forest) → IsUtf8 (spelling nodes) → IsUtf8 (spelling (element nodes))
 led element source h u nodes v = subst IsUtf8 (sym (h nodes)) (IsUtf8-append source (spelling nodes) u v)
 
-alone : (element : Forest → Forest) (source : List ℕ) → Front element source → IsUtf8 source → IsUtf8 (spelling (element Nothing))
+alone : (element : Forest → Forest) (source : List ℕ) → Prefix element source → IsUtf8 source → IsUtf8 (spelling (element Nothing))
 alone element source h u = led element source h u Nothing IsUtf8-nil
 
-PartsUtf8-with_held : (about : Option (List ℕ)) (element : Forest → Forest) (source : List ℕ) → Front element source → IsUtf8 source → (parts : Parts) → PartsUtf8 parts → PartsUtf8 (with_held about element parts)
+PartsUtf8-with_held : (about : Option (List ℕ)) (element : Forest → Forest) (source : List ℕ) → Prefix element source → IsUtf8 source → (parts : Parts) → PartsUtf8 parts → PartsUtf8 (with_held about element parts)
 PartsUtf8-with_held about element source h u Ended p = (alone element source h u, p)
 PartsUtf8-with_held about element source h u (Words t Ended) p = (alone element source h u, p)
 PartsUtf8-with_held about element source h u (Words t (Words s later)) p = (alone element source h u, p)

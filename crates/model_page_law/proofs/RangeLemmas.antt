@@ -64,19 +64,19 @@ compared bodies items k from to count e n =
     let opening : PlainItem = Opening n.kind n.head n.marks n.pre (Some k) n.generated in
     let more : List PlainItem = n.inside ++ Closing n.kind n.white ∷ n.after in
     let at : ℕ = 0 + length n.before in
-    let front : List Carried = carried_from bodies 0 n.before in
+    let prefix : List Carried = carried_from bodies 0 n.before in
     let rest : List Carried = carried_from bodies at (opening ∷ more) in
-    let split : carried_from bodies 0 items ≡ front ++ rest = ap (carried_from bodies 0) n.items_are ∙ carried_from-append bodies 0 n.before (opening ∷ more) in
+    let split : carried_from bodies 0 items ≡ prefix ++ rest = ap (carried_from bodies 0) n.items_are ∙ carried_from-append bodies 0 n.before (opening ∷ more) in
     let numbers : origins_of n.before ++ (k ∷ origins_of more) ≡ numbers_from 0 count = sym (origins_of-append n.before (opening ∷ more)) ∙ ap origins_of (sym n.items_are) ∙ e in
     let long : suc (length (inside_from 0 more).0) ≡ suc (length n.inside) = ap (λ r. suc (length r.0)) n.closes in
     let count_is : suc (suc (length n.inside)) ≡ to - from = omega (arith, n.to_is) in
-    let from_is : length front ≡ from = length-carried bodies 0 n.before ∙ sym n.from_is in
+    let from_is : length prefix ≡ from = length-carried bodies 0 n.before ∙ sym n.from_is in
     ap (node_with k) split
     ∙ passed bodies k 0 n.before rest (before-below (origins_of n.before) (origins_of more) k 0 count numbers)
     ∙ chosen_list _ _ _ (has_origin-itself k)
     ∙ ap (λ cs. record { item = opening; body = bodies at } ∷ cs) (up_to bodies more 0 (suc at) ∙ ap (λ m. take m (carried_from bodies (suc at) more)) long)
     ∙ ap (λ m. take m rest) count_is
-    ∙ ap (take (to - from)) (sym (drop-append_seam front rest) ∙ ap (λ m. drop m (front ++ rest)) from_is ∙ ap (drop from) (sym split))
+    ∙ ap (take (to - from)) (sym (drop-append_seam prefix rest) ∙ ap (λ m. drop m (prefix ++ rest)) from_is ∙ ap (drop from) (sym split))
 
 pub ranges_are_compared : RangesAreCompared
 ranges_are_compared page o h k from to n = compared (body_carried o.items) o.items k from to (length o.spans) (origins_number_spans page o h) n

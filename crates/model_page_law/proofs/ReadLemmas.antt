@@ -34,7 +34,7 @@ use Rattle.model_page_law.proofs.OneLemmas.{one_forest}
 use Rattle.model_page_law.proofs.SameLemmas.{marks_mean}
 use Rattle.model_page_law.proofs.NodesRead.{said_items, blocks_read}
 
--- ---- the internal list is written as the white text before it
+-- ---- the internal list is written as the whitespace before it
 
 white_after-list : (n : Nodes) (list : Start) → white_after (with_list n list) [] ≡ white_after n list.pre
 white_after-list Empty list = refl

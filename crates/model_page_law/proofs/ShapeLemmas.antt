@@ -83,7 +83,7 @@ openings-letters marks (c ∷ cs) = openings-letters marks cs
 pub Shaped-chars : (marks : List Mark) (text : List ℕ) → Shaped (chars_piece marks text)
 Shaped-chars marks text = record { nodes = letters marks text; items = plain-letters marks text; count = openings-letters marks text }
 
--- white text before the first node
+-- whitespace before the first node
 abbrev pub whitened : List ℕ → Nodes → Nodes
 whitened white Empty = Empty
 whitened white (Letter c marks later) = Letter c marks later
@@ -174,10 +174,10 @@ Fine-element_made around name attrs source children later w Annotation g h =
 Fine-element_made around name attrs source children later w (Branch kind) g h =
     let at = inside_of w name attrs in
     let inside = inside_piece (around_in kind) at (children (around_in kind) at) in
-    let behind = past w source inside.owners in
-    Fine-before_run behind (node kind (head_with attrs) [] false (span_at w source) inside.later inside.pre) inside.owners (later behind)
+    let suffix = past w source inside.owners in
+    Fine-before_run suffix (node kind (head_with attrs) [] false (span_at w source) inside.later inside.pre) inside.owners (later suffix)
     (Shaped-node kind (head_with attrs) [] false (span_at w source) inside.later inside.pre (Shaped-inside_piece (around_in kind) at (children (around_in kind) at) (g (around_in kind) at)))
-    (h behind)
+    (h suffix)
 Fine-element_made around name attrs source children later w (Leaf kind) g h = Fine-leaf_made around attrs source later w (Leaf kind) h
 Fine-element_made around name attrs source children later w (Whole kind) g h = Fine-leaf_made around attrs source later w (Whole kind) h
 

@@ -16,7 +16,7 @@ use Rattle.model_page.specs.Pieces.{Span}
 use Rattle.model_page.specs.Convert.{element_source}
 use Rattle.model_page.specs.PageItems.{slice, Opened, opened_with, opened_forest, opened_body, page_made}
 use Rattle.model_page_law.specs.Spans.{IsCut, IsPart, BodyIsCut, SpansAreParts}
-use Rattle.model_page_law.proofs.SourceLemmas.{Front, parts_of-source}
+use Rattle.model_page_law.proofs.SourceLemmas.{Prefix, parts_of-source}
 use Rattle.model_page_law.proofs.PartsUtf8.{PartsUtf8, PartsUtf8-parts_of}
 use Rattle.model_page_law.proofs.PageRefers.{after_byte}
 use Rattle.model_page_law.proofs.BodyUtf8.{body_cut, start-ends}
@@ -38,11 +38,11 @@ chosen : (c : Bool) (a b : Parts) → AreSome a → AreSome b → AreSome (if c 
 chosen true a b f g = f
 chosen false a b f g = g
 
--- an element of this source in front of nodes
-led : (element : Forest → Forest) (source : List ℕ) → Front element source → 0 < length source → (nodes : Forest) → 0 < length (spelling (element nodes))
+-- an element of this source before nodes
+led : (element : Forest → Forest) (source : List ℕ) → Prefix element source → 0 < length source → (nodes : Forest) → 0 < length (spelling (element nodes))
 led element source h some nodes = omega (arith, some, ap length (h nodes), length-append source (spelling nodes))
 
-AreSome-with_held : (about : Option (List ℕ)) (element : Forest → Forest) (source : List ℕ) → Front element source → 0 < length source → (parts : Parts) → AreSome parts → AreSome (with_held about element parts)
+AreSome-with_held : (about : Option (List ℕ)) (element : Forest → Forest) (source : List ℕ) → Prefix element source → 0 < length source → (parts : Parts) → AreSome parts → AreSome (with_held about element parts)
 AreSome-with_held about element source h s Ended p = (led element source h s Nothing, p)
 AreSome-with_held about element source h s (Words t Ended) p = (led element source h s Nothing, p)
 AreSome-with_held about element source h s (Words t (Words u later)) p = (led element source h s Nothing, p)
@@ -87,8 +87,8 @@ source-utf8 (Single name attrs source later) p = IsUtf8-append source (source_of
 source-utf8 (Parent name attrs children later) p = IsUtf8-append (element_source name attrs children) (source_of later) p.0 (source-utf8 later p.2)
 
 -- what follows a UTF-8 text in a UTF-8 text
-behind-utf8 : (a b : List ℕ) → IsUtf8 (a ++ b) → IsUtf8 a → IsUtf8 b
-behind-utf8 a b u v =
+suffix-utf8 : (a b : List ℕ) → IsUtf8 (a ++ b) → IsUtf8 a → IsUtf8 b
+suffix-utf8 a b u v =
     subst IsUtf8 (drop-append_seam a b)
     (IsUtf8-drop (a ++ b) (length a) u (IsCharBoundary-from_take (a ++ b) (length a) u (omega (arith, length-append a b)) (subst IsUtf8 (sym (take-append_seam a b)) v)))
 
@@ -100,63 +100,63 @@ end-utf8 : (name : List ℕ) (attrs : List Spelled) (children : Parts) → IsUtf
 end-utf8 name attrs children u v =
     let t = start-ends name attrs false in
     let whole : element_source name attrs children ≡ t.0 ++ (62 ∷ (source_of children ++ end_text name)) = ap (λ s. s ++ source_of children ++ end_text name) t.1 ∙ tag-regrouped t.0 (source_of children) (end_text name) in
-    behind-utf8 (source_of children) (end_text name) (after_byte t.0 (source_of children ++ end_text name) 62 (omega arith) (subst IsUtf8 whole u)) v
+    suffix-utf8 (source_of children) (end_text name) (after_byte t.0 (source_of children ++ end_text name) 62 (omega arith) (subst IsUtf8 whole u)) v
 
-ahead : (front part rest behind : List ℕ) → front ++ ((part ++ rest) ++ behind) ≡ (front ++ part) ++ (rest ++ behind)
-ahead front part rest behind = simp append_assoc
+ahead : (prefix part rest suffix : List ℕ) → prefix ++ ((part ++ rest) ++ suffix) ≡ (prefix ++ part) ++ (rest ++ suffix)
+ahead prefix part rest suffix = simp append_assoc
 
-inside : (front start children end rest behind : List ℕ) → front ++ ((start ++ children ++ end ++ rest) ++ behind) ≡ (front ++ start) ++ (children ++ (end ++ (rest ++ behind)))
-inside front start children end rest behind = simp append_assoc
+inside : (prefix start children end rest suffix : List ℕ) → prefix ++ ((start ++ children ++ end ++ rest) ++ suffix) ≡ (prefix ++ start) ++ (children ++ (end ++ (rest ++ suffix)))
+inside prefix start children end rest suffix = simp append_assoc
 
 -- a cut before UTF-8
-cut-before : (page front part more : List ℕ) → page ≡ (front ++ part) ++ more → IsUtf8 more → IsCharBoundary page (length front + length part)
-cut-before page front part more e u = subst (IsCharBoundary page) (length-append front part) (IsCharBoundary-at_seam page (front ++ part) more e u)
+cut-before : (page prefix part more : List ℕ) → page ≡ (prefix ++ part) ++ more → IsUtf8 more → IsCharBoundary page (length prefix + length part)
+cut-before page prefix part more e u = subst (IsCharBoundary page) (length-append prefix part) (IsCharBoundary-at_seam page (prefix ++ part) more e u)
 
--- what stands behind a place of the page, where this follows it
+-- what stands after a place of the page, where this follows it
 abbrev CutFrom : List ℕ → List ℕ → Parts → Type 0
-CutFrom page behind parts = (front : List ℕ) → page ≡ front ++ (source_of parts ++ behind) → AreCut (IsCharBoundary page) (length front) parts
+CutFrom page suffix parts = (prefix : List ℕ) → page ≡ prefix ++ (source_of parts ++ suffix) → AreCut (IsCharBoundary page) (length prefix) parts
 
--- behind a part
-rest-cut : (page front part behind : List ℕ) (later : Parts) → page ≡ front ++ ((part ++ source_of later) ++ behind) → IsUtf8 (source_of later) → IsUtf8 behind → CutFrom page behind later →
-    IsCharBoundary page (length front + length part) × AreCut (IsCharBoundary page) (length front + length part) later
-rest-cut page front part behind later e p u rec =
-    let whole : page ≡ (front ++ part) ++ (source_of later ++ behind) = e ∙ ahead front part (source_of later) behind in (
-      cut-before page front part (source_of later ++ behind) whole (IsUtf8-append (source_of later) behind p u),
-      subst (λ n. AreCut (IsCharBoundary page) n later) (length-append front part) (rec (front ++ part) whole),
+-- after a part
+rest-cut : (page prefix part suffix : List ℕ) (later : Parts) → page ≡ prefix ++ ((part ++ source_of later) ++ suffix) → IsUtf8 (source_of later) → IsUtf8 suffix → CutFrom page suffix later →
+    IsCharBoundary page (length prefix + length part) × AreCut (IsCharBoundary page) (length prefix + length part) later
+rest-cut page prefix part suffix later e p u rec =
+    let whole : page ≡ (prefix ++ part) ++ (source_of later ++ suffix) = e ∙ ahead prefix part (source_of later) suffix in (
+      cut-before page prefix part (source_of later ++ suffix) whole (IsUtf8-append (source_of later) suffix p u),
+      subst (λ n. AreCut (IsCharBoundary page) n later) (length-append prefix part) (rec (prefix ++ part) whole),
     )
 
--- behind a start tag
-inner-cut : (page front : List ℕ) (name : List ℕ) (attrs : List Spelled) (children later : Parts) (behind : List ℕ) → page ≡ front ++ (source_of (Parent name attrs children later) ++ behind) →
-    IsUtf8 (element_source name attrs children) → IsUtf8 (source_of children) → IsUtf8 (source_of later) → IsUtf8 behind → CutFrom page (end_text name ++ (source_of later ++ behind)) children →
-    IsCharBoundary page (length front + length (start_text name attrs false)) × AreCut (IsCharBoundary page) (length front + length (start_text name attrs false)) children
-inner-cut page front name attrs children later behind e p q r u rec =
+-- after a start tag
+inner-cut : (page prefix : List ℕ) (name : List ℕ) (attrs : List Spelled) (children later : Parts) (suffix : List ℕ) → page ≡ prefix ++ (source_of (Parent name attrs children later) ++ suffix) →
+    IsUtf8 (element_source name attrs children) → IsUtf8 (source_of children) → IsUtf8 (source_of later) → IsUtf8 suffix → CutFrom page (end_text name ++ (source_of later ++ suffix)) children →
+    IsCharBoundary page (length prefix + length (start_text name attrs false)) × AreCut (IsCharBoundary page) (length prefix + length (start_text name attrs false)) children
+inner-cut page prefix name attrs children later suffix e p q r u rec =
     let start : List ℕ = start_text name attrs false in
-    let more : List ℕ = end_text name ++ (source_of later ++ behind) in
-    let whole : page ≡ (front ++ start) ++ (source_of children ++ more) = e ∙ inside front start (source_of children) (end_text name) (source_of later) behind in
-    let m : IsUtf8 more = IsUtf8-append (end_text name) (source_of later ++ behind) (end-utf8 name attrs children p q) (IsUtf8-append (source_of later) behind r u) in (
-      cut-before page front start (source_of children ++ more) whole (IsUtf8-append (source_of children) more q m),
-      subst (λ n. AreCut (IsCharBoundary page) n children) (length-append front start) (rec (front ++ start) whole),
+    let more : List ℕ = end_text name ++ (source_of later ++ suffix) in
+    let whole : page ≡ (prefix ++ start) ++ (source_of children ++ more) = e ∙ inside prefix start (source_of children) (end_text name) (source_of later) suffix in
+    let m : IsUtf8 more = IsUtf8-append (end_text name) (source_of later ++ suffix) (end-utf8 name attrs children p q) (IsUtf8-append (source_of later) suffix r u) in (
+      cut-before page prefix start (source_of children ++ more) whole (IsUtf8-append (source_of children) more q m),
+      subst (λ n. AreCut (IsCharBoundary page) n children) (length-append prefix start) (rec (prefix ++ start) whole),
     )
 
-AreCut-from : (page behind : List ℕ) (parts : Parts) → PartsUtf8 parts → AreSome parts → IsUtf8 behind → CutFrom page behind parts
-AreCut-from page behind Ended p s u front e = tt
-AreCut-from page behind (Words text later) p s u front e =
-    rest-cut page front text behind later e (source-utf8 later p.1) u (AreCut-from page behind later p.1 s u)
-AreCut-from page behind (Note text later) p s u front e =
-    rest-cut page front (token_text (Comment text)) behind later e (source-utf8 later p.1) u (AreCut-from page behind later p.1 s u)
-AreCut-from page behind (Group nodes later) p s u front e =
-    let r = rest-cut page front (spelling nodes) behind later e (source-utf8 later p.1) u (AreCut-from page behind later p.1 s.1 u) in
+AreCut-from : (page suffix : List ℕ) (parts : Parts) → PartsUtf8 parts → AreSome parts → IsUtf8 suffix → CutFrom page suffix parts
+AreCut-from page suffix Ended p s u prefix e = tt
+AreCut-from page suffix (Words text later) p s u prefix e =
+    rest-cut page prefix text suffix later e (source-utf8 later p.1) u (AreCut-from page suffix later p.1 s u)
+AreCut-from page suffix (Note text later) p s u prefix e =
+    rest-cut page prefix (token_text (Comment text)) suffix later e (source-utf8 later p.1) u (AreCut-from page suffix later p.1 s u)
+AreCut-from page suffix (Group nodes later) p s u prefix e =
+    let r = rest-cut page prefix (spelling nodes) suffix later e (source-utf8 later p.1) u (AreCut-from page suffix later p.1 s.1 u) in
     (s.0, r.0, r.1)
-AreCut-from page behind (Single name attrs source later) p s u front e =
-    let r = rest-cut page front source behind later e (source-utf8 later p.1) u (AreCut-from page behind later p.1 s.1 u) in
+AreCut-from page suffix (Single name attrs source later) p s u prefix e =
+    let r = rest-cut page prefix source suffix later e (source-utf8 later p.1) u (AreCut-from page suffix later p.1 s.1 u) in
     (s.0, r.0, r.1)
-AreCut-from page behind (Parent name attrs children later) p s u front e =
-    let more : List ℕ = end_text name ++ (source_of later ++ behind) in
+AreCut-from page suffix (Parent name attrs children later) p s u prefix e =
+    let more : List ℕ = end_text name ++ (source_of later ++ suffix) in
     let q = source-utf8 children p.1 in
     let v = source-utf8 later p.2 in
-    let m : IsUtf8 more = IsUtf8-append (end_text name) (source_of later ++ behind) (end-utf8 name attrs children p.0 q) (IsUtf8-append (source_of later) behind v u) in
-    let i = inner-cut page front name attrs children later behind e p.0 q v u (AreCut-from page more children p.1 s.0 m) in
-    let r = rest-cut page front (element_source name attrs children) behind later e v u (AreCut-from page behind later p.2 s.1 u) in
+    let m : IsUtf8 more = IsUtf8-append (end_text name) (source_of later ++ suffix) (end-utf8 name attrs children p.0 q) (IsUtf8-append (source_of later) suffix v u) in
+    let i = inner-cut page prefix name attrs children later suffix e p.0 q v u (AreCut-from page more children p.1 s.0 m) in
+    let r = rest-cut page prefix (element_source name attrs children) suffix later e v u (AreCut-from page suffix later p.2 s.1 u) in
     (i.0, i.1, r.0, r.1)
 
 -- ---- an opened page
@@ -173,13 +173,13 @@ made-between : (page : List ℕ) (from to : ℕ) (f : Forest) → IsUtf8 page �
     spelling f ≡ slice page from to → is_forest 200 f ≡ true → AreBetween (IsCharBoundary page) from to (page_made from f).later.spans
 made-between page from to f u first last le fits e h =
     let parts : Parts = parts_of f in
-    let front : List ℕ = take from page in
+    let prefix : List ℕ = take from page in
     let source : source_of parts ≡ slice page from to = parts_of-source f ∙ e in
     let body : IsUtf8 (spelling f) = subst IsUtf8 (sym e) (IsUtf8-between page from to u le first last) in
-    let at : length front ≡ from = length-take-le from page (omega (arith, le, fits)) in
+    let at : length prefix ≡ from = length-take-le from page (omega (arith, le, fits)) in
     let long : length (source_of parts) ≡ to - from = ap length source ∙ length-take-le (to - from) (drop from page) (let d = length-drop from page in omega (arith, d, le, fits)) in
-    let whole : page ≡ front ++ (source_of parts ++ drop to page) = sym (cut page from to le) ∙ ap (λ s. front ++ (s ++ drop to page)) (sym source) in
-    let cuts = AreCut-from page (drop to page) parts (PartsUtf8-parts_of f (law_forest_utf8 200 f h body)) (AreSome-parts_of f) (IsUtf8-drop page to u last) front whole in
+    let whole : page ≡ prefix ++ (source_of parts ++ drop to page) = sym (cut page from to le) ∙ ap (λ s. prefix ++ (s ++ drop to page)) (sym source) in
+    let cuts = AreCut-from page (drop to page) parts (PartsUtf8-parts_of f (law_forest_utf8 200 f h body)) (AreSome-parts_of f) (IsUtf8-drop page to u last) prefix whole in
     Ranged-in_flow (IsCharBoundary page) to Root (refl, refl, refl, refl) parts (record { at = from; owners = []; editable = true }) (omega (arith, long, le)) first
     (subst (λ n. AreCut (IsCharBoundary page) n parts) at cuts)
 

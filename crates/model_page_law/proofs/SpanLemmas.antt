@@ -46,7 +46,7 @@ both : (B : Cuts) (low high : ℕ) (xs ys : List Span) → AreBetween B low high
 both B low high [] ys h g = g
 both B low high (x ∷ xs) ys h g = (h.0, both B low high xs ys h.1 g)
 
--- The cuts of parts that begin at a place: behind each part, and behind each start tag. What becomes a leaf isn't empty.
+-- The cuts of parts that begin at a place: after each part, and after each start tag. What becomes a leaf isn't empty.
 abbrev pub AreCut : Cuts → ℕ → Parts → Type 0
 AreCut B at Ended = Unit {0}
 AreCut B at (Words text later) = B (at + length text) × AreCut B (at + length text) later
@@ -122,24 +122,24 @@ Ranged-in_run B low high piece source owners m b p r =
       ends = at_moved B (low + length source + length m.source) (low + length (source ++ m.source)) (omega (arith, l)) r.ends;
     }
 
--- a block in front
+-- a block before
 Ranged-before_run : (B : Cuts) (high : ℕ) (w : Place) (piece : Piece) (source : List ℕ) (added owners : List Owner) (m : Made) → B w.at → AreBetween B w.at high piece.spans →
     Ranged B (w.at + length source) high m → Ranged B w.at high (before_run (past w source added) piece owners m)
 Ranged-before_run B high w piece source added owners m b p r =
-    let behind = past w source added in
-    let closed = run_closed behind m in
-    let c : Ranged B behind.at high closed = Ranged-run_closed B high behind m r in
-    let none : length closed.source ≡ 0 = ap length (run_ended-source m.source behind m) in
+    let suffix = past w source added in
+    let closed = run_closed suffix m in
+    let c : Ranged B suffix.at high closed = Ranged-run_closed B high suffix m r in
+    let none : length closed.source ≡ 0 = ap length (run_ended-source m.source suffix m) in
     let le : w.at ≤ w.at + length source = omega arith in
     record {
       begins = b;
-      run = wider B behind.at w.at high le closed.run.spans c.run;
-      later = both B w.at high piece.spans closed.later.spans p (wider B behind.at w.at high le closed.later.spans c.later);
+      run = wider B suffix.at w.at high le closed.run.spans c.run;
+      later = both B w.at high piece.spans closed.later.spans p (wider B suffix.at w.at high le closed.later.spans c.later);
       within = let f = c.within in omega (arith, f);
       ends = at_moved B w.at (w.at + length closed.source) (omega (arith, none)) b;
     }
 
--- ---- parts, where `later` makes the ones behind them
+-- ---- parts, where `later` makes the ones after them
 
 abbrev Following : Cuts → ℕ → ℕ → (Place → Made) → Type 0
 Following B at high later = (p : Place) → p.at ≡ at → Ranged B at high (later p)
@@ -154,12 +154,12 @@ record Ahead (B : Cuts) (high : ℕ) (w : Place) (source : List ℕ) : Type 0 wh
 Ranged-leaf_before : (B : Cuts) (high : ℕ) (w : Place) (kind : Kind) (head : Head) (marks : List Mark) (source : List ℕ) (owners : List Owner) (later : Place → Made) → Ahead B high w source →
     Following B (w.at + length source) high later → Ranged B w.at high (leaf_before w kind head marks source owners (later (past w source owners)))
 Ranged-leaf_before B high w kind head marks source owners later a f =
-    let behind = past w source owners in
+    let suffix = past w source owners in
     let piece : Piece = leaf kind head marks (span_at w source) in
     let p : AreBetween B w.at high piece.spans = (spanned B high w source a.begins a.ends a.some a.within, tt) in
     Ranged-chosen B w.at high (is_inline_leaf kind) _ _
-    (Ranged-in_run B w.at high piece source owners (later behind) a.begins p (f behind refl))
-    (Ranged-before_run B high w piece source owners owners (later behind) a.begins p (f behind refl))
+    (Ranged-in_run B w.at high piece source owners (later suffix) a.begins p (f suffix refl))
+    (Ranged-before_run B high w piece source owners owners (later suffix) a.begins p (f suffix refl))
 
 Ranged-group_made : (B : Cuts) (high : ℕ) (around : Around) (nodes : Forest) (later : Place → Made) (w : Place) (r : Option RefNode) → Ahead B high w (spelling nodes) →
     Following B (w.at + length (spelling nodes)) high later → Ranged B w.at high (group_made around nodes later w r)
@@ -193,17 +193,17 @@ Ranged-element_made B high around name attrs source children later w Annotation 
 Ranged-element_made B high around name attrs source children later w (Branch kind) s a g f =
     let at = inside_of w name attrs in
     let inside = inside_piece (around_in kind) at (children (around_in kind) at) in
-    let behind = past w source inside.owners in
+    let suffix = past w source inside.owners in
     let le : w.at ≤ at.at = omega arith in
-    Ranged-before_run B high w (node kind (head_with attrs) [] false (span_at w source) inside.later inside.pre) source inside.owners inside.owners (later behind) a.begins (
+    Ranged-before_run B high w (node kind (head_with attrs) [] false (span_at w source) inside.later inside.pre) source inside.owners inside.owners (later suffix) a.begins (
       spanned B high w source a.begins a.ends a.some a.within,
       wider B at.at w.at high le inside.later.spans (Ranged-inside_piece B high (around_in kind) at (children (around_in kind) at) (g (around_in kind) s.2 at refl)),
     )
-    (f behind refl)
+    (f suffix refl)
 Ranged-element_made B high around name attrs source children later w (Leaf kind) s a g f = Ranged-leaf_made B high around attrs source later w (Leaf kind) a f
 Ranged-element_made B high around name attrs source children later w (Whole kind) s a g f = Ranged-leaf_made B high around attrs source later w (Whole kind) a f
 
--- a text in front: a structural parent has no run
+-- a text before: a structural parent has no run
 Ranged-words_before : (B : Cuts) (high : ℕ) (around : Around) (text : List ℕ) (at : ℕ) (m : Made) → B at → Unsourced around m.source → Ranged B (at + length text) high m →
     Ranged B at high (words_before around text m)
 Ranged-words_before B high (Structural kind) text at m b u r =
@@ -221,7 +221,7 @@ Ranged-words_before B high (Content marks) text at m b u r = Ranged-in_run B at 
 
 -- ---- all parts
 
--- the part of this source is in front of these
+-- the part of this source is before these
 fits : (at high : ℕ) (source rest : List ℕ) → at + length (source ++ rest) ≤ high → (at + length source ≤ high) × (at + length source + length rest ≤ high)
 fits at high source rest h = let l = length-append source rest in (omega (arith, l, h), omega (arith, l, h))
 

@@ -1,4 +1,4 @@
--- The nodes that conversion makes in a flow parent lie in the source one after the other, each after the white text before it, and their spans
+-- The nodes that conversion makes in a flow parent lie in the source one after the other, each after the whitespace before it, and their spans
 -- say where.
 use Rattle.std.proofs.Common.{◌≡◌, ℕ, zero, suc, ◌+◌, ◌<◌, Bool, true, false, if◌then◌else◌, List, [], ◌∷◌, ◌++◌, length, Option, Some, None, refl, sym, ap, ◌∙◌, subst, append_assoc, length-append, arith}
 use Rattle.std.proofs.lemmas.Bool.{and_parts}
@@ -24,7 +24,7 @@ use Rattle.ve_base.specs.Empty.{empty_head}
 use Rattle.model_page_write.specs.Nodes.{Start, Nodes, Empty, Letter, Node}
 use Rattle.model_page_law.proofs.ShapeLemmas.{plain, openings, Shaped, Shaped-none, whitened, items_after-plain, Fine, Shaped-inside_piece, Fine-made_of}
 
--- ---- white text is ASCII
+-- ---- whitespace is ASCII
 
 white_char-small : (c : ℕ) → is_white_char c ≡ true → c < 128
 white_char-small c h = grind (arith, common_steps)
@@ -65,9 +65,9 @@ at_moved : (a b : ℕ) (spans : List Span) (source : List ℕ) (n : Nodes) → a
 at_moved a b spans source n e t = subst (λ at. Tiles at spans source n) e t
 
 -- one more part in the run
-Tiled-in_run : (at : ℕ) (piece : Piece) (source : List ℕ) (owners : List Owner) (m : Made) (behind : List ℕ) →
-    Tiled (at + length source) behind m → Tiled at (source ++ behind) (in_run piece source owners m)
-Tiled-in_run at piece source owners m behind t = record {
+Tiled-in_run : (at : ℕ) (piece : Piece) (source : List ℕ) (owners : List Owner) (m : Made) (suffix : List ℕ) →
+    Tiled (at + length source) suffix m → Tiled at (source ++ suffix) (in_run piece source owners m)
+Tiled-in_run at piece source owners m suffix t = record {
   nodes = t.nodes;
   items = t.items;
   rest = t.rest;
@@ -75,7 +75,7 @@ Tiled-in_run at piece source owners m behind t = record {
   spelled = append_assoc source m.source (t.rest ++ encode_utf8_all m.pre) ∙ ap (λ s. source ++ s) t.spelled;
 }
 
--- ---- white text before tiles
+-- ---- whitespace before tiles
 
 utf8-whitened : (white pre : List ℕ) → is_white white ≡ true → encode_utf8_all (chars white ++ pre) ≡ white ++ encode_utf8_all pre
 utf8-whitened white pre h = encodes-append (chars white) pre ∙ ap (λ s. s ++ encode_utf8_all pre) (white-kept white h)
@@ -84,7 +84,7 @@ same_spans : (spans : List Span) (a b c d : ℕ) (later : List Span) → a ≡ b
     spans ≡ record { from = a; to = c } ∷ later → spans ≡ record { from = b; to = d } ∷ later
 same_spans spans a b c d later e f h = h ∙ (λ i. record { from = e i; to = f i } ∷ later)
 
--- What is made where the run is over: no run is open, and the rest is nodes, whose source with the white text after them is all.
+-- What is made where the run is over: no run is open, and the rest is nodes, whose source with the whitespace after them is all.
 pub record Closed (at : ℕ) (source : List ℕ) (m : Made) : Type 0 where
   pub nodes : Nodes
   pub items : m.later.items ≡ plain nodes
@@ -92,7 +92,7 @@ pub record Closed (at : ℕ) (source : List ℕ) (m : Made) : Type 0 where
   pub tiles : Tiles at m.later.spans rest nodes
   pub spelled : rest ++ encode_utf8_all m.pre ≡ source
 
--- by cases on the nodes after the white text
+-- by cases on the nodes after the whitespace
 Closed-with_white : (at : ℕ) (white : List ℕ) (source rest : List ℕ) (m : Made) (n : Nodes) → is_white white ≡ true →
     m.later.items ≡ plain n → Tiles (at + length white) m.later.spans rest n → rest ++ encode_utf8_all m.pre ≡ source →
     Closed at (white ++ source) (with_white (chars white) m)
@@ -190,16 +190,16 @@ run_ended-source (b ∷ bs) w m = chosen_source (is_white (b ∷ bs)) (with_whit
     chosen_source true a b e f = e
     chosen_source false a b e f = f
 
--- a block in front
+-- a block before
 Tiled-before_run : (w : Place) (part source : List ℕ) (kind : Kind) (head : Head) (marks : List Mark) (inside : Piece) (pre : List ℕ) (owners added : List Owner) (m : Made) →
     Shaped inside → Shaped m.run → Tiled (w.at + length part) source m →
     Tiled w.at (part ++ source) (before_run (past w part added) (node kind head marks false (span_at w part) inside pre) owners m)
 Tiled-before_run w part source kind head marks inside pre owners added m shape run t =
-    let behind = past w part added in
-    let c = Closed-run_closed behind source m run t in
-    let closed = run_closed behind m in
+    let suffix = past w part added in
+    let c = Closed-run_closed suffix source m run t in
+    let closed = run_closed suffix m in
     let s : Start = record { kind = kind; head = head; marks = marks; pre = []; origin = None; generated = false; body = None } in
-    let z : closed.source ≡ [] = run_ended-source m.source behind m in
+    let z : closed.source ≡ [] = run_ended-source m.source suffix m in
     record {
       nodes = Node s shape.nodes pre c.nodes;
       items =
@@ -237,10 +237,10 @@ pub record Following (at : ℕ) (source : List ℕ) (later : Place → Made) : T
 Tiled-leaf_before : (w : Place) (kind : Kind) (head : Head) (marks : List Mark) (part source : List ℕ) (owners : List Owner) (later : Place → Made) →
     Following (w.at + length part) source later → Tiled w.at (part ++ source) (leaf_before w kind head marks part owners (later (past w part owners)))
 Tiled-leaf_before w kind head marks part source owners later f =
-    let behind = past w part owners in
+    let suffix = past w part owners in
     Tiled-chosen w.at (part ++ source) (is_inline_leaf kind) _ _
-    (Tiled-in_run w.at (leaf kind head marks (span_at w part)) part owners (later behind) source (f.tiled behind refl))
-    (Tiled-before_run w part source kind head marks no_piece [] owners owners (later behind) Shaped-none (f.fine behind).run (f.tiled behind refl))
+    (Tiled-in_run w.at (leaf kind head marks (span_at w part)) part owners (later suffix) source (f.tiled suffix refl))
+    (Tiled-before_run w part source kind head marks no_piece [] owners owners (later suffix) Shaped-none (f.fine suffix).run (f.tiled suffix refl))
 
 Tiled-group_made : (k : Kind) (nodes : Forest) (source : List ℕ) (later : Place → Made) (w : Place) (r : Option RefNode) →
     Following (w.at + length (spelling nodes)) source later → Tiled w.at (spelling nodes ++ source) (group_made (Flow k) nodes later w r)
@@ -259,14 +259,14 @@ Tiled-element_made : (k : Kind) (name : List ℕ) (attrs : List Spelled) (part s
     Tiled w.at (part ++ source) (element_made (Flow k) name attrs part children later w fit)
 Tiled-element_made k name attrs part source children later w Annotation g f =
     let inside = children (marked_around (Flow k) name attrs) (inside_of w name attrs) in
-    let behind = past w part inside.owners in
-    Tiled-in_run w.at inside.run part inside.owners (later behind) source (f.tiled behind refl)
+    let suffix = past w part inside.owners in
+    Tiled-in_run w.at inside.run part inside.owners (later suffix) source (f.tiled suffix refl)
 Tiled-element_made k name attrs part source children later w (Branch kind) g f =
     let at = inside_of w name attrs in
     let inside = inside_piece (around_in kind) at (children (around_in kind) at) in
-    let behind = past w part inside.owners in
-    Tiled-before_run w part source kind (head_with attrs) [] inside.later inside.pre inside.owners inside.owners (later behind)
-    (Shaped-inside_piece (around_in kind) at (children (around_in kind) at) (g (around_in kind) at)) (f.fine behind).run (f.tiled behind refl)
+    let suffix = past w part inside.owners in
+    Tiled-before_run w part source kind (head_with attrs) [] inside.later inside.pre inside.owners inside.owners (later suffix)
+    (Shaped-inside_piece (around_in kind) at (children (around_in kind) at) (g (around_in kind) at)) (f.fine suffix).run (f.tiled suffix refl)
 Tiled-element_made k name attrs part source children later w (Leaf kind) g f = Tiled-leaf_made k attrs part source later w (Leaf kind) f
 Tiled-element_made k name attrs part source children later w (Whole kind) g f = Tiled-leaf_made k attrs part source later w (Whole kind) f
 

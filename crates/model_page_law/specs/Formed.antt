@@ -1,5 +1,5 @@
 -- Lists of the form that reading back speaks of: what has a spelling of its own, and nothing that is kept whole.
--- br and img are the only leaves, the internal list is empty, marks and white text stand only where they are written, and no element would be
+-- br and img are the only leaves, the internal list is empty, marks and whitespace stand only where they are written, and no element would be
 -- read as one that is held.
 use Rattle.std.specs.Prelude.{◌≡◌, ℕ, Bool, true, false, ◌||◌, List, [], ◌∷◌, Option, Some, None, is_some, if◌then◌else◌, codes, bytes_eq, encode_utf8_all}
 use Rattle.std.specs.List.{list_any}
@@ -62,7 +62,7 @@ pub record IsFormedOpening (kind : Kind) (h : Head) (marks : List Mark) (pre : L
   pub item : kind_same kind InternalItem ≡ false
   pub list : kind_same kind InternalList ≡ true → h.attrs ≡ []
 
--- White text stands before no closing of a leaf or a content branch, nor of the internal list.
+-- Whitespace stands before no closing of a leaf or a content branch, nor of the internal list.
 pub record IsFormedClosing (kind : Kind) (pre : List ℕ) : Type 0 where
   pub white : is_white pre ≡ true
   pub none : (is_leaf kind || is_content_branch kind || kind_same kind InternalList) ≡ true → pre ≡ []

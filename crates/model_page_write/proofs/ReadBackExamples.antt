@@ -53,12 +53,12 @@ paragraphs_text : fresh (g_ ∷ Char 97 [] ∷ c_ P ∷ g_ ∷ Char 98 [] ∷ c_
 unfolding page_on_literals
 paragraphs_text = refl
 
--- empty and white generated paragraphs, and white text after one
+-- empty and white generated paragraphs, and whitespace after one
 whites : Again (o_ Ul ∷ o_ Li ∷ g_ ∷ c_ P ∷ c_ Li ∷ o_ Li ∷ g_ ∷ Char 32 [] ∷ c_ P ∷ Closing Li (codes " ") ∷ o_ Li ∷ g_ ∷ Char 97 [] ∷ c_ P ∷ Closing Li (10 ∷ []) ∷ w_ Li ∷ g_ ∷ Char 32 (bold ∷ []) ∷ c_ P ∷ c_ Li ∷ Closing Ul (codes " ") ∷ end_)
 unfolding page_on_literals
 whites = refl
 
--- marks that share a front, in any order, with characters that are escaped
+-- marks that share a prefix, in any order, with characters that are escaped
 marks : Again (o_ P ∷ Char 97 (bold ∷ []) ∷ Char 38 (bold ∷ link ∷ []) ∷ Char 160 (link ∷ bold ∷ []) ∷ Char 60 (bold ∷ bold ∷ []) ∷ Opening Br empty_head (bold ∷ bold ∷ []) [] None false ∷ c_ Br ∷ Char 233 [] ∷ c_ P ∷ end_)
 unfolding page_on_literals
 marks = refl
@@ -72,7 +72,7 @@ blocks : Again (
 unfolding page_on_literals
 blocks = refl
 
--- a bare paragraph at the end of the root before white text keeps its tags
+-- a bare paragraph at the end of the root before whitespace keeps its tags
 before_white : Again (g_ ∷ Char 97 [] ∷ c_ P ∷ Opening InternalList empty_head [] (codes " ") None false ∷ Closing InternalList [] ∷ [])
 unfolding page_on_literals
 before_white = refl

@@ -41,13 +41,13 @@ pub record Start : Type 0 where
   pub generated : Bool
   pub body : Option Body
 
--- Sibling nodes in order: a character, or a node with what is in it and the white text before its closing.
+-- Sibling nodes in order: a character, or a node with what is in it and the whitespace before its closing.
 pub data Nodes : Type 0 where
   Empty : Nodes
   Letter : ℕ → List Mark → Nodes → Nodes
   Node : Start → Nodes → List ℕ → Nodes → Nodes
 
--- an outer level: the white text before its closing, and the nodes after this
+-- an outer level: the whitespace before its closing, and the nodes after this
 pub record Outer : Type 0 where
   pub pre : List ℕ
   pub later : Nodes

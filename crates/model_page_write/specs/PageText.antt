@@ -15,7 +15,7 @@ use Rattle.model_page_write.specs.Written.{Writer, blocks}
 abbrev pub bare_writer : Writer
 bare_writer = record { original = λ start items. None; html = λ body. [] }
 
--- the text of a body: its items fresh, and the white text before the closing of its internal item
+-- the text of a body: its items fresh, and the whitespace before the closing of its internal item
 abbrev pub html_of : Body → List ℕ
 html_of b = blocks bare_writer false b.pre (nodes_of (carrying_nothing b.items)) ++ encode_utf8_all b.pre
 
@@ -55,7 +55,7 @@ item_without_pre (Opening kind head marks pre origin generated) = Opening kind h
 item_without_pre (Closing kind pre) = Closing kind pre
 item_without_pre (Char c marks) = Char c marks
 
--- without the white text before the node
+-- without the whitespace before the node
 abbrev pub without_pre : List Carried → List Carried
 without_pre [] = []
 without_pre (c ∷ cs) = record { item = item_without_pre c.item; body = c.body } ∷ cs

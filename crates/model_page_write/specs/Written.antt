@@ -54,7 +54,7 @@ marks_changed opened marks =
 
 -- ---- bare paragraphs
 
--- all are inline-tag elements and white text
+-- all are inline-tag elements and whitespace
 abbrev pub is_inline_source : Forest → Bool
 is_inline_source Nothing = true
 is_inline_source (Text text rest) = is_white text && is_inline_source rest
@@ -75,7 +75,7 @@ abbrev pub stays_inline : Start → Bool
 stays_inline s =
     not (kind_same s.kind TransInline || kind_same s.kind AlienInline) || not (is_empty s.marks) || reads_inline s.head.raw
 
--- some node is a leaf, or a character that is not white or has marks: the tags of marks are no white text
+-- some node is a leaf, or a character that is not white or has marks: the tags of marks are no whitespace
 abbrev pub has_content : Nodes → Bool
 has_content Empty = false
 has_content (Letter c marks later) = not (is_white_char c) || not (is_empty marks) || has_content later
@@ -86,7 +86,7 @@ all_stay_inline Empty = true
 all_stay_inline (Letter c marks later) = all_stay_inline later
 all_stay_inline (Node start inside pre later) = stays_inline start && all_stay_inline later
 
--- the white text after a node: before the next sibling, or before the parent's closing
+-- the whitespace after a node: before the next sibling, or before the parent's closing
 abbrev pub white_after : Nodes → List ℕ → List ℕ
 white_after Empty closing = closing
 white_after (Letter c marks later) closing = []
@@ -127,7 +127,7 @@ abbrev pub element_text : Start → List ℕ → List ℕ → List ℕ
 element_text s inside pre =
     start_tag (tag_of s.kind) (map attr_bytes s.head.attrs) ++ inside ++ encode_utf8_all pre ++ end_tag (tag_of s.kind)
 
--- the text of a block, without the white text before it, where `inside` is the text of what is in it
+-- the text of a block, without the whitespace before it, where `inside` is the text of what is in it
 abbrev pub fresh_text : Writer → Bool → Start → List ℕ → List ℕ → List ℕ
 fresh_text w bare s inside pre =
     if kind_same s.kind InternalList then []
@@ -149,7 +149,7 @@ abbrev mutual
       ++ unwrap_or (w.original s (node_items s inside pre)) (leaf_text w s s.kind)
       ++ content w s.marks later
 
-  -- the nodes of a flow or structural parent: whether the sibling before them is bare, and the white text before the parent's closing
+  -- the nodes of a flow or structural parent: whether the sibling before them is bare, and the whitespace before the parent's closing
   pub blocks : Writer → Bool → List ℕ → Nodes → List ℕ
   blocks w before closing Empty = []
   blocks w before closing (Letter c marks later) = letter c ++ blocks w false closing later

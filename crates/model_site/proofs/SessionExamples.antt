@@ -54,7 +54,7 @@ order_of_acks = refl
 one_list : lists (run both_insert (Serve 0 ∷ Serve 1 ∷ Take 0 ∷ Take 0 ∷ Take 1 ∷ Take 1 ∷ [])) ≡ page (codes "AB") ∷ page (codes "AB") ∷ []
 one_list = refl
 
--- Of <p>abcd</p> site 0 removes b and c. Site 1 inserts X behind them, Y between them, and Z, sends these, and inserts W.
+-- Of <p>abcd</p> site 0 removes b and c. Site 1 inserts X after them, Y between them, and Z, sends these, and inserts W.
 abbrev in_conflict : Session
 in_conflict = run (started (opened (codes "abcd")) 2)
     (Perform 0 (removes 2 (chars_ (codes "bc")) 8 ∷ [])

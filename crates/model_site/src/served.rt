@@ -1,6 +1,6 @@
 // What the server answers to a submission.
 
-/// Two active ranges that conflict, each from its first place to the place behind its last, in the list that both transactions apply to as they
+/// Two active ranges that conflict, each from its first place to the place after its last, in the list that both transactions apply to as they
 /// are joined so far.
 #[derive(Clone, Copy, Debug, PartialEq, Eq)]
 pub struct Clash {

@@ -20,7 +20,7 @@ use Rattle.model_site_law.proofs.ReplayLemmas.{AllRun-parts, flattened-append, p
 use Rattle.model_site_law.proofs.RevertLemmas.{items_all_reverted}
 use Rattle.model_site_law.proofs.StoreLemmas.{Grown, in_append, in_grown, none_in}
 
--- ---- fronts of stores
+-- ---- prefixes of stores
 
 take_take : (m k : ℕ) (xs : List Value) → m ≤ k → take m (take k xs) ≡ take m xs
 take_take zero k xs h = refl
@@ -28,12 +28,12 @@ take_take (suc m) zero xs h = absurd (omega arith)
 take_take (suc m) (suc k) [] h = refl
 take_take (suc m) (suc k) (x ∷ xs) h = ap (λ r. x ∷ r) (take_take m k xs (omega arith))
 
--- stores with one front up to k have one up to m
-same_front : (m k : ℕ) (S T : List Value) → m ≤ k → take k T ≡ take k S → take m T ≡ take m S
-same_front m k S T h e = sym (take_take m k T h) ∙ ap (take m) e ∙ take_take m k S h
+-- stores with one prefix up to k have one up to m
+same_prefix : (m k : ℕ) (S T : List Value) → m ≤ k → take k T ≡ take k S → take m T ≡ take m S
+same_prefix m k S T h e = sym (take_take m k T h) ∙ ap (take m) e ∙ take_take m k S h
 
-front_grown : (k : ℕ) (S T : List Value) → Grown S T → k ≤ length S → take k T ≡ take k S
-front_grown k S T g h = ap (take k) g.same ∙ take-append-le k S g.more h
+prefix_grown : (k : ℕ) (S T : List Value) → Grown S T → k ≤ length S → take k T ≡ take k S
+prefix_grown k S T g h = ap (take k) g.same ∙ take-append-le k S g.more h
 
 pub length_grown : (S T : List Value) → Grown S T → length S ≤ length T
 length_grown S T g = let e = ap length g.same ∙ length-append S g.more in omega arith
@@ -41,8 +41,8 @@ length_grown S T g = let e = ap length g.same ∙ length-append S g.more in omeg
 take_grows : (k : ℕ) (S : List Value) → Grown (take k S) S
 take_grows k S = record { more = drop k S; same = sym (take-append-drop k S) }
 
-held_of_front : (k : ℕ) (S : List Value) (vs : List Value) → AllIn (take k S) vs → AllIn S vs
-held_of_front k S vs p = in_grown (take k S) S vs (take_grows k S) p
+held_of_prefix : (k : ℕ) (S : List Value) (vs : List Value) → AllIn (take k S) vs → AllIn S vs
+held_of_prefix k S vs p = in_grown (take k S) S vs (take_grows k S) p
 
 -- ---- the last entry of a chain
 
@@ -67,19 +67,19 @@ chain_last S least items (x ∷ es) e c =
       list = λ h. subst (λ i. AllIn (take e.store_before S) (cited i)) same (l.list h);
     }
 
--- without the last entry, over a store that has the same front
-chain_front : (S T : List Value) (least : ℕ) (items : List PlainItem) (es : List Entry) (e : Entry) → Chain S least items (es ++ e ∷ []) →
+-- without the last entry, over a store that has the same prefix
+chain_prefix : (S T : List Value) (least : ℕ) (items : List PlainItem) (es : List Entry) (e : Entry) → Chain S least items (es ++ e ∷ []) →
     take e.store_before T ≡ take e.store_before S → e.store_before ≤ length T → Chain T least items es
-chain_front S T least items [] e c same long = let a = c.0 in omega arith
-chain_front S T least items (x ∷ es) e c same long =
+chain_prefix S T least items [] e c same long = let a = c.0 in omega arith
+chain_prefix S T least items (x ∷ es) e c same long =
     let l = chain_last S x.store_after (replay x.txs items) es e c.4 in
     let high : x.store_after ≤ e.store_before = l.from in
     let low : x.store_before ≤ e.store_before = (let a = c.1 in omega arith) in (
       c.0,
       c.1,
-      (λ h. subst (λ r. AllIn r (cited items)) (sym (same_front x.store_before e.store_before S T low same)) (c.2 h)),
-      subst (λ r. AllIn r (needed x.txs)) (sym (same_front x.store_after e.store_before S T high same)) c.3,
-      chain_front S T x.store_after (replay x.txs items) es e c.4 same long,
+      (λ h. subst (λ r. AllIn r (cited items)) (sym (same_prefix x.store_before e.store_before S T low same)) (c.2 h)),
+      subst (λ r. AllIn r (needed x.txs)) (sym (same_prefix x.store_after e.store_before S T high same)) c.3,
+      chain_prefix S T x.store_after (replay x.txs items) es e c.4 same long,
     )
 
 -- the first entries are gone
@@ -103,7 +103,7 @@ chain_more S T least items [] e g c b a held needs =
     let long = length_grown S T g in (
       omega arith,
       omega arith,
-      (λ h. subst (λ r. AllIn r (cited items)) (sym (ap (λ n. take n T) b ∙ front_grown (length S) S T g (omega arith) ∙ take-length S)) held),
+      (λ h. subst (λ r. AllIn r (cited items)) (sym (ap (λ n. take n T) b ∙ prefix_grown (length S) S T g (omega arith) ∙ take-length S)) held),
       subst (λ r. AllIn r (needed e.txs)) (sym (ap (λ n. take n T) a ∙ take-length T)) needs,
       omega arith,
     )
@@ -112,15 +112,15 @@ chain_more S T least items (x ∷ es) e g c b a held needs =
     let low : x.store_before ≤ length S = (let r = c.1 in omega arith) in (
       c.0,
       c.1,
-      (λ h. subst (λ r. AllIn r (cited items)) (sym (front_grown x.store_before S T g low)) (c.2 h)),
-      subst (λ r. AllIn r (needed x.txs)) (sym (front_grown x.store_after S T g high)) c.3,
+      (λ h. subst (λ r. AllIn r (cited items)) (sym (prefix_grown x.store_before S T g low)) (c.2 h)),
+      subst (λ r. AllIn r (needed x.txs)) (sym (prefix_grown x.store_after S T g high)) c.3,
       chain_more S T x.store_after (replay x.txs items) es e g c.4 b a (subst (λ i. AllIn S (cited i)) (replay-append x.txs (flattened (parcels es)) items) held) needs,
     )
 
 -- ---- taking back the last entry
 
 pub record IsCut (e : Entry) (S T : List Value) (items : List PlainItem) : Type 0 where
-  pub front : take e.store_before T ≡ take e.store_before S
+  pub prefix : take e.store_before T ≡ take e.store_before S
   pub long : e.store_before ≤ length T
   pub held : AllIn T (cited items)
 
@@ -132,21 +132,21 @@ cut_is e s least items l held same = by_test ((length s.store == e.store_after) 
     by_test true h =
         let grown = put_back_grows (reversal e.txs) s in
         let low : e.store_before ≤ length s.store = (let a = l.rises in let b = l.within in omega arith) in
-        let front = front_grown e.store_before s.store (all_put_back (reversal e.txs) s).store grown low in
+        let prefix = prefix_grown e.store_before s.store (all_put_back (reversal e.txs) s).store grown low in
         let rise : e.store_before < e.store_after = ltb-true e.store_before e.store_after (and_parts (length s.store == e.store_after) (nat_lt e.store_before e.store_after) h).1 in
         record {
-          front = take_take e.store_before e.store_before (all_put_back (reversal e.txs) s).store (omega arith) ∙ front;
+          prefix = take_take e.store_before e.store_before (all_put_back (reversal e.txs) s).store (omega arith) ∙ prefix;
           long = (let a = length_grown s.store (all_put_back (reversal e.txs) s).store grown in let b = length-take e.store_before (all_put_back (reversal e.txs) s).store in omega arith);
-          held = subst (λ r. AllIn r (cited items)) (sym front) (l.list rise);
+          held = subst (λ r. AllIn r (cited items)) (sym prefix) (l.list rise);
         }
     by_test false h =
         let grown = put_back_grows (reversal e.txs) s in
         let low : e.store_before ≤ length s.store = (let a = l.rises in let b = l.within in omega arith) in
         record {
-          front = front_grown e.store_before s.store (all_put_back (reversal e.txs) s).store grown low;
+          prefix = prefix_grown e.store_before s.store (all_put_back (reversal e.txs) s).store grown low;
           long = (let a = length_grown s.store (all_put_back (reversal e.txs) s).store grown in omega arith);
           held = subst (λ i. AllIn (all_put_back (reversal e.txs) s).store (cited i)) same
-              (reversed_held e.txs s (held_of_front e.store_after s.store (needed e.txs) l.needs) held);
+              (reversed_held e.txs s (held_of_prefix e.store_after s.store (needed e.txs) l.needs) held);
         }
 
 pub record Kept (T : List Value) (items now : List PlainItem) (es : List Entry) : Type 0 where
@@ -158,7 +158,7 @@ pub last_reverted : (s : Replica) (items : List PlainItem) (es : List Entry) (e 
 last_reverted s items es e c held same =
     let cut = cut_is e s 0 (replay (flattened (parcels es)) items) (chain_last s.store 0 items es e c) held same in
     record {
-      chain = chain_front s.store (reverted e s).store 0 items es e c cut.front cut.long;
+      chain = chain_prefix s.store (reverted e s).store 0 items es e c cut.prefix cut.long;
       held = subst (λ i. AllIn (reverted e s).store (cited i)) (sym same) cut.held;
     }
 
@@ -174,12 +174,12 @@ all_reverted_kept es (f ∷ fs) s items sound runs list c held =
     let rest = all_reverted_kept (es ++ f ∷ []) fs s items sound
     (subst (λ r. AllRun (flattened (parcels r)) items) (sym again) runs) (list ∙ ap (λ r. replay (flattened (parcels r)) items) (sym again))
     (subst (Chain s.store 0 items) (sym again) c) held in
-    let front = flattened (parcels es) in
-    let whole : flattened (parcels (es ++ f ∷ fs)) ≡ front ++ (f.txs ++ flattened (parcels fs)) = ap flattened (parcels-append es (f ∷ fs)) ∙ flattened-append (parcels es) (f.txs ∷ parcels fs) in
-    let parts = AllRun-parts front (f.txs ++ flattened (parcels fs)) items (subst (λ us. AllRun us items) whole runs) in
-    let floor = replay front items in
-    let back = items_all_reverted (f ∷ fs) s floor (sound_after front items sound parts.0) parts.1
-    (list ∙ ap (λ us. replay us items) whole ∙ replay-append front (f.txs ++ flattened (parcels fs)) items) in
+    let prefix = flattened (parcels es) in
+    let whole : flattened (parcels (es ++ f ∷ fs)) ≡ prefix ++ (f.txs ++ flattened (parcels fs)) = ap flattened (parcels-append es (f ∷ fs)) ∙ flattened-append (parcels es) (f.txs ∷ parcels fs) in
+    let parts = AllRun-parts prefix (f.txs ++ flattened (parcels fs)) items (subst (λ us. AllRun us items) whole runs) in
+    let floor = replay prefix items in
+    let back = items_all_reverted (f ∷ fs) s floor (sound_after prefix items sound parts.0) parts.1
+    (list ∙ ap (λ us. replay us items) whole ∙ replay-append prefix (f.txs ++ flattened (parcels fs)) items) in
     last_reverted (all_reverted fs s) items es f rest.chain rest.held back
 
 -- ---- entries with one number
@@ -192,7 +192,7 @@ chain_noted S least items (p ∷ ps) h n =
 -- what entries need is there
 pub chain_needed : (S : List Value) (least : ℕ) (items : List PlainItem) (es : List Entry) → Chain S least items es → AllNeeded S (parcels es)
 chain_needed S least items [] c = tt
-chain_needed S least items (e ∷ es) c = (held_of_front e.store_after S (needed e.txs) c.3, chain_needed S e.store_after (replay e.txs items) es c.4)
+chain_needed S least items (e ∷ es) c = (held_of_prefix e.store_after S (needed e.txs) c.3, chain_needed S e.store_after (replay e.txs items) es c.4)
 
 -- ---- performing
 

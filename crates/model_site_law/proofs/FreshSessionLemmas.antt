@@ -47,18 +47,18 @@ numbered_more items S (x ∷ es) e n b a =
     )
 
 record NumberedLast (items : List PlainItem) (S : List Value) (es : List Entry) (e : Entry) : Type 0 where
-  front : Numbered items S es
+  prefix : Numbered items S es
   before : e.store_before ≡ length (stored (flattened (parcels es)) items S)
   after : e.store_after ≡ length (stored e.txs (replay (flattened (parcels es)) items) (stored (flattened (parcels es)) items S))
 
 numbered_last : (items : List PlainItem) (S : List Value) (es : List Entry) (e : Entry) → Numbered items S (es ++ e ∷ []) → NumberedLast items S es e
-numbered_last items S [] e n = record { front = tt; before = n.0; after = n.1 }
+numbered_last items S [] e n = record { prefix = tt; before = n.0; after = n.1 }
 numbered_last items S (x ∷ es) e n =
     let l = numbered_last (replay x.txs items) (stored x.txs items S) es e n.2 in
     let s = stored-append x.txs (flattened (parcels es)) items S in
     let r = replay-append x.txs (flattened (parcels es)) items in
     record {
-      front = (n.0, n.1, l.front);
+      prefix = (n.0, n.1, l.prefix);
       before = l.before ∙ ap length (sym s);
       after = l.after ∙ ap (λ T. length (stored e.txs (replay (flattened (parcels es)) (replay x.txs items)) T)) (sym s)
           ∙ ap (λ l. length (stored e.txs l (stored (flattened (parcels (x ∷ es))) items S))) (sym r);
@@ -103,7 +103,7 @@ module _ (base : Replica) where
       (f.store ∙ ap (λ us. stored us base.items base.store) split ∙ stored-append old e.txs base.items base.store) n.before n.after in
       record {
         store = ap (λ (t : Replica). t.store) stand ∙ back ∙ ap (λ es. stored (flattened (parcels es)) base.items base.store) (sym left);
-        numbers = subst (Numbered base.items base.store) (sym left) n.front;
+        numbers = subst (Numbered base.items base.store) (sym left) n.prefix;
       }
 
   same_fresh : (s next : Site) → next.replica.store ≡ s.replica.store → pending next ≡ pending s → Fresh base s → Fresh base next

@@ -20,9 +20,9 @@ italic = record { tag = codes "i"; attrs = [] } ∷ []
 abbrev removal : Transaction
 removal = Retain 1 ∷ Replace (Char 97 [] ∷ Char 98 bold ∷ []) [] ∷ Retain 3 ∷ []
 
--- an italic X before, between or behind them
+-- an italic X before, between or after them
 abbrev insertion : ℕ → ℕ → Transaction
-insertion before behind = Retain before ∷ Replace [] (Char 88 italic ∷ []) ∷ Retain behind ∷ []
+insertion before suffix = Retain before ∷ Replace [] (Char 88 italic ∷ []) ∷ Retain suffix ∷ []
 
 to_come_back : needed (removal ∷ insertion 1 3 ∷ []) ≡ value.Marks bold ∷ []
 to_come_back = refl

@@ -146,9 +146,9 @@ past_leaf_stands items at lawful within = by_test (is_inside_leaf items at) refl
         let nested = nested-after (take at items) start p.0 p.1 tt in
         let leaf = sym (inside_is items at p.0 p.1) ∙ e in
         let c = closed_at_once p.0 (drop at items) nested leaf p.2 in
-        let front = take_more at items c.first c.rest c.parts in
+        let prefix = take_more at items c.first c.rest c.parts in
         let reached : after start (take (suc at) items) ≡ Ok c.next =
-        subst (λ l. after start l ≡ Ok c.next) (sym front) (after_whole (take at items) (c.first ∷ []) start p.0 c.next p.1 (one_step p.0 c.next c.first c.steps)) in
+        subst (λ l. after start l ≡ Ok c.next) (sym prefix) (after_whole (take at items) (c.first ∷ []) start p.0 c.next p.1 (one_step p.0 c.next c.first c.steps)) in
         (below_length at items c.first c.rest c.parts, inside_is items (suc at) c.next reached ∙ c.none)
       where
         one_step : (s t : State) (x : PlainItem) → step s x ≡ Ok t → after s (x ∷ []) ≡ Ok t

@@ -149,7 +149,7 @@ entries_run base before rest committed s split runs h =
 pub seen_within : (base : List PlainItem) (before rest committed : List Parcel) (s : Site) → before ++ rest ≡ committed → Holds base before s →
     s.seen ≤ length (entries_of committed s)
 seen_within base before rest committed s split h =
-    let front = ap (λ (r : List Parcel). length r) (seen_is base before rest committed s split h) in
+    let prefix = ap (λ (r : List Parcel). length r) (seen_is base before rest committed s split h) in
     let whole = length-append (take s.seen committed) (parcels (pending s)) in
     let seen = h.seen in
     omega arith

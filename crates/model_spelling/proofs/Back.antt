@@ -303,11 +303,11 @@ more_room (RawElement name attrs text f) (suc room) (suc more) le e = and_both (
 more_room (Element name attrs children f) zero more le e = absurd cc
 more_room (Element name attrs children f) (suc room) zero le e = absurd (omega arith)
 more_room (Element name attrs children f) (suc room) (suc more) le e =
-    let front = not (is_void name) && not (is_raw name) && is_start name attrs false in
-    let p4 = and_left (front && is_forest room children) (is_forest (suc room) f) e in
-    and_both (front && is_forest more children) (is_forest (suc more) f)
-    (and_both front (is_forest more children) (and_left front (is_forest room children) p4) (more_room children room more (omega arith) (and_right front (is_forest room children) p4)))
-    (more_room f (suc room) (suc more) le (and_right (front && is_forest room children) (is_forest (suc room) f) e))
+    let prefix = not (is_void name) && not (is_raw name) && is_start name attrs false in
+    let p4 = and_left (prefix && is_forest room children) (is_forest (suc room) f) e in
+    and_both (prefix && is_forest more children) (is_forest (suc more) f)
+    (and_both prefix (is_forest more children) (and_left prefix (is_forest room children) p4) (more_room children room more (omega arith) (and_right prefix (is_forest room children) p4)))
+    (more_room f (suc room) (suc more) le (and_right (prefix && is_forest room children) (is_forest (suc room) f) e))
 
 -- ---- read back
 

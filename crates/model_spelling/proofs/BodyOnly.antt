@@ -49,13 +49,13 @@ end_ends rest = begins_from_parts (codes "</body>") (codes "</body>" ++ rest) re
 pub body_only : (page : List ℕ) (from to : ℕ) → is_whole page ≡ true → IsBody page from to → body_at page ≡ Ok (from, to)
 body_only page from to whole b =
     let start : List ℕ = start_text (codes "body") b.attrs false in
-    let behind : List ℕ = codes "</body>" ++ b.after in
-    let inner : List ℕ = b.body ++ behind in
+    let suffix : List ℕ = codes "</body>" ++ b.after in
+    let inner : List ℕ = b.body ++ suffix in
     let tag : ℕ = length b.before in
     let page_is : page ≡ b.before ++ (start ++ inner) = b.page_is ∙ sym (regroup b.before start b.body (codes "</body>") b.after) in
     let stands : drop tag page ≡ start ++ inner = ap (drop tag) page_is ∙ drop-append_seam b.before (start ++ inner) in
-    let size : length page ≡ tag + (length start + (length b.body + length behind)) = omega (arith, ap length page_is, length-append b.before (start ++ inner), length-append start inner, length-append b.body behind) in
-    let some : 0 < length behind = omega (arith, length-append (codes "</body>") b.after) in
+    let size : length page ≡ tag + (length start + (length b.body + length suffix)) = omega (arith, ap length page_is, length-append b.before (start ++ inner), length-append start inner, length-append b.body suffix) in
+    let some : 0 < length suffix = omega (arith, length-append (codes "</body>") b.after) in
     let none : 0 + tag ≡ tag = omega arith in
     let first : first_place starts_body 0 page ≡ Some tag = first_only starts_body 0 page tag (omega (arith, size, start_some b.attrs)) (ap starts_body stands ∙ start_starts b.attrs inner) b.first ∙ ap (λ (k : ℕ). Some k) none in
     let name_on : drop (tag + 1) page ≡ codes "body" ++ (flat_map attr_text b.attrs ++ (close_text false ++ inner)) = sym (drop-drop 1 tag page) ∙ ap (drop 1) (stands ∙ start_regrouped (codes "body") b.attrs false inner) in
@@ -64,8 +64,8 @@ body_only page from to whole b =
     ap (tag_at tag) name_on ∙ tag_named tag (codes "body") (flat_map attr_text b.attrs ++ (close_text false ++ inner)) named
     ∙ start_reads tag (codes "body") b.attrs false inner b.allowed ∙ ap (λ (k : ℕ). Ok (Start (codes "body") b.attrs false, k)) (sym b.from_is) in
     let left : drop from page ≡ inner = ap (λ (k : ℕ). drop k page) b.from_is ∙ sym (drop-drop (length start) tag page) ∙ ap (drop (length start)) stands ∙ drop-append_seam start inner in
-    let mark : ends_body (drop (length b.body) (drop from page)) ≡ true = ap ends_body (ap (drop (length b.body)) left ∙ drop-append_seam b.body behind) ∙ end_ends b.after in
+    let mark : ends_body (drop (length b.body) (drop from page)) ≡ true = ap ends_body (ap (drop (length b.body)) left ∙ drop-append_seam b.body suffix) ∙ end_ends b.after in
     let last : last_place ends_body from (drop from page) ≡ Some to =
-    last_only ends_body from (drop from page) (length b.body) (omega (arith, some, ap length left, length-append b.body behind)) mark
+    last_only ends_body from (drop from page) (length b.body) (omega (arith, some, ap length left, length-append b.body suffix)) mark
     (λ m lt. ap ends_body (drop-drop m from page) ∙ b.last (from + m) (omega (arith, lt, b.to_is))) ∙ ap (λ (k : ℕ). Some k) (sym b.to_is) in
     body_between page tag from to (Start (codes "body") b.attrs false) whole first read last

@@ -98,19 +98,19 @@ nothing_ends = refl
 
 -- ---- the body start tag
 
--- a body start tag stands at the front
-pub record BodyFront (text : List ℕ) : Type 0 where
+-- a body start tag stands at the prefix
+pub record BodyPrefix (text : List ℕ) : Type 0 where
   pub c : ℕ
   pub more : List ℕ
   pub stops : (c ≡ 32) ⊎ (c ≡ 62)
   pub is : text ≡ 60 ∷ 98 ∷ 111 ∷ 100 ∷ 121 ∷ c ∷ more
 
-front_by : (text : List ℕ) (b : Bool) → begins_with (codes "<body ") text ≡ b → (b || begins_with (codes "<body>") text) ≡ true → BodyFront text
-front_by text true h e = record { c = 32; more = drop 6 text; stops = inl refl; is = begins_parts (codes "<body ") text h }
-front_by text false h e = record { c = 62; more = drop 6 text; stops = inr refl; is = begins_parts (codes "<body>") text e }
+prefix_by : (text : List ℕ) (b : Bool) → begins_with (codes "<body ") text ≡ b → (b || begins_with (codes "<body>") text) ≡ true → BodyPrefix text
+prefix_by text true h e = record { c = 32; more = drop 6 text; stops = inl refl; is = begins_parts (codes "<body ") text h }
+prefix_by text false h e = record { c = 62; more = drop 6 text; stops = inr refl; is = begins_parts (codes "<body>") text e }
 
-pub body_front : (text : List ℕ) → starts_body text ≡ true → BodyFront text
-body_front text e = front_by text (begins_with (codes "<body ") text) refl e
+pub body_prefix : (text : List ℕ) → starts_body text ≡ true → BodyPrefix text
+body_prefix text e = prefix_by text (begins_with (codes "<body ") text) refl e
 
 pub tag_is_start : (tag c : ℕ) (more : List ℕ) → tag_at tag (98 ∷ 111 ∷ 100 ∷ 121 ∷ c ∷ more) ≡ start_at tag (98 ∷ 111 ∷ 100 ∷ 121 ∷ c ∷ more)
 unfolding tag_at is_letter
@@ -121,9 +121,9 @@ unfolding start_at
 start_is_body tag c more (inl e) = rw e refl
 start_is_body tag c more (inr e) = rw e refl
 
--- what is read behind the front
-pub behind_front_is : (page : List ℕ) (tag : ℕ) → (f : BodyFront (drop tag page)) → drop (tag + 1) page ≡ 98 ∷ 111 ∷ 100 ∷ 121 ∷ f.c ∷ f.more
-behind_front_is page tag f = sym (drop-drop 1 tag page) ∙ ap (drop 1) f.is
+-- what is read after the prefix
+pub after_prefix_is : (page : List ℕ) (tag : ℕ) → (f : BodyPrefix (drop tag page)) → drop (tag + 1) page ≡ 98 ∷ 111 ∷ 100 ∷ 121 ∷ f.c ∷ f.more
+after_prefix_is page tag f = sym (drop-drop 1 tag page) ∙ ap (drop 1) f.is
 
 body_void : is_void (codes "body") ≡ false
 unfolding is_void is_same_name
@@ -142,11 +142,11 @@ body_allowed attrs e = rw e refl
 abbrev body_to : ℕ → ℕ → Result (ℕ × ℕ) ScanFault
 body_to from to = Ok (from, to)
 
-abbrev body_behind : List ℕ → Token × ℕ → Result (ℕ × ℕ) ScanFault
-body_behind page head = or_no_body head.1 (last_place ends_body head.1 (drop head.1 page)) >>= body_to head.1
+abbrev body_after : List ℕ → Token × ℕ → Result (ℕ × ℕ) ScanFault
+body_after page head = or_no_body head.1 (last_place ends_body head.1 (drop head.1 page)) >>= body_to head.1
 
 abbrev body_from : List ℕ → ℕ → Result (ℕ × ℕ) ScanFault
-body_from page tag = tag_at tag (drop (tag + 1) page) >>= body_behind page
+body_from page tag = tag_at tag (drop (tag + 1) page) >>= body_after page
 
 pub no_doctype : (page : List ℕ) → is_whole page ≡ false → body_at page ≡ Ok (0, length page)
 unfolding body_at
@@ -193,8 +193,8 @@ body_end page tag at from to token (Some p) first read e h =
       last = ap (λ (k : ℕ). last_place ends_body k (drop k page)) (sym a) ∙ e ∙ ap (λ (k : ℕ). Some k) b;
     }
 
-body_head : (page : List ℕ) (tag from to : ℕ) (h : Result (Token × ℕ) ScanFault) → first_place starts_body 0 page ≡ Some tag → tag_at tag (drop (tag + 1) page) ≡ h → (h >>= body_behind page) ≡ ok {A = ℕ × ℕ} (from, to) → BodyFound page from to
-body_head page tag from to (Err f) first read e = absurd (not_ok (Err f >>= body_behind page) f (from, to) refl e)
+body_head : (page : List ℕ) (tag from to : ℕ) (h : Result (Token × ℕ) ScanFault) → first_place starts_body 0 page ≡ Some tag → tag_at tag (drop (tag + 1) page) ≡ h → (h >>= body_after page) ≡ ok {A = ℕ × ℕ} (from, to) → BodyFound page from to
+body_head page tag from to (Err f) first read e = absurd (not_ok (Err f >>= body_after page) f (from, to) refl e)
 body_head page tag from to (Ok (token, at)) first read e = body_end page tag at from to token (last_place ends_body at (drop at page)) first read refl e
 
 body_tag : (page : List ℕ) (from to : ℕ) (t : Option ℕ) → first_place starts_body 0 page ≡ t → (or_no_body 0 t >>= body_from page) ≡ ok {A = ℕ × ℕ} (from, to) → BodyFound page from to
@@ -236,14 +236,14 @@ parted : (page before start body mark after rest inner : List ℕ) → page ≡ 
 parted page before start body mark after rest inner a b c =
     a ∙ ap (λ (l : List ℕ). before ++ l) (b ∙ ap (λ (l : List ℕ). start ++ l) c) ∙ regroup before start body mark after
 
-body_made : (page : List ℕ) (from to : ℕ) (w : BodyFound page from to) → (f : FirstFound starts_body 0 page w.tag) → (front : BodyFront (drop w.tag page)) → AfterFound (w.tag + 1 + 4) (codes "body") (front.c ∷ front.more) w.token from
+body_made : (page : List ℕ) (from to : ℕ) (w : BodyFound page from to) → (f : FirstFound starts_body 0 page w.tag) → (prefix : BodyPrefix (drop w.tag page)) → AfterFound (w.tag + 1 + 4) (codes "body") (prefix.c ∷ prefix.more) w.token from
     → (l : LastFound ends_body from (drop from page) to) → IsBody page from to
-body_made page from to w f front a l =
+body_made page from to w f prefix a l =
     let tag_is : w.tag ≡ f.k = omega (arith, f.is) in
     let slash : a.slash ≡ false = no_slash a.slash (is_void (codes "body")) body_void a.may in
-    let text : front.c ∷ front.more ≡ flat_map attr_text a.attrs ++ (62 ∷ a.rest) = a.text_is ∙ ap (λ (s : Bool). flat_map attr_text a.attrs ++ (close_text s ++ a.rest)) slash in
+    let text : prefix.c ∷ prefix.more ≡ flat_map attr_text a.attrs ++ (62 ∷ a.rest) = a.text_is ∙ ap (λ (s : Bool). flat_map attr_text a.attrs ++ (close_text s ++ a.rest)) slash in
     let start : List ℕ = start_text (codes "body") a.attrs false in
-    let stands : drop w.tag page ≡ start ++ a.rest = front.is ∙ ap (λ (x : List ℕ). 60 ∷ 98 ∷ 111 ∷ 100 ∷ 121 ∷ x) text ∙ start_whole a.attrs a.rest in
+    let stands : drop w.tag page ≡ start ++ a.rest = prefix.is ∙ ap (λ (x : List ℕ). 60 ∷ 98 ∷ 111 ∷ 100 ∷ 121 ∷ x) text ∙ start_whole a.attrs a.rest in
     let one : length (close_text a.slash) ≡ 1 = ap (λ (s : Bool). length (close_text s)) slash in
     let len : from ≡ w.tag + length start = omega (arith, a.to_is, one, start_length a.attrs) in
     let before : length (take w.tag page) ≡ w.tag = omega (arith, length-take w.tag page, f.inside, tag_is) in
@@ -271,10 +271,10 @@ body_is_found page from to whole e =
     let w = way page from to whole e in
     let f = first_found starts_body 0 page w.tag w.first in
     let tag_is : w.tag ≡ f.k = omega (arith, f.is) in
-    let front = body_front (drop w.tag page) (ap (λ (k : ℕ). starts_body (drop k page)) tag_is ∙ f.here) in
-    let read : start_after w.tag (codes "body") (w.tag + 1 + 4) (front.c ∷ front.more) ≡ ok (w.token, from) =
-    sym (start_is_body w.tag front.c front.more front.stops) ∙ sym (tag_is_start w.tag front.c front.more) ∙ sym (ap (tag_at w.tag) (behind_front_is page w.tag front)) ∙ w.read in
-    body_made page from to w f front (after_by_name w.tag (w.tag + 1 + 4) (codes "body") (front.c ∷ front.more) (name_ends w.tag (codes "body") (w.tag + 1 + 4) (front.c ∷ front.more)) w.token from refl read)
+    let prefix = body_prefix (drop w.tag page) (ap (λ (k : ℕ). starts_body (drop k page)) tag_is ∙ f.here) in
+    let read : start_after w.tag (codes "body") (w.tag + 1 + 4) (prefix.c ∷ prefix.more) ≡ ok (w.token, from) =
+    sym (start_is_body w.tag prefix.c prefix.more prefix.stops) ∙ sym (tag_is_start w.tag prefix.c prefix.more) ∙ sym (ap (tag_at w.tag) (after_prefix_is page w.tag prefix)) ∙ w.read in
+    body_made page from to w f prefix (after_by_name w.tag (w.tag + 1 + 4) (codes "body") (prefix.c ∷ prefix.more) (name_ends w.tag (codes "body") (w.tag + 1 + 4) (prefix.c ∷ prefix.more)) w.token from refl read)
     (last_found ends_body from (drop from page) to nothing_ends w.last)
 
 parts_by : (page : List ℕ) (b : Result (ℕ × ℕ) ScanFault) (p : Parts) → body_at page ≡ b → (b >>= λ x. Ok (parts_at x.0 x.1 page)) ≡ ok p → p.head ++ p.body ++ p.tail ≡ page

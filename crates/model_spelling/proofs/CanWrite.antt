@@ -5,7 +5,7 @@ use Rattle.std.proofs.lemmas.List.{length-map, length-append}
 use Rattle.std.specs.List.{list_all}
 use Rattle.model_spelling.specs.Grammar.{is_barred, is_attr_name, is_tag_name, is_void, is_raw, is_run, is_text, is_verbatim, is_attr, has_name, are_distinct, are_attrs, is_start, is_same_name, begins_with, starts_reference, Attr, end_text, comment_close}
 use Rattle.model_spelling.specs.Forest.{Forest, Nothing, Text, Remark, Void, RawElement, Element, starts_with_text, is_forest}
-use Rattle.model_spelling.specs.Written.{meanings, front_of, decoded_from, decoded}
+use Rattle.model_spelling.specs.Written.{meanings, prefix_of, decoded_from, decoded}
 use Rattle.model_spelling.specs.Canonical.{decoded_attr, decoded_forest, are_chars, is_some_chars, is_plain_attr, is_plain_start, is_plain}
 use Rattle.model_spelling.proofs.AttrReading.{and_left, and_right}
 use Rattle.model_spelling.proofs.Only.{and_both}
@@ -29,9 +29,9 @@ choose : (m : List ℕ × List ℕ) (rest : List ℕ × List ℕ) (c : Bool) →
 choose m rest true e f = e
 choose m rest false e f = f
 
-front_chars : (ms : List (List ℕ × List ℕ)) (b : ℕ) (bs : List ℕ) → Meanings ms → not (is_barred b) ≡ true → (are_chars (front_of ms b bs).1 ≡ true) × (0 < length ((front_of ms b bs).1))
-front_chars [] b bs m e = (one_char b e, omega arith)
-front_chars (m ∷ ms) b bs (here, lt, later) e = choose m (front_of ms b bs) (begins_with m.0 (b ∷ bs)) (here, lt) (front_chars ms b bs later e)
+prefix_chars : (ms : List (List ℕ × List ℕ)) (b : ℕ) (bs : List ℕ) → Meanings ms → not (is_barred b) ≡ true → (are_chars (prefix_of ms b bs).1 ≡ true) × (0 < length ((prefix_of ms b bs).1))
+prefix_chars [] b bs m e = (one_char b e, omega arith)
+prefix_chars (m ∷ ms) b bs (here, lt, later) e = choose m (prefix_of ms b bs) (begins_with m.0 (b ∷ bs)) (here, lt) (prefix_chars ms b bs later e)
 
 pub chars_append : (xs ys : List ℕ) → are_chars xs ≡ true → are_chars ys ≡ true → are_chars (xs ++ ys) ≡ true
 chars_append [] ys e f = f
@@ -42,12 +42,12 @@ unfolding decoded_from
 decoded_chars skip [] e = refl
 decoded_chars (suc skip) (b ∷ bs) e = decoded_chars skip bs (and_right (not (is_barred b)) (are_chars bs) e)
 decoded_chars zero (b ∷ bs) e =
-    chars_append ((front_of meanings b bs).1) (decoded_from (length ((front_of meanings b bs).0) - 1) bs) (front_chars meanings b bs meanings_are (and_left (not (is_barred b)) (are_chars bs) e)).0
-    (decoded_chars (length ((front_of meanings b bs).0) - 1) bs (and_right (not (is_barred b)) (are_chars bs) e))
+    chars_append ((prefix_of meanings b bs).1) (decoded_from (length ((prefix_of meanings b bs).0) - 1) bs) (prefix_chars meanings b bs meanings_are (and_left (not (is_barred b)) (are_chars bs) e)).0
+    (decoded_chars (length ((prefix_of meanings b bs).0) - 1) bs (and_right (not (is_barred b)) (are_chars bs) e))
 
 decoded_length : (b : ℕ) (bs : List ℕ) → not (is_barred b) ≡ true → 0 < length (decoded (b ∷ bs))
 unfolding decoded_from
-decoded_length b bs e = omega (arith, (front_chars meanings b bs meanings_are e).1, length-append ((front_of meanings b bs).1) (decoded_from (length ((front_of meanings b bs).0) - 1) bs))
+decoded_length b bs e = omega (arith, (prefix_chars meanings b bs meanings_are e).1, length-append ((prefix_of meanings b bs).1) (decoded_from (length ((prefix_of meanings b bs).0) - 1) bs))
 
 pub run_chars : (stop : ℕ) (bs : List ℕ) → is_run stop bs ≡ true → are_chars bs ≡ true
 run_chars stop [] e = refl

@@ -9,7 +9,7 @@ use Rattle.std.specs.List.{prefix_len, common_prefix_len, flat_map, list_all}
 use Rattle.model_spelling.specs.declared.scan_fault.ScanFault.{ScanFault}
 use Rattle.model_spelling.specs.declared.scan_fault.ScanWhat.TheVariants.{BadChar, BadTag, BadAttribute, BadReference, Doctype, UnclosedComment, UnclosedTag, TooManyAttributes, DuplicateAttribute}
 use Rattle.model_spelling.specs.Grammar.{is_barred, is_letter, is_name_byte, is_plaintext, is_void, begins_with, references, starts_reference, has_name, is_attr, is_attr_name, is_run, is_verbatim, Attr, attr_text, Token, Start, End, Comment, comment_close}
-use Rattle.model_spelling.specs.Reading.{◌>>=◌, fault, refused, longest_front, behind_front, reference_fault, run_end, value_end, verbatim_end, name_len_at, quote_at, head_at, attr_at, attrs_at, name_ends, tag_close, start_after, with_name, start_at, end_after, end_at, comment_at, is_doctype, dash_at, markup_at, tag_at}
+use Rattle.model_spelling.specs.Reading.{◌>>=◌, fault, refused, longest_prefix, after_prefix, reference_fault, run_end, value_end, verbatim_end, name_len_at, quote_at, head_at, attr_at, attrs_at, name_ends, tag_close, start_after, with_name, start_at, end_after, end_at, comment_at, is_doctype, dash_at, markup_at, tag_at}
 use Rattle.model_spelling.specs.Canonical.{are_chars}
 use Rattle.model_spelling.specs.Standing.{is_open}
 use Rattle.model_spelling.proofs.AttrReading.{and_left, and_right, attr_head_fault, attr_many, attr_twice, attr_value_fault, attr_whole, attrs_stop, attrs_fault, attrs_more}
@@ -34,44 +34,44 @@ fault_shut f g n e h = both (is_open f.what) n (ap (λ (x : ScanFault). is_open 
 
 -- ---- runs
 
-front_chars : (r text : List ℕ) → are_chars r ≡ true → length text ≤ common_prefix_len nat_eq r text → are_chars text ≡ true
-front_chars r [] e le = refl
-front_chars [] (b ∷ bs) e le = absurd (omega arith)
-front_chars (x ∷ r) (b ∷ bs) e le =
+prefix_chars : (r text : List ℕ) → are_chars r ≡ true → length text ≤ common_prefix_len nat_eq r text → are_chars text ≡ true
+prefix_chars r [] e le = refl
+prefix_chars [] (b ∷ bs) e le = absurd (omega arith)
+prefix_chars (x ∷ r) (b ∷ bs) e le =
     elim (cases_Bool (nat_eq x b)) [
       | inl same ↦
           let more : length (b ∷ bs) ≤ 1 + common_prefix_len nat_eq r bs = rw same at le in
           let is : x ≡ b = eqb-true x b same in
-          and_both (not (is_barred b)) (are_chars bs) (ap (λ (k : ℕ). not (is_barred k)) (sym is) ∙ and_left (not (is_barred x)) (are_chars r) e) (front_chars r bs (and_right (not (is_barred x)) (are_chars r) e) (omega (arith, more)))
+          and_both (not (is_barred b)) (are_chars bs) (ap (λ (k : ℕ). not (is_barred k)) (sym is) ∙ and_left (not (is_barred x)) (are_chars r) e) (prefix_chars r bs (and_right (not (is_barred x)) (are_chars r) e) (omega (arith, more)))
       | inr other ↦ let none : length (b ∷ bs) ≤ 0 = rw other at le in absurd (omega (arith, none))
     ]
 
-fronts_chars : (rs : List (List ℕ)) (text : List ℕ) → list_all are_chars rs ≡ true → 0 < length text → length text ≤ longest_front rs text → are_chars text ≡ true
-fronts_chars [] text e lt le = absurd (omega arith)
-fronts_chars (r ∷ rs) text e lt le =
+prefixes_chars : (rs : List (List ℕ)) (text : List ℕ) → list_all are_chars rs ≡ true → 0 < length text → length text ≤ longest_prefix rs text → are_chars text ≡ true
+prefixes_chars [] text e lt le = absurd (omega arith)
+prefixes_chars (r ∷ rs) text e lt le =
     elim (cases_lt (common_prefix_len nat_eq r text) (length text)) [
-      | inl less ↦ fronts_chars rs text (and_right (are_chars r) (list_all are_chars rs) e) lt (omega arith)
-      | inr here ↦ front_chars r text (and_left (are_chars r) (list_all are_chars rs) e) here
+      | inl less ↦ prefixes_chars rs text (and_right (are_chars r) (list_all are_chars rs) e) lt (omega arith)
+      | inr here ↦ prefix_chars r text (and_left (are_chars r) (list_all are_chars rs) e) here
     ]
 
 references_chars : list_all are_chars references ≡ true
 unfolding is_barred
 references_chars = refl
 
-behind_shut : (end : Option ScanFault) (amp next b : ℕ) (bs : List ℕ) (f : ScanFault) → behind_front end amp next (b ∷ bs) ≡ f → is_open f.what ≡ true → ⊥
-behind_shut None amp next b bs f e h = refused_shut next b (fault amp BadReference) f refl e h
-behind_shut (Some u) amp next b bs f e h = refused_shut next b (fault amp BadReference) f refl e h
+after_shut : (end : Option ScanFault) (amp next b : ℕ) (bs : List ℕ) (f : ScanFault) → after_prefix end amp next (b ∷ bs) ≡ f → is_open f.what ≡ true → ⊥
+after_shut None amp next b bs f e h = refused_shut next b (fault amp BadReference) f refl e h
+after_shut (Some u) amp next b bs f e h = refused_shut next b (fault amp BadReference) f refl e h
 
-behind_open : (end : Option ScanFault) (amp next : ℕ) (rest : List ℕ) (f : ScanFault) → behind_front end amp next rest ≡ f → is_open f.what ≡ true → rest ≡ []
-behind_open end amp next [] f e h = refl
-behind_open end amp next (b ∷ bs) f e h = absurd (behind_shut end amp next b bs f e h)
+after_open : (end : Option ScanFault) (amp next : ℕ) (rest : List ℕ) (f : ScanFault) → after_prefix end amp next rest ≡ f → is_open f.what ≡ true → rest ≡ []
+after_open end amp next [] f e h = refl
+after_open end amp next (b ∷ bs) f e h = absurd (after_shut end amp next b bs f e h)
 
 reference_chars : (end : Option ScanFault) (at : ℕ) (text : List ℕ) (f : ScanFault) → 0 < length text → reference_fault end at text ≡ f → is_open f.what ≡ true → are_chars text ≡ true
 unfolding reference_fault
 reference_chars end at text f lt e h =
-    let n : ℕ = longest_front references text in
-    let none = behind_open end at (at + n) (drop n text) f e h in
-    fronts_chars references text references_chars lt (omega (arith, ap length none, length-drop n text))
+    let n : ℕ = longest_prefix references text in
+    let none = after_open end at (at + n) (drop n text) f e h in
+    prefixes_chars references text references_chars lt (omega (arith, ap length none, length-drop n text))
 
 pub run_clean : (end : Option ScanFault) (stop at : ℕ) (text : List ℕ) (f : ScanFault) → is_open f.what ≡ true → run_end end stop at text ≡ Err f → are_chars text ≡ true
 unfolding run_end
@@ -147,8 +147,8 @@ quote_clean tag place at k c (q ∷ rest) f h e =
       | inr other ↦ absurd (refused_shut at c (fault place BadAttribute) f refl (err_same (quote_at tag place at (c ∷ (q ∷ rest)) >>= pair_of k) (refused at c (fault place BadAttribute)) f (rw other refl) e) h)
     ]
 
-head_clean_by : (tag place : ℕ) (text front back : List ℕ) (f : ScanFault) → text ≡ front ++ back → prefix_len is_name_byte text ≡ length front → list_all is_name_byte front ≡ true → is_open f.what ≡ true → head_at tag place text ≡ Err f → are_chars text ≡ true
-head_clean_by tag place text front [] f t len all h e = ap are_chars t ∙ chars_append front [] (name_chars front all) refl
+head_clean_by : (tag place : ℕ) (text prefix suffix : List ℕ) (f : ScanFault) → text ≡ prefix ++ suffix → prefix_len is_name_byte text ≡ length prefix → list_all is_name_byte prefix ≡ true → is_open f.what ≡ true → head_at tag place text ≡ Err f → are_chars text ≡ true
+head_clean_by tag place text prefix [] f t len all h e = ap are_chars t ∙ chars_append prefix [] (name_chars prefix all) refl
 head_clean_by tag place text [] (c ∷ cs) f t len all h e =
     let read : (name_len_at tag place 0 (c ∷ cs) >>= quoted tag place (c ∷ cs)) ≡ Err f = ap (λ (l : List ℕ). name_len_at tag place 0 l >>= quoted tag place l) (sym t) ∙ sym (head_as tag place 0 text len) ∙ e in
     absurd (refused_shut (place + 1) c (fault place BadAttribute) f refl (err_same (name_len_at tag place 0 (c ∷ cs) >>= quoted tag place (c ∷ cs)) (refused (place + 1) c (fault place BadAttribute)) f refl read) h)
@@ -157,11 +157,11 @@ head_clean_by tag place text (b ∷ bs) (c ∷ cs) f t len all h e =
     let left : drop n text ≡ c ∷ cs = ap (drop n) t ∙ drop-append_seam (b ∷ bs) (c ∷ cs) in
     let read : (quote_at tag place (place + 1 + n) (c ∷ cs) >>= pair_of n) ≡ Err f = ap (λ (l : List ℕ). quote_at tag place (place + 1 + n) l >>= pair_of n) (sym left) ∙ sym (head_as tag place n text len) ∙ e in
     let q = quote_clean tag place (place + 1 + n) n c cs f h read in
-    let back : c ∷ cs ≡ 61 ∷ [] = (λ i. q.0 i ∷ q.1 i) in
-    ap are_chars t ∙ chars_append (b ∷ bs) (c ∷ cs) (name_chars (b ∷ bs) all) (ap are_chars back ∙ ascii_chars.0)
+    let suffix : c ∷ cs ≡ 61 ∷ [] = (λ i. q.0 i ∷ q.1 i) in
+    ap are_chars t ∙ chars_append (b ∷ bs) (c ∷ cs) (name_chars (b ∷ bs) all) (ap are_chars suffix ∙ ascii_chars.0)
 
 head_clean : (tag place : ℕ) (text : List ℕ) (f : ScanFault) → is_open f.what ≡ true → head_at tag place text ≡ Err f → are_chars text ≡ true
-head_clean tag place text f h e = let s = split is_name_byte text in head_clean_by tag place text s.front s.back f s.text_is s.len s.all h e
+head_clean tag place text f h e = let s = split is_name_byte text in head_clean_by tag place text s.prefix s.suffix f s.text_is s.len s.all h e
 
 attr_clean_value : (room tag place n q : ℕ) (before : List Attr) (text : List ℕ) (f : ScanFault) (d : Bool) (v : Result ℕ ScanFault) → head_at tag place text ≡ Ok (n, q) → has_name (take n text) before ≡ d → value_end tag q (place + n + 3) (drop (n + 2) text) ≡ v
     → is_open f.what ≡ true → attr_at (suc room) tag before place text ≡ Err f → are_chars text ≡ true
@@ -170,8 +170,8 @@ attr_clean_value room tag place n q before text f false (Ok x) h d w o e = absur
 attr_clean_value room tag place n q before text f false (Err g) h d w o e =
     let hf = head_found tag place n q text h in
     let same = err_same (attr_at (suc room) tag before place text) g f (attr_value_fault room tag place n q before text g h d w) e in
-    let behind : drop n text ≡ 61 ∷ (q ∷ hf.rest) = ap (drop n) hf.text_is ∙ drop_at hf.name (61 ∷ (q ∷ hf.rest)) n hf.len in
-    let left : drop (n + 2) text ≡ hf.rest = sym (drop-drop 2 n text) ∙ ap (drop 2) behind in
+    let beyond : drop n text ≡ 61 ∷ (q ∷ hf.rest) = ap (drop n) hf.text_is ∙ drop_at hf.name (61 ∷ (q ∷ hf.rest)) n hf.len in
+    let left : drop (n + 2) text ≡ hf.rest = sym (drop-drop 2 n text) ∙ ap (drop 2) beyond in
     let rest = run_clean (Some (fault tag UnclosedTag)) q (place + n + 3) hf.rest f o (ap (value_end tag q (place + n + 3)) (sym left) ∙ w ∙ ap err same) in
     ap are_chars hf.text_is ∙ chars_append hf.name (61 ∷ (q ∷ hf.rest)) (attr_name_chars hf.name hf.named) (and_both (not (is_barred 61)) (are_chars (q ∷ hf.rest)) equals_char (and_both (not (is_barred q)) (are_chars hf.rest) (quote_char q hf.quote) rest))
 
@@ -290,9 +290,9 @@ after_clean_name tag at name text f (Ok tt) o n e = after_clean_attrs tag at nam
 start_clean : (tag : ℕ) (text : List ℕ) (f : ScanFault) → is_open f.what ≡ true → start_at tag text ≡ Err f → are_chars text ≡ true
 start_clean tag text f o e =
     let s = split is_name_byte text in
-    let at : ℕ = tag + 1 + length s.front in
-    let back = after_clean_name tag at s.front s.back f (name_ends tag s.front at s.back) o refl (sym (start_is tag text ∙ named_as (start_after tag) (tag + 1) text s) ∙ e) in
-    ap are_chars s.text_is ∙ chars_append s.front s.back (name_chars s.front s.all) back
+    let at : ℕ = tag + 1 + length s.prefix in
+    let suffix = after_clean_name tag at s.prefix s.suffix f (name_ends tag s.prefix at s.suffix) o refl (sym (start_is tag text ∙ named_as (start_after tag) (tag + 1) text s) ∙ e) in
+    ap are_chars s.text_is ∙ chars_append s.prefix s.suffix (name_chars s.prefix s.all) suffix
 
 end_after_clean : (tag at : ℕ) (name text : List ℕ) (f : ScanFault) → is_open f.what ≡ true → end_after tag name at text ≡ Err f → are_chars text ≡ true
 end_after_clean tag at name [] f o e = refl
@@ -310,8 +310,8 @@ end_clean tag (c ∷ cs) f o e =
       | inl letter ↦
           let h : with_name (end_after tag) (tag + 2) (c ∷ cs) ≡ Err f = rw letter at e in
           let s = split is_name_byte (c ∷ cs) in
-          let back = end_after_clean tag (tag + 2 + length s.front) s.front s.back f o (sym (named_as (end_after tag) (tag + 2) (c ∷ cs) s) ∙ h) in
-          ap are_chars s.text_is ∙ chars_append s.front s.back (name_chars s.front s.all) back
+          let suffix = end_after_clean tag (tag + 2 + length s.prefix) s.prefix s.suffix f o (sym (named_as (end_after tag) (tag + 2) (c ∷ cs) s) ∙ h) in
+          ap are_chars s.text_is ∙ chars_append s.prefix s.suffix (name_chars s.prefix s.all) suffix
       | inr other ↦
           let h : err {A = Token × ℕ} (refused (tag + 2) c (fault tag BadTag)) ≡ Err f = rw other at e in
           absurd (refused_shut (tag + 2) c (fault tag BadTag) f refl (err_same (err {A = Token × ℕ} (refused (tag + 2) c (fault tag BadTag))) (refused (tag + 2) c (fault tag BadTag)) f refl h) o)

@@ -9,47 +9,47 @@ use Rattle.std.specs.List.{common_prefix_len, list_all, list_any}
 use Rattle.model_spelling.specs.declared.scan_fault.ScanFault.{ScanFault}
 use Rattle.model_spelling.specs.declared.scan_fault.ScanWhat.TheVariants.{BadChar, BadTag, BadReference, Doctype, UnclosedComment, UnclosedTag, UnclosedRaw}
 use Rattle.model_spelling.specs.Grammar.{is_barred, is_letter, is_tag_name, is_same_name, begins_with, references, starts_reference, is_run, end_text}
-use Rattle.model_spelling.specs.Reading.{◌>>=◌, fault, refused, longest_front, behind_front, reference_fault, run_end, verbatim_end, start_at, end_at, is_doctype, dash_at, markup_at, tag_at, some_token, between_at, token_at, Between, After}
-use Rattle.model_spelling.specs.Standing.{is_doctype_front}
+use Rattle.model_spelling.specs.Reading.{◌>>=◌, fault, refused, longest_prefix, after_prefix, reference_fault, run_end, verbatim_end, start_at, end_at, is_doctype, dash_at, markup_at, tag_at, some_token, between_at, token_at, Between, After}
+use Rattle.model_spelling.specs.Standing.{is_doctype_prefix}
 use Rattle.model_spelling.proofs.AttrReading.{and_left, and_right}
 use Rattle.model_spelling.proofs.TokenRuns.{begins_parts, begins_from_parts, reference_more, or_right}
 use Rattle.model_spelling.proofs.Only.{both}
 use Rattle.model_spelling.proofs.FoundTokens.{raw_fails}
 use Rattle.model_spelling.proofs.Stays.{err, err_same, fault_ways, past_one}
-use Rattle.model_spelling.proofs.StaysTags.{markup_fault, markup_is, refused_plain, front_is}
+use Rattle.model_spelling.proofs.StaysTags.{markup_fault, markup_is, refused_plain, prefix_is}
 use Rattle.model_spelling.proofs.StaysTokens.{token_fails, text_fails, as_text, raw_never}
 use Rattle.model_spelling.proofs.Settled.{settled, as_settled, refused_settled, from_err, from_refused, passes_by, verbatim_settled, NoDoctype, start_settled, end_settled, dash_settled}
 
 -- ---- references
 
 -- the text goes on to a reference that passes this test
-record Front (q : List ℕ → Bool) (rs : List (List ℕ)) (text : List ℕ) : Type 0 where
+record Prefix (q : List ℕ → Bool) (rs : List (List ℕ)) (text : List ℕ) : Type 0 where
   pub more : List ℕ
   pub passes : q (text ++ more) ≡ true
   pub starts : list_any (λ r. begins_with r (text ++ more)) rs ≡ true
 
-front_all : (r text : List ℕ) → length text ≤ common_prefix_len nat_eq r text → text ++ drop (length text) r ≡ r
-front_all r [] le = refl
-front_all [] (b ∷ bs) le = absurd (omega arith)
-front_all (x ∷ r) (b ∷ bs) le =
+prefix_all : (r text : List ℕ) → length text ≤ common_prefix_len nat_eq r text → text ++ drop (length text) r ≡ r
+prefix_all r [] le = refl
+prefix_all [] (b ∷ bs) le = absurd (omega arith)
+prefix_all (x ∷ r) (b ∷ bs) le =
     elim (cases_Bool (nat_eq x b)) [
       | inl same ↦
           let more : length (b ∷ bs) ≤ 1 + common_prefix_len nat_eq r bs = rw same at le in
           let is : b ≡ x = sym (eqb-true x b same) in
-          let rest = front_all r bs (omega (arith, more)) in
+          let rest = prefix_all r bs (omega (arith, more)) in
           (λ i. is i ∷ rest i)
       | inr other ↦ let none : length (b ∷ bs) ≤ 0 = rw other at le in absurd (omega (arith, none))
     ]
 
-front_of : (q : List ℕ → Bool) (rs : List (List ℕ)) (text : List ℕ) → list_all q rs ≡ true → 0 < length text → length text ≤ longest_front rs text → Front q rs text
-front_of q [] text e lt le = absurd (omega arith)
-front_of q (r ∷ rs) text e lt le =
+prefix_of : (q : List ℕ → Bool) (rs : List (List ℕ)) (text : List ℕ) → list_all q rs ≡ true → 0 < length text → length text ≤ longest_prefix rs text → Prefix q rs text
+prefix_of q [] text e lt le = absurd (omega arith)
+prefix_of q (r ∷ rs) text e lt le =
     elim (cases_lt (common_prefix_len nat_eq r text) (length text)) [
       | inl less ↦
-          let f = front_of q rs text (and_right (q r) (list_all q rs) e) lt (omega arith) in
+          let f = prefix_of q rs text (and_right (q r) (list_all q rs) e) lt (omega arith) in
           record { more = f.more; passes = f.passes; starts = or_right (begins_with r (text ++ f.more)) (list_any (λ r. begins_with r (text ++ f.more)) rs) f.starts }
       | inr here ↦
-          let is = front_all r text here in
+          let is = prefix_all r text here in
           let starts : begins_with r (text ++ drop (length text) r) ≡ true = begins_from_parts r (text ++ drop (length text) r) [] (is ∙ sym (append-nil r)) in
           record { more = drop (length text) r; passes = ap q is ∙ and_left (q r) (list_all q rs) e; starts = rw starts refl }
     ]
@@ -65,25 +65,25 @@ pub record CutText (whole text : List ℕ) (f : ScanFault) : Type 0 where
   pub run : is_run 60 (text ++ more) ≡ true
   pub starts : starts_reference (drop f.at (whole ++ more)) ≡ true
 
-completed_by : (at : ℕ) (whole text : List ℕ) (f : ScanFault) → drop at whole ≡ text → fault at BadReference ≡ f → 0 < length text → Front (is_run 60) references text → CutText whole text f
+completed_by : (at : ℕ) (whole text : List ℕ) (f : ScanFault) → drop at whole ≡ text → fault at BadReference ≡ f → 0 < length text → Prefix (is_run 60) references text → CutText whole text f
 unfolding starts_reference
-completed_by at whole text f here is lt front =
-    let there : drop f.at (whole ++ front.more) ≡ text ++ front.more =
-    ap (λ (g : ScanFault). drop g.at (whole ++ front.more)) (sym is) ∙ drop-append-le at whole front.more (omega (arith, lt, ap length here, length-drop at whole)) ∙ ap (λ (l : List ℕ). l ++ front.more) here in
+completed_by at whole text f here is lt prefix =
+    let there : drop f.at (whole ++ prefix.more) ≡ text ++ prefix.more =
+    ap (λ (g : ScanFault). drop g.at (whole ++ prefix.more)) (sym is) ∙ drop-append-le at whole prefix.more (omega (arith, lt, ap length here, length-drop at whole)) ∙ ap (λ (l : List ℕ). l ++ prefix.more) here in
     record {
-      more = front.more;
+      more = prefix.more;
       is = ap (λ (g : ScanFault). fault g.at BadReference) (sym is) ∙ is;
-      run = front.passes;
-      starts = ap (λ (l : List ℕ). list_any (λ r. begins_with r l) references) there ∙ front.starts;
+      run = prefix.passes;
+      starts = ap (λ (l : List ℕ). list_any (λ r. begins_with r l) references) there ∙ prefix.starts;
     }
 
-cut_by : (at next : ℕ) (whole text rest : List ℕ) (f : ScanFault) → drop at whole ≡ text → 0 < length text → drop (longest_front references text) text ≡ rest → behind_front None at next rest ≡ f → (settled whole f ≡ true) ⊎ CutText whole text f
-cut_by at next whole text [] f here lt d e = inr (completed_by at whole text f here e lt (front_of (is_run 60) references text references_run lt (omega (arith, ap length d, length-drop (longest_front references text) text))))
+cut_by : (at next : ℕ) (whole text rest : List ℕ) (f : ScanFault) → drop at whole ≡ text → 0 < length text → drop (longest_prefix references text) text ≡ rest → after_prefix None at next rest ≡ f → (settled whole f ≡ true) ⊎ CutText whole text f
+cut_by at next whole text [] f here lt d e = inr (completed_by at whole text f here e lt (prefix_of (is_run 60) references text references_run lt (omega (arith, ap length d, length-drop (longest_prefix references text) text))))
 cut_by at next whole text (b ∷ bs) f here lt d e = inl (refused_settled whole next b (fault at BadReference) f (passes_by at whole text here (omega (arith, ap length d))) e)
 
 reference_cut : (at : ℕ) (whole text : List ℕ) (f : ScanFault) → drop at whole ≡ text → 0 < length text → reference_fault None at text ≡ f → (settled whole f ≡ true) ⊎ CutText whole text f
 unfolding reference_fault
-reference_cut at whole text f here lt e = cut_by at (at + longest_front references text) whole text (drop (longest_front references text) text) f here lt refl e
+reference_cut at whole text f here lt e = cut_by at (at + longest_prefix references text) whole text (drop (longest_prefix references text) text) f here lt refl e
 
 amp_fits : (amp found more : Bool) → (amp && not found) ≡ false → (found ≡ true → more ≡ true) → (not amp || more) ≡ true
 amp_fits true true more e h = h refl
@@ -132,11 +132,11 @@ rest_of cs = drop (length cs) (codes "doctype")
 
 doctype_whole : (cs : List ℕ) → begins_with (map to_ascii_lowercase cs) (codes "doctype") ≡ true → is_doctype (cs ++ rest_of cs) ≡ true
 doctype_whole cs e =
-    let front : List ℕ = map to_ascii_lowercase cs in
-    let same : length front ≡ length cs = length-map cs to_ascii_lowercase in
-    let parts : codes "doctype" ≡ front ++ rest_of cs = begins_parts front (codes "doctype") e ∙ ap (λ (k : ℕ). front ++ drop k (codes "doctype")) same in
+    let prefix : List ℕ = map to_ascii_lowercase cs in
+    let same : length prefix ≡ length cs = length-map cs to_ascii_lowercase in
+    let parts : codes "doctype" ≡ prefix ++ rest_of cs = begins_parts prefix (codes "doctype") e ∙ ap (λ (k : ℕ). prefix ++ drop k (codes "doctype")) same in
     let rest : map to_ascii_lowercase (rest_of cs) ≡ rest_of cs = sym (drop-map to_ascii_lowercase (length cs) (codes "doctype")) ∙ ap (drop (length cs)) lower_doctype in
-    let lower : codes "doctype" ≡ map to_ascii_lowercase (cs ++ rest_of cs) = parts ∙ ap (λ (l : List ℕ). front ++ l) (sym rest) ∙ sym (map-append to_ascii_lowercase cs (rest_of cs)) in
+    let lower : codes "doctype" ≡ map to_ascii_lowercase (cs ++ rest_of cs) = parts ∙ ap (λ (l : List ℕ). prefix ++ l) (sym rest) ∙ sym (map-append to_ascii_lowercase cs (rest_of cs)) in
     doctype_from (cs ++ rest_of cs) (sym (length-map (cs ++ rest_of cs) to_ascii_lowercase) ∙ sym (ap length lower) ∙ doctype_length) lower
 
 -- the end of the text cuts a doctype
@@ -150,10 +150,10 @@ unfolding between_at tag_at is_letter
 bang_first tag bs = refl
 
 completed_markup : (tag c : ℕ) (cs : List ℕ) → (c == 45) ≡ false → is_barred c ≡ false → begins_with (map to_ascii_lowercase (c ∷ cs)) (codes "doctype") ≡ true → between_at tag ((60 ∷ (33 ∷ (c ∷ cs))) ++ rest_of (c ∷ cs)) ≡ Err (fault tag Doctype)
-completed_markup tag c cs dash plain front =
+completed_markup tag c cs dash plain prefix =
     let read : markup_at tag (c ∷ (cs ++ rest_of (c ∷ cs))) ≡ Err (fault tag Doctype) =
     markup_is tag c (cs ++ rest_of (c ∷ cs)) dash
-    ∙ ap err (refused_plain (tag + 2) c (markup_fault tag (c ∷ (cs ++ rest_of (c ∷ cs)))) plain ∙ ap (λ (x : Bool). fault tag (cond x Doctype BadTag)) (doctype_whole (c ∷ cs) front)) in
+    ∙ ap err (refused_plain (tag + 2) c (markup_fault tag (c ∷ (cs ++ rest_of (c ∷ cs)))) plain ∙ ap (λ (x : Bool). fault tag (cond x Doctype BadTag)) (doctype_whole (c ∷ cs) prefix)) in
     bang_first tag (c ∷ (cs ++ rest_of (c ∷ cs))) ∙ ap some_token read
 
 bad_markup : (tag c : ℕ) (cs : List ℕ) (f : ScanFault) → is_barred c ≡ false → is_doctype (c ∷ cs) ≡ false → refused (tag + 2) c (markup_fault tag (c ∷ cs)) ≡ f → fault tag BadTag ≡ f
@@ -175,8 +175,8 @@ named_markup tag c cs whole f here dash e =
             | inr no_doctype ↦
                 let is = bad_markup tag c cs f plain no_doctype e in
                 elim (cases_Bool (begins_with (map to_ascii_lowercase (c ∷ cs)) (codes "doctype"))) [
-                  | inl front ↦ inr (record { more = rest_of (c ∷ cs); is = is; whole = completed_markup tag c cs dash plain front })
-                  | inr other ↦ inl (as_settled whole (fault tag BadTag) f (ap (λ (x : Bool). not x) (ap is_doctype_front here ∙ front_is (c ∷ cs) ∙ other)) is)
+                  | inl prefix ↦ inr (record { more = rest_of (c ∷ cs); is = is; whole = completed_markup tag c cs dash plain prefix })
+                  | inr other ↦ inl (as_settled whole (fault tag BadTag) f (ap (λ (x : Bool). not x) (ap is_doctype_prefix here ∙ prefix_is (c ∷ cs) ∙ other)) is)
                 ]
           ]
     ]
@@ -193,7 +193,7 @@ markup_cut tag (c ∷ cs) whole f here e =
       | inl dash ↦
           let h : dash_at tag cs ≡ Err f = rw dash at e in
           let is : c ≡ 45 = eqb-true c 45 dash in
-          let other : is_doctype_front (drop tag whole) ≡ false = ap is_doctype_front here ∙ front_is (c ∷ cs) ∙ ap (λ (x : ℕ). begins_with (map to_ascii_lowercase (x ∷ cs)) (codes "doctype")) is ∙ no_dash cs in
+          let other : is_doctype_prefix (drop tag whole) ≡ false = ap is_doctype_prefix here ∙ prefix_is (c ∷ cs) ∙ ap (λ (x : ℕ). begins_with (map to_ascii_lowercase (x ∷ cs)) (codes "doctype")) is ∙ no_dash cs in
           inl (dash_settled whole tag cs f (ap (λ (x : Bool). not x) other) h)
       | inr other ↦ named_markup tag c cs whole f here other (err_same (markup_at tag (c ∷ cs)) (refused (tag + 2) c (markup_fault tag (c ∷ cs))) f (markup_is tag c cs other) e)
     ]
@@ -202,12 +202,12 @@ markup_cut tag (c ∷ cs) whole f here e =
 
 no_bang : (tag c : ℕ) (cs whole : List ℕ) → drop tag whole ≡ 60 ∷ (c ∷ cs) → (c == 33) ≡ false → NoDoctype whole tag
 no_bang tag c cs whole here e =
-    elim (cases_Bool (is_doctype_front (60 ∷ (c ∷ cs)))) [
-      | inl front ↦
-          let starts = and_left (begins_with (60 ∷ (33 ∷ [])) (60 ∷ (c ∷ cs))) (begins_with (map to_ascii_lowercase cs) (codes "doctype")) front in
+    elim (cases_Bool (is_doctype_prefix (60 ∷ (c ∷ cs)))) [
+      | inl prefix ↦
+          let starts = and_left (begins_with (60 ∷ (33 ∷ [])) (60 ∷ (c ∷ cs))) (begins_with (map to_ascii_lowercase cs) (codes "doctype")) prefix in
           let second : c ≡ 33 = ap (λ (l : List ℕ). slice_index l 1) (begins_parts (60 ∷ (33 ∷ [])) (60 ∷ (c ∷ cs)) starts) in
           absurd (both (c == 33) e (eq-eqb c 33 second))
-      | inr other ↦ ap (λ (l : List ℕ). not (is_doctype_front l)) here ∙ ap (λ (x : Bool). not x) other
+      | inr other ↦ ap (λ (l : List ℕ). not (is_doctype_prefix l)) here ∙ ap (λ (x : Bool). not x) other
     ]
 
 bang_no_letter : is_letter 33 ≡ false

@@ -8,7 +8,7 @@ use Rattle.std.specs.List.{list_all}
 use Rattle.model_spelling.specs.Grammar.{is_barred, is_attr_name, is_tag_name, is_void, is_raw, is_run, is_text, is_verbatim, is_attr, has_name, are_distinct, are_attrs, is_start, is_same_name, begins_with, starts_reference, Attr, end_text, comment_close}
 use Rattle.model_spelling.specs.Forest.{Forest, Nothing, Text, Remark, Void, RawElement, Element, starts_with_text, spelling, is_forest}
 use Rattle.model_spelling.specs.Parsed.{forest_of}
-use Rattle.model_spelling.specs.Written.{meanings, front_of, decoded_from, decoded, escaped_byte, escaped}
+use Rattle.model_spelling.specs.Written.{meanings, prefix_of, decoded_from, decoded, escaped_byte, escaped}
 use Rattle.model_spelling.specs.Canonical.{decoded_attr, written_attr, decoded_forest, written, are_chars, is_some_chars, is_plain_attr, is_plain_start, is_plain}
 use Rattle.model_spelling.proofs.AttrReading.{and_left, and_right}
 use Rattle.model_spelling.proofs.TokenRuns.{not_false, reference_more}
@@ -46,13 +46,13 @@ pub pick_true : {A : Type 0} (c : Bool) (x y : A) → c ≡ true → (if c then 
 pick_true true x y e = refl
 pick_true false x y e = cc
 
-front-byte : (ms : List (List ℕ × List ℕ)) → Ampersands ms → (b : ℕ) (bs : List ℕ) → (b == 38) ≡ false → front_of ms b bs ≡ (b ∷ [], b ∷ [])
-front-byte [] a b bs h = refl
-front-byte (m ∷ ms) a b bs h = pick_false (begins_with m.0 (b ∷ bs)) m (front_of ms b bs) (a.0 b bs h) ∙ front-byte ms a.1 b bs h
+prefix-byte : (ms : List (List ℕ × List ℕ)) → Ampersands ms → (b : ℕ) (bs : List ℕ) → (b == 38) ≡ false → prefix_of ms b bs ≡ (b ∷ [], b ∷ [])
+prefix-byte [] a b bs h = refl
+prefix-byte (m ∷ ms) a b bs h = pick_false (begins_with m.0 (b ∷ bs)) m (prefix_of ms b bs) (a.0 b bs h) ∙ prefix-byte ms a.1 b bs h
 
 pub decoded-byte : (b : ℕ) (t : List ℕ) → (b == 38) ≡ false → decoded_from 0 (b ∷ t) ≡ b ∷ decoded_from 0 t
 unfolding decoded_from
-decoded-byte b t h = ap (λ m. m.1 ++ decoded_from (length m.0 - 1) t) (front-byte meanings meanings-Ampersands b t h)
+decoded-byte b t h = ap (λ m. m.1 ++ decoded_from (length m.0 - 1) t) (prefix-byte meanings meanings-Ampersands b t h)
 
 -- ---- each reference is decoded
 

@@ -35,12 +35,12 @@ not_ok r f x e g = let h : false ≡ true = ap is_ok (sym e ∙ g) in cc
 -- ---- runs
 
 pub record RunFound (end : Option ScanFault) (stop at to : ℕ) (text : List ℕ) : Type 0 where
-  pub front : List ℕ
-  pub back : List ℕ
-  pub text_is : text ≡ front ++ back
-  pub len : to ≡ at + length front
-  pub run : is_run stop front ≡ true
-  pub follows : Follows stop end back
+  pub prefix : List ℕ
+  pub suffix : List ℕ
+  pub text_is : text ≡ prefix ++ suffix
+  pub len : to ≡ at + length prefix
+  pub run : is_run stop prefix ≡ true
+  pub follows : Follows stop end suffix
 
 run_within : (end : Option ScanFault) (stop at to : ℕ) (text : List ℕ) → run_end end stop at text ≡ Ok to → to ≤ at + length text
 unfolding run_end
@@ -76,8 +76,8 @@ pub run_parts : (end : Option ScanFault) (stop at to : ℕ) (text : List ℕ) �
 run_parts end stop at to text parts e =
     let whole : text ≡ take (to - at) text ++ drop (to - at) text = sym (take-append-drop (to - at) text) in
     record {
-      front = take (to - at) text;
-      back = drop (to - at) text;
+      prefix = take (to - at) text;
+      suffix = drop (to - at) text;
       text_is = whole;
       len = omega (arith, run_le end stop at to text e, run_within end stop at to text e, ap length whole, length-append (take (to - at) text) (drop (to - at) text), length-drop (to - at) text);
       run = run_found end stop at to text parts e;
@@ -91,32 +91,32 @@ Stops p [] = Unit {0}
 Stops p (b ∷ bs) = p b ≡ false
 
 pub record Split (p : ℕ → Bool) (text : List ℕ) : Type 0 where
-  pub front : List ℕ
-  pub back : List ℕ
-  pub text_is : text ≡ front ++ back
-  pub len : prefix_len p text ≡ length front
-  pub all : list_all p front ≡ true
-  pub stops : Stops p back
+  pub prefix : List ℕ
+  pub suffix : List ℕ
+  pub text_is : text ≡ prefix ++ suffix
+  pub len : prefix_len p text ≡ length prefix
+  pub all : list_all p prefix ≡ true
+  pub stops : Stops p suffix
 
 split_by : (p : ℕ → Bool) (b : ℕ) (bs : List ℕ) (c : Bool) → p b ≡ c → Split p bs → Split p (b ∷ bs)
-split_by p b bs true e s = record { front = b ∷ s.front; back = s.back; text_is = ap (λ (l : List ℕ). b ∷ l) s.text_is; len = rw e (omega (arith, s.len)); all = rw e s.all; stops = s.stops }
-split_by p b bs false e s = record { front = []; back = b ∷ bs; text_is = refl; len = rw e refl; all = refl; stops = e }
+split_by p b bs true e s = record { prefix = b ∷ s.prefix; suffix = s.suffix; text_is = ap (λ (l : List ℕ). b ∷ l) s.text_is; len = rw e (omega (arith, s.len)); all = rw e s.all; stops = s.stops }
+split_by p b bs false e s = record { prefix = []; suffix = b ∷ bs; text_is = refl; len = rw e refl; all = refl; stops = e }
 
 pub split : (p : ℕ → Bool) (text : List ℕ) → Split p text
-split p [] = record { front = []; back = []; text_is = refl; len = refl; all = refl; stops = tt }
+split p [] = record { prefix = []; suffix = []; text_is = refl; len = refl; all = refl; stops = tt }
 split p (b ∷ bs) = split_by p b bs (p b) refl (split p bs)
 
-split_take : (p : ℕ → Bool) (text : List ℕ) (s : Split p text) → take (length s.front) text ≡ s.front
-split_take p text s = ap (take (length s.front)) s.text_is ∙ take-append_seam s.front s.back
+split_take : (p : ℕ → Bool) (text : List ℕ) (s : Split p text) → take (length s.prefix) text ≡ s.prefix
+split_take p text s = ap (take (length s.prefix)) s.text_is ∙ take-append_seam s.prefix s.suffix
 
-pub split_drop : (p : ℕ → Bool) (text : List ℕ) (s : Split p text) → drop (length s.front) text ≡ s.back
-split_drop p text s = ap (drop (length s.front)) s.text_is ∙ drop-append_seam s.front s.back
+pub split_drop : (p : ℕ → Bool) (text : List ℕ) (s : Split p text) → drop (length s.prefix) text ≡ s.suffix
+split_drop p text s = ap (drop (length s.prefix)) s.text_is ∙ drop-append_seam s.prefix s.suffix
 
 named_by : {A : Type 0} (after : List ℕ → ℕ → List ℕ → A) (at n : ℕ) (text name rest : List ℕ) → prefix_len is_name_byte text ≡ n → take n text ≡ name → drop n text ≡ rest → with_name after at text ≡ after name (at + n) rest
 named_by after at n text name rest e f g = rw (e, f, g) refl
 
-pub named_as : {A : Type 0} (after : List ℕ → ℕ → List ℕ → A) (at : ℕ) (text : List ℕ) (s : Split is_name_byte text) → with_name after at text ≡ after s.front (at + length s.front) s.back
-named_as after at text s = named_by after at (length s.front) text s.front s.back s.len (split_take is_name_byte text s) (split_drop is_name_byte text s)
+pub named_as : {A : Type 0} (after : List ℕ → ℕ → List ℕ → A) (at : ℕ) (text : List ℕ) (s : Split is_name_byte text) → with_name after at text ≡ after s.prefix (at + length s.prefix) s.suffix
+named_as after at text s = named_by after at (length s.prefix) text s.prefix s.suffix s.len (split_take is_name_byte text s) (split_drop is_name_byte text s)
 
 -- ---- the head of an attribute
 
@@ -151,24 +151,24 @@ only_equals : (e1 : Bool) (n q : ℕ) (f g : ScanFault) → (k : ℕ) → (cond 
 only_equals true n q f g k e = not_ok (Err f) f (n, q) refl e
 only_equals false n q f g k e = not_ok (Err g) g (n, q) refl e
 
-quote_found : (tag place at k n q : ℕ) (back : List ℕ) → (quote_at tag place at back >>= pair_of k) ≡ Ok (n, q) → (rest : List ℕ) × (back ≡ 61 ∷ (q ∷ rest)) × ((q == 34 || q == 39) ≡ true) × (k ≡ n)
+quote_found : (tag place at k n q : ℕ) (suffix : List ℕ) → (quote_at tag place at suffix >>= pair_of k) ≡ Ok (n, q) → (rest : List ℕ) × (suffix ≡ 61 ∷ (q ∷ rest)) × ((q == 34 || q == 39) ≡ true) × (k ≡ n)
 quote_found tag place at k n q [] e = absurd (not_ok (Err (fault tag UnclosedTag)) (fault tag UnclosedTag) (n, q) refl e)
 quote_found tag place at k n q (c ∷ []) e = absurd (only_equals (c == 61) n q (fault tag UnclosedTag) (refused at c (fault place _)) k e)
 quote_found tag place at k n q (c ∷ d ∷ rest) e =
     let p = quote_by (c == 61) (d == 34 || d == 39) d k n q _ _ e in
     (rest, (λ i. eqb-true c 61 p.0 i ∷ p.3 i ∷ rest), subst (λ (x : ℕ). (x == 34 || x == 39) ≡ true) p.3 p.1, p.2)
 
-head_found_by : (tag place n q : ℕ) (text front back : List ℕ) → prefix_len is_name_byte text ≡ length front → text ≡ front ++ back → list_all is_name_byte front ≡ true → drop (length front) text ≡ back → head_at tag place text ≡ Ok (n, q) → HeadFound n q text
-head_found_by tag place n q text [] back len t all d e = absurd (no_name tag place n q text (sym (head_as tag place 0 text len) ∙ e))
-head_found_by tag place n q text (b ∷ bs) back len t all d e =
-    let read : (quote_at tag place (place + 1 + length (b ∷ bs)) back >>= pair_of (length (b ∷ bs))) ≡ Ok (n, q) = ap (λ (l : List ℕ). quote_at tag place (place + 1 + length (b ∷ bs)) l >>= pair_of (length (b ∷ bs))) (sym d) ∙ sym (head_as tag place (length (b ∷ bs)) text len) ∙ e in
-    let p = quote_found tag place (place + 1 + length (b ∷ bs)) (length (b ∷ bs)) n q back read in
+head_found_by : (tag place n q : ℕ) (text prefix suffix : List ℕ) → prefix_len is_name_byte text ≡ length prefix → text ≡ prefix ++ suffix → list_all is_name_byte prefix ≡ true → drop (length prefix) text ≡ suffix → head_at tag place text ≡ Ok (n, q) → HeadFound n q text
+head_found_by tag place n q text [] suffix len t all d e = absurd (no_name tag place n q text (sym (head_as tag place 0 text len) ∙ e))
+head_found_by tag place n q text (b ∷ bs) suffix len t all d e =
+    let read : (quote_at tag place (place + 1 + length (b ∷ bs)) suffix >>= pair_of (length (b ∷ bs))) ≡ Ok (n, q) = ap (λ (l : List ℕ). quote_at tag place (place + 1 + length (b ∷ bs)) l >>= pair_of (length (b ∷ bs))) (sym d) ∙ sym (head_as tag place (length (b ∷ bs)) text len) ∙ e in
+    let p = quote_found tag place (place + 1 + length (b ∷ bs)) (length (b ∷ bs)) n q suffix read in
     record { name = b ∷ bs; rest = p.0; text_is = t ∙ ap (λ (l : List ℕ). b ∷ bs ++ l) p.1; len = p.3; named = all; quote = p.2 }
 
 pub head_found : (tag place n q : ℕ) (text : List ℕ) → head_at tag place text ≡ Ok (n, q) → HeadFound n q text
 head_found tag place n q text e =
     let s = split is_name_byte text in
-    head_found_by tag place n q text s.front s.back s.len s.text_is s.all (split_drop is_name_byte text s) e
+    head_found_by tag place n q text s.prefix s.suffix s.len s.text_is s.all (split_drop is_name_byte text s) e
 
 -- ---- an attribute
 
@@ -187,7 +187,7 @@ quote_parts q e =
       | inr single ↦ subst PartsReferences (sym (eqb-true q 39 single)) single_parts
     ]
 
-stop_here : (f : ScanFault) (q : ℕ) (back : List ℕ) → Follows q (Some f) back → (rest : List ℕ) × (back ≡ q ∷ rest)
+stop_here : (f : ScanFault) (q : ℕ) (suffix : List ℕ) → Follows q (Some f) suffix → (rest : List ℕ) × (suffix ≡ q ∷ rest)
 stop_here f q [] e = absurd cc
 stop_here f q (b ∷ rest) e = (rest, ap (λ (x : ℕ). x ∷ rest) e)
 
@@ -195,19 +195,19 @@ attr_made : (room tag place n q x : ℕ) (before : List Attr) (text : List ℕ) 
     → AttrFound (suc room) place before text (record { name = take n text; value = take (x - (place + n + 3)) (drop (n + 2) text); quote = q }) (x + 1)
 attr_made room tag place n q x before text h new v =
     let name : take n text ≡ h.name = ap (take n) h.text_is ∙ take_at h.name (61 ∷ (q ∷ h.rest)) n h.len in
-    let behind : drop n text ≡ 61 ∷ (q ∷ h.rest) = ap (drop n) h.text_is ∙ drop_at h.name (61 ∷ (q ∷ h.rest)) n h.len in
-    let left : drop (n + 2) text ≡ h.rest = sym (drop-drop 2 n text) ∙ ap (drop 2) behind in
+    let beyond : drop n text ≡ 61 ∷ (q ∷ h.rest) = ap (drop n) h.text_is ∙ drop_at h.name (61 ∷ (q ∷ h.rest)) n h.len in
+    let left : drop (n + 2) text ≡ h.rest = sym (drop-drop 2 n text) ∙ ap (drop 2) beyond in
     let r = run_parts (Some (fault tag UnclosedTag)) q (place + n + 3) x (drop (n + 2) text) (quote_parts q h.quote) v in
-    let s = stop_here (fault tag UnclosedTag) q r.back r.follows in
-    let len : length r.front ≡ x - (place + n + 3) = omega (arith, r.len) in
-    let value : take (x - (place + n + 3)) (drop (n + 2) text) ≡ r.front = ap (take (x - (place + n + 3))) r.text_is ∙ take_at r.front r.back (x - (place + n + 3)) len in
+    let s = stop_here (fault tag UnclosedTag) q r.suffix r.follows in
+    let len : length r.prefix ≡ x - (place + n + 3) = omega (arith, r.len) in
+    let value : take (x - (place + n + 3)) (drop (n + 2) text) ≡ r.prefix = ap (take (x - (place + n + 3))) r.text_is ∙ take_at r.prefix r.suffix (x - (place + n + 3)) len in
     let attr : Attr = record { name = take n text; value = take (x - (place + n + 3)) (drop (n + 2) text); quote = q } in
-    let same : attr ≡ record { name = h.name; value = r.front; quote = q } = (λ i. record { name = name i; value = value i; quote = q }) in
+    let same : attr ≡ record { name = h.name; value = r.prefix; quote = q } = (λ i. record { name = name i; value = value i; quote = q }) in
     record {
       rest = s.0;
-      text_is = h.text_is ∙ ap (λ (l : List ℕ). h.name ++ (61 ∷ (q ∷ l))) (sym left ∙ r.text_is ∙ ap (λ (l : List ℕ). r.front ++ l) s.1) ∙ ap (λ (a : Attr). a.name ++ (61 ∷ (a.quote ∷ (a.value ++ (a.quote ∷ s.0))))) (sym same);
+      text_is = h.text_is ∙ ap (λ (l : List ℕ). h.name ++ (61 ∷ (q ∷ l))) (sym left ∙ r.text_is ∙ ap (λ (l : List ℕ). r.prefix ++ l) s.1) ∙ ap (λ (a : Attr). a.name ++ (61 ∷ (a.quote ∷ (a.value ++ (a.quote ∷ s.0))))) (sym same);
       to_is = omega (arith, r.len, h.len, attr_length attr, ap (λ (a : Attr). length a.name + length a.value) same);
-      allowed = ap is_attr same ∙ and_both (is_attr_name h.name && (q == 34 || q == 39)) (is_run q r.front) (and_both (is_attr_name h.name) (q == 34 || q == 39) h.named h.quote) r.run;
+      allowed = ap is_attr same ∙ and_both (is_attr_name h.name && (q == 34 || q == 39)) (is_run q r.prefix) (and_both (is_attr_name h.name) (q == 34 || q == 39) h.named h.quote) r.run;
       new = new;
       some = omega arith;
     }
@@ -276,7 +276,7 @@ attrs_none : (tag at : ℕ) (before : List Attr) (text : List ℕ) (attrs : List
 attrs_none tag at before text attrs to (Err f) s r e = not_ok (attrs_at 0 tag before at text) f (attrs, to) (attrs_fault 0 tag at before text f s r) e
 attrs_none tag at before text attrs to (Ok (a, x)) s r e = let f = attr_found 0 tag at before (drop 1 text) a x r in omega (arith, f.some)
 
--- what comes behind an attribute
+-- what comes after an attribute
 abbrev Later : ℕ → ℕ → List Attr → ℕ → Type 0
 Later room tag attrs to = (at : ℕ) (before : List Attr) (text : List ℕ) → attrs_at room tag before at text ≡ Ok (attrs, to) → AttrsFound room at before text attrs to
 

@@ -163,19 +163,19 @@ after_by_name tag at name text (Err f) t to e r = absurd (not_ok (start_after ta
 after_by_name tag at name text (Ok tt) t to e r = after_by_attrs tag at name text (attrs_at 256 tag [] at text) t to e refl r
 
 -- a name that begins with a letter
-name_by : (b : ℕ) (bs front back : List ℕ) → is_letter b ≡ true → b ∷ bs ≡ front ++ back → list_all is_name_byte front ≡ true → (front ≡ [] → ⊥) → is_plaintext front ≡ false → is_tag_name front ≡ true
-name_by b bs [] back l e all some plain = absurd (some refl)
-name_by b bs (x ∷ xs) back l e all some plain =
+name_by : (b : ℕ) (bs prefix suffix : List ℕ) → is_letter b ≡ true → b ∷ bs ≡ prefix ++ suffix → list_all is_name_byte prefix ≡ true → (prefix ≡ [] → ⊥) → is_plaintext prefix ≡ false → is_tag_name prefix ≡ true
+name_by b bs [] suffix l e all some plain = absurd (some refl)
+name_by b bs (x ∷ xs) suffix l e all some plain =
     let same : b ≡ x = cc in
     and_both (is_letter x && list_all is_name_byte xs) (not (is_plaintext (x ∷ xs))) (and_both (is_letter x) (list_all is_name_byte xs) (ap is_letter (sym same) ∙ l) (and_right (is_name_byte x) (list_all is_name_byte xs) all)) (not_true (is_plaintext (x ∷ xs)) plain)
 
-name_some : (b : ℕ) (bs front back : List ℕ) → is_letter b ≡ true → b ∷ bs ≡ front ++ back → Stops is_name_byte back → front ≡ [] → ⊥
+name_some : (b : ℕ) (bs prefix suffix : List ℕ) → is_letter b ≡ true → b ∷ bs ≡ prefix ++ suffix → Stops is_name_byte suffix → prefix ≡ [] → ⊥
 name_some b bs [] [] l e stops h = cc
-name_some b bs [] (c ∷ back) l e stops h = let same : b ≡ c = cc in both (is_name_byte c) stops (ap is_name_byte (sym same) ∙ letter_names b l)
-name_some b bs (x ∷ front) back l e stops h = cc
+name_some b bs [] (c ∷ suffix) l e stops h = let same : b ≡ c = cc in both (is_name_byte c) stops (ap is_name_byte (sym same) ∙ letter_names b l)
+name_some b bs (x ∷ prefix) suffix l e stops h = cc
 
-split_named : (b : ℕ) (bs : List ℕ) (s : Split is_name_byte (b ∷ bs)) → is_letter b ≡ true → is_plaintext s.front ≡ false → is_tag_name s.front ≡ true
-split_named b bs s l plain = name_by b bs s.front s.back l s.text_is s.all (name_some b bs s.front s.back l s.text_is s.stops) plain
+split_named : (b : ℕ) (bs : List ℕ) (s : Split is_name_byte (b ∷ bs)) → is_letter b ≡ true → is_plaintext s.prefix ≡ false → is_tag_name s.prefix ≡ true
+split_named b bs s l plain = name_by b bs s.prefix s.suffix l s.text_is s.all (name_some b bs s.prefix s.suffix l s.text_is s.stops) plain
 
 pub start_is : (tag : ℕ) (text : List ℕ) → start_at tag text ≡ with_name (start_after tag) (tag + 1) text
 unfolding start_at
@@ -185,13 +185,13 @@ pub start_found : (tag b : ℕ) (bs : List ℕ) (t : Token) (to : ℕ) → is_le
 start_found tag b bs t to l e =
     let s = split is_name_byte (b ∷ bs) in
     let read = sym (start_is tag (b ∷ bs) ∙ named_as (start_after tag) (tag + 1) (b ∷ bs) s) ∙ e in
-    let f = after_by_name tag (tag + 1 + length s.front) s.front s.back (name_ends tag s.front (tag + 1 + length s.front) s.back) t to refl read in
+    let f = after_by_name tag (tag + 1 + length s.prefix) s.prefix s.suffix (name_ends tag s.prefix (tag + 1 + length s.prefix) s.suffix) t to refl read in
     let named = split_named b bs s l f.plain in
-    let made : IsRead tag (60 ∷ (b ∷ bs)) (Start s.front f.attrs f.slash) to = record {
+    let made : IsRead tag (60 ∷ (b ∷ bs)) (Start s.prefix f.attrs f.slash) to = record {
       rest = f.rest;
-      text_is = ap (λ (l : List ℕ). 60 ∷ l) (s.text_is ∙ ap (λ (l : List ℕ). s.front ++ l) f.text_is) ∙ sym (start_regrouped s.front f.attrs f.slash f.rest);
-      to_is = omega (arith, f.to_is, start_length s.front f.attrs f.slash);
-      allowed = and_both (is_tag_name s.front && are_attrs f.attrs) (not f.slash || is_void s.front) (and_both (is_tag_name s.front) (are_attrs f.attrs) named f.fit) f.may;
+      text_is = ap (λ (l : List ℕ). 60 ∷ l) (s.text_is ∙ ap (λ (l : List ℕ). s.prefix ++ l) f.text_is) ∙ sym (start_regrouped s.prefix f.attrs f.slash f.rest);
+      to_is = omega (arith, f.to_is, start_length s.prefix f.attrs f.slash);
+      allowed = and_both (is_tag_name s.prefix && are_attrs f.attrs) (not f.slash || is_void s.prefix) (and_both (is_tag_name s.prefix) (are_attrs f.attrs) named f.fit) f.may;
       follows = tt;
     } in
     subst (λ (x : Token). IsRead tag (60 ∷ (b ∷ bs)) x to) (sym f.is) made
@@ -212,11 +212,11 @@ end_by tag at name (c ∷ rest) t to e =
 end_named : (tag b : ℕ) (bs : List ℕ) (t : Token) (to : ℕ) → is_letter b ≡ true → with_name (end_after tag) (tag + 2) (b ∷ bs) ≡ ok (t, to) → IsRead tag (60 ∷ (47 ∷ (b ∷ bs))) t to
 end_named tag b bs t to l e =
     let s = split is_name_byte (b ∷ bs) in
-    let f = end_by tag (tag + 2 + length s.front) s.front s.back t to (sym (named_as (end_after tag) (tag + 2) (b ∷ bs) s) ∙ e) in
-    let made : IsRead tag (60 ∷ (47 ∷ (b ∷ bs))) (End s.front) to = record {
+    let f = end_by tag (tag + 2 + length s.prefix) s.prefix s.suffix t to (sym (named_as (end_after tag) (tag + 2) (b ∷ bs) s) ∙ e) in
+    let made : IsRead tag (60 ∷ (47 ∷ (b ∷ bs))) (End s.prefix) to = record {
       rest = f.0;
-      text_is = ap (λ (l : List ℕ). 60 ∷ (47 ∷ l)) (s.text_is ∙ ap (λ (l : List ℕ). s.front ++ l) f.1) ∙ sym (append_assoc (60 ∷ 47 ∷ s.front) (62 ∷ []) f.0);
-      to_is = omega (arith, f.3, end_length s.front);
+      text_is = ap (λ (l : List ℕ). 60 ∷ (47 ∷ l)) (s.text_is ∙ ap (λ (l : List ℕ). s.prefix ++ l) f.1) ∙ sym (append_assoc (60 ∷ 47 ∷ s.prefix) (62 ∷ []) f.0);
+      to_is = omega (arith, f.3, end_length s.prefix);
       allowed = split_named b bs s l f.4;
       follows = tt;
     } in
@@ -350,24 +350,24 @@ begins_follows (b ∷ rest) e = e
 abbrev as_text : ℕ → List ℕ → ℕ → Step
 as_text at text x = Ok (Some (Chars (take (x - at) text), x))
 
-text_some : (b : ℕ) (bs front back : List ℕ) → (b == 60) ≡ false → b ∷ bs ≡ front ++ back → Follows 60 None back → is_run 60 front ≡ true → is_text front ≡ true
+text_some : (b : ℕ) (bs prefix suffix : List ℕ) → (b == 60) ≡ false → b ∷ bs ≡ prefix ++ suffix → Follows 60 None suffix → is_run 60 prefix ≡ true → is_text prefix ≡ true
 text_some b bs [] [] n e f r = absurd cc
-text_some b bs [] (c ∷ back) n e f r = let same : b ≡ c = cc in absurd (both (b == 60) n (eq-eqb b 60 (same ∙ f)))
-text_some b bs (x ∷ front) back n e f r = r
+text_some b bs [] (c ∷ suffix) n e f r = let same : b ≡ c = cc in absurd (both (b == 60) n (eq-eqb b 60 (same ∙ f)))
+text_some b bs (x ∷ prefix) suffix n e f r = r
 
 text_by : (at : ℕ) (b : ℕ) (bs : List ℕ) (r : Result ℕ ScanFault) (t : Token) (to : ℕ) → (b == 60) ≡ false → run_end None 60 at (b ∷ bs) ≡ r → (r >>= as_text at (b ∷ bs)) ≡ found (t, to) → IsRead at (b ∷ bs) t to
 text_by at b bs (Err f) t to n e h = absurd (not_ok (Err f >>= as_text at (b ∷ bs)) f (Some (t, to)) refl h)
 text_by at b bs (Ok x) t to n e h =
     let same = same_step (Chars (take (x - at) (b ∷ bs)), x) (t, to) h in
     let r = run_parts None 60 at x (b ∷ bs) text_parts e in
-    let len : length r.front ≡ x - at = omega (arith, r.len) in
-    let taken : take (x - at) (b ∷ bs) ≡ r.front = ap (take (x - at)) r.text_is ∙ take_at r.front r.back (x - at) len in
-    let made : IsRead at (b ∷ bs) (Chars r.front) x = record {
-      rest = r.back;
+    let len : length r.prefix ≡ x - at = omega (arith, r.len) in
+    let taken : take (x - at) (b ∷ bs) ≡ r.prefix = ap (take (x - at)) r.text_is ∙ take_at r.prefix r.suffix (x - at) len in
+    let made : IsRead at (b ∷ bs) (Chars r.prefix) x = record {
+      rest = r.suffix;
       text_is = r.text_is;
       to_is = r.len;
-      allowed = text_some b bs r.front r.back n r.text_is r.follows r.run;
-      follows = begins_follows r.back r.follows;
+      allowed = text_some b bs r.prefix r.suffix n r.text_is r.follows r.run;
+      follows = begins_follows r.suffix r.follows;
     } in
     subst (λ (p : Token × ℕ). IsRead at (b ∷ bs) p.0 p.1) (ap (λ (l : List ℕ). (Chars l, x)) (sym taken) ∙ same) made
 

@@ -8,7 +8,7 @@ use Rattle.model_spelling.specs.Grammar.{begins_with, starts_reference, is_void,
 use Rattle.model_spelling.specs.Reading.{fault, verbatim_end, token_at, Mode, Between, After, Failed, mode_after}
 use Rattle.model_spelling.specs.Tokens.{Placed, Tokens, tokens_of, Runs}
 use Rattle.model_spelling.specs.Faults.{Open, ForestFault, Scan, Mismatched, Unclosed, Stray, TooDeep, fault_in, fault_at_end, fault_of, after_token, or_fault}
-use Rattle.model_spelling.specs.Standing.{is_open, stands_by, stands, forest_stands, passes_reference, is_doctype_front, is_left_open, Stands, Goes}
+use Rattle.model_spelling.specs.Standing.{is_open, stands_by, stands, forest_stands, passes_reference, is_doctype_prefix, is_left_open, Stands, Goes}
 use Rattle.model_spelling.proofs.Only.{both, or_both, token_only}
 use Rattle.model_spelling.proofs.Found.{not_ok}
 use Rattle.model_spelling.proofs.FoundTokens.{between_is}
@@ -104,14 +104,14 @@ nothing_fails : (at : ℕ) (ts : List Placed) (f : ScanFault) → Runs Between a
 nothing_fails at [] f r = not_ok (token_at Between at []) f None r (end_step at)
 nothing_fails at (t ∷ ts) f (read, from, rest, some, parts, to, lt, r) = none_some at (token_at Between at []) (t.token, t.to) (end_step at) read
 
--- something stands behind a text where a fault comes
-fault_behind : (t : Token) (at : ℕ) (rest : List ℕ) (ts : List Placed) (f : ScanFault) → Runs (mode_after t) at rest ts (Some f) → (0 < length rest) ⊎ IsMarkup t
-fault_behind (Start name attrs slash) at rest ts f r = inr tt
-fault_behind (End name) at rest ts f r = inr tt
-fault_behind (Raw inner) at rest ts f r = inr tt
-fault_behind (Comment inner) at rest ts f r = inr tt
-fault_behind (Chars inner) at (b ∷ bs) ts f r = inl (omega arith)
-fault_behind (Chars inner) at [] ts f r = absurd (nothing_fails at ts f r)
+-- something stands after a text where a fault comes
+fault_after : (t : Token) (at : ℕ) (rest : List ℕ) (ts : List Placed) (f : ScanFault) → Runs (mode_after t) at rest ts (Some f) → (0 < length rest) ⊎ IsMarkup t
+fault_after (Start name attrs slash) at rest ts f r = inr tt
+fault_after (End name) at rest ts f r = inr tt
+fault_after (Raw inner) at rest ts f r = inr tt
+fault_after (Comment inner) at rest ts f r = inr tt
+fault_after (Chars inner) at (b ∷ bs) ts f r = inl (omega arith)
+fault_after (Chars inner) at [] ts f r = absurd (nothing_fails at ts f r)
 
 step_grown : (m : Mode) (at : ℕ) (text rest some whole : List ℕ) (t : Placed) (os os2 : List Open) (f : ScanFault) (g : Grown whole (mode_after t.token) t.to rest os2 f) → token_at m at (text ++ g.more) ≡ Ok (Some (t.token, t.to)) → t.from ≡ at → text ≡ some ++ rest → t.to ≡ at + length some → 0 < length some → after_token t.token t.from os ≡ Ok os2 → Grown whole m at text os f
 step_grown m at text rest some whole t os os2 f g read from parts to lt a =
@@ -133,7 +133,7 @@ grown (t ∷ ts) m at text whole os f l here s (read, from, rest, some, parts, t
       | inr (os2, a, later) ↦
           let g = grown ts (mode_after t.token) t.to rest whole os2 f (live_after t.token (named_after m at text t n read)) (drop_on at t.to whole text some rest here parts to) s r later in
           step_grown m at text rest some whole t os os2 f g
-          (token_more m at text g.more t.token t.to n read (λ other w. kept t.token text rest other some at t.to parts to w (token_len m at text t.token t.to n read) (fault_behind t.token t.to rest ts f r))) from parts to lt a
+          (token_more m at text g.more t.token t.to n read (λ other w. kept t.token text rest other some at t.to parts to w (token_len m at text t.token t.to n read) (fault_after t.token t.to rest ts f r))) from parts to lt a
     ]
 
 last_is : (ts : List Placed) (last : Option ScanFault) (os : List Open) (f : ScanFault) → fault_in last os ts ≡ Some (Scan f) → last ≡ Some f
@@ -174,7 +174,7 @@ cut_reference_goes text at e s =
       | Known is doctype ↦ absurd (tag_or_reference at at is)
     ]
 
-pub cut_doctype_goes : (text : List ℕ) (at : ℕ) → fault_of text ≡ Some (Scan (fault at BadTag)) → is_doctype_front (drop at text) ≡ true → (more : List ℕ) × (fault_of (text ++ more) ≡ Some (Scan (fault at Doctype)))
+pub cut_doctype_goes : (text : List ℕ) (at : ℕ) → fault_of text ≡ Some (Scan (fault at BadTag)) → is_doctype_prefix (drop at text) ≡ true → (more : List ℕ) × (fault_of (text ++ more) ≡ Some (Scan (fault at Doctype)))
 cut_doctype_goes text at e s =
     let (more, ends) = cut_ends text (fault at BadTag) e (ap (λ (x : Bool). not x) s) in
     elim ends [

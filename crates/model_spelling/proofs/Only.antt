@@ -288,7 +288,7 @@ begins_follows : (rest : List ℕ) → BeginsTag rest → Follows 60 None rest
 begins_follows [] e = refl
 begins_follows (b ∷ rest) e = e
 
--- A token that may stand here, with anything behind it that may follow, is read as that token.
+-- A token that may stand here, with anything after it that may follow, is read as that token.
 pub token_only : (at : ℕ) (t : Token) (rest : List ℕ) → is_token t ≡ true → MayFollow t rest → token_at Between at (token_text t ++ rest) ≡ Ok (Some (t, at + length (token_text t)))
 unfolding token_at
 token_only at (Start name attrs slash) rest e f = start_only at name attrs slash rest e
@@ -297,7 +297,7 @@ token_only at (Chars text) rest e f = text_only at text rest e (begins_follows r
 token_only at (Raw text) rest e f = absurd cc
 token_only at (Comment text) rest e f = comment_only at text rest e
 
--- ---- behind the start tag of a raw element
+-- ---- after the start tag of a raw element
 
 pub raw_by : (name : List ℕ) (at to : ℕ) (text : List ℕ) → verbatim_end (end_text name) (fault at UnclosedRaw) at text ≡ Ok to → (to == at) ≡ false → token_at (After name) at text ≡ Ok (Some (Raw (take (to - at) text), to))
 unfolding token_at

@@ -70,7 +70,7 @@ part_of (Failed f) at text t to n e = absurd (failed_never f at text t to e)
 abbrev pub Run : Mode → ℕ → List ℕ → Tokens → Type 0
 Run m at text ts = Runs m at text ts.tokens ts.fault
 
--- what is read on behind a token
+-- what is read on after a token
 abbrev pub Later : ℕ → Type 0
 Later n = (m : Mode) (at : ℕ) (text : List ℕ) → Named m → length text ≤ n → Run m at text (tokens_from (suc n) m at text)
 
@@ -225,8 +225,8 @@ ne_200 n lt = ne_eqb n 200 (λ h. absurd (omega (arith, h)))
 
 -- ---- one token
 
-abbrev Behind : Mode → List Open → Ending → List ℕ → Type 0
-Behind m os e rest = (room : ℕ) → length os + room ≡ 200 → Fits m os → Shape m room os e rest
+abbrev Following : Mode → List Open → Ending → List ℕ → Type 0
+Following m os e rest = (room : ℕ) → length os + room ≡ 200 → Fits m os → Shape m room os e rest
 
 made_so : (m : Mode) (room : ℕ) (os : List Open) (text : List ℕ) (x y : Ending) → x ≡ y → Shape m room os y text → Shape m room os x text
 made_so m room os text x y e s = subst (λ (z : Ending). Shape m room os z text) (sym e) s
@@ -306,7 +306,7 @@ with_raw name attrs from rest whole os room e w r s (tail, text_is, fits, nothin
     made_so Between (suc room) os whole (with_token (Start name attrs false) e) (record { raw = []; here = RawElement name attrs e.raw (first_of e.outer); outer = drop 1 e.outer }) (raw_made name attrs false e (raw_not_void name r) r)
     (with_raw_by name attrs from e.raw rest whole tail os room e.outer w r s text_is fits tails)
 
--- the elements that are open behind a start tag
+-- the elements that are open after a start tag
 pub start_full : (name : List ℕ) (from : ℕ) (os : List Open) → (length os == 200) ≡ true → after_start name from os ≡ Err (TooDeep from)
 start_full name from os e = rw e refl
 
@@ -326,12 +326,12 @@ raw_after : (name : List ℕ) (attrs : List Attr) (slash : Bool) → is_raw name
 raw_after name attrs slash e = rw e refl
 
 at_start : (name : List ℕ) (attrs : List Attr) (slash : Bool) (from : ℕ) (rest whole : List ℕ) (os os2 : List Open) (room : ℕ) (e : Ending) → length os + suc room ≡ 200 → whole ≡ start_text name attrs slash ++ rest → is_start name attrs slash ≡ true → (length os == 200) ≡ false
-    → after_start name from os ≡ Ok os2 → Behind (mode_after (Start name attrs slash)) os2 e rest → Shape Between (suc room) os (with_token (Start name attrs slash) e) whole
+    → after_start name from os ≡ Ok os2 → Following (mode_after (Start name attrs slash)) os2 e rest → Shape Between (suc room) os (with_token (Start name attrs slash) e) whole
 at_start name attrs slash from rest whole os os2 room e n w s full a later =
     elim (cases_Bool (is_void name)) [
       | inl v ↦
           let opened = same_opens (after_start name from os) os os2 (start_void name from os full v) a in
-          let on_void : Behind Between os e rest = subst (λ (o : List Open). Behind Between o e rest) opened (subst (λ (m : Mode). Behind m os2 e rest) (plain_after name attrs slash (void_not_raw name v)) later) in
+          let on_void : Following Between os e rest = subst (λ (o : List Open). Following Between o e rest) opened (subst (λ (m : Mode). Following m os2 e rest) (plain_after name attrs slash (void_not_raw name v)) later) in
           with_void name attrs slash rest whole os room e w v s (on_void (suc room) n tt)
       | inr v ↦
           let here : Open = record { name = name; at = from } in
@@ -342,17 +342,17 @@ at_start name attrs slash from rest whole os os2 room e n w s full a later =
           let made : Shape Between (suc room) os (with_token (Start name attrs false) e) whole =
           elim (cases_Bool (is_raw name)) [
             | inl r ↦
-                let on_raw : Behind (After name) (here ∷ os) e rest = subst (λ (o : List Open). Behind (After name) o e rest) opened (subst (λ (m : Mode). Behind m os2 e rest) (raw_after name attrs slash r) later) in
+                let on_raw : Following (After name) (here ∷ os) e rest = subst (λ (o : List Open). Following (After name) o e rest) opened (subst (λ (m : Mode). Following m os2 e rest) (raw_after name attrs slash r) later) in
                 with_raw name attrs from rest whole os room e w2 r s2 (on_raw room (omega arith) (start_named name attrs slash s, refl))
             | inr r ↦
-                let on_element : Behind Between (here ∷ os) e rest = subst (λ (o : List Open). Behind Between o e rest) opened (subst (λ (m : Mode). Behind m os2 e rest) (plain_after name attrs slash r) later) in
+                let on_element : Following Between (here ∷ os) e rest = subst (λ (o : List Open). Following Between o e rest) opened (subst (λ (m : Mode). Following m os2 e rest) (plain_after name attrs slash r) later) in
                 with_element name attrs from rest whole os room e w2 v r s2 (on_element room (omega arith) tt)
           ] in
           subst (λ (x : Bool). Shape Between (suc room) os (with_token (Start name attrs x) e) whole) (sym none) made
     ]
 
 at_full : (name : List ℕ) (attrs : List Attr) (slash : Bool) (from : ℕ) (rest whole : List ℕ) (os os2 : List Open) (room : ℕ) (e : Ending) → length os + room ≡ 200 → whole ≡ start_text name attrs slash ++ rest → is_start name attrs slash ≡ true
-    → after_start name from os ≡ Ok os2 → Behind (mode_after (Start name attrs slash)) os2 e rest → Shape Between room os (with_token (Start name attrs slash) e) whole
+    → after_start name from os ≡ Ok os2 → Following (mode_after (Start name attrs slash)) os2 e rest → Shape Between room os (with_token (Start name attrs slash) e) whole
 at_full name attrs slash from rest whole os os2 zero e n w s a later = absurd (fails (after_start name from os) (TooDeep from) os2 (start_full name from os (eq-eqb (length os) 200 (omega arith))) a)
 at_full name attrs slash from rest whole os os2 (suc room) e n w s a later = at_start name attrs slash from rest whole os os2 room e n w s (ne_200 (length os) (omega arith)) a later
 
@@ -368,41 +368,41 @@ end_closes name from o os os2 a =
           ]
     ]
 
-at_end_tag : (name : List ℕ) (from : ℕ) (rest whole : List ℕ) (os os2 : List Open) (room : ℕ) (e : Ending) → length os + room ≡ 200 → whole ≡ end_text name ++ rest → after_end name from os ≡ Ok os2 → Behind Between os2 e rest → Tail room os (e.here ∷ e.outer) whole
+at_end_tag : (name : List ℕ) (from : ℕ) (rest whole : List ℕ) (os os2 : List Open) (room : ℕ) (e : Ending) → length os + room ≡ 200 → whole ≡ end_text name ++ rest → after_end name from os ≡ Ok os2 → Following Between os2 e rest → Tail room os (e.here ∷ e.outer) whole
 at_end_tag name from rest whole [] os2 room e n w a later = absurd (fails (after_end name from []) (Stray from) os2 refl a)
 at_end_tag name from rest whole (o ∷ os) os2 room e n w a later =
     let c = end_closes name from o os os2 a in
-    let behind : Behind Between os e rest = subst (λ (x : List Open). Behind Between x e rest) c.0 later in
-    with_end Between name rest whole o os room e w c.1 (behind (suc room) (omega arith) tt)
+    let suffix : Following Between os e rest = subst (λ (x : List Open). Following Between x e rest) c.0 later in
+    with_end Between name rest whole o os room e w c.1 (suffix (suc room) (omega arith) tt)
 
-step_between : (k : Token) (from : ℕ) (rest whole : List ℕ) (os os2 : List Open) (room : ℕ) (e : Ending) → length os + room ≡ 200 → whole ≡ token_text k ++ rest → is_token k ≡ true → MayFollow k rest → after_token k from os ≡ Ok os2 → Behind (mode_after k) os2 e rest
+step_between : (k : Token) (from : ℕ) (rest whole : List ℕ) (os os2 : List Open) (room : ℕ) (e : Ending) → length os + room ≡ 200 → whole ≡ token_text k ++ rest → is_token k ≡ true → MayFollow k rest → after_token k from os ≡ Ok os2 → Following (mode_after k) os2 e rest
     → Shape Between room os (with_token k e) whole
 step_between (Start name attrs slash) from rest whole os os2 room e n w s f a later = at_full name attrs slash from rest whole os os2 room e n w s a later
 step_between (End name) from rest whole os os2 room e n w s f a later = (whole, refl, refl, at_end_tag name from rest whole os os2 room e n w a later)
 step_between (Chars text) from rest whole os os2 room e n w s f a later =
-    let behind : Behind Between os e rest = subst (λ (x : List Open). Behind Between x e rest) (same_opens (Ok os) os os2 refl a) later in
-    with_text text rest whole os room e w s f (behind room n tt)
+    let suffix : Following Between os e rest = subst (λ (x : List Open). Following Between x e rest) (same_opens (Ok os) os os2 refl a) later in
+    with_text text rest whole os room e w s f (suffix room n tt)
 step_between (Raw text) from rest whole os os2 room e n w s f a later = absurd cc
 step_between (Comment text) from rest whole os os2 room e n w s f a later =
-    let behind : Behind Between os e rest = subst (λ (x : List Open). Behind Between x e rest) (same_opens (Ok os) os os2 refl a) later in
-    with_comment text rest whole os room e w s (behind room n tt)
+    let suffix : Following Between os e rest = subst (λ (x : List Open). Following Between x e rest) (same_opens (Ok os) os os2 refl a) later in
+    with_comment text rest whole os room e w s (suffix room n tt)
 
 with_inner : (name inner rest left whole : List ℕ) (os : List Open) (room : ℕ) (e : Ending) → whole ≡ inner ++ rest → rest ≡ end_text name ++ left → is_verbatim (end_text name) inner ≡ true → Shape Between room os e rest → Shape (After name) room os (with_token (Raw inner) e) whole
 with_inner name inner rest left whole os room e w closes fits (tail, text_is, allowed, tails) =
     let nothing = closing_nothing e.here room tail name left allowed (sym text_is ∙ closes) in
     (tail, w ∙ ap (λ (l : List ℕ). inner ++ l) (text_is ∙ ap (λ (f : Forest). spelling f ++ tail) nothing), fits, nothing, tails)
 
-step_raw : (name : List ℕ) (k : Token) (at from to : ℕ) (rest whole : List ℕ) (os os2 : List Open) (room : ℕ) (e : Ending) → length os + room ≡ 200 → after_token k from os ≡ Ok os2 → Behind (mode_after k) os2 e rest
+step_raw : (name : List ℕ) (k : Token) (at from to : ℕ) (rest whole : List ℕ) (os os2 : List Open) (room : ℕ) (e : Ending) → length os + room ≡ 200 → after_token k from os ≡ Ok os2 → Following (mode_after k) os2 e rest
     → RawRead at name whole k to → ((some left : List ℕ) → whole ≡ some ++ left → to ≡ at + length some → rest ≡ left) → Shape (After name) room os (with_token k e) whole
 step_raw name k at from to rest whole os os2 room e n a later (Inner inner left is text_is to_is lt fits) same =
     let a2 : Ok os ≡ Ok os2 = subst (λ (x : Token). after_token x from os ≡ Ok os2) is a in
-    let later2 : Behind Between os2 e rest = subst (λ (x : Token). Behind (mode_after x) os2 e rest) is later in
-    let behind : Behind Between os e rest = subst (λ (x : List Open). Behind Between x e rest) (same_opens (Ok os) os os2 refl a2) later2 in
+    let later2 : Following Between os2 e rest = subst (λ (x : Token). Following (mode_after x) os2 e rest) is later in
+    let suffix : Following Between os e rest = subst (λ (x : List Open). Following Between x e rest) (same_opens (Ok os) os os2 refl a2) later2 in
     let left_is = same inner (end_text name ++ left) text_is to_is in
-    subst (λ (x : Token). Shape (After name) room os (with_token x e) whole) (sym is) (with_inner name inner rest left whole os room e (text_is ∙ ap (λ (l : List ℕ). inner ++ l) (sym left_is)) left_is fits (behind room n tt))
+    subst (λ (x : Token). Shape (After name) room os (with_token x e) whole) (sym is) (with_inner name inner rest left whole os room e (text_is ∙ ap (λ (l : List ℕ). inner ++ l) (sym left_is)) left_is fits (suffix room n tt))
 step_raw name k at from to rest whole os os2 room e n a later (Closing left is text_is to_is) same =
     let a2 : after_end name from os ≡ Ok os2 = subst (λ (x : Token). after_token x from os ≡ Ok os2) is a in
-    let later2 : Behind Between os2 e rest = subst (λ (x : Token). Behind (mode_after x) os2 e rest) is later in
+    let later2 : Following Between os2 e rest = subst (λ (x : Token). Following (mode_after x) os2 e rest) is later in
     let left_is = same (end_text name) left text_is to_is in
     subst (λ (x : Token). Shape (After name) room os (with_token x e) whole) (sym is) (whole, refl, refl, refl, at_end_tag name from rest whole os os2 room e n (text_is ∙ ap (λ (l : List ℕ). end_text name ++ l) (sym left_is)) a2 later2)
 

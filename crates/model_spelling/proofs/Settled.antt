@@ -8,7 +8,7 @@ use Rattle.std.specs.List.{prefix_len}
 use Rattle.model_spelling.specs.declared.scan_fault.ScanFault.{ScanFault}
 use Rattle.model_spelling.specs.declared.scan_fault.ScanWhat.TheVariants.{BadChar, BadTag, BadAttribute, BadReference, UnclosedComment, UnclosedTag, TooManyAttributes, DuplicateAttribute}
 use Rattle.model_spelling.specs.Grammar.{is_barred, is_letter, is_name_byte, is_plaintext, is_void, begins_with, references, starts_reference, has_name, Attr, Start, End, Comment, comment_close}
-use Rattle.model_spelling.specs.Reading.{◌>>=◌, fault, refused, longest_front, behind_front, reference_fault, run_end, value_end, verbatim_end, name_len_at, quote_at, head_at, attr_at, attrs_at, name_ends, tag_close, start_after, with_name, start_at, end_after, end_at, comment_at, dash_at}
+use Rattle.model_spelling.specs.Reading.{◌>>=◌, fault, refused, longest_prefix, after_prefix, reference_fault, run_end, value_end, verbatim_end, name_len_at, quote_at, head_at, attr_at, attrs_at, name_ends, tag_close, start_after, with_name, start_at, end_after, end_at, comment_at, dash_at}
 use Rattle.model_spelling.specs.Standing.{is_open, passes_reference, stands}
 use Rattle.model_spelling.proofs.AttrReading.{attr_head_fault, attr_many, attr_twice, attr_value_fault, attr_whole, attrs_stop, attrs_fault, attrs_more}
 use Rattle.model_spelling.proofs.Stays.{err, err_same, fault_ways, past_one}
@@ -39,18 +39,18 @@ from_refused whole r at c f g s e h = refused_settled whole at c f g s (err_same
 
 -- ---- runs
 
-behind_settled : (whole : List ℕ) (u : ScanFault) (at next : ℕ) (rest : List ℕ) (f : ScanFault) → settled whole u ≡ true → (0 < length rest → passes_reference (drop at whole) ≡ true) → behind_front (Some u) at next rest ≡ f → settled whole f ≡ true
-behind_settled whole u at next [] f s p e = as_settled whole u f s e
-behind_settled whole u at next (b ∷ bs) f s p e = refused_settled whole next b (fault at BadReference) f (p (omega arith)) e
+after_settled : (whole : List ℕ) (u : ScanFault) (at next : ℕ) (rest : List ℕ) (f : ScanFault) → settled whole u ≡ true → (0 < length rest → passes_reference (drop at whole) ≡ true) → after_prefix (Some u) at next rest ≡ f → settled whole f ≡ true
+after_settled whole u at next [] f s p e = as_settled whole u f s e
+after_settled whole u at next (b ∷ bs) f s p e = refused_settled whole next b (fault at BadReference) f (p (omega arith)) e
 
-pub passes_by : (at : ℕ) (whole text : List ℕ) → drop at whole ≡ text → 0 < length (drop (longest_front references text) text) → passes_reference (drop at whole) ≡ true
-passes_by at whole text here lt = ap passes_reference here ∙ lt-ltb (longest_front references text) (length text) (omega (arith, lt, length-drop (longest_front references text) text))
+pub passes_by : (at : ℕ) (whole text : List ℕ) → drop at whole ≡ text → 0 < length (drop (longest_prefix references text) text) → passes_reference (drop at whole) ≡ true
+passes_by at whole text here lt = ap passes_reference here ∙ lt-ltb (longest_prefix references text) (length text) (omega (arith, lt, length-drop (longest_prefix references text) text))
 
 reference_settled : (u : ScanFault) (at : ℕ) (whole text : List ℕ) (f : ScanFault) → settled whole u ≡ true → drop at whole ≡ text → reference_fault (Some u) at text ≡ f → settled whole f ≡ true
 unfolding reference_fault
 reference_settled u at whole text f s here e =
-    let n : ℕ = longest_front references text in
-    behind_settled whole u at (at + n) (drop n text) f s (λ lt. passes_by at whole text here lt) e
+    let n : ℕ = longest_prefix references text in
+    after_settled whole u at (at + n) (drop n text) f s (λ lt. passes_by at whole text here lt) e
 
 run_settled : (u : ScanFault) (stop at : ℕ) (whole text : List ℕ) (f : ScanFault) → settled whole u ≡ true → drop at whole ≡ text → run_end (Some u) stop at text ≡ Err f → settled whole f ≡ true
 unfolding run_end
@@ -208,14 +208,14 @@ after_settled_name : (whole : List ℕ) (tag at : ℕ) (name text : List ℕ) (f
 after_settled_name whole tag at name text f (Err g) no_doctype here n e = from_err whole (start_after tag name at text) g f (ends_settled whole tag at name text g no_doctype n) (after_fails tag at name text g n) e
 after_settled_name whole tag at name text f (Ok tt) no_doctype here n e = after_settled_attrs whole tag at name text f (attrs_at 256 tag [] at text) here n refl e
 
-behind_name : (at : ℕ) (whole text front back : List ℕ) → drop at whole ≡ text → text ≡ front ++ back → drop (at + length front) whole ≡ back
-behind_name at whole text front back here parts = sym (drop-drop (length front) at whole) ∙ ap (drop (length front)) (here ∙ parts) ∙ drop-append_seam front back
+after_name : (at : ℕ) (whole text prefix suffix : List ℕ) → drop at whole ≡ text → text ≡ prefix ++ suffix → drop (at + length prefix) whole ≡ suffix
+after_name at whole text prefix suffix here parts = sym (drop-drop (length prefix) at whole) ∙ ap (drop (length prefix)) (here ∙ parts) ∙ drop-append_seam prefix suffix
 
 pub start_settled : (whole : List ℕ) (tag : ℕ) (text : List ℕ) (f : ScanFault) → NoDoctype whole tag → drop (tag + 1) whole ≡ text → start_at tag text ≡ Err f → settled whole f ≡ true
 start_settled whole tag text f no_doctype here e =
     let s = split is_name_byte text in
-    let at : ℕ = tag + 1 + length s.front in
-    after_settled_name whole tag at s.front s.back f (name_ends tag s.front at s.back) no_doctype (behind_name (tag + 1) whole text s.front s.back here s.text_is) refl (sym (start_is tag text ∙ named_as (start_after tag) (tag + 1) text s) ∙ e)
+    let at : ℕ = tag + 1 + length s.prefix in
+    after_settled_name whole tag at s.prefix s.suffix f (name_ends tag s.prefix at s.suffix) no_doctype (after_name (tag + 1) whole text s.prefix s.suffix here s.text_is) refl (sym (start_is tag text ∙ named_as (start_after tag) (tag + 1) text s) ∙ e)
 
 -- ---- end tags, comments
 
@@ -235,7 +235,7 @@ end_settled whole tag (c ∷ cs) f no_doctype e =
       | inl letter ↦
           let h : with_name (end_after tag) (tag + 2) (c ∷ cs) ≡ Err f = rw letter at e in
           let s = split is_name_byte (c ∷ cs) in
-          end_after_settled whole tag (tag + 2 + length s.front) s.front s.back f no_doctype (sym (named_as (end_after tag) (tag + 2) (c ∷ cs) s) ∙ h)
+          end_after_settled whole tag (tag + 2 + length s.prefix) s.prefix s.suffix f no_doctype (sym (named_as (end_after tag) (tag + 2) (c ∷ cs) s) ∙ h)
       | inr other ↦ from_refused whole (end_at tag (c ∷ cs)) (tag + 2) c (fault tag BadTag) f no_doctype (rw other refl) e
     ]
 

@@ -38,7 +38,7 @@ faults_of_the_end :
 unfolding fault_of tokens_from token_at between_at tag_at start_at markup_at dash_at is_doctype comment_at end_at start_after attrs_at attr_at head_at verbatim_end run_end reference_fault starts_reference is_letter is_plaintext is_same_name is_barred begins_with is_void is_raw
 faults_of_the_end = refl
 
--- faults that no text behind them takes away
+-- faults that no text after them takes away
 faults_that_stand :
     map stands (
     codes "a&ax"

@@ -8,7 +8,7 @@ use Rattle.std.specs.List.{common_prefix_len, list_all, list_any}
 use Rattle.model_spelling.specs.declared.scan_fault.ScanFault.{ScanFault}
 use Rattle.model_spelling.specs.declared.scan_fault.ScanWhat.TheVariants.{BadChar, BadReference}
 use Rattle.model_spelling.specs.Grammar.{is_barred, begins_with, references, starts_reference}
-use Rattle.model_spelling.specs.Reading.{fault, longest_front, behind_front, reference_fault, run_end, verbatim_end}
+use Rattle.model_spelling.specs.Reading.{fault, longest_prefix, after_prefix, reference_fault, run_end, verbatim_end}
 use Rattle.model_spelling.specs.Standing.{passes_reference, stands}
 use Rattle.model_spelling.proofs.AttrReading.{and_left, and_right}
 use Rattle.model_spelling.proofs.TokenRuns.{not_false, reference_more, begins_parts, begins_same}
@@ -24,46 +24,46 @@ err_or d (Err f) = f
 pub err_same : {A : Type 0} (r : Result A ScanFault) (f g : ScanFault) → r ≡ Err f → r ≡ Err g → f ≡ g
 err_same r f g e h = ap (err_or f) (sym e ∙ h)
 
--- ---- fronts of references
+-- ---- prefixes of references
 
-front_step : (x b : ℕ) (r bs more : List ℕ) (c : Bool) → nat_eq x b ≡ c → (common_prefix_len nat_eq r bs < length bs → (common_prefix_len nat_eq r (bs ++ more) ≡ common_prefix_len nat_eq r bs) × (begins_with r (bs ++ more) ≡ begins_with r bs)) → common_prefix_len nat_eq (x ∷ r) (b ∷ bs) < length (b ∷ bs)
+prefix_step : (x b : ℕ) (r bs more : List ℕ) (c : Bool) → nat_eq x b ≡ c → (common_prefix_len nat_eq r bs < length bs → (common_prefix_len nat_eq r (bs ++ more) ≡ common_prefix_len nat_eq r bs) × (begins_with r (bs ++ more) ≡ begins_with r bs)) → common_prefix_len nat_eq (x ∷ r) (b ∷ bs) < length (b ∷ bs)
     → (common_prefix_len nat_eq (x ∷ r) (b ∷ (bs ++ more)) ≡ common_prefix_len nat_eq (x ∷ r) (b ∷ bs)) × (begins_with (x ∷ r) (b ∷ (bs ++ more)) ≡ begins_with (x ∷ r) (b ∷ bs))
 unfolding begins_with
-front_step x b r bs more true e rec lt =
+prefix_step x b r bs more true e rec lt =
     let len : 1 + common_prefix_len nat_eq r bs < length (b ∷ bs) = rw e at lt in
     let h = rec (omega arith) in
     (rw e (ap (λ (k : ℕ). 1 + k) h.0), rw e h.1)
-front_step x b r bs more false e rec lt = (rw e refl, rw e refl)
+prefix_step x b r bs more false e rec lt = (rw e refl, rw e refl)
 
-front_same : (r text more : List ℕ) → common_prefix_len nat_eq r text < length text → (common_prefix_len nat_eq r (text ++ more) ≡ common_prefix_len nat_eq r text) × (begins_with r (text ++ more) ≡ begins_with r text)
+prefix_same : (r text more : List ℕ) → common_prefix_len nat_eq r text < length text → (common_prefix_len nat_eq r (text ++ more) ≡ common_prefix_len nat_eq r text) × (begins_with r (text ++ more) ≡ begins_with r text)
 unfolding begins_with
-front_same [] text more lt = (refl, refl)
-front_same (x ∷ r) [] more lt = absurd (omega arith)
-front_same (x ∷ r) (b ∷ bs) more lt = front_step x b r bs more (nat_eq x b) refl (λ h. front_same r bs more h) lt
+prefix_same [] text more lt = (refl, refl)
+prefix_same (x ∷ r) [] more lt = absurd (omega arith)
+prefix_same (x ∷ r) (b ∷ bs) more lt = prefix_step x b r bs more (nat_eq x b) refl (λ h. prefix_same r bs more h) lt
 
-fronts_same : (rs : List (List ℕ)) (text more : List ℕ) → longest_front rs text < length text → (longest_front rs (text ++ more) ≡ longest_front rs text) × (list_any (λ r. begins_with r (text ++ more)) rs ≡ list_any (λ r. begins_with r text) rs)
-fronts_same [] text more lt = (refl, refl)
-fronts_same (r ∷ rs) text more lt =
-    let here = front_same r text more (omega arith) in
-    let later = fronts_same rs text more (omega arith) in
+prefixes_same : (rs : List (List ℕ)) (text more : List ℕ) → longest_prefix rs text < length text → (longest_prefix rs (text ++ more) ≡ longest_prefix rs text) × (list_any (λ r. begins_with r (text ++ more)) rs ≡ list_any (λ r. begins_with r text) rs)
+prefixes_same [] text more lt = (refl, refl)
+prefixes_same (r ∷ rs) text more lt =
+    let here = prefix_same r text more (omega arith) in
+    let later = prefixes_same rs text more (omega arith) in
     ((λ i. max (here.0 i) (later.0 i)), (λ i. here.1 i || later.1 i))
 
-reference_same : (text more : List ℕ) → longest_front references text < length text → starts_reference (text ++ more) ≡ starts_reference text
+reference_same : (text more : List ℕ) → longest_prefix references text < length text → starts_reference (text ++ more) ≡ starts_reference text
 unfolding starts_reference
-reference_same text more lt = (fronts_same references text more lt).1
+reference_same text more lt = (prefixes_same references text more lt).1
 
-behind_same : (end : Option ScanFault) (amp next : ℕ) (rest more : List ℕ) → 0 < length rest → behind_front end amp next (rest ++ more) ≡ behind_front end amp next rest
-behind_same end amp next [] more lt = absurd (omega arith)
-behind_same None amp next (b ∷ bs) more lt = refl
-behind_same (Some u) amp next (b ∷ bs) more lt = refl
+after_same : (end : Option ScanFault) (amp next : ℕ) (rest more : List ℕ) → 0 < length rest → after_prefix end amp next (rest ++ more) ≡ after_prefix end amp next rest
+after_same end amp next [] more lt = absurd (omega arith)
+after_same None amp next (b ∷ bs) more lt = refl
+after_same (Some u) amp next (b ∷ bs) more lt = refl
 
-fault_same : (end : Option ScanFault) (at : ℕ) (text more : List ℕ) → longest_front references text < length text → reference_fault end at (text ++ more) ≡ reference_fault end at text
+fault_same : (end : Option ScanFault) (at : ℕ) (text more : List ℕ) → longest_prefix references text < length text → reference_fault end at (text ++ more) ≡ reference_fault end at text
 unfolding reference_fault
 fault_same end at text more lt =
-    let n : ℕ = longest_front references text in
-    ap (λ (k : ℕ). behind_front end at (at + k) (drop k (text ++ more))) (fronts_same references text more lt).0
-    ∙ ap (behind_front end at (at + n)) (drop-append-le n text more (omega arith))
-    ∙ behind_same end at (at + n) (drop n text) more (omega (arith, length-drop n text))
+    let n : ℕ = longest_prefix references text in
+    ap (λ (k : ℕ). after_prefix end at (at + k) (drop k (text ++ more))) (prefixes_same references text more lt).0
+    ∙ ap (after_prefix end at (at + n)) (drop-append-le n text more (omega arith))
+    ∙ after_same end at (at + n) (drop n text) more (omega (arith, length-drop n text))
 
 -- ---- runs
 
@@ -76,22 +76,22 @@ empty_drop : (n : ℕ) → drop {A = ℕ} n [] ≡ []
 empty_drop zero = refl
 empty_drop (suc n) = refl
 
-pub no_front : (n : ℕ) (text : List ℕ) → length text ≤ n → drop n text ≡ []
-no_front n [] le = empty_drop n
-no_front zero (b ∷ bs) le = absurd (omega arith)
-no_front (suc n) (b ∷ bs) le = no_front n bs (omega arith)
+pub no_prefix : (n : ℕ) (text : List ℕ) → length text ≤ n → drop n text ≡ []
+no_prefix n [] le = empty_drop n
+no_prefix zero (b ∷ bs) le = absurd (omega arith)
+no_prefix (suc n) (b ∷ bs) le = no_prefix n bs (omega arith)
 
-cut_reference : (end : Option ScanFault) (at : ℕ) (whole text : List ℕ) (f : ScanFault) → drop at whole ≡ text → length text ≤ longest_front references text → Stays end whole f → reference_fault end at text ≡ f → ⊥
+cut_reference : (end : Option ScanFault) (at : ℕ) (whole text : List ℕ) (f : ScanFault) → drop at whole ≡ text → length text ≤ longest_prefix references text → Stays end whole f → reference_fault end at text ≡ f → ⊥
 unfolding reference_fault
 cut_reference None at whole text f here le s e =
-    let n : ℕ = longest_front references text in
-    let is : fault at BadReference ≡ f = ap (behind_front None at (at + n)) (sym (no_front n text le)) ∙ e in
+    let n : ℕ = longest_prefix references text in
+    let is : fault at BadReference ≡ f = ap (after_prefix None at (at + n)) (sym (no_prefix n text le)) ∙ e in
     let passes : passes_reference (drop at whole) ≡ true = ap (stands whole) is ∙ s in
     let fails : passes_reference (drop at whole) ≡ false = ap passes_reference here ∙ le-ltb n (length text) le in
     both (passes_reference (drop at whole)) fails passes
 cut_reference (Some u) at whole text f here le s e =
-    let n : ℕ = longest_front references text in
-    s (sym (ap (behind_front (Some u) at (at + n)) (sym (no_front n text le)) ∙ e))
+    let n : ℕ = longest_prefix references text in
+    s (sym (ap (after_prefix (Some u) at (at + n)) (sym (no_prefix n text le)) ∙ e))
 
 pub fault_ways : (s r a : Bool) (at : ℕ) (f g h : ScanFault) (rest : Result ℕ ScanFault) → cond s (Ok at) (cond r (Err f) (cond a (Err g) rest)) ≡ Err h
     → (s ≡ false) × (((r ≡ true) × (f ≡ h)) ⊎ (((r ≡ false) × (a ≡ true) × (g ≡ h)) ⊎ ((r ≡ false) × (a ≡ false) × (rest ≡ Err h))))
@@ -119,7 +119,7 @@ run_stays end stop at whole (b ∷ bs) more f here s e =
       | inr other ↦
           elim other [
             | inl bad ↦
-                elim (cases_lt (longest_front references (b ∷ bs)) (length (b ∷ bs))) [
+                elim (cases_lt (longest_prefix references (b ∷ bs)) (length (b ∷ bs))) [
                   | inl lt ↦
                       let amp : (eqb b 38 && not (starts_reference (b ∷ (bs ++ more)))) ≡ true = ap (λ (x : Bool). eqb b 38 && not x) (reference_same (b ∷ bs) more lt) ∙ bad.1 in
                       rw (ways.0, bad.0, amp) (ap err (fault_same end at (b ∷ bs) more lt ∙ bad.2))
@@ -145,20 +145,20 @@ unbarred_only close u f at (b ∷ bs) all e =
           unbarred_only close u f (at + 1) bs (and_right (not (is_barred b)) (list_all (λ b. not (is_barred b)) bs) all) h
     ]
 
-all_front : (q : ℕ → Bool) (n : ℕ) (xs : List ℕ) → list_all q xs ≡ true → list_all q (take n xs) ≡ true
-all_front q zero [] e = refl
-all_front q zero (x ∷ xs) e = refl
-all_front q (suc n) [] e = refl
-all_front q (suc n) (x ∷ xs) e = and_both (q x) (list_all q (take n xs)) (and_left (q x) (list_all q xs) e) (all_front q n xs (and_right (q x) (list_all q xs) e))
+all_prefix : (q : ℕ → Bool) (n : ℕ) (xs : List ℕ) → list_all q xs ≡ true → list_all q (take n xs) ≡ true
+all_prefix q zero [] e = refl
+all_prefix q zero (x ∷ xs) e = refl
+all_prefix q (suc n) [] e = refl
+all_prefix q (suc n) (x ∷ xs) e = and_both (q x) (list_all q (take n xs)) (and_left (q x) (list_all q xs) e) (all_prefix q n xs (and_right (q x) (list_all q xs) e))
 
--- a front that needs the bytes which were added has all of the text
-front_unbarred : (close text more : List ℕ) → list_all (λ b. not (is_barred b)) close ≡ true → begins_with close (text ++ more) ≡ true → begins_with close text ≡ false → list_all (λ b. not (is_barred b)) text ≡ true
-front_unbarred close text more all e n =
+-- a prefix that needs the bytes which were added has all of the text
+prefix_unbarred : (close text more : List ℕ) → list_all (λ b. not (is_barred b)) close ≡ true → begins_with close (text ++ more) ≡ true → begins_with close text ≡ false → list_all (λ b. not (is_barred b)) text ≡ true
+prefix_unbarred close text more all e n =
     elim (cases_lt (length text) (length close)) [
       | inl lt ↦
           let parts = begins_parts close (text ++ more) e in
           let taken : text ≡ take (length text) close = sym (take-append_seam text more) ∙ ap (take (length text)) parts ∙ take-append-le (length text) close (drop (length close) (text ++ more)) (omega arith) in
-          subst (λ (l : List ℕ). list_all (λ b. not (is_barred b)) l ≡ true) (sym taken) (all_front (λ b. not (is_barred b)) (length text) close all)
+          subst (λ (l : List ℕ). list_all (λ b. not (is_barred b)) l ≡ true) (sym taken) (all_prefix (λ b. not (is_barred b)) (length text) close all)
       | inr ge ↦ absurd (both (begins_with close text) n (sym (begins_same close text more ge) ∙ e))
     ]
 
@@ -175,7 +175,7 @@ verbatim_stays close u f at (b ∷ bs) more all ne e =
       | inr other ↦
           let still : begins_with close (b ∷ (bs ++ more)) ≡ false =
           elim (cases_Bool (begins_with close (b ∷ (bs ++ more)))) [
-            | inl closes ↦ absurd (ne (unbarred_only close u f at (b ∷ bs) (front_unbarred close (b ∷ bs) more all closes other) e))
+            | inl closes ↦ absurd (ne (unbarred_only close u f at (b ∷ bs) (prefix_unbarred close (b ∷ bs) more all closes other) e))
             | inr no_close ↦ no_close
           ] in
           elim (cases_Bool (is_barred b)) [

@@ -11,7 +11,7 @@ use Rattle.model_spelling.specs.declared.scan_fault.ScanFault.{ScanFault}
 use Rattle.model_spelling.specs.declared.scan_fault.ScanWhat.TheVariants.{BadTag, BadAttribute, Doctype, UnclosedComment, UnclosedTag, TooManyAttributes, DuplicateAttribute}
 use Rattle.model_spelling.specs.Grammar.{is_barred, is_letter, is_name_byte, is_same_name, is_void, begins_with, has_name, Attr, attr_text, Token, Start, Comment, comment_close}
 use Rattle.model_spelling.specs.Reading.{◌>>=◌, fault, refused, value_end, verbatim_end, name_len_at, quote_at, head_at, attr_at, attrs_at, name_ends, tag_close, start_after, with_name, start_at, end_after, end_at, comment_at, is_doctype, dash_at, markup_at, tag_at}
-use Rattle.model_spelling.specs.Standing.{is_doctype_front, stands}
+use Rattle.model_spelling.specs.Standing.{is_doctype_prefix, stands}
 use Rattle.model_spelling.proofs.AttrReading.{prefix_all, attr_head_fault, attr_many, attr_twice, attr_value_fault, attr_whole, attrs_stop, attrs_fault, attrs_more}
 use Rattle.model_spelling.proofs.TokenRuns.{not_false, begins_from_parts}
 use Rattle.model_spelling.proofs.Stays.{err, err_same, run_stays, verbatim_stays}
@@ -41,10 +41,10 @@ quote_stays tag place at k c [] more f ne e =
 no_name_same : (tag place c : ℕ) (cs more : List ℕ) → (name_len_at tag place 0 (c ∷ cs) >>= quoted tag place (c ∷ cs)) ≡ (name_len_at tag place 0 (c ∷ (cs ++ more)) >>= quoted tag place (c ∷ (cs ++ more)))
 no_name_same tag place c cs more = refl
 
-longer : (text front back more : List ℕ) → text ≡ front ++ back → text ++ more ≡ front ++ (back ++ more)
-longer text front back more e = ap (λ (l : List ℕ). l ++ more) e ∙ append_assoc front back more
+longer : (text prefix suffix more : List ℕ) → text ≡ prefix ++ suffix → text ++ more ≡ prefix ++ (suffix ++ more)
+longer text prefix suffix more e = ap (λ (l : List ℕ). l ++ more) e ∙ append_assoc prefix suffix more
 
-head_stays_by : (tag place : ℕ) (text front back more : List ℕ) (f : ScanFault) → text ≡ front ++ back → prefix_len is_name_byte text ≡ length front → list_all is_name_byte front ≡ true → Stops is_name_byte back → NotOpen tag f → head_at tag place text ≡ Err f → head_at tag place (text ++ more) ≡ Err f
+head_stays_by : (tag place : ℕ) (text prefix suffix more : List ℕ) (f : ScanFault) → text ≡ prefix ++ suffix → prefix_len is_name_byte text ≡ length prefix → list_all is_name_byte prefix ≡ true → Stops is_name_byte suffix → NotOpen tag f → head_at tag place text ≡ Err f → head_at tag place (text ++ more) ≡ Err f
 head_stays_by tag place text [] [] more f t len all stops ne e =
     let none : head_at tag place text ≡ Err (fault tag UnclosedTag) = head_as tag place 0 text len ∙ ap (λ (l : List ℕ). name_len_at tag place 0 l >>= quoted tag place l) t in
     absurd (ne (sym (err_same (head_at tag place text) (fault tag UnclosedTag) f none e)))
@@ -71,7 +71,7 @@ head_stays_by tag place text (b ∷ bs) (c ∷ cs) more f t len all stops ne e =
 head_stays : (tag place : ℕ) (text more : List ℕ) (f : ScanFault) → NotOpen tag f → head_at tag place text ≡ Err f → head_at tag place (text ++ more) ≡ Err f
 head_stays tag place text more f ne e =
     let s = split is_name_byte text in
-    head_stays_by tag place text s.front s.back more f s.text_is s.len s.all s.stops ne e
+    head_stays_by tag place text s.prefix s.suffix more f s.text_is s.len s.all s.stops ne e
 
 -- what a head is, it stays
 head_more : (tag place n q : ℕ) (text more : List ℕ) (h : HeadFound n q text) → head_at tag place (text ++ more) ≡ Ok (n, q)
@@ -238,17 +238,17 @@ after_stays tag at name [] more f ne e = absurd (ne (sym (err_same (start_after 
 after_stays tag at name (c ∷ cs) more f ne e = (after_stays_name tag at name (c ∷ cs) more f (name_ends tag name at (c ∷ cs)) (omega arith) ne refl e, omega arith)
 
 -- a name stays where a byte follows it
-ends_more : (back more : List ℕ) → 0 < length back → Stops is_name_byte back → EndsName (back ++ more)
+ends_more : (suffix more : List ℕ) → 0 < length suffix → Stops is_name_byte suffix → EndsName (suffix ++ more)
 ends_more [] more lt stops = absurd (omega arith)
 ends_more (c ∷ cs) more lt stops = record { byte = c; rest = cs ++ more; is = refl; other = stops }
 
 pub start_stays : (tag : ℕ) (text more : List ℕ) (f : ScanFault) → NotOpen tag f → start_at tag text ≡ Err f → start_at tag (text ++ more) ≡ Err f
 start_stays tag text more f ne e =
     let s = split is_name_byte text in
-    let at : ℕ = tag + 1 + length s.front in
-    let stays = after_stays tag at s.front s.back more f ne (sym (start_is tag text ∙ named_as (start_after tag) (tag + 1) text s) ∙ e) in
-    start_is tag (text ++ more) ∙ ap (with_name (start_after tag) (tag + 1)) (longer text s.front s.back more s.text_is)
-    ∙ named (start_after tag) (tag + 1) s.front (s.back ++ more) s.all (ends_more s.back more stays.1 s.stops) ∙ stays.0
+    let at : ℕ = tag + 1 + length s.prefix in
+    let stays = after_stays tag at s.prefix s.suffix more f ne (sym (start_is tag text ∙ named_as (start_after tag) (tag + 1) text s) ∙ e) in
+    start_is tag (text ++ more) ∙ ap (with_name (start_after tag) (tag + 1)) (longer text s.prefix s.suffix more s.text_is)
+    ∙ named (start_after tag) (tag + 1) s.prefix (s.suffix ++ more) s.all (ends_more s.suffix more stays.1 s.stops) ∙ stays.0
 
 -- ---- end tags, comments
 
@@ -259,9 +259,9 @@ end_after_stays tag at name (c ∷ cs) more f ne e = (e, omega arith)
 end_named_stays : (tag : ℕ) (text more : List ℕ) (f : ScanFault) → NotOpen tag f → with_name (end_after tag) (tag + 2) text ≡ Err f → with_name (end_after tag) (tag + 2) (text ++ more) ≡ Err f
 end_named_stays tag text more f ne e =
     let s = split is_name_byte text in
-    let stays = end_after_stays tag (tag + 2 + length s.front) s.front s.back more f ne (sym (named_as (end_after tag) (tag + 2) text s) ∙ e) in
-    ap (with_name (end_after tag) (tag + 2)) (longer text s.front s.back more s.text_is)
-    ∙ named (end_after tag) (tag + 2) s.front (s.back ++ more) s.all (ends_more s.back more stays.1 s.stops) ∙ stays.0
+    let stays = end_after_stays tag (tag + 2 + length s.prefix) s.prefix s.suffix more f ne (sym (named_as (end_after tag) (tag + 2) text s) ∙ e) in
+    ap (with_name (end_after tag) (tag + 2)) (longer text s.prefix s.suffix more s.text_is)
+    ∙ named (end_after tag) (tag + 2) s.prefix (s.suffix ++ more) s.all (ends_more s.suffix more stays.1 s.stops) ∙ stays.0
 
 end_stays : (tag : ℕ) (text more : List ℕ) (f : ScanFault) → NotOpen tag f → end_at tag text ≡ Err f → end_at tag (text ++ more) ≡ Err f
 unfolding end_at
@@ -301,12 +301,12 @@ doctype_taken : (a b : List ℕ) → take 7 a ≡ take 7 b → is_doctype a ≡ 
 unfolding is_doctype
 doctype_taken a b e = ap (λ (l : List ℕ). is_same_name (codes "doctype") (map to_ascii_lowercase l)) e
 
-pub front_is : (cs : List ℕ) → is_doctype_front (60 ∷ (33 ∷ cs)) ≡ begins_with (map to_ascii_lowercase cs) (codes "doctype")
+pub prefix_is : (cs : List ℕ) → is_doctype_prefix (60 ∷ (33 ∷ cs)) ≡ begins_with (map to_ascii_lowercase cs) (codes "doctype")
 unfolding begins_with
-front_is cs = refl
+prefix_is cs = refl
 
 doctype_false : (cs more : List ℕ) → is_doctype cs ≡ false → begins_with (map to_ascii_lowercase cs) (codes "doctype") ≡ false → is_doctype (cs ++ more) ≡ false
-doctype_false cs more n front =
+doctype_false cs more n prefix =
     elim (cases_lt (length cs) 7) [
       | inl lt ↦
           elim (cases_Bool (is_doctype (cs ++ more))) [
@@ -315,7 +315,7 @@ doctype_false cs more n front =
                 let len : length cs + k ≡ 7 = omega arith in
                 let taken : take 7 (cs ++ more) ≡ cs ++ take k more = ap (λ (j : ℕ). take j (cs ++ more)) (sym len) ∙ take-append-add cs more k in
                 let parts : codes "doctype" ≡ map to_ascii_lowercase cs ++ map to_ascii_lowercase (take k more) = doctype_is (cs ++ more) is ∙ ap (map to_ascii_lowercase) taken ∙ map-append to_ascii_lowercase cs (take k more) in
-                absurd (both (begins_with (map to_ascii_lowercase cs) (codes "doctype")) front (begins_from_parts (map to_ascii_lowercase cs) (codes "doctype") (map to_ascii_lowercase (take k more)) parts))
+                absurd (both (begins_with (map to_ascii_lowercase cs) (codes "doctype")) prefix (begins_from_parts (map to_ascii_lowercase cs) (codes "doctype") (map to_ascii_lowercase (take k more)) parts))
             | inr other ↦ other
           ]
       | inr ge ↦ doctype_taken (cs ++ more) cs (take-append-le 7 cs more ge) ∙ n
@@ -349,9 +349,9 @@ markup_same tag c cs more whole f here s e =
             | inl doctype ↦ ap (λ (x : Bool). refused (tag + 2) c (fault tag (cond x Doctype BadTag))) (doctype_true (c ∷ cs) more doctype ∙ sym doctype) ∙ e
             | inr no_doctype ↦
                 let is : fault tag BadTag ≡ f = ap (λ (x : Bool). fault tag (cond x Doctype BadTag)) (sym no_doctype) ∙ sym (refused_plain (tag + 2) c (markup_fault tag (c ∷ cs)) plain) ∙ e in
-                let st : not (is_doctype_front (drop tag whole)) ≡ true = ap (stands whole) is ∙ s in
-                let front : begins_with (map to_ascii_lowercase (c ∷ cs)) (codes "doctype") ≡ false = sym (ap is_doctype_front here ∙ front_is (c ∷ cs)) ∙ not_false (is_doctype_front (drop tag whole)) st in
-                ap (λ (x : Bool). refused (tag + 2) c (fault tag (cond x Doctype BadTag))) (doctype_false (c ∷ cs) more no_doctype front ∙ sym no_doctype) ∙ e
+                let st : not (is_doctype_prefix (drop tag whole)) ≡ true = ap (stands whole) is ∙ s in
+                let prefix : begins_with (map to_ascii_lowercase (c ∷ cs)) (codes "doctype") ≡ false = sym (ap is_doctype_prefix here ∙ prefix_is (c ∷ cs)) ∙ not_false (is_doctype_prefix (drop tag whole)) st in
+                ap (λ (x : Bool). refused (tag + 2) c (fault tag (cond x Doctype BadTag))) (doctype_false (c ∷ cs) more no_doctype prefix ∙ sym no_doctype) ∙ e
           ]
     ]
 

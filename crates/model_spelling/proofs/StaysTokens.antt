@@ -76,7 +76,7 @@ end_unbarred : (name : List ℕ) → is_tag_name name ≡ true → list_all (λ 
 unfolding is_barred
 end_unbarred name e = let p = name_parts name e in names_unbarred name p.all
 
--- the fault behind a raw element's start tag
+-- the fault after a raw element's start tag
 pub raw_never : (at x : ℕ) (name text : List ℕ) (f : ScanFault) (b : Bool) → is_tag_name name ≡ true → (x == at) ≡ b → verbatim_end (end_text name) (fault at UnclosedRaw) at text ≡ Ok x → token_at (After name) at text ≡ Err f → ⊥
 raw_never at x name text f true n e v h =
     let p = verbatim_parts (end_text name) (fault at UnclosedRaw) at x text (omega (arith, end_length name)) v in
@@ -122,8 +122,8 @@ may_always (Chars text) rest m = absurd m
 may_always (Raw text) rest m = tt
 may_always (Comment text) rest m = tt
 
-pub longer : (text front back more : List ℕ) → text ≡ front ++ back → text ++ more ≡ front ++ (back ++ more)
-longer text front back more e = ap (λ (l : List ℕ). l ++ more) e ∙ append_assoc front back more
+pub longer : (text prefix suffix more : List ℕ) → text ≡ prefix ++ suffix → text ++ more ≡ prefix ++ (suffix ++ more)
+longer text prefix suffix more e = ap (λ (l : List ℕ). l ++ more) e ∙ append_assoc prefix suffix more
 
 raw_comes : (at : ℕ) (name inner rest : List ℕ) → 0 < length inner → is_verbatim (end_text name) inner ≡ true → token_at (After name) at (inner ++ (end_text name ++ rest)) ≡ Ok (Some (Raw inner, at + length inner))
 raw_comes at name [] rest lt fits = absurd (omega arith)
@@ -202,14 +202,14 @@ nothing_stands whole at [] None [] e r h s = some_none e (sym h)
 nothing_stands whole at [] None (o ∷ os) e r h s = both (forest_stands whole e) (ap (forest_stands whole) (sym (fault_same (Unclosed o.at) e h))) s
 nothing_stands whole at (t ∷ ts) last os e (read, from, rest, some, parts, to, lt, r) h s = none_some at (token_at Between at []) (t.token, t.to) (end_step at) read
 
--- behind a text at the end no fault comes that stands
-behind_text : (t : Token) (whole text rest : List ℕ) (at : ℕ) (ts : List Placed) (last : Option ScanFault) (os : List Open) (e : ForestFault) → Runs (mode_after t) at rest ts last → fault_in last os ts ≡ Some e → forest_stands whole e ≡ true → (0 < length rest) ⊎ IsMarkup t
-behind_text (Start name attrs slash) whole text rest at ts last os e r h s = inr tt
-behind_text (End name) whole text rest at ts last os e r h s = inr tt
-behind_text (Raw inner) whole text rest at ts last os e r h s = inr tt
-behind_text (Comment inner) whole text rest at ts last os e r h s = inr tt
-behind_text (Chars inner) whole text (b ∷ bs) at ts last os e r h s = inl (omega arith)
-behind_text (Chars inner) whole text [] at ts last os e r h s = absurd (nothing_stands whole at ts last os e r h s)
+-- after a text at the end no fault comes that stands
+after_text : (t : Token) (whole text rest : List ℕ) (at : ℕ) (ts : List Placed) (last : Option ScanFault) (os : List Open) (e : ForestFault) → Runs (mode_after t) at rest ts last → fault_in last os ts ≡ Some e → forest_stands whole e ≡ true → (0 < length rest) ⊎ IsMarkup t
+after_text (Start name attrs slash) whole text rest at ts last os e r h s = inr tt
+after_text (End name) whole text rest at ts last os e r h s = inr tt
+after_text (Raw inner) whole text rest at ts last os e r h s = inr tt
+after_text (Comment inner) whole text rest at ts last os e r h s = inr tt
+after_text (Chars inner) whole text (b ∷ bs) at ts last os e r h s = inl (omega arith)
+after_text (Chars inner) whole text [] at ts last os e r h s = absurd (nothing_stands whole at ts last os e r h s)
 
 pub named_after : (m : Mode) (at : ℕ) (text : List ℕ) (t : Placed) → Named m → token_at m at text ≡ Ok (Some (t.token, t.to)) → Named (mode_after t.token)
 named_after m at text t n read = let p = part_of m at text t.token t.to n read in p.named
@@ -264,7 +264,7 @@ stay (t ∷ ts) last m at text more whole os e n here s (read, from, rest, some,
           let left = drop_on at t.to whole text some rest here parts to in
           let on = stay ts last (mode_after t.token) t.to rest more whole os2 e (named_after m at text t n read) left s r later in
           comes_later m at text more rest some t os os2 e
-          (token_more m at text more t.token t.to n read (λ other w. kept t.token text rest other some at t.to parts to w (token_len m at text t.token t.to n read) (behind_text t.token whole text rest t.to ts last os2 e r later s))) from parts to lt a on
+          (token_more m at text more t.token t.to n read (λ other w. kept t.token text rest other some at t.to parts to w (token_len m at text t.token t.to n read) (after_text t.token whole text rest t.to ts last os2 e r later s))) from parts to lt a on
     ]
 
 pub fault_as : (text : List ℕ) → fault_of text ≡ fault_in (tokens_of text).fault [] (tokens_of text).tokens

@@ -12,7 +12,7 @@ use Rattle.model_spelling.specs.Grammar.{is_barred, is_letter, is_name_byte, is_
 use Rattle.model_spelling.specs.Reading.{◌>>=◌, fault, reference_fault, run_end, verbatim_end, with_name, end_after, end_at, between_at, Step}
 use Rattle.model_spelling.proofs.AttrReading.{and_left, and_right, four_ways, prefix_all}
 
--- ---- fronts
+-- ---- prefixes
 
 pub or_right : (a b : Bool) → b ≡ true → (a || b) ≡ true
 or_right true b e = refl
@@ -39,7 +39,7 @@ pub begins_more : (r text more : List ℕ) → begins_with r text ≡ true → b
 begins_more r text more e =
     begins_from_parts r (text ++ more) (drop (length r) text ++ more) (ap (λ (l : List ℕ). l ++ more) (begins_parts r text e) ∙ append_assoc r (drop (length r) text) more)
 
--- and begins each of its fronts that is long enough
+-- and begins each of its prefixes that is long enough
 begins_taken : (r text : List ℕ) (n : ℕ) → begins_with r text ≡ true → length r ≤ n → begins_with r (take n text) ≡ true
 begins_taken r text n e le =
     let k = n - length r in
@@ -198,7 +198,7 @@ run_only end stop at (b ∷ xs) rest e f =
 
 -- ---- raw text and comments
 
--- whether a front begins a text is known from as many bytes
+-- whether a prefix begins a text is known from as many bytes
 pub begins_same : (r xs ys : List ℕ) → length r ≤ length xs → begins_with r (xs ++ ys) ≡ begins_with r xs
 unfolding begins_with
 begins_same r xs ys le = let t : take (length r) (xs ++ ys) ≡ take (length r) xs = take-append-le (length r) xs ys le in rw t refl

@@ -9,7 +9,7 @@ use Rattle.std.proofs.lemmas.Str.{IsUtf8-append, IsUtf8-nil, IsUtf8-drop, IsUtf8
 use Rattle.model_spelling.specs.Grammar.{begins_with, Comment, token_text, start_text, end_text, is_void, is_text, is_start, is_verbatim, comment_close, Attr, attr_text, comment_open}
 use Rattle.model_spelling.specs.Tokens.{BeginsTag}
 use Rattle.model_spelling.specs.Forest.{Forest, Nothing, Text, Remark, Void, RawElement, Element, starts_with_text, spelling, is_forest}
-use Rattle.model_spelling.specs.Written.{meanings, front_of, decoded_from, decoded}
+use Rattle.model_spelling.specs.Written.{meanings, prefix_of, decoded_from, decoded}
 use Rattle.model_spelling.specs.Utf8.{NodesUtf8}
 use Rattle.model_spelling.proofs.AttrReading.{and_left, and_right}
 use Rattle.model_spelling.proofs.TokenRuns.{begins_parts}
@@ -47,15 +47,15 @@ meanings_good = (
   ),
 )
 
-abbrev FrontIs : List ℕ × List ℕ → ℕ → List ℕ → Type 0
-FrontIs m b bs = (m ≡ (b ∷ [], b ∷ [])) ⊎ (Good m × (begins_with m.0 (b ∷ bs) ≡ true))
+abbrev PrefixIs : List ℕ × List ℕ → ℕ → List ℕ → Type 0
+PrefixIs m b bs = (m ≡ (b ∷ [], b ∷ [])) ⊎ (Good m × (begins_with m.0 (b ∷ bs) ≡ true))
 
-front_is : (ms : List (List ℕ × List ℕ)) (b : ℕ) (bs : List ℕ) → AllGood ms → FrontIs (front_of ms b bs) b bs
-front_is [] b bs g = inl refl
-front_is (m ∷ ms) b bs g =
+prefix_is : (ms : List (List ℕ × List ℕ)) (b : ℕ) (bs : List ℕ) → AllGood ms → PrefixIs (prefix_of ms b bs) b bs
+prefix_is [] b bs g = inl refl
+prefix_is (m ∷ ms) b bs g =
     elim (cases_Bool (begins_with m.0 (b ∷ bs))) [
-      | inl here ↦ subst (λ (x : List ℕ × List ℕ). FrontIs x b bs) (sym (pick_true (begins_with m.0 (b ∷ bs)) m (front_of ms b bs) here)) (inr (g.0, here))
-      | inr other ↦ subst (λ (x : List ℕ × List ℕ). FrontIs x b bs) (sym (pick_false (begins_with m.0 (b ∷ bs)) m (front_of ms b bs) other)) (front_is ms b bs g.1)
+      | inl here ↦ subst (λ (x : List ℕ × List ℕ). PrefixIs x b bs) (sym (pick_true (begins_with m.0 (b ∷ bs)) m (prefix_of ms b bs) here)) (inr (g.0, here))
+      | inr other ↦ subst (λ (x : List ℕ × List ℕ). PrefixIs x b bs) (sym (pick_false (begins_with m.0 (b ∷ bs)) m (prefix_of ms b bs) other)) (prefix_is ms b bs g.1)
     ]
 
 pub skipped : (k : ℕ) (bs : List ℕ) → decoded_from k bs ≡ decoded_from 0 (drop k bs)
@@ -65,9 +65,9 @@ skipped zero (b ∷ bs) = refl
 skipped (suc k) [] = refl
 skipped (suc k) (b ∷ bs) = skipped k bs
 
-pub decoded_front : (b : ℕ) (bs : List ℕ) → decoded_from 0 (b ∷ bs) ≡ (front_of meanings b bs).1 ++ decoded_from (length ((front_of meanings b bs).0) - 1) bs
+pub decoded_prefix : (b : ℕ) (bs : List ℕ) → decoded_from 0 (b ∷ bs) ≡ (prefix_of meanings b bs).1 ++ decoded_from (length ((prefix_of meanings b bs).0) - 1) bs
 unfolding decoded_from
-decoded_front b bs = refl
+decoded_prefix b bs = refl
 
 -- bytes without `&` stand for themselves
 pub plain_decoded : (bs t : List ℕ) → ((k : ℕ) → k < length bs → get_or bs k 0 ≢ 38) → decoded_from 0 (bs ++ t) ≡ bs ++ decoded_from 0 t
@@ -87,11 +87,11 @@ amp_utf8 = (38 ∷ [], (refl, refl))
 pub suc_is : (n : ℕ) → 0 < n → suc (n - 1) ≡ n
 suc_is n lt = omega (arith, lt)
 
-amp_decoded : (n : ℕ) (bs : List ℕ) → length bs ≤ n → Decodes n → IsUtf8 (38 ∷ bs) → IsUtf8 bs → FrontIs (front_of meanings 38 bs) 38 bs → IsUtf8 ((front_of meanings 38 bs).1 ++ decoded_from (length ((front_of meanings 38 bs).0) - 1) bs)
+amp_decoded : (n : ℕ) (bs : List ℕ) → length bs ≤ n → Decodes n → IsUtf8 (38 ∷ bs) → IsUtf8 bs → PrefixIs (prefix_of meanings 38 bs) 38 bs → IsUtf8 ((prefix_of meanings 38 bs).1 ++ decoded_from (length ((prefix_of meanings 38 bs).0) - 1) bs)
 amp_decoded n bs le rec u v (inl same) =
     subst (λ (m : List ℕ × List ℕ). IsUtf8 (m.1 ++ decoded_from (length m.0 - 1) bs)) (sym same) (IsUtf8-append (38 ∷ []) (decoded_from 0 bs) amp_utf8 (rec bs le v))
 amp_decoded n bs le rec u v (inr (good, begins)) =
-    let m : List ℕ × List ℕ = front_of meanings 38 bs in
+    let m : List ℕ × List ℕ = prefix_of meanings 38 bs in
     let parts = begins_parts m.0 (38 ∷ bs) begins in
     let tail : List ℕ = drop (length m.0) (38 ∷ bs) in
     let last : get_or (38 ∷ bs) (length m.0 - 1) 0 < 128 = subst (λ (l : List ℕ). get_or l (length m.0 - 1) 0 < 128) (sym parts) (good.2 tail) in
@@ -110,7 +110,7 @@ decodes_char n c bs rest le rec u e here some =
     elim (cases_eq c 38) [
       | inl amp ↦
           let whole : bs ≡ 38 ∷ rest = e ∙ ap (λ (k : ℕ). encode k ++ rest) amp ∙ ap (λ (l : List ℕ). l ++ rest) (encode_ascii 38 (omega arith)) in
-          subst (λ (l : List ℕ). IsUtf8 (decoded_from 0 l)) (sym whole) (subst IsUtf8 (sym (decoded_front 38 rest)) (amp_decoded n rest len rec (subst IsUtf8 whole u) v (front_is meanings 38 rest meanings_good)))
+          subst (λ (l : List ℕ). IsUtf8 (decoded_from 0 l)) (sym whole) (subst IsUtf8 (sym (decoded_prefix 38 rest)) (amp_decoded n rest len rec (subst IsUtf8 whole u) v (prefix_is meanings 38 rest meanings_good)))
       | inr other ↦
           subst IsUtf8 (sym (ap (decoded_from 0) e ∙ plain_decoded (encode c) rest (char_plain c other))) (IsUtf8-append (encode c) (decoded_from 0 rest) here (rec rest len v))
     ]
@@ -149,21 +149,21 @@ at_seam a b = ap (λ (k : ℕ). get_or (a ++ b) k 0) (sym (add-zero (length a)))
 cut_utf8 : (a b : List ℕ) → IsUtf8 (a ++ b) → IsCharBoundary (a ++ b) (length a) → IsUtf8 a × IsUtf8 b
 cut_utf8 a b u c = (subst IsUtf8 (take-append_seam a b) (IsUtf8-take (a ++ b) (length a) u c), subst IsUtf8 (drop-append_seam a b) (IsUtf8-drop (a ++ b) (length a) u c))
 
--- a tag begins behind a
+-- a tag begins after a
 before_tag : (a b : List ℕ) → IsUtf8 (a ++ b) → BeginsTag b → IsUtf8 a × IsUtf8 b
 before_tag a [] u t = (subst IsUtf8 (append-nil a) u, IsUtf8-nil)
 before_tag a (x ∷ xs) u t =
     cut_utf8 a (x ∷ xs) u (IsCharBoundary-before_ascii (a ++ (x ∷ xs)) (length a) (omega (arith, length-append a (x ∷ xs))) (omega (arith, at_seam a (x ∷ xs), t)))
 
 -- a ends with `>`
-after_close : (a front b : List ℕ) → a ≡ front ++ (62 ∷ []) → IsUtf8 (a ++ b) → IsUtf8 a × IsUtf8 b
-after_close a front b e u =
-    let whole : a ++ b ≡ front ++ (62 ∷ b) = ap (λ (l : List ℕ). l ++ b) e ∙ append_assoc front (62 ∷ []) b in
-    let byte : get_or (a ++ b) (length front) 0 ≡ 62 = ap (λ (l : List ℕ). get_or l (length front) 0) whole ∙ at_seam front (62 ∷ b) in
-    let len : length front + 1 ≡ length a = omega (arith, ap length e, length-append front (62 ∷ [])) in
-    cut_utf8 a b u (subst (IsCharBoundary (a ++ b)) len (IsCharBoundary-after_ascii (a ++ b) (length front) u (omega (arith, len, length-append a b)) (omega (arith, byte))))
+after_close : (a prefix b : List ℕ) → a ≡ prefix ++ (62 ∷ []) → IsUtf8 (a ++ b) → IsUtf8 a × IsUtf8 b
+after_close a prefix b e u =
+    let whole : a ++ b ≡ prefix ++ (62 ∷ b) = ap (λ (l : List ℕ). l ++ b) e ∙ append_assoc prefix (62 ∷ []) b in
+    let byte : get_or (a ++ b) (length prefix) 0 ≡ 62 = ap (λ (l : List ℕ). get_or l (length prefix) 0) whole ∙ at_seam prefix (62 ∷ b) in
+    let len : length prefix + 1 ≡ length a = omega (arith, ap length e, length-append prefix (62 ∷ [])) in
+    cut_utf8 a b u (subst (IsCharBoundary (a ++ b)) len (IsCharBoundary-after_ascii (a ++ b) (length prefix) u (omega (arith, len, length-append a b)) (omega (arith, byte))))
 
-start_ends : (name : List ℕ) (attrs : List Attr) (slash : Bool) → (front : List ℕ) × (start_text name attrs slash ≡ front ++ (62 ∷ []))
+start_ends : (name : List ℕ) (attrs : List Attr) (slash : Bool) → (prefix : List ℕ) × (start_text name attrs slash ≡ prefix ++ (62 ∷ []))
 start_ends name attrs true = ((60 ∷ name ++ flat_map attr_text attrs) ++ (47 ∷ []), sym (append_assoc (60 ∷ name ++ flat_map attr_text attrs) (47 ∷ []) (62 ∷ [])))
 start_ends name attrs false = (60 ∷ name ++ flat_map attr_text attrs, refl)
 

@@ -2,7 +2,7 @@
 use Rattle.std.specs.Prelude.{◌≡◌, ℕ, zero, suc, Bool, true, false, ◌&&◌, not, List, [], ◌++◌, IsTrue}
 use Rattle.model_spelling.specs.Grammar.{Attr, Chars, Comment, token_text, start_text, end_text, is_void, is_raw, is_text, is_verbatim, is_start, comment_close}
 
--- A forest is empty, or a first node and the forest of its siblings behind it. A node is a text, a comment (`Remark`), a void element with its attributes and its `/`, a raw element with its text, or an element with its children. Texts and values are as they are spelled.
+-- A forest is empty, or a first node and the forest of its siblings after it. A node is a text, a comment (`Remark`), a void element with its attributes and its `/`, a raw element with its text, or an element with its children. Texts and values are as they are spelled.
 pub data Forest : Type 0 where
   Nothing : Forest
   Text : List ℕ → Forest → Forest

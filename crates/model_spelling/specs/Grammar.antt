@@ -17,9 +17,9 @@ is_letter b = is_ascii_alphabetic b
 abbrev pub is_name_byte : ℕ → Bool
 is_name_byte b = is_ascii_alphanumeric b || b == 45 || b == 95 || b == 46 || b == 58
 
--- whether the text begins with this front
+-- whether the text begins with this prefix
 unfoldable pub begins_with : List ℕ → List ℕ → Bool
-begins_with front text = starts_with nat_eq text front
+begins_with prefix text = starts_with nat_eq text prefix
 
 unfoldable pub is_same_name : List ℕ → List ℕ → Bool
 is_same_name a b = bytes_eq a b

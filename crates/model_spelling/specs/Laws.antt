@@ -18,7 +18,7 @@ ReadIsSpelled = (at : ℕ) (text : List ℕ) (t : Token) (to : ℕ) → token_at
 abbrev pub SpelledIsRead : Type 0
 SpelledIsRead = (at : ℕ) (t : Token) (rest : List ℕ) → is_token t ≡ true → MayFollow t rest → token_at Between at (token_text t ++ rest) ≡ Ok (Some (t, at + length (token_text t)))
 
--- What is read behind the start tag of a raw element is its raw text, with its end tag behind it, or that end tag alone.
+-- What is read after the start tag of a raw element is its raw text, with its end tag after it, or that end tag alone.
 abbrev pub RawReadIsSpelled : Type 0
 RawReadIsSpelled = (at : ℕ) (name text : List ℕ) (t : Token) (to : ℕ) → is_tag_name name ≡ true → token_at (After name) at text ≡ Ok (Some (t, to)) → RawRead at name text t to
 

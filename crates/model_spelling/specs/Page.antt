@@ -39,7 +39,7 @@ or_no_body at None = Err (fault at NoBody)
 or_no_body at (Some x) = Ok x
 
 -- The bytes of the body: the first, and the one after the last.
--- In a whole page the body stands between the first body start tag and the last `</body>` behind it.
+-- In a whole page the body stands between the first body start tag and the last `</body>` after it.
 unfoldable pub body_at : List ℕ → Result (ℕ × ℕ) ScanFault
 body_at page = if is_whole page then (do
   tag ← or_no_body 0 (first_place starts_body 0 page)
@@ -85,7 +85,7 @@ page_fault page = fault_between page (body_at page)
 
 -- ---- the body in other words
 
--- In a whole page the body begins behind its start tag, and `</body>` follows it. No body starts before that tag, and none ends behind that `</body>`.
+-- In a whole page the body begins after its start tag, and `</body>` follows it. No body starts before that tag, and none ends after that `</body>`.
 pub record IsBody (page : List ℕ) (from to : ℕ) : Type 0 where
   pub before : List ℕ
   pub attrs : List Attr

@@ -24,23 +24,23 @@ refused at b f = if is_barred b then fault at BadChar else f
 -- ---- runs
 
 -- the most bytes of a reference that the text begins with
-abbrev pub longest_front : List (List ℕ) → List ℕ → ℕ
-longest_front [] text = 0
-longest_front (r ∷ rs) text = max (common_prefix_len nat_eq r text) (longest_front rs text)
+abbrev pub longest_prefix : List (List ℕ) → List ℕ → ℕ
+longest_prefix [] text = 0
+longest_prefix (r ∷ rs) text = max (common_prefix_len nat_eq r text) (longest_prefix rs text)
 
 -- Where a run may end with the text there is no fault of its end, else there is one.
 abbrev pub end_of_run : Option ScanFault → ℕ → Result ℕ ScanFault
 end_of_run None at = Ok at
 end_of_run (Some unclosed) at = Err unclosed
 
--- the fault of the `&` at amp, which starts no reference: what follows the longest front of one stands at next
-abbrev pub behind_front : Option ScanFault → ℕ → ℕ → List ℕ → ScanFault
-behind_front None amp next [] = fault amp BadReference
-behind_front (Some unclosed) amp next [] = unclosed
-behind_front end amp next (b ∷ bs) = refused next b (fault amp BadReference)
+-- the fault of the `&` at amp, which starts no reference: what follows the longest prefix of one stands at next
+abbrev pub after_prefix : Option ScanFault → ℕ → ℕ → List ℕ → ScanFault
+after_prefix None amp next [] = fault amp BadReference
+after_prefix (Some unclosed) amp next [] = unclosed
+after_prefix end amp next (b ∷ bs) = refused next b (fault amp BadReference)
 
 unfoldable pub reference_fault : Option ScanFault → ℕ → List ℕ → ScanFault
-reference_fault end at text = behind_front end at (at + longest_front references text) (drop (longest_front references text) text)
+reference_fault end at text = after_prefix end at (at + longest_prefix references text) (drop (longest_prefix references text) text)
 
 -- characters up to stop, or up to the end where that is no fault
 unfoldable pub run_end : Option ScanFault → ℕ → ℕ → List ℕ → Result ℕ ScanFault
@@ -151,7 +151,7 @@ end_after tag name at [] = Err (fault tag UnclosedTag)
 end_after tag name at (c ∷ rest) =
     if c == 62 && not (is_plaintext name) then Ok (End name, at + 1) else Err (refused at c (fault tag BadTag))
 
--- the name at the front, and what follows it
+-- the name at the prefix, and what follows it
 abbrev pub with_name : {A : Type 0} → (List ℕ → ℕ → List ℕ → A) → ℕ → List ℕ → A
 with_name after at text = let n = prefix_len is_name_byte text in after (take n text) (at + n) (drop n text)
 

@@ -24,8 +24,8 @@ count (Element name attrs children rest) = 1 + count children + count rest
 
 -- a node of one token, which has no content but its own text
 abbrev pub leaf : Token → ℕ → ℕ → ℕ → ℕ → Row
-leaf token n at before behind = let to = at + length (token_text token) in
-    record { token = token; from = at; to = to; inner_from = at + before; inner_to = at + before + behind; next = n + 1 }
+leaf token n at before suffix = let to = at + length (token_text token) in
+    record { token = token; from = at; to = to; inner_from = at + before; inner_to = at + before + suffix; next = n + 1 }
 
 -- The rows of a forest whose first node has the number n and starts at the byte at.
 abbrev pub rows : ℕ → ℕ → Forest → List Row

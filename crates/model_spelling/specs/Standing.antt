@@ -5,20 +5,20 @@ use Rattle.model_spelling.specs.declared.scan_fault.ScanFault.{ScanFault}
 use Rattle.model_spelling.specs.declared.scan_fault.ScanWhat.{ScanWhat}
 use Rattle.model_spelling.specs.declared.scan_fault.ScanWhat.TheVariants.{BadTag, BadAttribute, DuplicateAttribute, TooManyAttributes, BadReference, BadChar, UnclosedTag, UnclosedComment, UnclosedRaw, Doctype, NoBody}
 use Rattle.model_spelling.specs.Grammar.{begins_with, references, starts_reference}
-use Rattle.model_spelling.specs.Reading.{fault, longest_front}
+use Rattle.model_spelling.specs.Reading.{fault, longest_prefix}
 use Rattle.model_spelling.specs.Faults.{ForestFault, Scan, Mismatched, Unclosed, Stray, TooDeep, fault_of}
 
--- the text is `<!` and then a front of `doctype`, in any case of its letters, or all of it
-abbrev pub is_doctype_front : List ℕ → Bool
-is_doctype_front text = begins_with (60 ∷ 33 ∷ []) text && begins_with (map to_ascii_lowercase (drop 2 text)) (codes "doctype")
+-- the text is `<!` and then a prefix of `doctype`, in any case of its letters, or all of it
+abbrev pub is_doctype_prefix : List ℕ → Bool
+is_doctype_prefix text = begins_with (60 ∷ 33 ∷ []) text && begins_with (map to_ascii_lowercase (drop 2 text)) (codes "doctype")
 
--- the text goes on behind the longest front of a reference that it begins with
+-- the text goes on after the longest prefix of a reference that it begins with
 abbrev pub passes_reference : List ℕ → Bool
-passes_reference text = nat_lt (longest_front references text) (length text)
+passes_reference text = nat_lt (longest_prefix references text) (length text)
 
 -- Where the text from the fault's byte on is this, the fault isn't one of the text's end.
 abbrev pub stands_by : ScanWhat → List ℕ → Bool
-stands_by BadTag text = not (is_doctype_front text)
+stands_by BadTag text = not (is_doctype_prefix text)
 stands_by BadAttribute text = true
 stands_by DuplicateAttribute text = true
 stands_by TooManyAttributes text = true
@@ -66,7 +66,7 @@ is_unclosed (Unclosed at) = true
 is_unclosed (Stray at) = false
 is_unclosed (TooDeep at) = false
 
--- A fault of the unclosed kinds doesn't stand: with U+0000 behind the text it is another one.
+-- A fault of the unclosed kinds doesn't stand: with U+0000 after the text it is another one.
 abbrev pub UnclosedGoes : Type 0
 UnclosedGoes = (text : List ℕ) (f : ForestFault) → is_unclosed f ≡ true → fault_of (text ++ (0 ∷ [])) ≡ Some f → ⊥
 
@@ -76,7 +76,7 @@ UnclosedGoes = (text : List ℕ) (f : ForestFault) → is_unclosed f ≡ true �
 abbrev pub Stands : List ℕ → ForestFault → Type 0
 Stands text f = (more : List ℕ) → fault_of (text ++ more) ≡ Some f
 
--- With some text behind it, it has another fault, or none.
+-- With some text after it, it has another fault, or none.
 abbrev pub Goes : List ℕ → ForestFault → Type 0
 Goes text f = (more : List ℕ) × (fault_of (text ++ more) ≡ Some f → ⊥)
 
@@ -100,5 +100,5 @@ CutReferenceGoes = (text : List ℕ) (at : ℕ) → fault_of text ≡ Some (Scan
 
 -- A cut doctype becomes a whole one: where its rest follows, the fault is that of a doctype.
 abbrev pub CutDoctypeGoes : Type 0
-CutDoctypeGoes = (text : List ℕ) (at : ℕ) → fault_of text ≡ Some (Scan (fault at BadTag)) → is_doctype_front (drop at text) ≡ true
+CutDoctypeGoes = (text : List ℕ) (at : ℕ) → fault_of text ≡ Some (Scan (fault at BadTag)) → is_doctype_prefix (drop at text) ≡ true
     → (more : List ℕ) × (fault_of (text ++ more) ≡ Some (Scan (fault at Doctype)))

@@ -6,7 +6,7 @@ use Rattle.model_spelling.specs.Reading.{Mode, Between, Step, mode_after, token_
 
 -- ---- what stands between two tokens
 
--- What a token may be that doesn't stand behind a raw element's start tag.
+-- What a token may be that doesn't stand after a raw element's start tag.
 abbrev pub is_token : Token → Bool
 is_token (Start name attrs slash) = is_start name attrs slash
 is_token (End name) = is_tag_name name
@@ -35,7 +35,7 @@ pub record IsRead (at : ℕ) (text : List ℕ) (t : Token) (to : ℕ) : Type 0 w
   pub allowed : is_token t ≡ true
   pub follows : MayFollow t rest
 
--- What is read behind the start tag of a raw element.
+-- What is read after the start tag of a raw element.
 pub data RawRead (at : ℕ) (name text : List ℕ) (t : Token) (to : ℕ) : Type 0 where
   Inner : (inner rest : List ℕ) → t ≡ Raw inner → text ≡ inner ++ (end_text name ++ rest) → to ≡ at + length inner → 0 < length inner → is_verbatim (end_text name) inner ≡ true → RawRead at name text t to
   Closing : (rest : List ℕ) → t ≡ End name → text ≡ end_text name ++ rest → to ≡ at + length (end_text name) → RawRead at name text t to

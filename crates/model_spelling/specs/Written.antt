@@ -6,16 +6,16 @@ use Rattle.model_spelling.specs.Grammar.{begins_with, Attr, start_text}
 abbrev pub meanings : List (List ℕ × List ℕ)
 meanings = (codes "&amp;", 38 ∷ []) ∷ (codes "&lt;", 60 ∷ []) ∷ (codes "&gt;", 62 ∷ []) ∷ (codes "&nbsp;", 194 ∷ 160 ∷ []) ∷ (codes "&quot;", 34 ∷ []) ∷ (codes "&apos;", 39 ∷ []) ∷ []
 
--- the reference at the front and its meaning; else the first byte, which stands for itself
-abbrev pub front_of : List (List ℕ × List ℕ) → ℕ → List ℕ → List ℕ × List ℕ
-front_of [] b bs = (b ∷ [], b ∷ [])
-front_of (m ∷ ms) b bs = if begins_with m.0 (b ∷ bs) then m else front_of ms b bs
+-- the reference at the prefix and its meaning; else the first byte, which stands for itself
+abbrev pub prefix_of : List (List ℕ × List ℕ) → ℕ → List ℕ → List ℕ × List ℕ
+prefix_of [] b bs = (b ∷ [], b ∷ [])
+prefix_of (m ∷ ms) b bs = if begins_with m.0 (b ∷ bs) then m else prefix_of ms b bs
 
 -- skip is how many bytes of a reference are still to be passed over
 unfoldable pub decoded_from : ℕ → List ℕ → List ℕ
 decoded_from skip [] = []
 decoded_from (suc skip) (b ∷ bs) = decoded_from skip bs
-decoded_from zero (b ∷ bs) = let m = front_of meanings b bs in m.1 ++ decoded_from (length m.0 - 1) bs
+decoded_from zero (b ∷ bs) = let m = prefix_of meanings b bs in m.1 ++ decoded_from (length m.0 - 1) bs
 
 abbrev pub decoded : List ℕ → List ℕ
 decoded spelled = decoded_from 0 spelled

@@ -15,7 +15,7 @@ each_line_is_answered w (line ∷ lines) = ap suc (each_line_is_answered (reply 
 abbrev Batch : Type 0
 Batch = Result (List Transaction) BatchRefusal
 
--- one more change in front of the rest of a batch
+-- one more change before the rest of a batch
 abbrev with_rest : Transaction → Batch → Batch
 with_rest t rest = elim rest as (λ _. Batch) [ Err refused ↦ Err refused | Ok ts ↦ Ok (t ∷ ts) ]
 

@@ -62,7 +62,7 @@ kept_anchor : Answered
 unfolding page_on_literals is_utf8 digits unicode_segmentation
 kept_anchor = refl
 
--- text typed outside of every paragraph stands in a new one, and the caret behind its last character
+-- text typed outside of every paragraph stands in a new one, and the caret after its last character
 typing_between : Answered
     ((codes "{\"do\":\"open\",\"page\":\"<p>ab</p>\"}", codes "ok 6")
     ∷ (codes "{\"do\":\"select\",\"anchor\":0,\"focus\":0}", codes "ok 0 0")

@@ -164,16 +164,16 @@ to_last_char [] = 0
 to_last_char (Char c marks ∷ items) = suc (to_last_char items)
 to_last_char (item ∷ items) = let n = to_last_char items in if n == 0 then 0 else suc n
 
--- just behind the last character that the last transaction inserts
-abbrev pub behind_text : List Transaction → ℕ
-behind_text [] = 0
-behind_text (t ∷ []) = first t + to_last_char (all_inserted t)
-behind_text (t ∷ u ∷ ts) = behind_text (u ∷ ts)
+-- just after the last character that the last transaction inserts
+abbrev pub after_text : List Transaction → ℕ
+after_text [] = 0
+after_text (t ∷ []) = first t + to_last_char (all_inserted t)
+after_text (t ∷ u ∷ ts) = after_text (u ∷ ts)
 
--- the caret stands behind the text
+-- the caret stands after the text
 abbrev pub typed_or_no : Asked → Result (List Transaction) BatchRefusal → Outcome
 typed_or_no a (Err f) = refused f.refusal
-typed_or_no a (Ok ts) = changed a (with_selection (between (behind_text ts) (behind_text ts)) (with_entry ts (site_of a)))
+typed_or_no a (Ok ts) = changed a (with_selection (between (after_text ts) (after_text ts)) (with_entry ts (site_of a)))
 
 -- ---- showing
 

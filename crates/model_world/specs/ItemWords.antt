@@ -21,7 +21,7 @@ abbrev pub has_none : {A : Type 0} → List A → Bool
 has_none [] = true
 has_none (x ∷ xs) = false
 
--- marks stand on inline leaves alone, and white text before everything else
+-- marks stand on inline leaves alone, and whitespace before everything else
 abbrev pub may_open : Kind → List Mark → List ℕ → Bool
 may_open kind marks pre = if is_inline_leaf kind then has_none pre else has_none marks
 
@@ -39,7 +39,7 @@ opening_in members kind = do
   pre ← member_or (codes "pre") [] white_in members
   opening_with kind attrs marks pre
 
--- no white text stands before the closing of a leaf or of a content branch
+-- no whitespace stands before the closing of a leaf or of a content branch
 abbrev pub may_close : Kind → List ℕ → Bool
 may_close kind pre = has_none pre || not (is_leaf kind || is_content_branch kind)
 

@@ -114,7 +114,7 @@ abbrev pub all_shown : Shown → List Data
 all_shown (Together marks text later) = run_shown marks text ∷ later
 all_shown (Apart later) = later
 
--- a character joins the run behind it where their marks are equal
+-- a character joins the run after it where their marks are equal
 abbrev pub char_shown : ℕ → List Mark → Shown → Shown
 char_shown c marks (Together others text later) =
     if marks_same marks others

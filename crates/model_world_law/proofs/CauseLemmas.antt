@@ -184,10 +184,10 @@ change_is items (change.Apply ops) h = applied_is items ops h
 abbrev Matches : Transaction → List PlainItem → Type 0
 Matches t items = mismatch_at 0 t items ≡ None
 
-same_front : (n at : ℕ) (items : List PlainItem) → differs_at at (take n items) items ≡ None
-same_front zero at items = refl
-same_front (suc n) at [] = refl
-same_front (suc n) at (item ∷ items) = ap (λ b. if b then differs_at (suc at) (take n items) items else Some at) (Means-item_same.itself item) ∙ same_front n (suc at) items
+same_prefix : (n at : ℕ) (items : List PlainItem) → differs_at at (take n items) items ≡ None
+same_prefix zero at items = refl
+same_prefix (suc n) at [] = refl
+same_prefix (suc n) at (item ∷ items) = ap (λ b. if b then differs_at (suc at) (take n items) items else Some at) (Means-item_same.itself item) ∙ same_prefix n (suc at) items
 
 take_gone : (n : ℕ) (items : List PlainItem) → drop (length (take n items)) items ≡ drop n items
 take_gone zero items = refl
@@ -218,25 +218,25 @@ mutual
       ops_match ops (at + count) (drop count items) (and_parts (operations.may_precede (op.Retain count) ops) (operations.is_normal ops) p.1).1
   ops_match (op.Remove count insert ∷ ops) at items h =
       let p = and_parts (operations.is_something (op.Remove count insert)) (operations.may_precede (op.Remove count insert) ops && operations.is_normal ops) h in
-      ap (λ o. or_else o (mismatch_at (at + length (take count items)) (ops_on ops (drop count items)) (drop (length (take count items)) items))) (same_front count at items)
+      ap (λ o. or_else o (mismatch_at (at + length (take count items)) (ops_on ops (drop count items)) (drop (length (take count items)) items))) (same_prefix count at items)
       ∙ ap (λ rest. mismatch_at (at + length (take count items)) (ops_on ops (drop count items)) rest) (take_gone count items)
       ∙ ops_match ops (at + length (take count items)) (drop count items) (and_parts (operations.may_precede (op.Remove count insert) ops) (operations.is_normal ops) p.1).1
   ops_match (op.Attr name to ∷ ops) at items h =
       let p = and_parts (operations.may_precede (op.Attr name to) ops) (operations.is_normal ops) h in
-      behind_match name to ops at items (on_first (item_changed (setting name to items)) items) p.0 p.1 (first_changed (item_changed (setting name to items)) items)
+      after_match name to ops at items (on_first (item_changed (setting name to items)) items) p.0 p.1 (first_changed (item_changed (setting name to items)) items)
 
-  behind_match : (name : List ℕ) (to : Option (List ℕ)) (ops : List OpWords) (at : ℕ) (items other : List PlainItem) → operations.may_precede (op.Attr name to) ops ≡ true →
+  after_match : (name : List ℕ) (to : Option (List ℕ)) (ops : List OpWords) (at : ℕ) (items other : List PlainItem) → operations.may_precede (op.Attr name to) ops ≡ true →
       operations.is_normal ops ≡ true → drop 1 other ≡ drop 1 items → mismatch_at at (ops_on ops items) other ≡ None
-  behind_match name to [] at items other m h e = cc
-  behind_match name to (op.Retain zero ∷ ops) at items other m h e = cc
-  behind_match name to (op.Retain (suc n) ∷ ops) at items other m h e =
+  after_match name to [] at items other m h e = cc
+  after_match name to (op.Retain zero ∷ ops) at items other m h e = cc
+  after_match name to (op.Retain (suc n) ∷ ops) at items other m h e =
       let p = and_parts (operations.is_something (op.Retain (suc n))) (operations.may_precede (op.Retain (suc n)) ops && operations.is_normal ops) h in
       ap (λ rest. mismatch_at (at + suc n) (ops_on ops (drop (suc n) items)) rest) (past_first n other items e)
       ∙ ops_match ops (at + suc n) (drop (suc n) items) (and_parts (operations.may_precede (op.Retain (suc n)) ops) (operations.is_normal ops) p.1).1
-  behind_match name to (op.Remove count insert ∷ ops) at items other m h e = cc
-  behind_match name to (op.Attr next value ∷ ops) at items other m h e =
+  after_match name to (op.Remove count insert ∷ ops) at items other m h e = cc
+  after_match name to (op.Attr next value ∷ ops) at items other m h e =
       let p = and_parts (operations.may_precede (op.Attr next value) ops) (operations.is_normal ops) h in
-      behind_match next value ops at items (on_first (item_changed (setting next value items)) other) p.0 p.1 (first_changed (item_changed (setting next value items)) other ∙ e)
+      after_match next value ops at items (on_first (item_changed (setting next value items)) other) p.0 p.1 (first_changed (item_changed (setting next value items)) other ∙ e)
 
 fault_none : (b : Bool) (o p : Option ℕ) (e : TxFault) → (if b then or_else (fault_by (λ at. tx.Mismatch at) o) (fault_by (λ at. tx.BadAttr at) p) else Some e) ≡ None → o ≡ None
 fault_none true None p e h = refl

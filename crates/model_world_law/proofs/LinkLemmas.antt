@@ -47,7 +47,7 @@ use Rattle.model_world.specs.declared.refusal.Refusal.TheVariants.{BadRange, Bad
 use Rattle.model_world.specs.declared.reply.Reply.TheVariants as reply
 use Rattle.model_world.specs.Refusals.{refused_as, build_refusal, undo_refusal, redo_refusal, send_refusal, revoke_refusal, table_refusal, list_refusal}
 use Rattle.model_world.specs.Edits.{BatchRefusal, allowed, unless_faulty, change_of, change_on, batch_from, batch_on}
-use Rattle.model_world.specs.Answers.{Outcome, Asked, asked, with_site, site_of, replica_of, items_of, told, refused, changed_or_no, performed_or_no, batch_or_no, selected, is_no_end, select_between, next_place, moved_or_no, lower, higher, is_collapsed, to_erase, erased_or_no, typing, behind_text, typed_or_no, items_shown_or_no, node_told, node_or_no, grid_or_no, table_changed, list_changed, sent_or_no, served_or_no, taken_or_no, revoked_or_no, edge_or}
+use Rattle.model_world.specs.Answers.{Outcome, Asked, asked, with_site, site_of, replica_of, items_of, told, refused, changed_or_no, performed_or_no, batch_or_no, selected, is_no_end, select_between, next_place, moved_or_no, lower, higher, is_collapsed, to_erase, erased_or_no, typing, after_text, typed_or_no, items_shown_or_no, node_told, node_or_no, grid_or_no, table_changed, list_changed, sent_or_no, served_or_no, taken_or_no, revoked_or_no, edge_or}
 use Rattle.model_world_law.specs.Fit.{Fit, IsWritten, AllWritten, RequestWritten, LayersFit}
 use Rattle.model_world.specs.Laws.{MadeInTurn}
 use Rattle.model_world.proofs.BatchLemmas.{batch_is_whole}
@@ -173,10 +173,10 @@ selects a s sel within =
     (of_member a s (λ m. events.with_site a.k m (with_selection sel m.site) a.session))
 
 typed_leads : (a : Asked) → Stands a → (r : Result (List Transaction) BatchRefusal) → ((ts : List Transaction) → r ≡ Ok ts → AllMayRun ts (items_of a)) →
-    ((ts : List Transaction) → r ≡ Ok ts → selection.Stands (all_performed ts (replica_of a)).items (behind_text ts)) → Leads a (typed_or_no a r)
+    ((ts : List Transaction) → r ≡ Ok ts → selection.Stands (all_performed ts (replica_of a)).items (after_text ts)) → Leads a (typed_or_no a r)
 typed_leads a s (Err f) may stands = tt
 typed_leads a s (Ok ts) may stands =
-    let sel = between (behind_text ts) (behind_text ts) in
+    let sel = between (after_text ts) (after_text ts) in
     let middle : Member = record a.member { site = with_entry ts (site_of a) } in
     let last : Member = record a.member { site = with_selection sel (with_entry ts (site_of a)) } in
     let w = with_member a.k middle a.session in
@@ -194,25 +194,25 @@ typed_leads a s (Ok ts) may stands =
     }
 
 -- what typing gives, by its last transaction
-text_behind : (r : Replica) (at : ℕ) (text : List ℕ) (ts : List Transaction) → 0 < length text → MadeInTurn (change.Text at text Left ∷ []) ts r → AllMayRun ts r.items →
-    selection.Stands (all_performed ts r).items (behind_text ts)
-text_behind r at text [] some m may = absurd m
-text_behind r at text (t ∷ []) some m may =
+text_after : (r : Replica) (at : ℕ) (text : List ℕ) (ts : List Transaction) → 0 < length text → MadeInTurn (change.Text at text Left ∷ []) ts r → AllMayRun ts r.items →
+    selection.Stands (all_performed ts r).items (after_text ts)
+text_after r at text [] some m may = absurd m
+text_after r at text (t ∷ []) some m may =
     let made = allowed_is r (change_of r.items (change.Text at text Left)) t m.0 in
     typed_stands r.items at (marks_before r.items at) text t some (given build_refusal (text_insertion r.items at text) t made.given) (may.0).lawful
-text_behind r at text (t ∷ u ∷ ts) some m may = absurd m.1
+text_after r at text (t ∷ u ∷ ts) some m may = absurd m.1
 
-typing_behind : (r : Replica) (sel : Selection) (text : List ℕ) (ts : List Transaction) → 0 < length text → batch_on r (typing sel text) ≡ Ok ts → AllMayRun ts r.items →
-    selection.Stands (all_performed ts r).items (behind_text ts)
-typing_behind r sel text ts some h may = by (is_collapsed sel) ts (batch_is_whole r (typing sel text) ts h) may
+typing_after : (r : Replica) (sel : Selection) (text : List ℕ) (ts : List Transaction) → 0 < length text → batch_on r (typing sel text) ≡ Ok ts → AllMayRun ts r.items →
+    selection.Stands (all_performed ts r).items (after_text ts)
+typing_after r sel text ts some h may = by (is_collapsed sel) ts (batch_is_whole r (typing sel text) ts h) may
   where
     by : (b : Bool) (us : List Transaction) →
         MadeInTurn (if b then change.Text (lower sel) text Left ∷ [] else change.Remove (lower sel) (higher sel) ∷ change.Text (lower sel) text Left ∷ []) us r →
-        AllMayRun us r.items → selection.Stands (all_performed us r).items (behind_text us)
-    by true us m may = text_behind r (lower sel) text us some m may
+        AllMayRun us r.items → selection.Stands (all_performed us r).items (after_text us)
+    by true us m may = text_after r (lower sel) text us some m may
     by false [] m may = absurd m
     by false (t ∷ []) m may = absurd m.1
-    by false (t ∷ u ∷ us) m may = text_behind (performed t r) (lower sel) text (u ∷ us) some m.1 may.1
+    by false (t ∷ u ∷ us) m may = text_after (performed t r) (lower sel) text (u ∷ us) some m.1 may.1
 
 moved_leads : (a : Asked) → Stands a → (keep : Bool) (r : Result ℕ Refusal) → ((at : ℕ) → r ≡ Ok at → selection.Stands (items_of a) at) → Leads a (moved_or_no a keep r)
 moved_leads a s keep (Err refusal) stands = tt
@@ -352,7 +352,7 @@ asked_leads fit a s (request.TypeText text) o =
     let sel = (replica_of a).selection in
     let may : (ts : List Transaction) → batch_on (replica_of a) (typing sel text) ≡ Ok ts → AllMayRun ts (items_of a) =
     λ ts e. batch_may fit 0 (typing sel text) (replica_of a) ts (typing_written sel text) s.sound e in
-    typed_leads a s (batch_on (replica_of a) (typing sel text)) may (λ ts e. typing_behind (replica_of a) sel text ts o e (may ts e))
+    typed_leads a s (batch_on (replica_of a) (typing sel text)) may (λ ts e. typing_after (replica_of a) sel text ts o e (may ts e))
 asked_leads fit a s (request.Erase dir by) o = erased_leads fit a s (to_erase (replica_of a) dir by)
 asked_leads fit a s (request.Grid at) o = grid_leads a (grid (items_of a) at)
 asked_leads fit a s (request.RowIn at row) o = table_leads a s (row_in (items_of a) at row) (λ t e. fit.moves.row_in (items_of a) at row t s.sound e)

@@ -203,10 +203,10 @@ element_apart around name attrs source children later w Annotation p g h =
 element_apart around name attrs source children later w (Branch kind) p g h =
     let at = inside_of w name attrs in
     let inside = inside_piece (around_in kind) at (children (around_in kind) at) in
-    let behind = past w source inside.owners in
-    before_run_apart behind (node kind (head_with attrs) [] false (span_at w source) inside.later inside.pre) inside.owners (later behind)
+    let suffix = past w source inside.owners in
+    before_run_apart suffix (node kind (head_with attrs) [] false (span_at w source) inside.later inside.pre) inside.owners (later suffix)
     (node_apart kind (head_with attrs) [] false (span_at w source) inside.later inside.pre p (inside_apart (around_in kind) at (children (around_in kind) at) (g (around_in kind) at)))
-    (h behind)
+    (h suffix)
 element_apart around name attrs source children later w (Leaf kind) p g h = leaf_apart around attrs source later w (Leaf kind) p h
 element_apart around name attrs source children later w (Whole kind) p g h = leaf_apart around attrs source later w (Whole kind) p h
 

@@ -108,9 +108,9 @@ one_back json more xs items h b = record {
 pub record RunBacks (marks : List Mark) (text : List ℕ) (later : List Data) (items : List PlainItem) : Type 0 where
   pub marked : AreMarks marks
   pub text_is : IsText text
-  pub behind : List PlainItem
-  pub rest : Backs later behind
-  pub parts : items ≡ with_marks marks text ++ behind
+  pub suffix : List PlainItem
+  pub rest : Backs later suffix
+  pub parts : items ≡ with_marks marks text ++ suffix
 
 abbrev Back : Shown → List PlainItem → Type 0
 Back (Together marks text later) items = RunBacks marks text later items
@@ -119,18 +119,18 @@ Back (Apart later) items = Backs later items
 all_back : (s : Shown) (items : List PlainItem) → Back s items → Backs (all_shown s) items
 all_back (Apart later) items b = b
 all_back (Together marks text later) items b =
-    subst (Backs (run_shown marks text ∷ later)) (sym b.parts) (one_back (run_shown marks text) later (with_marks marks text) b.behind (run_back marks text b.marked b.text_is) b.rest)
+    subst (Backs (run_shown marks text ∷ later)) (sym b.parts) (one_back (run_shown marks text) later (with_marks marks text) b.suffix (run_back marks text b.marked b.text_is) b.rest)
 
 char_back : (c : ℕ) (marks : List Mark) (s : Shown) (items : List PlainItem) → IsText (c ∷ []) → AreMarks marks → Back s items → Back (char_shown c marks s) (Char c marks ∷ items)
-char_back c marks (Apart later) items one ms b = record { marked = ms; text_is = one; behind = items; rest = b; parts = refl }
+char_back c marks (Apart later) items one ms b = record { marked = ms; text_is = one; suffix = items; rest = b; parts = refl }
 char_back c marks (Together others text later) items one ms b = by (marks_same marks others) refl
   where
     by : (same : Bool) → marks_same marks others ≡ same →
         Back (if same then Together others (c ∷ text) later else Together marks (c ∷ []) (run_shown others text ∷ later)) (Char c marks ∷ items)
     by true e =
         let equal : marks ≡ others = Means-marks_same.equal marks others e in
-        record { marked = b.marked; text_is = longer c text one b.text_is; behind = b.behind; rest = b.rest; parts = λ i. Char c (equal i) ∷ b.parts i }
-    by false e = record { marked = ms; text_is = one; behind = items; rest = all_back (Together others text later) items b; parts = refl }
+        record { marked = b.marked; text_is = longer c text one b.text_is; suffix = b.suffix; rest = b.rest; parts = λ i. Char c (equal i) ∷ b.parts i }
+    by false e = record { marked = ms; text_is = one; suffix = items; rest = all_back (Together others text later) items b; parts = refl }
 
 shown_back : (items : List PlainItem) → AllByRecursion CanWrite items → Back (shown items) items
 shown_back [] p = record { lists = []; are = refl; whole = refl }

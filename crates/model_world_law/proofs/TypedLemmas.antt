@@ -1,4 +1,4 @@
--- Behind the text that was typed a selection stands in the new list.
+-- After the text that was typed a selection stands in the new list.
 use Rattle.std.proofs.Common.{◌≡◌, ◌<◌, ◌≤◌, ℕ, zero, suc, ◌+◌, ◌-◌, ◌==◌, Bool, true, false, not, ◌&&◌, nat_le, if◌then◌else◌, List, [], ◌∷◌, ◌++◌, length, map, reverse, take, drop, slice_get, Option, Some, None, Result, Ok, refl, sym, ap, ◌∙◌, subst, arith, append-nil}
 use Rattle.std.proofs.Math.Dec.{eqb-suc-zero}
 use Rattle.std.proofs.lemmas.Bool.{or_parts, leb-false}
@@ -64,7 +64,7 @@ content_no_leaf Ref h = cc
 content_no_leaf TransInline h = cc
 content_no_leaf AlienInline h = cc
 
--- ---- behind a character of a lawful list
+-- ---- after a character of a lawful list
 
 found_below : (items : List PlainItem) (n : ℕ) (x : PlainItem) → slice_get items n ≡ Some x → n < length items
 found_below [] n x h = cc
@@ -84,8 +84,8 @@ split_at (y ∷ items) (suc n) x h = ap (λ r. y ∷ r) (split_at items n x h)
 char_step : (s u : State) (c : ℕ) (marks : List Mark) → step s (Char c marks) ≡ Ok u → (is_content_branch (top s.stack) ≡ true) × (s ≡ u)
 char_step s u c marks h = let p = if_ok (is_content_branch (top s.stack)) _ _ u h in (p.0, Ok-same {E = LawFault} s u p.1)
 
-pub char_behind : (items : List PlainItem) (n c : ℕ) (marks : List Mark) → Lawful items → slice_get items n ≡ Some (Char c marks) → selection.Stands items (suc n)
-char_behind items n c marks lawful h =
+pub char_after : (items : List PlainItem) (n c : ℕ) (marks : List Mark) → Lawful items → slice_get items n ≡ Some (Char c marks) → selection.Stands items (suc n)
+char_after items n c marks lawful h =
     let x : PlainItem = Char c marks in
     let whole : after start (take n items ++ (x ∷ drop (suc n) items)) ≡ Ok finish = ap (after start) (sym (split_at items n x h)) ∙ after_from_Lawful items lawful in
     let p = after_parts (take n items) (x ∷ drop (suc n) items) start finish whole in
@@ -118,7 +118,7 @@ was_suc : (m n : ℕ) → one_more m ≡ suc n → (k : ℕ) × (m ≡ suc k) ×
 was_suc zero n h = cc
 was_suc (suc m) n h = let e = bumped (suc m == 0) (suc m) n h in (m, refl, sym e)
 
--- the item before the place behind the last character is one
+-- the item before the place after the last character is one
 abbrev IsChar : List PlainItem → ℕ → Type 0
 IsChar items n = (c : ℕ) × (marks : List Mark) × (slice_get items n ≡ Some (Char c marks))
 
@@ -139,22 +139,22 @@ last_is_char (Closing kind pre ∷ items) n e =
 abbrev HasChar : List PlainItem → Type 0
 HasChar items = (n : ℕ) × (to_last_char items ≡ suc n)
 
-has_char-behind : (xs ys : List PlainItem) → HasChar ys → HasChar (xs ++ ys)
-has_char-behind [] ys h = h
-has_char-behind (Char c marks ∷ xs) ys h = (to_last_char (xs ++ ys), refl)
-has_char-behind (Opening kind head marks pre origin generated ∷ xs) ys h = let f = has_char-behind xs ys h in (suc f.0, one_more-suc (to_last_char (xs ++ ys)) f.0 f.1)
-has_char-behind (Closing kind pre ∷ xs) ys h = let f = has_char-behind xs ys h in (suc f.0, one_more-suc (to_last_char (xs ++ ys)) f.0 f.1)
+has_char-suffix : (xs ys : List PlainItem) → HasChar ys → HasChar (xs ++ ys)
+has_char-suffix [] ys h = h
+has_char-suffix (Char c marks ∷ xs) ys h = (to_last_char (xs ++ ys), refl)
+has_char-suffix (Opening kind head marks pre origin generated ∷ xs) ys h = let f = has_char-suffix xs ys h in (suc f.0, one_more-suc (to_last_char (xs ++ ys)) f.0 f.1)
+has_char-suffix (Closing kind pre ∷ xs) ys h = let f = has_char-suffix xs ys h in (suc f.0, one_more-suc (to_last_char (xs ++ ys)) f.0 f.1)
 
-has_char-front : (xs ys : List PlainItem) → HasChar xs → HasChar (xs ++ ys)
-has_char-front [] ys h = absurd (let e = h.1 in omega arith)
-has_char-front (Char c marks ∷ xs) ys h = (to_last_char (xs ++ ys), refl)
-has_char-front (Opening kind head marks pre origin generated ∷ xs) ys h =
+has_char-prefix : (xs ys : List PlainItem) → HasChar xs → HasChar (xs ++ ys)
+has_char-prefix [] ys h = absurd (let e = h.1 in omega arith)
+has_char-prefix (Char c marks ∷ xs) ys h = (to_last_char (xs ++ ys), refl)
+has_char-prefix (Opening kind head marks pre origin generated ∷ xs) ys h =
     let w = was_suc (to_last_char xs) h.0 h.1 in
-    let f = has_char-front xs ys (w.0, w.1) in
+    let f = has_char-prefix xs ys (w.0, w.1) in
     (suc f.0, one_more-suc (to_last_char (xs ++ ys)) f.0 f.1)
-has_char-front (Closing kind pre ∷ xs) ys h =
+has_char-prefix (Closing kind pre ∷ xs) ys h =
     let w = was_suc (to_last_char xs) h.0 h.1 in
-    let f = has_char-front xs ys (w.0, w.1) in
+    let f = has_char-prefix xs ys (w.0, w.1) in
     (suc f.0, one_more-suc (to_last_char (xs ++ ys)) f.0 f.1)
 
 text_has_char : (marks : List Mark) (text : List ℕ) → 0 < length text → HasChar (text_pieces marks text)
@@ -165,12 +165,12 @@ paragraph_has_char : (parent : Kind) (pieces : List PlainItem) → HasChar piece
 paragraph_has_char parent pieces h = by (is_content_pieces pieces && not (is_content_branch parent))
   where
     by : (b : Bool) → HasChar (if b then opening_of P [] ∷ pieces ++ closing_of P ∷ [] else pieces)
-    by true = has_char-behind (opening_of P [] ∷ []) (pieces ++ closing_of P ∷ []) (has_char-front pieces (closing_of P ∷ []) h)
+    by true = has_char-suffix (opening_of P [] ∷ []) (pieces ++ closing_of P ∷ []) (has_char-prefix pieces (closing_of P ∷ []) h)
     by false = h
 
 reopened_has_char : (openings pieces : List PlainItem) → HasChar pieces → HasChar (reopened openings pieces)
 reopened_has_char openings pieces h =
-    has_char-behind (map closing_for openings) (pieces ++ reverse (map copy_of openings)) (has_char-front pieces (reverse (map copy_of openings)) h)
+    has_char-suffix (map closing_for openings) (pieces ++ reverse (map copy_of openings)) (has_char-prefix pieces (reverse (map copy_of openings)) h)
 
 -- ---- where it stands in the new list
 
@@ -191,22 +191,22 @@ first_put items at (x ∷ new) h =
     let same : at - 0 ≡ at = omega arith in
     first_merged (at - 0) [] (x ∷ new) (transaction_from (at + 0) (drop 0 rest) []) ∙ same
 
-behind_get : (xs ys : List PlainItem) (n k : ℕ) (x : PlainItem) → k ≡ length xs + n → slice_get ys n ≡ Some x → slice_get (xs ++ ys) k ≡ Some x
-behind_get [] ys n k x e h = let same : k ≡ n = omega arith in ap (λ m. slice_get ys m) same ∙ h
-behind_get (z ∷ xs) ys n zero x e h = absurd (omega arith)
-behind_get (z ∷ xs) ys n (suc k) x e h = behind_get xs ys n k x (omega arith) h
+after_get : (xs ys : List PlainItem) (n k : ℕ) (x : PlainItem) → k ≡ length xs + n → slice_get ys n ≡ Some x → slice_get (xs ++ ys) k ≡ Some x
+after_get [] ys n k x e h = let same : k ≡ n = omega arith in ap (λ m. slice_get ys m) same ∙ h
+after_get (z ∷ xs) ys n zero x e h = absurd (omega arith)
+after_get (z ∷ xs) ys n (suc k) x e h = after_get xs ys n k x (omega arith) h
 
-front_get : (xs ys : List PlainItem) (n : ℕ) (x : PlainItem) → slice_get xs n ≡ Some x → slice_get (xs ++ ys) n ≡ Some x
-front_get [] ys n x h = cc
-front_get (z ∷ xs) ys zero x h = h
-front_get (z ∷ xs) ys (suc n) x h = front_get xs ys n x h
+prefix_get : (xs ys : List PlainItem) (n : ℕ) (x : PlainItem) → slice_get xs n ≡ Some x → slice_get (xs ++ ys) n ≡ Some x
+prefix_get [] ys n x h = cc
+prefix_get (z ∷ xs) ys zero x h = h
+prefix_get (z ∷ xs) ys (suc n) x h = prefix_get xs ys n x h
 
--- the place behind the last character that a transaction puts in
-abbrev pub behind : Transaction → ℕ
-behind t = first t + to_last_char (all_inserted t)
+-- the place after the last character that a transaction puts in
+abbrev pub suffix : Transaction → ℕ
+suffix t = first t + to_last_char (all_inserted t)
 
 put_stands : (items : List PlainItem) (at : ℕ) (new : List PlainItem) → at ≤ length items → HasChar new → Lawful (edited (transaction_of items (Change at 0 new ∷ [])) items) →
-    selection.Stands (edited (transaction_of items (Change at 0 new ∷ [])) items) (behind (transaction_of items (Change at 0 new ∷ [])))
+    selection.Stands (edited (transaction_of items (Change at 0 new ∷ [])) items) (suffix (transaction_of items (Change at 0 new ∷ [])))
 put_stands items at new within h lawful =
     let t = transaction_of items (Change at 0 new ∷ []) in
     let list = take at items ++ (new ++ drop at items) in
@@ -214,25 +214,25 @@ put_stands items at new within h lawful =
     let inserted : all_inserted t ≡ new = edits_insert_pieces items (Change at 0 new ∷ []) ∙ append-nil new in
     let last = last_is_char new h.0 h.1 in
     let there : slice_get list (at + h.0) ≡ Some (Char last.0 last.1) =
-    behind_get (take at items) (new ++ drop at items) h.0 (at + h.0) (Char last.0 last.1) (ap (λ k. k + h.0) (sym (length-take-le at items within))) (front_get new (drop at items) h.0 (Char last.0 last.1) last.2) in
-    let stands = char_behind list (at + h.0) last.0 last.1 (subst Lawful given lawful) there in
+    after_get (take at items) (new ++ drop at items) h.0 (at + h.0) (Char last.0 last.1) (ap (λ k. k + h.0) (sym (length-take-le at items within))) (prefix_get new (drop at items) h.0 (Char last.0 last.1) last.2) in
+    let stands = char_after list (at + h.0) last.0 last.1 (subst Lawful given lawful) there in
     let one = first_put items at new h in
     let two : to_last_char (all_inserted t) ≡ suc h.0 = ap to_last_char inserted ∙ h.1 in
-    let place : suc (at + h.0) ≡ behind t = omega arith in
-    subst (λ l. selection.Stands l (behind t)) (sym given) (subst (selection.Stands list) place stands)
+    let place : suc (at + h.0) ≡ suffix t = omega arith in
+    subst (λ l. selection.Stands l (suffix t)) (sym given) (subst (selection.Stands list) place stands)
 
 put_at_stands : (items : List PlainItem) (at : ℕ) (pieces : List PlainItem) (t : Transaction) → at ≤ length items → HasChar pieces → Lawful (edited t items) → (o : Option ℕ) →
-    put_at items at pieces o ≡ Ok t → selection.Stands (edited t items) (behind t)
+    put_at items at pieces o ≡ Ok t → selection.Stands (edited t items) (suffix t)
 put_at_stands items at pieces t within h lawful None e = cc
 put_at_stands items at pieces t within h lawful (Some j) e =
     let new = reopened (take j (openings_at items at)) pieces in
     let same : transaction_of items (Change at 0 new ∷ []) ≡ t = Ok-same {E = BuildFault} (transaction_of items (Change at 0 new ∷ [])) t e in
-    subst (λ u. selection.Stands (edited u items) (behind u)) same
+    subst (λ u. selection.Stands (edited u items) (suffix u)) same
     (put_stands items at new within (reopened_has_char (take j (openings_at items at)) pieces h) (subst (λ u. Lawful (edited u items)) (sym same) lawful))
 
--- Typed text stands in the new list, and so does the place behind it.
+-- Typed text stands in the new list, and so does the place after it.
 pub typed_stands : (items : List PlainItem) (at : ℕ) (marks : List Mark) (text : List ℕ) (t : Transaction) → 0 < length text → insertion items at (text_pieces marks text) ≡ Ok t → Lawful (edited t items) →
-    selection.Stands (edited t items) (behind t)
+    selection.Stands (edited t items) (suffix t)
 typed_stands items at marks text t some h lawful =
     let pieces = text_pieces marks text in
     let p = if_ok_else (is_bad_offset items at) _ _ t h in

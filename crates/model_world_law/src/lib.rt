@@ -17,7 +17,7 @@ pub fn layers_fit()
     ensures pages { PagesAreSound }
 {}
 
-/// Items that a line can write, elements without origin with well-written attributes, marks and white text, are shown so that they are read back.
+/// Items that a line can write, elements without origin with well-written attributes, marks and whitespace, are shown so that they are read back.
 #[tactic(auto, using(crate::proofs::ShownItemLemmas::shown_is_read))]
 pub fn shown_is_read()
     ensures { ShownIsRead }

@@ -5,8 +5,8 @@ use Rattle.ve_base.specs.Feed.{Feed, after_piece, counted, next_cut}
 
 -- what a read consumed, by the bytes and the number that were given before
 pub consumed : (bytes room : List ℕ) (given n most : ℕ) → n ≡ min (length (drop given bytes)) most → take n room ≡ take n (drop given bytes) → drop given bytes ≡ take n room ++ drop (given + n) bytes
-consumed bytes room given n most size front =
-    sym (take-append-drop n (drop given bytes)) ∙ ap (λ l. l ++ drop n (drop given bytes)) (sym front) ∙ ap (λ l. take n room ++ l) (drop-drop n given bytes)
+consumed bytes room given n most size prefix =
+    sym (take-append-drop n (drop given bytes)) ∙ ap (λ l. l ++ drop n (drop given bytes)) (sym prefix) ∙ ap (λ l. take n room ++ l) (drop-drop n given bytes)
 
 -- nothing is given only at the end
 pub given_none : (bytes : List ℕ) (given n most : ℕ) → n ≡ min (length (drop given bytes)) most → 0 < most → n ≡ 0 → drop (given + n) bytes ≡ []

@@ -70,12 +70,12 @@ fn after_use(used: usize, cuts: usize) -> usize
     if used < cuts { used + 1 } else { cuts }
 }
 
-/// Copies the bytes from a place on to the front of the room, at most so many.
+/// Copies the bytes from a place on to the prefix of the room, at most so many.
 fn give(bytes: &[u8], from: usize, most: usize, room: &mut [u8]) -> usize
     requires from { from ≤ length bytes.now }
     requires most { most ≤ length room.old }
     ensures size { result ≡ min (length (drop from bytes.now)) most }
-    ensures front { take result room.new ≡ take result (drop from bytes.now) }
+    ensures prefix { take result room.new ≡ take result (drop from bytes.now) }
 {
     let given = (bytes.len() - from).min(most);
     room[..given].copy_from_slice(&bytes[from..from + given]);

@@ -9,8 +9,8 @@ use Rattle.model_spelling.specs.Grammar.{Token, begins_with}
 use Rattle.model_spelling.specs.Reading.{fault, start_at, tag_at}
 use Rattle.model_spelling.specs.Page.{is_whole, body_at}
 use Rattle.model_spelling.proofs.Found.{ok}
-use Rattle.model_spelling.proofs.BodyPlace.{first_found, last_found, last_within, nothing_ends, body_front, behind_front_is, tag_is_start, no_doctype, no_start, bad_start, no_end, body_between}
-use Rattle.ve_html_scan.proofs.Lent.{front_byte, cut_after_close}
+use Rattle.model_spelling.proofs.BodyPlace.{first_found, last_found, last_within, nothing_ends, body_prefix, after_prefix_is, tag_is_start, no_doctype, no_start, bad_start, no_end, body_between}
+use Rattle.ve_html_scan.proofs.Lent.{prefix_byte, cut_after_close}
 use Rattle.std.proofs.Common.{◌≡◌, ℕ, zero, suc, ◌+◌, ◌-◌, ◌<◌, ◌≤◌, true, false, cond, List, length, drop, Some, None, refl, sym, ap, ◌∙◌, arith, get_or}
 use Rattle.std.proofs.lemmas.List.{drop_more, at_drop_all}
 use Rattle.model_spelling.specs.Page.{starts_body, ends_body, first_place, or_else, last_place}
@@ -82,9 +82,9 @@ reads_start : (b : List ℕ) (tag : ℕ) → first_place starts_body 0 b ≡ Som
 reads_start b tag e =
     let f = first_found starts_body 0 b tag e in
     let tag_is : tag ≡ f.k = omega (arith, f.is) in
-    let front = body_front (drop tag b) (ap (λ (k : ℕ). starts_body (drop k b)) tag_is ∙ f.here) in
-    let is = behind_front_is b tag front in
-    ap (tag_at tag) is ∙ tag_is_start tag front.c front.more ∙ sym (ap (start_at tag) is)
+    let prefix = body_prefix (drop tag b) (ap (λ (k : ℕ). starts_body (drop k b)) tag_is ∙ f.here) in
+    let is = after_prefix_is b tag prefix in
+    ap (tag_at tag) is ∙ tag_is_start tag prefix.c prefix.more ∙ sym (ap (start_at tag) is)
 
 pub all_body : (t b : List ℕ) → b ≡ t → is_whole b ≡ false → body_at t ≡ Ok (0, length b)
 all_body t b same e = ap body_at (sym same) ∙ no_doctype b e
@@ -113,6 +113,6 @@ pub tag_cuts : (t b : List ℕ) (from to : ℕ) → b ≡ t → IsUtf8 t → get
 tag_cuts t b from to same u close some le last =
     let l = last_found ends_body from (drop from b) to nothing_ends (sym last) in
     let mark : begins_with (codes "</body>") (drop to b) ≡ true = ap (λ (k : ℕ). begins_with (codes "</body>") (drop k b)) l.is ∙ ap (begins_with (codes "</body>")) (sym (drop-drop l.k from b)) ∙ l.here in
-    let byte : get_or b to 0 ≡ 60 = ap (λ (k : ℕ). get_or b k 0) (sym (add-zero to)) ∙ front_byte (codes "</body>") b to 0 mark (lit< tt) in
+    let byte : get_or b to 0 ≡ 60 = ap (λ (k : ℕ). get_or b k 0) (sym (add-zero to)) ∙ prefix_byte (codes "</body>") b to 0 mark (lit< tt) in
     let within = last_within b from to (sym last) in
     (cut_after_close t b from same u close some le, IsCharBoundary-before_ascii t to (omega (arith, within.1, ap length same)) (omega (arith, byte, ap (λ (x : List ℕ). get_or x to 0) same)), within.0)

@@ -37,12 +37,12 @@ some_fault read f e = rw e refl
 
 pub ruleset lent_steps = (letter_ascii, some_found, some_fault)
 
--- the bytes of a front that the text begins with
-pub front_byte : (front t : List ℕ) (to i : ℕ) → begins_with front (drop to t) ≡ true → i < length front → get_or t (to + i) 0 ≡ get_or front i 0
+-- the bytes of a prefix that the text begins with
+pub prefix_byte : (prefix t : List ℕ) (to i : ℕ) → begins_with prefix (drop to t) ≡ true → i < length prefix → get_or t (to + i) 0 ≡ get_or prefix i 0
 unfolding begins_with
-front_byte front t to i e lt =
-    let parts : drop to t ≡ front ++ drop (length front) (drop to t) = (starts_is Decides-eqb (drop to t) front true (sym e)).0 refl in
-    sym (get_or-drop to t i 0) ∙ ap (λ (l : List ℕ). get_or l i 0) parts ∙ get_or_append_left front (drop (length front) (drop to t)) 0 i lt
+prefix_byte prefix t to i e lt =
+    let parts : drop to t ≡ prefix ++ drop (length prefix) (drop to t) = (starts_is Decides-eqb (drop to t) prefix true (sym e)).0 refl in
+    sym (get_or-drop to t i 0) ∙ ap (λ (l : List ℕ). get_or l i 0) parts ∙ get_or_append_left prefix (drop (length prefix) (drop to t)) 0 i lt
 
 pub cut_after_dash : (t b : List ℕ) (tag : ℕ) → b ≡ t → IsUtf8 t → get_or b (tag + 3) 0 ≡ 45 → tag + 3 < length b → IsCharBoundary t (tag + 4)
 cut_after_dash t b tag same utf8 dash lt =
@@ -52,7 +52,7 @@ cut_after_dash t b tag same utf8 dash lt =
 pub cut_before_close : (t b : List ℕ) (to : ℕ) → b ≡ t → begins_with comment_close (drop to b) ≡ true → to < length b → IsCharBoundary t to
 cut_before_close t b to same close lt =
     let c : begins_with comment_close (drop to t) ≡ true = subst (λ (x : List ℕ). begins_with comment_close (drop to x) ≡ true) same close in
-    let e : get_or t to 0 ≡ 45 = ap (λ (k : ℕ). get_or t k 0) (sym (add-zero to)) ∙ front_byte comment_close t to 0 c (lit< tt) in
+    let e : get_or t to 0 ≡ 45 = ap (λ (k : ℕ). get_or t k 0) (sym (add-zero to)) ∙ prefix_byte comment_close t to 0 c (lit< tt) in
     IsCharBoundary-before_ascii t to (omega (arith, ap length same)) (omega arith)
 
 pub cut_after_close : (t b : List ℕ) (to : ℕ) → b ≡ t → IsUtf8 t → get_or b (to - 1) 0 ≡ 62 → 0 < to → to ≤ length b → IsCharBoundary t to
@@ -85,7 +85,7 @@ comment_lent t b tag to text same utf8 read ge le close is =
     let c : begins_with comment_close (drop to t) ≡ true = subst (λ (x : List ℕ). begins_with comment_close (drop to x) ≡ true) same close in
     let len : length b ≡ length t = ap length same in
     let n : to + 2 + 1 ≡ to + 3 = omega arith in
-    let end : IsCharBoundary t (to + 2 + 1) = after_byte t (to + 2) 62 utf8 (omega (arith, len)) (front_byte comment_close t to 2 c (lit< tt)) (omega arith) in
+    let end : IsCharBoundary t (to + 2 + 1) = after_byte t (to + 2) 62 utf8 (omega (arith, len)) (prefix_byte comment_close t to 2 c (lit< tt)) (omega arith) in
     record {
       token = Comment (slice_range t (tag + 4) to);
       is = some_found (markup_at tag (drop (tag + 2) t)) (Comment (slice_range t (tag + 4) to), to + 3) r;
@@ -215,7 +215,7 @@ raw_empty t b name bytes at to same named e z = rw (raw_end t b name bytes at (O
 pub cut_at_close : (t b bytes : List ℕ) (to : ℕ) → b ≡ t → begins_with (end_text bytes) (drop to b) ≡ true → to + length (end_text bytes) ≤ length b → IsCharBoundary t to
 cut_at_close t b bytes to same close le =
     let len : 0 < length (end_text bytes) = omega (arith, length-append bytes (62 ∷ [])) in
-    let e : get_or b to 0 ≡ 60 = ap (λ (k : ℕ). get_or b k 0) (sym (add-zero to)) ∙ front_byte (end_text bytes) b to 0 close len in
+    let e : get_or b to 0 ≡ 60 = ap (λ (k : ℕ). get_or b k 0) (sym (add-zero to)) ∙ prefix_byte (end_text bytes) b to 0 close len in
     cut_at_open t b to same (omega arith) (λ _. e)
 
 pub raw_lent : (t b name bytes : List ℕ) (at to : ℕ) (text : Bor (List ℕ)) → b ≡ t → bytes ≡ name → Ok to ≡ verbatim_end (end_text bytes) (fault at UnclosedRaw) at (drop at b) → to ≢ at → at ≤ to

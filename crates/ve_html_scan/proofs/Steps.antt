@@ -6,7 +6,7 @@ use Rattle.std.specs.List.{common_prefix_len}
 use Rattle.model_spelling.specs.declared.scan_fault.ScanFault.{ScanFault}
 use Rattle.model_spelling.specs.declared.scan_fault.ScanWhat.TheVariants.{BadChar, BadReference}
 use Rattle.model_spelling.specs.Grammar.{is_barred, begins_with, references, starts_reference, end_text}
-use Rattle.model_spelling.specs.Reading.{fault, refused, longest_front, behind_front, reference_fault, run_end, verbatim_end}
+use Rattle.model_spelling.specs.Reading.{fault, refused, longest_prefix, after_prefix, reference_fault, run_end, verbatim_end}
 
 -- ---- characters
 
@@ -64,29 +64,29 @@ verbatim_unclosed close unclosed at bs e = at_drop_all (verbatim_end close unclo
 
 -- ---- references
 
--- how long the longest front is
-abbrev pub front_len : ℕ → List ℕ → ℕ
-front_len at t = longest_front references (drop at t)
+-- how long the longest prefix is
+abbrev pub prefix_len : ℕ → List ℕ → ℕ
+prefix_len at t = longest_prefix references (drop at t)
 
-by_end : (end : Option ScanFault) (at after b : ℕ) (bs : List ℕ) → behind_front end at after (b ∷ bs) ≡ refused after b (fault at BadReference)
+by_end : (end : Option ScanFault) (at after b : ℕ) (bs : List ℕ) → after_prefix end at after (b ∷ bs) ≡ refused after b (fault at BadReference)
 by_end None at after b bs = refl
 by_end (Some f) at after b bs = refl
 
-pub fault_behind : (end : Option ScanFault) (at after : ℕ) (t : List ℕ) → after ≡ at + front_len at t → after < length t → reference_fault end at (drop at t) ≡ refused after (get_or t after 0) (fault at BadReference)
+pub fault_after : (end : Option ScanFault) (at after : ℕ) (t : List ℕ) → after ≡ at + prefix_len at t → after < length t → reference_fault end at (drop at t) ≡ refused after (get_or t after 0) (fault at BadReference)
 unfolding reference_fault
-fault_behind end at after t e lt =
-    let n : at + front_len at t ≡ after = sym e in
-    rw (drop-drop, n) (at_drop_more (behind_front end at after) t after 0 lt ∙ by_end end at after (get_or t after 0) (drop (after + 1) t))
+fault_after end at after t e lt =
+    let n : at + prefix_len at t ≡ after = sym e in
+    rw (drop-drop, n) (at_drop_more (after_prefix end at after) t after 0 lt ∙ by_end end at after (get_or t after 0) (drop (after + 1) t))
 
-pub fault_at_end : (at after : ℕ) (t : List ℕ) → after ≡ at + front_len at t → length t ≤ after → reference_fault None at (drop at t) ≡ fault at BadReference
+pub fault_at_end : (at after : ℕ) (t : List ℕ) → after ≡ at + prefix_len at t → length t ≤ after → reference_fault None at (drop at t) ≡ fault at BadReference
 unfolding reference_fault
-fault_at_end at after t e le = let n : at + front_len at t ≡ after = sym e in rw (drop-drop, n) (at_drop_all (behind_front None at after) t after le)
+fault_at_end at after t e le = let n : at + prefix_len at t ≡ after = sym e in rw (drop-drop, n) (at_drop_all (after_prefix None at after) t after le)
 
-pub fault_unclosed : (f : ScanFault) (at after : ℕ) (t : List ℕ) → after ≡ at + front_len at t → length t ≤ after → reference_fault (Some f) at (drop at t) ≡ f
+pub fault_unclosed : (f : ScanFault) (at after : ℕ) (t : List ℕ) → after ≡ at + prefix_len at t → length t ≤ after → reference_fault (Some f) at (drop at t) ≡ f
 unfolding reference_fault
-fault_unclosed f at after t e le = let n : at + front_len at t ≡ after = sym e in rw (drop-drop, n) (at_drop_all (behind_front (Some f) at after) t after le)
+fault_unclosed f at after t e le = let n : at + prefix_len at t ≡ after = sym e in rw (drop-drop, n) (at_drop_all (after_prefix (Some f) at after) t after le)
 
--- ---- the common front of two texts
+-- ---- the common prefix of two texts
 
 common_nil : (r : List ℕ) → common_prefix_len nat_eq r [] ≡ 0
 common_nil [] = refl
@@ -101,13 +101,13 @@ begins_nil : (text : List ℕ) → begins_with [] text ≡ true
 unfolding begins_with
 begins_nil text = refl
 
-begins_empty : (c : ℕ) (front : List ℕ) → begins_with (c ∷ front) [] ≡ false
+begins_empty : (c : ℕ) (prefix : List ℕ) → begins_with (c ∷ prefix) [] ≡ false
 unfolding begins_with
-begins_empty c front = refl
+begins_empty c prefix = refl
 
-begins_cons : (c b : ℕ) (front text : List ℕ) → begins_with (c ∷ front) (b ∷ text) ≡ (eqb c b && begins_with front text)
+begins_cons : (c b : ℕ) (prefix text : List ℕ) → begins_with (c ∷ prefix) (b ∷ text) ≡ (eqb c b && begins_with prefix text)
 unfolding begins_with
-begins_cons c b front text = refl
+begins_cons c b prefix text = refl
 
 and_assoc : (a b c : Bool) → (a && (b && c)) ≡ ((a && b) && c)
 and_assoc true b c = refl
@@ -140,4 +140,4 @@ pub ruleset verbatim_steps = (verbatim_closes, verbatim_barred, verbatim_goes_on
 
 pub ruleset run_steps = (run_stops, run_barred, run_bad_reference, run_past_reference, run_past_other, run_done, run_unclosed)
 
-pub ruleset reference_steps = (fault_behind, fault_at_end, fault_unclosed)
+pub ruleset reference_steps = (fault_after, fault_at_end, fault_unclosed)

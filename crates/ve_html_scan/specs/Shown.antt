@@ -49,7 +49,7 @@ Shows (lent.Raw text span) (g.Raw t) = text.now ≡ t
 Shows (lent.Comment text span) (g.Comment t) = text.now ≡ t
 Shows _ _ = ⊥
 
--- what a scanner waits for behind a token
+-- what a scanner waits for after a token
 abbrev pub mode_after : Token → Mode
 mode_after (lent.StartTag name attrs span) = if g.is_raw name.now then After name.now else Between
 mode_after (lent.EndTag name span) = Between

@@ -8,7 +8,7 @@ use crate::attrs::is_quote;
 use crate::runs::{name_end, next_place_of};
 use crate::token::Span;
 
-/// An attribute as it is spelled, without its quotes. Its bytes run from the name's first to the quote behind the value.
+/// An attribute as it is spelled, without its quotes. Its bytes run from the name's first to the quote after the value.
 #[derive(Clone, Copy, Debug)]
 pub struct AttrToken<'a> {
     pub name: &'a str,

@@ -8,15 +8,15 @@ use crate::runs::{begins, next_place_of, rest};
 use std::alloc::Global;
 use ve_base::{Memory, Text};
 
-/// A reference at the front of a text: how long it is, and what it stands for.
+/// A reference at the prefix of a text: how long it is, and what it stands for.
 #[derive(Clone, Copy)]
 struct Reference {
     meaning: &'static str,
     len: usize,
 }
 
-/// The reference at the front of a text that begins with `&`; where there is none, the `&` itself.
-#[tactic(auto, using(crate::proofs::Decoding::front_steps))]
+/// The reference at the prefix of a text that begins with `&`; where there is none, the `&` itself.
+#[tactic(auto, using(crate::proofs::Decoding::prefix_steps))]
 fn first_reference(text: &[u8]) -> Reference
     requires { slice_index text.now 0 ≡ 38 }
     ensures decoded { written.decoded text.now ≡ result.meaning.now ++ written.decoded (drop result.len text.now) }

@@ -3,7 +3,7 @@
 ghost use Rattle.std.specs.Prelude.{◌≡◌, ◌≤◌, ◌<◌, ◌+◌, length, drop, slice_index, nat_eq, not, ◌==◌, true, IsTrue, IsSome, IfOk};
 ghost use Rattle.std.specs.List.{prefix_len, common_prefix_len};
 ghost use Rattle.model_spelling.specs.Grammar.{is_barred, begins_with, is_letter, is_name_byte, references, starts_reference};
-ghost use Rattle.model_spelling.specs.Reading.{fault, longest_front, reference_fault, run_end, verbatim_end};
+ghost use Rattle.model_spelling.specs.Reading.{fault, longest_prefix, reference_fault, run_end, verbatim_end};
 ghost use Rattle.ve_html_scan.specs.Parts.{closing};
 
 use crate::fault::{fault_at, refusal};
@@ -66,13 +66,13 @@ pub fn rest(bytes: &[u8], from: usize) -> &[u8]
     bytes.split_at(from).1
 }
 
-/// Whether the text begins with that front.
+/// Whether the text begins with that prefix.
 #[tactic(auto, unfolding(model_spelling::specs::Grammar::begins_with))]
-pub fn begins(text: &[u8], front: &[u8]) -> bool
-    ensures value { result ≡ begins_with front.now text.now }
-    ensures bound { IsTrue result → length front.now ≤ length text.now }
+pub fn begins(text: &[u8], prefix: &[u8]) -> bool
+    ensures value { result ≡ begins_with prefix.now text.now }
+    ensures bound { IsTrue result → length prefix.now ≤ length text.now }
 {
-    text.starts_with(front)
+    text.starts_with(prefix)
 }
 
 #[tactic(auto, using(crate::proofs::Steps::common_ends))]
@@ -87,8 +87,8 @@ fn common_len(reference: &[u8], text: &[u8]) -> usize
     n
 }
 
-fn longest_reference_front(text: &[u8]) -> usize
-    ensures len { result ≡ longest_front references text.now }
+fn longest_reference_prefix(text: &[u8]) -> usize
+    ensures len { result ≡ longest_prefix references text.now }
     ensures bound { result ≤ length text.now }
 {
     let amp = common_len(b"&amp;", text);
@@ -123,7 +123,7 @@ fn reference_refusal(bytes: &[u8], at: usize, unclosed: Option<ScanFault>) -> Sc
     ensures { result ≡ reference_fault unclosed at (drop at bytes.now) }
 {
     let bad = fault_at(at, ScanWhat::BadReference);
-    let after = at + longest_reference_front(rest(bytes, at));
+    let after = at + longest_reference_prefix(rest(bytes, at));
     if after < bytes.len() {
         return refusal(after, bytes[after], bad);
     }

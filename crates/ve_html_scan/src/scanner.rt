@@ -159,7 +159,7 @@ fn next_token<'a>(
     }
 }
 
-fn mode_behind<'a>(token: &Token<'a>) -> Mode<'a>
+fn mode_past<'a>(token: &Token<'a>) -> Mode<'a>
     ensures { shown_mode result ≡ mode_after token.now }
 {
     match *token {
@@ -213,14 +213,14 @@ impl<'a> Scanner<'a> {
     pub fn next(&mut self) -> Result<Option<Token<'a>>, ScanFault>
         // The token is what reading the rest of the text gives, and its parts are lent from there.
         ensures read { Gives self.old.text self.old.at result (next_of self.old) }
-        // The scanner stands behind the token, or at its fault.
+        // The scanner stands after the token, or at its fault.
         ensures place { self.new ≡ place_after result self.old }
     {
         match next_token(self.text, self.at, self.mode, &mut self.names) {
             Ok(None) => Ok(None),
             Ok(Some(token)) => {
                 self.at = token.span().to;
-                self.mode = mode_behind(&token);
+                self.mode = mode_past(&token);
                 Ok(Some(token))
             }
             Err(fault) => {

@@ -34,9 +34,9 @@ use Rattle.ve_html_tree.proofs.Making.{taken_all, makes}
 
 -- ---- one token
 
--- where a scanner stands behind a token that ends there
-abbrev pub behind : g.Token → ℕ → Place → Place
-behind token to p = record { text = p.text; at = to; mode = mode_after token }
+-- where a scanner stands after a token that ends there
+abbrev pub suffix : g.Token → ℕ → Place → Place
+suffix token to p = record { text = p.text; at = to; mode = mode_after token }
 
 -- the token t comes from the place p
 pub record Comes (p : Place) (t : Placed) : Type 0 where
@@ -141,11 +141,11 @@ abbrev found_comes : (p : Place) (t : Token) (f : IsFound p.text p.at (next_of p
 found_comes p t f = record { is = f.is; from = f.from; some = f.some; within = f.boundary.0 }
 
 -- with a token that comes
-one_left : (p : Place) (n : ℕ) (t : Placed) → length p.text - p.at < n → Comes p t → (k : ℕ) × (n ≡ suc k) × (from_place n p ≡ with_placed t (from_place k (behind t.token t.to p)))
+one_left : (p : Place) (n : ℕ) (t : Placed) → length p.text - p.at < n → Comes p t → (k : ℕ) × (n ≡ suc k) × (from_place n p ≡ with_placed t (from_place k (suffix t.token t.to p)))
 one_left p n t lt c = let k = some_left p n lt in (k.0, k.1, ap (λ (m : ℕ). from_place m p) k.1 ∙ step_on k.0 p t c)
 
 goes_by : (text : List ℕ) (p : Place) (ns : List Node) (os : Opened) (t : Placed) (s : SoFar text p ns os) → (c : Comes p t)
-    → or_fault (after_token t.token t.from (opens ns os)) (λ more. fault_with (from_place (one_left p s.count t s.enough c).0 (behind t.token t.to p)) more) ≡ fault_of text
+    → or_fault (after_token t.token t.from (opens ns os)) (λ more. fault_with (from_place (one_left p s.count t s.enough c).0 (suffix t.token t.to p)) more) ≡ fault_of text
 goes_by text p ns os t s c = sym (ap (λ (ts : Tokens). fault_with ts (opens ns os)) (one_left p s.count t s.enough c).2) ∙ s.same
 
 same_fault : (g f : ForestFault) → Some g ≡ Some f → g ≡ f
@@ -158,7 +158,7 @@ met_err (Err g) f e = ap (λ (x : ForestFault). Err x) (same_fault g f e)
 stops_by : (text : List ℕ) (p : Place) (ns : List Node) (os : Opened) (t : Placed) (f : ForestFault) → SoFar text p ns os → Comes p t → met (after_token t.token t.from (opens ns os)) ≡ Some f → fault_of text ≡ Some f
 stops_by text p ns os t f s c m =
     sym (goes_by text p ns os t s c)
-    ∙ ap (λ (r : Result (List Open) ForestFault). or_fault r (λ more. fault_with (from_place (one_left p s.count t s.enough c).0 (behind t.token t.to p)) more)) (met_err (after_token t.token t.from (opens ns os)) f m)
+    ∙ ap (λ (r : Result (List Open) ForestFault). or_fault r (λ more. fault_with (from_place (one_left p s.count t s.enough c).0 (suffix t.token t.to p)) more)) (met_err (after_token t.token t.from (opens ns os)) f m)
 
 fault_by : (e : HtmlFault) (read first : Option ForestFault) → ((f : ForestFault) → read ≡ Some f → first ≡ Some f) → IsFault e read → IsFault e first
 fault_by (faults.Scan f) read first h e = h (Scan f) e
@@ -176,7 +176,7 @@ stops text p ns os t e s f h =
 -- ---- going on
 
 on_by : (text : List ℕ) (p : Place) (ns : List Node) (os : Opened) (t : Placed) (ms : List Node) (more : Opened) → (s : SoFar text p ns os) → Comes p t → after_token t.token t.from (opens ns os) ≡ Ok (opens ms more)
-    → ShowRows ms (taken t.token t.from t.to (built s.rows (numbers ns os))).rows → (taken t.token t.from t.to (built s.rows (numbers ns os))).open_ ≡ numbers ms more → AreLinked ms more → SoFar text (behind t.token t.to p) ms more
+    → ShowRows ms (taken t.token t.from t.to (built s.rows (numbers ns os))).rows → (taken t.token t.from t.to (built s.rows (numbers ns os))).open_ ≡ numbers ms more → AreLinked ms more → SoFar text (suffix t.token t.to p) ms more
 on_by text p ns os t ms more s c a shows ks linked =
     let k = one_left p s.count t s.enough c in
     let made : Built = taken t.token t.from t.to (built s.rows (numbers ns os)) in record {
@@ -185,8 +185,8 @@ on_by text p ns os t ms more s c a shows ks linked =
       rows = made.rows;
       shows = shows;
       linked = linked;
-      same = sym (ap (λ (r : Result (List Open) ForestFault). or_fault r (λ x. fault_with (from_place k.0 (behind t.token t.to p)) x)) a) ∙ goes_by text p ns os t s c;
-      made = ap (λ (l : List ℕ). taken_all (from_place k.0 (behind t.token t.to p)).tokens (built made.rows l)) (sym ks)
+      same = sym (ap (λ (r : Result (List Open) ForestFault). or_fault r (λ x. fault_with (from_place k.0 (suffix t.token t.to p)) x)) a) ∙ goes_by text p ns os t s c;
+      made = ap (λ (l : List ℕ). taken_all (from_place k.0 (suffix t.token t.to p)).tokens (built made.rows l)) (sym ks)
           ∙ sym (ap (λ (ts : Tokens). taken_all ts.tokens (built s.rows (numbers ns os))) k.2) ∙ s.made;
     }
 
@@ -195,7 +195,7 @@ pub goes_on : (text : List ℕ) (p q : Place) (ns : List Node) (os : Opened) (t 
     → (taken f.token (span_of t).from (span_of t).to (built s.rows (numbers ns os))).open_ ≡ numbers ms more → AreLinked ms more → SoFar text q ms more
 goes_on text p q ns os t ms more s f e a shows ks linked =
     let to = (span_of t).to in
-    let stands : q ≡ behind f.token to p = e ∙ ap (λ (m : Mode). record { text = p.text; at = to; mode = m }) f.mode in
+    let stands : q ≡ suffix f.token to p = e ∙ ap (λ (m : Mode). record { text = p.text; at = to; mode = m }) f.mode in
     subst (λ (x : Place). SoFar text x ms more) (sym stands) (on_by text p ns os (found_placed p t f) ms more s (found_comes p t f) a shows ks linked)
 
 -- ---- the text of a token
@@ -224,7 +224,7 @@ failed_is : (f : ScanFault) (at : ℕ) (text : List ℕ) → token_at (Failed f)
 unfolding token_at
 failed_is f at text = refl
 
--- a token ends behind its text
+-- a token ends after its text
 text_at : (m : Mode) (at to : ℕ) (text : List ℕ) (k : g.Token) → token_at m at text ≡ Ok (Some (k, to)) → to ≡ at + length (g.token_text k)
 text_at Between at to text k e = (token_found at text k to e).to_is
 text_at (After name) at to text k e = after_by at to name text k (verbatim_end (g.end_text name) (fault at UnclosedRaw) at text) refl e

@@ -49,8 +49,8 @@ fn prefixes(
 ) {
     for (from, to, expected) in table {
         for n in *from..*to {
-            if let Some(front) = page.get(..n) {
-                assert_eq!(rt; fault(alloc, front), *expected, "{front}");
+            if let Some(prefix) = page.get(..n) {
+                assert_eq!(rt; fault(alloc, prefix), *expected, "{prefix}");
             }
         }
     }

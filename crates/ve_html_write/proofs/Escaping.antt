@@ -32,15 +32,15 @@ range_first t at to less lt =
 -- ---- one character
 
 -- a byte that begins no U+00A0
-front_byte : (v : Bool) (b : ℕ) (bs : List ℕ) → (b == 194 && get_or bs 0 0 == 160) ≡ false → escaped v (b ∷ bs) ≡ escaped_byte v b ++ escaped v bs
+prefix_byte : (v : Bool) (b : ℕ) (bs : List ℕ) → (b == 194 && get_or bs 0 0 == 160) ≡ false → escaped v (b ∷ bs) ≡ escaped_byte v b ++ escaped v bs
 unfolding escaped
-front_byte v b [] e = sym (append-nil (escaped_byte v b))
-front_byte v b (c ∷ bs) e = pick_false (b == 194 && c == 160) _ _ e
+prefix_byte v b [] e = sym (append-nil (escaped_byte v b))
+prefix_byte v b (c ∷ bs) e = pick_false (b == 194 && c == 160) _ _ e
 
 byte_step : (v : Bool) (t : List ℕ) (at : ℕ) → at < length t → (get_or t at 0 == 194 && get_or t (at + 1) 0 == 160) ≡ false → escaped v (drop at t) ≡ escaped_byte v (get_or t at 0) ++ escaped v (drop (at + 1) t)
 byte_step v t at lt e =
     let next : get_or (drop (at + 1) t) 0 0 ≡ get_or t (at + 1) 0 = get_or-drop (at + 1) t 0 0 ∙ ap (λ (k : ℕ). get_or t k 0) (add-zero (at + 1)) in
-    ap (escaped v) (drop_more t at 0 lt) ∙ front_byte v (get_or t at 0) (drop (at + 1) t) (ap (λ (c : ℕ). get_or t at 0 == 194 && c == 160) next ∙ e)
+    ap (escaped v) (drop_more t at 0 lt) ∙ prefix_byte v (get_or t at 0) (drop (at + 1) t) (ap (λ (c : ℕ). get_or t at 0 == 194 && c == 160) next ∙ e)
 
 -- ---- the characters that have a reference
 
@@ -56,15 +56,15 @@ gt_written v t at lt e = byte_step v t at lt (rw e refl) ∙ rw e refl
 pub quot_written : (v : Bool) (t : List ℕ) (at : ℕ) → at < length t → v ≡ true → get_or t at 0 ≡ 34 → escaped v (drop at t) ≡ (38 ∷ 113 ∷ 117 ∷ 111 ∷ 116 ∷ 59 ∷ []) ++ escaped v (drop (at + 1) t)
 quot_written v t at lt is e = byte_step v t at lt (rw e refl) ∙ rw (e, is) refl
 
-front_nbsp : (v : Bool) (b c : ℕ) (bs : List ℕ) → b ≡ 194 → c ≡ 160 → escaped v (b ∷ c ∷ bs) ≡ (38 ∷ 110 ∷ 98 ∷ 115 ∷ 112 ∷ 59 ∷ []) ++ escaped v bs
+prefix_nbsp : (v : Bool) (b c : ℕ) (bs : List ℕ) → b ≡ 194 → c ≡ 160 → escaped v (b ∷ c ∷ bs) ≡ (38 ∷ 110 ∷ 98 ∷ 115 ∷ 112 ∷ 59 ∷ []) ++ escaped v bs
 unfolding escaped
-front_nbsp v b c bs e f = rw (e, f) refl
+prefix_nbsp v b c bs e f = rw (e, f) refl
 
 pub nbsp_written : (v : Bool) (t : List ℕ) (at : ℕ) → at + 1 < length t → get_or t at 0 ≡ 194 → get_or t (at + 1) 0 ≡ 160 → escaped v (drop at t) ≡ (38 ∷ 110 ∷ 98 ∷ 115 ∷ 112 ∷ 59 ∷ []) ++ escaped v (drop (at + 2) t)
 nbsp_written v t at lt e f =
     let two : at + 1 + 1 ≡ at + 2 = omega arith in
     ap (escaped v) (drop_more t at 0 (omega arith) ∙ ap (λ (l : List ℕ). get_or t at 0 ∷ l) (drop_more t (at + 1) 0 lt))
-    ∙ front_nbsp v (get_or t at 0) (get_or t (at + 1) 0) (drop (at + 1 + 1) t) e f
+    ∙ prefix_nbsp v (get_or t at 0) (get_or t (at + 1) 0) (drop (at + 1 + 1) t) e f
     ∙ ap (λ (k : ℕ). (38 ∷ 110 ∷ 98 ∷ 115 ∷ 112 ∷ 59 ∷ []) ++ escaped v (drop k t)) two
 
 -- ---- the others

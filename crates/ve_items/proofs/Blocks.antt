@@ -11,8 +11,8 @@ pub append_nothing : {A : Type 0} (xs : List A) → xs ++ [] ≡ xs
 append_nothing [] = refl
 append_nothing (x ∷ xs) = ap (λ l. x ∷ l) (append_nothing xs)
 
-pub joined_append : {A : Type 0} (front back : List (List A)) → joined (front ++ back) ≡ joined front ++ joined back
-joined_append front back = flat_map-append (λ block. block) front back
+pub joined_append : {A : Type 0} (prefix suffix : List (List A)) → joined (prefix ++ suffix) ≡ joined prefix ++ joined suffix
+joined_append prefix suffix = flat_map-append (λ block. block) prefix suffix
 
 pub joined_push : {A : Type 0} (blocks : List (List A)) (block : List A) → joined (blocks ++ block ∷ []) ≡ joined blocks ++ block
 joined_push blocks block = joined_append blocks (block ∷ []) ∙ ap (λ l. joined blocks ++ l) (append_nothing block)
@@ -45,8 +45,8 @@ pub rule_grown : {A : Type 0} (old rest new : List (List A)) (last grown block :
 rule_grown old rest new last grown block was is all rule small =
     subst AreBlocks (sym (is ∙ ap (λ l. rest ++ l ∷ []) all)) (blocks_grown rest last block (subst AreBlocks was rule) small)
 
-pub rule_pushed : {A : Type 0} (old rest back new : List (List A)) (last block : List A) → old ≡ rest ++ last ∷ [] → back ≡ rest ++ last ∷ [] → new ≡ back ++ block ∷ [] → AreBlocks old → IsBlock block → 512 < length last + length block → AreBlocks new
-rule_pushed old rest back new last block was again is rule size large =
+pub rule_pushed : {A : Type 0} (old rest suffix new : List (List A)) (last block : List A) → old ≡ rest ++ last ∷ [] → suffix ≡ rest ++ last ∷ [] → new ≡ suffix ++ block ∷ [] → AreBlocks old → IsBlock block → 512 < length last + length block → AreBlocks new
+rule_pushed old rest suffix new last block was again is rule size large =
     subst AreBlocks (sym (is ∙ ap (λ l. l ++ block ∷ []) again)) (blocks_pushed rest last block (subst AreBlocks was rule) size large)
 
 pub top_push : {A : Type 0} (blocks : List (List A)) (block : List A) → top (blocks ++ block ∷ []) ≡ block
@@ -85,11 +85,11 @@ sizes_below old rest block was each =
     let more = length-append rest (block ∷ []) in
     subst IsBlock (get_or_append_left rest (block ∷ []) d k lt) (all k d (omega arith))
 
-pub behind_nothing : {A : Type 0} (front back : List A) → length back ≤ 0 → front ≡ front ++ back
-behind_nothing front [] none = sym (append_nothing front)
-behind_nothing front (x ∷ back) none = absurd (omega (arith, none))
+pub after_nothing : {A : Type 0} (prefix suffix : List A) → length suffix ≤ 0 → prefix ≡ prefix ++ suffix
+after_nothing prefix [] none = sym (append_nothing prefix)
+after_nothing prefix (x ∷ suffix) none = absurd (omega (arith, none))
 
--- a block put behind the others from the top of the stack
+-- a block put after the others from the top of the stack
 pub items_put : {A : Type 0} (before new old rest : List (List A)) (block : List A) → old ≡ rest ++ block ∷ [] → joined new ≡ joined before ++ block → joined new ++ from_top rest ≡ joined before ++ from_top old
 items_put before new old rest block was put =
     ap (λ l. l ++ from_top rest) put

@@ -6,7 +6,7 @@ use Rattle.std.proofs.Math.Seq.{take-add, take-append-add, drop-append-add, drop
 use Rattle.ve_items.specs.Substitution.{spliced}
 use Rattle.ve_items.proofs.Blocks.{append_nothing}
 
--- a list up to `done`, and the piece behind it up to `end`
+-- a list up to `done`, and the piece after it up to `end`
 pub items_filled : {A : Type 0} (initial before new cleared block items : List A) (done end : ℕ) → before ≡ initial ++ take done items → cleared ≡ [] → block ≡ cleared ++ take (end - done) (drop done items) → new ≡ before ++ block → done ≤ end → new ≡ initial ++ take end items
 items_filled initial before new cleared block items done end h e b n le =
     let goes : done + (end - done) ≡ end = omega arith in
@@ -18,13 +18,13 @@ items_filled initial before new cleared block items done end h e b n le =
 -- a range that begins in a block and may run past it
 pub block_cut : {A : Type 0} (block rest : List A) (offset left end more : ℕ) → end ≡ offset + min (length block - offset) left → more ≡ left - (end - offset) → offset ≤ length block → take offset (block ++ rest) ++ drop (offset + left) (block ++ rest) ≡ (take offset block ++ drop end block) ++ drop more rest
 block_cut block rest offset left end more e m le =
-    let front = take-append-le offset block rest le in
+    let prefix = take-append-le offset block rest le in
     elim (cases_lt (length block - offset) left) [
       | inl past ↦
           let at_end : end ≡ length block = omega arith in
           let goes : offset + left ≡ length block + more = omega arith in
           let none : drop end block ≡ [] = ap (λ n. drop n block) at_end ∙ drop-length block in
-          ap (λ l. l ++ drop (offset + left) (block ++ rest)) front
+          ap (λ l. l ++ drop (offset + left) (block ++ rest)) prefix
           ∙ ap (λ n. take offset block ++ drop n (block ++ rest)) goes
           ∙ ap (λ l. take offset block ++ l) (drop-append-add block rest more)
           ∙ ap (λ l. l ++ drop more rest) (sym (append_nothing (take offset block)) ∙ ap (λ l. take offset block ++ l) (sym none))
@@ -32,14 +32,14 @@ block_cut block rest offset left end more e m le =
           let here : offset + left ≡ end = omega arith in
           let no_more : more ≡ 0 = omega arith in
           let inside : end ≤ length block = omega arith in
-          ap (λ l. l ++ drop (offset + left) (block ++ rest)) front
+          ap (λ l. l ++ drop (offset + left) (block ++ rest)) prefix
           ∙ ap (λ n. take offset block ++ drop n (block ++ rest)) here
           ∙ ap (λ l. take offset block ++ l) (drop-append-le end block rest inside)
           ∙ sym (append_assoc (take offset block) (drop end block) rest)
           ∙ ap (λ n. (take offset block ++ drop end block) ++ drop n rest) (sym no_more)
     ]
 
--- one block's turn in taking a range out, where the block's rest goes to the front
+-- one block's turn in taking a range out, where the block's rest goes to the prefix
 pub range_cut : {A : Type 0} (start before new block rest kept : List A) (old : List A) (offset left end more : ℕ) → start ≡ before ++ (take offset old ++ drop (offset + left) old) → old ≡ block ++ rest → kept ≡ take offset block ++ drop end block → new ≡ before ++ kept → end ≡ offset + min (length block - offset) left → more ≡ left - (end - offset) → offset ≤ length block → new ++ (take 0 rest ++ drop (0 + more) rest) ≡ start
 range_cut start before new block rest kept old offset left end more s o k n e m le =
     let zero : 0 + more ≡ more = omega arith in
@@ -60,18 +60,18 @@ pub cut_shorter : {A : Type 0} (block : List A) (from to : ℕ) → from ≤ to 
 cut_shorter block from to le = omega (arith, length-append (take from block) (drop to block), length-drop to block, length-take from block)
 
 -- two parts of a list, by the length of the first
-pub part_front : {A : Type 0} (list front back : List A) (offset at : ℕ) → front ++ back ≡ list → length front + offset ≡ at → front ++ take offset back ≡ take at list
-part_front list front back offset at e n =
-    sym (ap (λ l. take at l) (sym e) ∙ ap (λ k. take k (front ++ back)) (sym n) ∙ take-append-add front back offset)
+pub part_prefix : {A : Type 0} (list prefix suffix : List A) (offset at : ℕ) → prefix ++ suffix ≡ list → length prefix + offset ≡ at → prefix ++ take offset suffix ≡ take at list
+part_prefix list prefix suffix offset at e n =
+    sym (ap (λ l. take at l) (sym e) ∙ ap (λ k. take k (prefix ++ suffix)) (sym n) ∙ take-append-add prefix suffix offset)
 
-pub part_back : {A : Type 0} (list front back : List A) (offset more at : ℕ) → front ++ back ≡ list → length front + offset ≡ at → drop (offset + more) back ≡ drop (at + more) list
-part_back list front back offset more at e n =
-    let goes : at + more ≡ length front + (offset + more) = omega arith in
-    sym (ap (λ l. drop (at + more) l) (sym e) ∙ ap (λ k. drop k (front ++ back)) goes ∙ drop-append-add front back (offset + more))
+pub part_back : {A : Type 0} (list prefix suffix : List A) (offset more at : ℕ) → prefix ++ suffix ≡ list → length prefix + offset ≡ at → drop (offset + more) suffix ≡ drop (at + more) list
+part_back list prefix suffix offset more at e n =
+    let goes : at + more ≡ length prefix + (offset + more) = omega arith in
+    sym (ap (λ l. drop (at + more) l) (sym e) ∙ ap (λ k. drop k (prefix ++ suffix)) goes ∙ drop-append-add prefix suffix (offset + more))
 
-pub part_rest : {A : Type 0} (list front back : List A) (offset at : ℕ) → front ++ back ≡ list → length front + offset ≡ at → drop offset back ≡ drop at list
-part_rest list front back offset at e n =
-    sym (ap (λ l. drop at l) (sym e) ∙ ap (λ k. drop k (front ++ back)) (sym n) ∙ drop-append-add front back offset)
+pub part_rest : {A : Type 0} (list prefix suffix : List A) (offset at : ℕ) → prefix ++ suffix ≡ list → length prefix + offset ≡ at → drop offset suffix ≡ drop at list
+part_rest list prefix suffix offset at e n =
+    sym (ap (λ l. drop at l) (sym e) ∙ ap (λ k. drop k (prefix ++ suffix)) (sym n) ∙ drop-append-add prefix suffix offset)
 
 -- a splice at the end appends
 pub spliced_end : {A : Type 0} (list items : List A) (end : ℕ) → end ≡ length list → spliced list end 0 items ≡ list ++ items

@@ -8,7 +8,7 @@ use Rattle.ve_items.specs.Blocks.{joined}
 use Rattle.ve_items.specs.Ends.{StandsAt}
 use Rattle.ve_items.proofs.Blocks.{joined_append}
 
--- the blocks before one, that one, and the blocks behind it
+-- the blocks before one, that one, and the blocks after it
 joined_around : {A : Type 0} (blocks : List (List A)) (block : List A) (k : ℕ) → k < length blocks → slice_get blocks k ≡ Some block → joined blocks ≡ joined (take k blocks) ++ (block ++ joined (drop (k + 1) blocks))
 joined_around blocks block k lt is =
     ap joined (sym (take-append-drop k blocks))
@@ -25,32 +25,32 @@ inside_block blocks block at k offset h is =
 pub item_at : {A : Type 0} (blocks : List (List A)) (block : List A) (at k offset : ℕ) (d : A) → StandsAt blocks at k offset → slice_get blocks k ≡ Some block → slice_get (joined blocks) at ≡ Some (get_or block offset d)
 item_at blocks block at k offset d h is =
     let before = joined (take k blocks) in
-    let behind = joined (drop (k + 1) blocks) in
+    let suffix = joined (drop (k + 1) blocks) in
     let around = joined_around blocks block k h.among is in
     let within = inside_block blocks block at k offset h is in
     let place = h.place in
-    let sizes = length-append before (block ++ behind) in
-    let size = length-append block behind in
-    let all : length (joined blocks) ≡ length (before ++ (block ++ behind)) = ap length around in
+    let sizes = length-append before (block ++ suffix) in
+    let size = length-append block suffix in
+    let all : length (joined blocks) ≡ length (before ++ (block ++ suffix)) = ap length around in
     slice_get-get_or (joined blocks) at d (omega arith)
     ∙ ap Some (ap (λ l. get_or l at d) around
-    ∙ ap (λ n. get_or (before ++ (block ++ behind)) n d) (sym place)
-    ∙ get_or-append-add before (block ++ behind) offset d
-    ∙ get_or_append_left block behind d offset within)
+    ∙ ap (λ n. get_or (before ++ (block ++ suffix)) n d) (sym place)
+    ∙ get_or-append-add before (block ++ suffix) offset d
+    ∙ get_or_append_left block suffix d offset within)
 
 -- a range that ends within the block in which it begins
 pub range_at : {A : Type 0} (blocks : List (List A)) (block : List A) (at k offset many : ℕ) → StandsAt blocks at k offset → slice_get blocks k ≡ Some block → offset + many ≤ length block → take many (drop offset block) ≡ take many (drop at (joined blocks))
 range_at blocks block at k offset many h is le =
     let before = joined (take k blocks) in
-    let behind = joined (drop (k + 1) blocks) in
+    let suffix = joined (drop (k + 1) blocks) in
     let around = joined_around blocks block k h.among is in
     let rest = length-drop offset block in
-    let dropped : drop at (joined blocks) ≡ drop offset block ++ behind =
+    let dropped : drop at (joined blocks) ≡ drop offset block ++ suffix =
     ap (λ l. drop at l) around
-    ∙ ap (λ n. drop n (before ++ (block ++ behind))) (sym h.place)
-    ∙ drop-append-add before (block ++ behind) offset
-    ∙ drop-append-le offset block behind (omega arith) in
-    sym (ap (λ l. take many l) dropped ∙ take-append-le many (drop offset block) behind (omega arith))
+    ∙ ap (λ n. drop n (before ++ (block ++ suffix))) (sym h.place)
+    ∙ drop-append-add before (block ++ suffix) offset
+    ∙ drop-append-le offset block suffix (omega arith) in
+    sym (ap (λ l. take many l) dropped ∙ take-append-le many (drop offset block) suffix (omega arith))
 
 -- a copy of a range that grows by a piece
 pub range_more : {A : Type 0} (items copy grown piece : List A) (from at many : ℕ) → from ≤ at → copy ≡ take (at - from) (drop from items) → grown ≡ copy ++ piece → piece ≡ take many (drop at items) → grown ≡ take (at + many - from) (drop from items)

@@ -21,7 +21,7 @@ use ve_base::Memory;
 #[derive(Drop)]
 pub struct Linear {
     table: Table,
-    // where a splice sets the blocks behind its place aside, empty else
+    // where a splice sets the blocks after its place aside, empty else
     aside: Stack,
     // memory for the blocks that a splice puts in
     pool: Vec<Block>,
@@ -80,7 +80,7 @@ impl Linear {
         self.table.len()
     }
 
-    /// Lends a block, counted from the front.
+    /// Lends a block, counted from the prefix.
     pub fn block(&self, k: usize) -> &[Item]
         requires { k < length self.now.blocks }
         ensures { slice_get self.now.blocks k ≡ Some result.now }

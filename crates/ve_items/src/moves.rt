@@ -9,7 +9,7 @@ use crate::stack::Stack;
 use crate::table::Table;
 use model_items::Item;
 
-/// Puts a block behind those before the place: into the last one where both fit into one. The block
+/// Puts a block after those before the place: into the last one where both fit into one. The block
 /// that is empty then goes to the pool, where that has room.
 pub fn put(before: &mut Table, pool: &mut Vec<Block>, block: Block)
     requires rule { AreBlocks before.old.blocks }
@@ -72,7 +72,7 @@ pub fn seek(before: &mut Table, after: &mut Stack, at: usize) -> usize
     at - before.items()
 }
 
-/// Puts the blocks after the place behind those before it.
+/// Puts the blocks after the place after those before it.
 pub fn gather(before: &mut Table, after: &mut Stack, pool: &mut Vec<Block>)
     requires rule { AreBlocks before.old.blocks }
     requires sizes { All IsBlock after.old.blocks }
@@ -128,7 +128,7 @@ pub fn cut(before: &mut Table, after: &mut Stack, pool: &mut Vec<Block>, offset:
     }
 }
 
-/// Puts items behind those before the place, in blocks of the pool.
+/// Puts items after those before the place, in blocks of the pool.
 pub fn fill(before: &mut Table, pool: &mut Vec<Block>, items: &[Item])
     requires rule { AreBlocks before.old.blocks }
     requires room { length before.old.blocks + (length items.now + 511) / 512 ≤ before.old.room }

@@ -18,7 +18,7 @@ use Rattle.model_items.specs.Tree.{class_in}
 use Rattle.model_items.proofs.LawLemmas.{if_ok, Ok-same, opened_before, closed_before, joined-ok, after_parts, after_from_Lawful}
 use Rattle.model_items.proofs.NodeAtLemmas.{class_is_of_top}
 use Rattle.ve_tree.specs.IsTree.{unvalued}
-use Rattle.ve_offsets.specs.Classes.{class_behind, ItemDecidesClass}
+use Rattle.ve_offsets.specs.Classes.{class_after, ItemDecidesClass}
 
 -- each open node stands in the one round it
 abbrev Nested : List Kind → Type 0
@@ -96,13 +96,13 @@ class_round p k h =
     no_leaf true e = let bad : true ≡ false = sym h ∙ leaves_are_empty p k e in absurd (cc)
     no_leaf false e = e
 
--- the class by the state behind an item
-class_after : (x : Item) (s u : State) → Nested s.stack → step s (plain [] x) ≡ Ok u → class_in (top u.stack) ≡ class_behind x
-class_after (item.Char ch marks) s u h e =
+-- the class by the state after an item
+step_class : (x : Item) (s u : State) → Nested s.stack → step s (plain [] x) ≡ Ok u → class_in (top u.stack) ≡ class_after x
+step_class (item.Char ch marks) s u h e =
     let p = if_ok (is_content_branch (top s.stack)) _ _ u e in
     ap (λ (t : State). class_in (top t.stack)) (sym (Ok-same {E = LawFault} s u p.1)) ∙ ap (λ t. if t then Content else (if is_leaf (top s.stack) then Inside else Structural)) p.0
-class_after (item.Opening kind generated head marks pre origin) s u h e = ap (λ ks. class_in (top ks)) (sym (opened_before s u kind e).0)
-class_after (item.Closing kind pre) s u h e = class_round (top u.stack) kind (subst Nested (closed_before s.stack s.seen kind u e).0 h).0
+step_class (item.Opening kind generated head marks pre origin) s u h e = ap (λ ks. class_in (top ks)) (sym (opened_before s u kind e).0)
+step_class (item.Closing kind pre) s u h e = class_round (top u.stack) kind (subst Nested (closed_before s.stack s.seen kind u e).0 h).0
 
 -- a list up to and with an item
 taken : (items : List Item) (m : ℕ) (x : Item) → slice_get items m ≡ Some x → take (suc m) (unvalued items) ≡ take m (unvalued items) ++ plain [] x ∷ []
@@ -118,4 +118,4 @@ item_decides_class items m x lawful h =
     let one = joined-ok 1 (step before.0 (plain [] x)) (λ next. after next []) whole.0 before.2 in
     class_is_of_top all (suc m) whole.0 whole.1
     ∙ ap (λ (t : State). class_in (top t.stack)) (sym (Ok-same {E = LawFault} one.0 whole.0 one.2))
-    ∙ class_after x before.0 one.0 (nested_after (take m all) start before.0 tt before.1) one.1
+    ∙ step_class x before.0 one.0 (nested_after (take m all) start before.0 tt before.1) one.1

@@ -59,16 +59,16 @@ by_test {P = P} a b yes_ no_ = go (nat_le a b) refl
     go false e = no_ e (leb-false a b e)
 
 -- the two parts of what two lists are together
-pub take-front : (n : ℕ) (xs ys : List Shape) → n ≤ length xs → take n (xs ++ ys) ≡ take n xs
-take-front n xs ys le = take-append-le n xs ys le
+pub take-prefix : (n : ℕ) (xs ys : List Shape) → n ≤ length xs → take n (xs ++ ys) ≡ take n xs
+take-prefix n xs ys le = take-append-le n xs ys le
 
 pub take-back : (n : ℕ) (xs ys : List Shape) → length xs ≤ n → take n (xs ++ ys) ≡ xs ++ take (n - length xs) ys
 take-back n xs ys le = let e : n ≡ length xs + (n - length xs) = omega (arith, le) in ap (λ n. take n (xs ++ ys)) e ∙ take-append-add xs ys (n - length xs)
 
-pub drop-front : (n : ℕ) (xs ys : List Shape) → n ≤ length xs → drop n (xs ++ ys) ≡ drop n xs ++ ys
-drop-front zero xs ys le = refl
-drop-front (suc n) [] ys le = absurd (omega (arith, le))
-drop-front (suc n) (x ∷ xs) ys le = drop-front n xs ys (omega (arith, le))
+pub drop-prefix : (n : ℕ) (xs ys : List Shape) → n ≤ length xs → drop n (xs ++ ys) ≡ drop n xs ++ ys
+drop-prefix zero xs ys le = refl
+drop-prefix (suc n) [] ys le = absurd (omega (arith, le))
+drop-prefix (suc n) (x ∷ xs) ys le = drop-prefix n xs ys (omega (arith, le))
 
 pub drop-back : (n : ℕ) (xs ys : List Shape) → length xs ≤ n → drop n (xs ++ ys) ≡ drop (n - length xs) ys
 drop-back n [] ys le = let e : n ≡ n - 0 = omega arith in ap (λ n. drop n ys) e
@@ -86,29 +86,29 @@ drop-letters (suc n) zero le = absurd (omega (arith, le))
 drop-letters (suc n) (suc count) le = drop-letters n count (omega (arith, le)) ∙ (let e : count - n ≡ suc count - suc n = omega arith in ap (λ n. replicate n Letter) e)
 
 -- from the start of a row the openings of the levels are unmatched
-pub count-front : (f : Forest) (n c o : ℕ) → n ≤ item_count f → count_after (c, o) (take n (shapes f)) ≡ (c, o + levels_in f n)
-count-front Empty zero c o le = let e : o ≡ o + 0 = omega arith in ap (λ n. (c, n)) e
-count-front Empty (suc n) c o le = absurd (omega (arith, le))
-count-front (Run count later) n c o le =
+pub count-prefix : (f : Forest) (n c o : ℕ) → n ≤ item_count f → count_after (c, o) (take n (shapes f)) ≡ (c, o + levels_in f n)
+count-prefix Empty zero c o le = let e : o ≡ o + 0 = omega arith in ap (λ n. (c, n)) e
+count-prefix Empty (suc n) c o le = absurd (omega (arith, le))
+count-prefix (Run count later) n c o le =
     let long = length-replicate count Letter in
     by_test count n
     (λ b more.
     ap (count_after (c, o)) (take-back n (replicate count Letter) (shapes later) (omega (arith, long, more)) ∙ ap (λ m. replicate count Letter ++ take (n - m) (shapes later)) long)
     ∙ count-append (replicate count Letter) (take (n - count) (shapes later)) (c, o)
     ∙ ap (λ m. count_after m (take (n - count) (shapes later))) (count-letters count c o)
-    ∙ count-front later (n - count) c o (omega (arith, le, more))
+    ∙ count-prefix later (n - count) c o (omega (arith, le, more))
     ∙ ap (λ t. (c, o + (if t then levels_in later (n - count) else 0))) (sym b))
     (λ b less.
     let e : o ≡ o + 0 = omega arith in
-    ap (count_after (c, o)) (take-front n (replicate count Letter) (shapes later) (omega (arith, long, less)) ∙ take-letters n count (omega (arith, less)))
+    ap (count_after (c, o)) (take-prefix n (replicate count Letter) (shapes later) (omega (arith, long, less)) ∙ take-letters n count (omega (arith, less)))
     ∙ count-letters n c o
     ∙ ap (λ n. (c, n)) e
     ∙ ap (λ t. (c, o + (if t then levels_in later (n - count) else 0))) (sym b))
-count-front (Branch kind inside later) zero c o le = let e : o ≡ o + 0 = omega arith in ap (λ n. (c, n)) e ∙ ap (λ t. (c, o + (if t then levels_in later (0 - (item_count inside + 2)) else 0))) (sym none)
+count-prefix (Branch kind inside later) zero c o le = let e : o ≡ o + 0 = omega arith in ap (λ n. (c, n)) e ∙ ap (λ t. (c, o + (if t then levels_in later (0 - (item_count inside + 2)) else 0))) (sym none)
   where
     none : nat_le (item_count inside + 2) 0 ≡ false
     none = lt-leb (item_count inside + 2) 0 (omega arith)
-count-front (Branch kind inside later) (suc n) c o le =
+count-prefix (Branch kind inside later) (suc n) c o le =
     let len = item_count inside + 2 in
     let long = length-shapes inside in
     by_test len (suc n)
@@ -119,14 +119,14 @@ count-front (Branch kind inside later) (suc n) c o le =
     ∙ count-append (shapes inside) (End kind ∷ take (n - length (shapes inside) - 1) (shapes later)) (c, suc o)
     ∙ ap (λ k. count_after k (End kind ∷ take (n - length (shapes inside) - 1) (shapes later))) (count-whole inside c (suc o))
     ∙ ap (λ k. count_after (c, o) (take k (shapes later))) m
-    ∙ count-front later (suc n - len) c o (omega (arith, le, more))
+    ∙ count-prefix later (suc n - len) c o (omega (arith, le, more))
     ∙ ap (λ t. (c, o + (if t then levels_in later (suc n - len) else (if nat_le 1 (suc n) then suc (levels_in inside (suc n - 1)) else 0)))) (sym b))
     (λ b less.
     let k : n ≡ suc n - 1 = omega arith in
     let one : nat_le 1 (suc n) ≡ true = le-leb 1 (suc n) (omega arith) in
     let e : suc o + levels_in inside n ≡ o + suc (levels_in inside n) = omega arith in
-    ap (λ xs. count_after (c, suc o) xs) (take-front n (shapes inside) (End kind ∷ shapes later) (omega (arith, long, less)))
-    ∙ count-front inside n c (suc o) (omega (arith, less))
+    ap (λ xs. count_after (c, suc o) xs) (take-prefix n (shapes inside) (End kind ∷ shapes later) (omega (arith, long, less)))
+    ∙ count-prefix inside n c (suc o) (omega (arith, less))
     ∙ ap (λ n. (c, n)) e
     ∙ ap (λ k. (c, o + suc (levels_in inside k))) k
     ∙ ap (λ t. (c, o + (if t then suc (levels_in inside (suc n - 1)) else 0))) (sym one)
@@ -145,7 +145,7 @@ count-back (Run count later) n c le =
     ∙ ap (λ t. (c + (if t then levels_in later (n - count) else 0), 0)) (sym b))
     (λ b less.
     let e : c ≡ c + 0 = omega arith in
-    ap (count_after (c, 0)) (drop-front n (replicate count Letter) (shapes later) (omega (arith, long, less)) ∙ ap (λ xs. xs ++ shapes later) (drop-letters n count (omega (arith, less))))
+    ap (count_after (c, 0)) (drop-prefix n (replicate count Letter) (shapes later) (omega (arith, long, less)) ∙ ap (λ xs. xs ++ shapes later) (drop-letters n count (omega (arith, less))))
     ∙ count-whole (Run (count - n) later) c 0
     ∙ ap (λ n. (n, 0)) e
     ∙ ap (λ t. (c + (if t then levels_in later (n - count) else 0), 0)) (sym b))
@@ -169,7 +169,7 @@ count-back (Branch kind inside later) (suc n) c le =
     let k : n ≡ suc n - 1 = omega arith in
     let one : nat_le 1 (suc n) ≡ true = le-leb 1 (suc n) (omega arith) in
     let e : suc (c + levels_in inside n) ≡ c + suc (levels_in inside n) = omega arith in
-    ap (λ xs. count_after (c, 0) xs) (drop-front n (shapes inside) (End kind ∷ shapes later) (omega (arith, long, less)))
+    ap (λ xs. count_after (c, 0) xs) (drop-prefix n (shapes inside) (End kind ∷ shapes later) (omega (arith, long, less)))
     ∙ count-append (drop n (shapes inside)) (End kind ∷ shapes later) (c, 0)
     ∙ ap (λ k. count_after k (End kind ∷ shapes later)) (count-back inside n c (omega (arith, less)))
     ∙ count-whole later (suc (c + levels_in inside n)) 0

@@ -3,7 +3,7 @@ use Rattle.std.proofs.Common.{◌≡◌, ◌≢◌, ◌≤◌, ◌<◌, ◌+◌,
 use Rattle.std.proofs.lemmas.Bool.{cases_lt, true≢false}
 use Rattle.model_items.specs.declared.item.Item.{Item}
 use Rattle.ve_offsets.specs.Classes.{IsContent}
-use Rattle.ve_offsets.specs.Nearest.{distance, IsNearestContent, HasNoContent, IsContentBefore, IsContentBehind}
+use Rattle.ve_offsets.specs.Nearest.{distance, IsNearestContent, HasNoContent, IsContentBefore, IsContentAfter}
 
 -- nothing nearer is content
 pub record NoneNearer (items : List Item) (o away : ℕ) : Type 0 where
@@ -19,12 +19,12 @@ so b e h = h.0 e
 pub none_yet : (items : List Item) (o : ℕ) → NoneNearer items o 0
 none_yet items o = record { within = omega arith; none = λ q within near content. absurd (omega (arith, near)) }
 
--- an offset at a distance lies before or behind
+-- an offset at a distance lies before or after
 sides : {P : Type 0} (o q away : ℕ) → distance o q ≡ away → (away ≤ o → q ≡ o - away → P) → (q ≡ o + away → P) → P
-sides {P = P} o q away e before behind = by_order (cases_lt o q)
+sides {P = P} o q away e before suffix = by_order (cases_lt o q)
   where
     by_order : (o < q) ⊎ (q ≤ o) → P
-    by_order (inl lt) = behind (omega (arith, e, lt))
+    by_order (inl lt) = suffix (omega (arith, e, lt))
     by_order (inr le) = before (omega (arith, e, le)) (omega (arith, e, le))
 
 pub nearest_before : (items : List Item) (o away : ℕ) → o ≤ length items → NoneNearer items o away → IsContentBefore items o away → IsNearestContent items o (o - away)
@@ -41,9 +41,9 @@ nearest_before items o away within none here = record {
     at_least : (q : ℕ) → q ≤ length items → IsContent items q → distance o (o - away) ≤ distance o q
     at_least q le content = omega (arith, here.order, far (distance o q) away (λ near. none.none q le near content))
 
-pub nearest_behind : (items : List Item) (o away : ℕ) → o ≤ length items → NoneNearer items o away → ¬ IsContentBefore items o away → IsContentBehind items o away →
+pub nearest_after : (items : List Item) (o away : ℕ) → o ≤ length items → NoneNearer items o away → ¬ IsContentBefore items o away → IsContentAfter items o away →
     IsNearestContent items o (o + away)
-nearest_behind items o away within none not_before here = record {
+nearest_after items o away within none not_before here = record {
   within = here.within;
   content = here.content;
   nearest = λ q le content. omega (arith, far (distance o q) away (λ near. none.none q le near content));
@@ -56,9 +56,9 @@ nearest_behind items o away within none not_before here = record {
     far : (m n : ℕ) → (m < n → ⊥) → n ≤ m
     far m n h = omega (arith, h)
 
-pub none_further : (items : List Item) (o away : ℕ) → away ≢ length items → NoneNearer items o away → ¬ IsContentBefore items o away → ¬ IsContentBehind items o away →
+pub none_further : (items : List Item) (o away : ℕ) → away ≢ length items → NoneNearer items o away → ¬ IsContentBefore items o away → ¬ IsContentAfter items o away →
     NoneNearer items o (away + 1)
-none_further items o away more none not_before not_behind = record {
+none_further items o away more none not_before not_after = record {
   within = omega (arith, none.within, more);
   none = λ q le near content. by_distance q le content (cases (distance o q) away (omega (arith, near)));
 }
@@ -75,11 +75,11 @@ none_further items o away more none not_before not_behind = record {
     by_distance q le content (inr same) =
         sides o q away same
         (λ order is. not_before (record { order = order; content = subst (IsContent items) is content }))
-        (λ is. not_behind (record { within = omega (arith, is, le); content = subst (IsContent items) is content }))
+        (λ is. not_after (record { within = omega (arith, is, le); content = subst (IsContent items) is content }))
 
-pub none_at_all : (items : List Item) (o : ℕ) → o ≤ length items → NoneNearer items o (length items) → ¬ IsContentBefore items o (length items) → ¬ IsContentBehind items o (length items) →
+pub none_at_all : (items : List Item) (o : ℕ) → o ≤ length items → NoneNearer items o (length items) → ¬ IsContentBefore items o (length items) → ¬ IsContentAfter items o (length items) →
     HasNoContent items
-none_at_all items o within none not_before not_behind q le content = by_distance (cases (distance o q) (length items) (omega (arith, within, le)))
+none_at_all items o within none not_before not_after q le content = by_distance (cases (distance o q) (length items) (omega (arith, within, le)))
   where
     cases : (d a : ℕ) → d ≤ a → (d < a) ⊎ (d ≡ a)
     cases d a h = by_order (cases_lt d a)
@@ -93,4 +93,4 @@ none_at_all items o within none not_before not_behind q le content = by_distance
     by_distance (inr same) =
         sides o q (length items) same
         (λ order is. not_before (record { order = order; content = subst (IsContent items) is content }))
-        (λ is. not_behind (record { within = omega (arith, is, le); content = subst (IsContent items) is content }))
+        (λ is. not_after (record { within = omega (arith, is, le); content = subst (IsContent items) is content }))

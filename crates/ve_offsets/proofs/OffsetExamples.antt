@@ -7,7 +7,7 @@ use Rattle.model_items.specs.declared.item.Item.TheVariants.{Char, Opening, Clos
 use Rattle.model_items.specs.declared.offset_class.OffsetClass.TheVariants.{Content, Structural, Inside}
 use Rattle.model_items.specs.Tree.{node_at}
 use Rattle.ve_tree.specs.IsTree.{unvalued}
-use Rattle.ve_offsets.specs.Classes.{IsContent, IsInsideLeaf, IsStructural, class_behind}
+use Rattle.ve_offsets.specs.Classes.{IsContent, IsInsideLeaf, IsStructural, class_after}
 use Rattle.ve_offsets.specs.States.{IsStateAt}
 use Rattle.ve_offsets.specs.Unmatched.{unmatched_in}
 
@@ -41,14 +41,14 @@ between_paragraphs : IsStructural broken 5
 between_paragraphs = refl
 
 -- each of these by the item before
-behind_a_leaf : class_behind (close_ Br) ≡ Content
-behind_a_leaf = refl
+after_a_leaf : class_after (close_ Br) ≡ Content
+after_a_leaf = refl
 
-behind_a_paragraph : class_behind (close_ P) ≡ Structural
-behind_a_paragraph = refl
+after_a_paragraph : class_after (close_ P) ≡ Structural
+after_a_paragraph = refl
 
-behind_an_opened_leaf : class_behind (open_ Br) ≡ Inside
-behind_an_opened_leaf = refl
+after_an_opened_leaf : class_after (open_ Br) ≡ Inside
+after_an_opened_leaf = refl
 
 in_a_paragraph : node_at (unvalued listed) 6 ≡ record { kind = P; from = 5; to = 8 }
 in_a_paragraph = refl

@@ -20,7 +20,7 @@ use Rattle.ve_tree.proofs.WalkLemmas.{Slots}
 use Rattle.model_items.proofs.NodeAtLemmas.{count_all}
 use Rattle.ve_offsets.specs.Levels.{levels_in, IsRow, IsParting}
 use Rattle.ve_offsets.proofs.StateLemmas.{IsNext, is_next, same_number, shown_live, length-shapes}
-use Rattle.ve_offsets.proofs.LevelLemmas.{count_after, count-shapes, count-append, count-letters, count-front, count-back, take-front, take-back, take-letters, drop-front, drop-letters}
+use Rattle.ve_offsets.proofs.LevelLemmas.{count_after, count-shapes, count-append, count-letters, count-prefix, count-back, take-prefix, take-back, take-letters, drop-prefix, drop-letters}
 
 -- the rows below and beside
 
@@ -37,9 +37,9 @@ branch_next : (slots : Slots) (child : NodeId) (node : ArenaNode) (h : ℕ) (kin
     slot_at slots child.0 ≡ Some node → IsNext slots node h (what.Node kind) (item_count (bare inside) + 2)
 branch_next slots child node h kind inside later r here = is_next slots child node h _ _ _ here (same_number child h r.next_is) r.shown.0
 
-row_behind_run : (slots : Slots) (child : NodeId) (node : ArenaNode) (h count : ℕ) (later : Named) → IsRow slots (Some child) (NamedRun h count later) → slot_at slots child.0 ≡ Some node →
+row_after_run : (slots : Slots) (child : NodeId) (node : ArenaNode) (h count : ℕ) (later : Named) → IsRow slots (Some child) (NamedRun h count later) → slot_at slots child.0 ≡ Some node →
     IsRow slots node.after later
-row_behind_run slots child node h count later r here = record {
+row_after_run slots child node h count later r here = record {
   next_is = sym (ap (link_in (λ node. node.after)) (run_next slots child node h count later r here).here) ∙ r.row.2;
   inner = r.inner;
   edge = Some h;
@@ -48,9 +48,9 @@ row_behind_run slots child node h count later r here = record {
   runs = r.runs.2;
 }
 
-row_behind : (slots : Slots) (child : NodeId) (node : ArenaNode) (h : ℕ) (kind : Kind) (inside later : Named) → IsRow slots (Some child) (NamedBranch h kind inside later) →
+row_after : (slots : Slots) (child : NodeId) (node : ArenaNode) (h : ℕ) (kind : Kind) (inside later : Named) → IsRow slots (Some child) (NamedBranch h kind inside later) →
     slot_at slots child.0 ≡ Some node → IsRow slots node.after later
-row_behind slots child node h kind inside later r here = record {
+row_after slots child node h kind inside later r here = record {
   next_is = sym (ap (link_in (λ node. node.after)) (branch_next slots child node h kind inside later r here).here) ∙ r.row.2;
   inner = r.inner;
   edge = Some h;
@@ -106,7 +106,7 @@ levels_skip slots f0 left0 depth child left node w here le = by_forest w.forest 
         let test : nat_le count left ≡ true = le-leb count left (omega (arith, n.len_is, le)) in
         record {
           forest = later;
-          row = row_behind_run slots child node h count later r here;
+          row = row_after_run slots child node h count later r here;
           small = omega (arith, w.small);
           answer = answer ∙ ap (λ t. depth + (if t then levels_in (bare later) (left - count) else 0)) test ∙ ap (λ m. depth + levels_in (bare later) (left - m)) (sym n.len_is);
         }
@@ -116,7 +116,7 @@ levels_skip slots f0 left0 depth child left node w here le = by_forest w.forest 
         let test : nat_le len left ≡ true = le-leb len left (omega (arith, n.len_is, le)) in
         record {
           forest = later;
-          row = row_behind slots child node h kind inside later r here;
+          row = row_after slots child node h kind inside later r here;
           small = omega (arith, w.small);
           answer = answer ∙ ap (λ t. depth + (if t then levels_in (bare later) (left - len) else (if nat_le 1 left then suc (levels_in (bare inside) (left - 1)) else 0))) test
               ∙ ap (λ m. depth + levels_in (bare later) (left - m)) (sym n.len_is);
@@ -146,7 +146,7 @@ levels_enter slots f0 left0 depth child left node kind w here sort lt some = by_
               ∙ ap (λ t. depth + (if t then suc (levels_in (bare inside) (left - 1)) else 0)) one ∙ e;
         }
 
--- in front of a node, or in a run
+-- before a node, or in a run
 pub levels_stop : (slots : Slots) (f0 : Named) (left0 depth : ℕ) (child : NodeId) (left : ℕ) (node : ArenaNode) → LevelsOn slots f0 left0 depth (Some child) left →
     slot_at slots child.0 ≡ Some node → left < node.len → (0 < left → node.what ≡ what.Run) → depth ≡ levels_in (bare f0) left0
 levels_stop slots f0 left0 depth child left node w here lt stops = by_forest w.forest w.row w.answer
@@ -240,7 +240,7 @@ parting_skip slots items from span child left node w here le = by_forest w.fores
         let n = run_next slots child node h count later r here in
         record {
           forest = later;
-          row = row_behind_run slots child node h count later r here;
+          row = row_after_run slots child node h count later r here;
           pre = w.pre ++ replicate count Letter;
           rest = w.rest;
           whole = sym (run_split count (bare later) w.pre w.rest) ∙ whole;
@@ -252,7 +252,7 @@ parting_skip slots items from span child left node w here le = by_forest w.fores
         let own : List Shape = Begin kind ∷ (shapes (bare inside) ++ End kind ∷ []) in
         record {
           forest = later;
-          row = row_behind slots child node h kind inside later r here;
+          row = row_after slots child node h kind inside later r here;
           pre = w.pre ++ own;
           rest = w.rest;
           whole = sym (branch_split kind (bare inside) (bare later) w.pre w.rest) ∙ whole;
@@ -339,7 +339,7 @@ none_at_start (Branch kind inside later) =
 
 counts_at_start : (f : Forest) (span : ℕ) → span ≤ item_count f → PartCounts f 0 span
 counts_at_start f span room =
-    count-front f span 0 0 room
+    count-prefix f span 0 0 room
     ∙ (let e : 0 + levels_in f span ≡ levels_in f span = omega arith in ap (λ n. (0, n)) e)
     ∙ ap (λ n. (n, levels_in f span)) (sym (none_at_start f))
     ∙ (let e : span ≡ 0 + span = omega arith in ap (λ n. (levels_in f 0, levels_in f n)) e)
@@ -353,12 +353,12 @@ counts_across f g later left span split below past room near far =
     let cut = length-drop left (shapes g) in
     let rest : span - length (drop left (shapes g)) ≡ left + span - item_count g = omega (arith, long, cut, below, past) in
     ap (λ l. count_after (0, 0) (take span (drop left l))) split
-    ∙ ap (λ l. count_after (0, 0) (take span l)) (drop-front left (shapes g) (shapes later) (omega (arith, long, below)))
+    ∙ ap (λ l. count_after (0, 0) (take span l)) (drop-prefix left (shapes g) (shapes later) (omega (arith, long, below)))
     ∙ ap (count_after (0, 0)) (take-back span (drop left (shapes g)) (shapes later) (omega (arith, long, cut, below, past)))
     ∙ count-append (drop left (shapes g)) (take (span - length (drop left (shapes g))) (shapes later)) (0, 0)
     ∙ ap (λ n. count_after (count_after (0, 0) (drop left (shapes g))) (take n (shapes later))) rest
     ∙ ap (λ n. count_after n (take (left + span - item_count g) (shapes later))) (count-back g left 0 below)
-    ∙ count-front later (left + span - item_count g) (0 + levels_in g left) 0 (omega (arith, room, past))
+    ∙ count-prefix later (left + span - item_count g) (0 + levels_in g left) 0 (omega (arith, room, past))
     ∙ (let e : 0 + levels_in g left ≡ levels_in f left = omega (arith, near) in
     let d : 0 + levels_in later (left + span - item_count g) ≡ levels_in f (left + span) = omega (arith, far) in
     λ i. (e i, d i))
@@ -370,8 +370,8 @@ counts_in_run count later left span less =
     let cut = length-replicate (count - left) Letter in
     let near : nat_le count left ≡ false = lt-leb count left (omega (arith, less)) in
     let far : nat_le count (left + span) ≡ false = lt-leb count (left + span) (omega (arith, less)) in
-    ap (λ l. count_after (0, 0) (take span l)) (drop-front left (replicate count Letter) (shapes later) (omega (arith, long, less)) ∙ ap (λ xs. xs ++ shapes later) (drop-letters left count (omega (arith, less))))
-    ∙ ap (count_after (0, 0)) (take-front span (replicate (count - left) Letter) (shapes later) (omega (arith, cut, less)) ∙ take-letters span (count - left) (omega (arith, less)))
+    ap (λ l. count_after (0, 0) (take span l)) (drop-prefix left (replicate count Letter) (shapes later) (omega (arith, long, less)) ∙ ap (λ xs. xs ++ shapes later) (drop-letters left count (omega (arith, less))))
+    ∙ ap (count_after (0, 0)) (take-prefix span (replicate (count - left) Letter) (shapes later) (omega (arith, cut, less)) ∙ take-letters span (count - left) (omega (arith, less)))
     ∙ count-letters span 0 0
     ∙ ap (λ t. (if t then levels_in later (left - count) else 0, 0)) (sym near)
     ∙ ap (λ t. (levels_in (Run count later) left, if t then levels_in later (left + span - count) else 0)) (sym far)

@@ -159,7 +159,7 @@ pub on_before : (xs : List Shape) (s u : State) → 1 ≤ length xs → after_by
 on_before [] s u some h = absurd (omega (arith, some))
 on_before (x ∷ xs) s u some h = goes_on x xs s u h
 
--- whole nodes behind which an item stands leave the state as it is
+-- whole nodes after which an item stands leave the state as it is
 pub pass : (pre post : List Shape) (f : Forest) (s : State) → after_by start pre ≡ Ok s → after_by start (pre ++ (shapes f ++ post)) ≡ Ok finish → 1 ≤ length post →
     after_by start (pre ++ shapes f) ≡ Ok s
 pass pre post f s before whole some =
@@ -172,7 +172,7 @@ pass pre post f s before whole some =
     let same = same_state s q.0 (level f s q.0 q.1) known (told (shapes f) s q.0 known q.1) on (on_before post q.0 finish some q.2) in
     by_whole pre (shapes f) start s s before (q.1 ∙ ap Ok (sym same))
 
--- what stands at the front may be entered
+-- what stands at the prefix may be entered
 pub enters : (pre more : List Shape) (kind : Kind) (s : State) → after_by start pre ≡ Ok s → after_by start (pre ++ (Begin kind ∷ more)) ≡ Ok finish →
     (u : State) × (opened s kind ≡ Ok u)
 enters pre more kind s before whole =

@@ -115,7 +115,7 @@ is_next slots child node h sort len kids here number s =
 goes_well : (items : List PlainItem) (xs : List Shape) → Lawful items → xs ≡ map shape_of items → after_by start xs ≡ Ok finish
 goes_well items xs lawful e = ap (after_by start) e ∙ sym (after-shapes items start) ∙ after_from_Lawful items lawful
 
--- whole nodes are passed, behind which there is more
+-- whole nodes are passed, after which there is more
 record PassedOn (items : List PlainItem) (o : ℕ) (state : State) (left : ℕ) (pre post : List Shape) (g : Forest) : Type 0 where
   whole : (pre ++ shapes g) ++ post ≡ map shape_of items
   sum : length (pre ++ shapes g) + (left - item_count g) ≡ o
@@ -244,7 +244,7 @@ way_enter slots items o state child left node kind lawful w here sort lt some = 
 unvalued_state : (items : List Item) (o : ℕ) (s : State) → after start (take o (unvalued items)) ≡ Ok s → IsStateAt items o s
 unvalued_state items o s h = ap (after start) (sym (take-map (plain []) o items)) ∙ h
 
--- in front of a node
+-- before a node
 pub way_here : (slots : Slots) (items : List Item) (o : ℕ) (state : State) (next : Option NodeId) → StateWalk slots (unvalued items) o state next 0 → IsStateAt items o state
 way_here slots items o state next w =
     unvalued_state items o state (reached w.on.pre (shapes (bare w.forest) ++ w.on.rest) (unvalued items) o state w.on.whole (omega (arith, w.on.sum)) w.on.before)

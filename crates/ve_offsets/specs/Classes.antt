@@ -21,12 +21,12 @@ IsInsideLeaf items o = class_at (unvalued items) o ≡ Inside
 abbrev pub IsStructural : List Item → ℕ → Type 0
 IsStructural items o = class_at (unvalued items) o ≡ Structural
 
--- the class of the offset behind an item: behind a closing it lies in what holds the closed node, and content branches hold inline leaves alone
-abbrev pub class_behind : Item → OffsetClass
-class_behind (Char ch marks) = Content
-class_behind (Opening kind generated head marks pre origin) = class_in kind
-class_behind (Closing kind pre) = if is_inline_leaf kind then Content else Structural
+-- the class of the offset after an item: after a closing it lies in what holds the closed node, and content branches hold inline leaves alone
+abbrev pub class_after : Item → OffsetClass
+class_after (Char ch marks) = Content
+class_after (Opening kind generated head marks pre origin) = class_in kind
+class_after (Closing kind pre) = if is_inline_leaf kind then Content else Structural
 
 -- In a lawful list the item before an offset decides its class.
 abbrev pub ItemDecidesClass : Type 0
-ItemDecidesClass = (items : List Item) (m : ℕ) (x : Item) → Lawful (unvalued items) → slice_get items m ≡ Some x → class_at (unvalued items) (suc m) ≡ class_behind x
+ItemDecidesClass = (items : List Item) (m : ℕ) (x : Item) → Lawful (unvalued items) → slice_get items m ≡ Some x → class_at (unvalued items) (suc m) ≡ class_after x

@@ -8,7 +8,7 @@ use Rattle.ve_tree.specs.Links.{number_of, links_of, first_or, Row}
 use Rattle.ve_tree.specs.Named.{Named, bare, heads, Shows}
 use Rattle.ve_offsets.specs.Unmatched.{unmatched_in}
 
--- how many nodes of a forest, one inside the other, hold the offset so many items behind the forest's start
+-- how many nodes of a forest, one inside the other, hold the offset so many items after the forest's start
 abbrev pub levels_in : Forest → ℕ → ℕ
 levels_in Empty left = 0
 levels_in (Run count later) left = if nat_le count left then levels_in later (left - count) else 0

@@ -21,7 +21,7 @@ pub record IsContentBefore (items : List Item) (o away : ℕ) : Type 0 where
   pub order : away ≤ o
   pub content : IsContent items (o - away)
 
--- the offset so far behind o is one, and is content
-pub record IsContentBehind (items : List Item) (o away : ℕ) : Type 0 where
+-- the offset so far after o is one, and is content
+pub record IsContentAfter (items : List Item) (o away : ℕ) : Type 0 where
   pub within : o + away ≤ length items
   pub content : IsContent items (o + away)

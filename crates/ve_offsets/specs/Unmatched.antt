@@ -26,7 +26,7 @@ unmatched_in items from to = unmatched_after (0, 0) (take (to - from) (drop from
 abbrev pub opens_at : List Item → ℕ → List Open
 opens_at items o = opens_after [] 0 (take o (unvalued items))
 
--- all of them begin at a place or behind it
+-- all of them begin at a place or after it
 abbrev pub AllBegin : ℕ → List Open → Type 0
 AllBegin from [] = Unit {0}
 AllBegin from (o ∷ opens) = (from ≤ o.from) × AllBegin from opens

@@ -22,7 +22,7 @@ fn class_in(kind: Kind) -> OffsetClass
     }
 }
 
-/// The class of an offset. The item before it decides it: behind a closing the offset lies in what holds the closed node, which is a content branch
+/// The class of an offset. The item before it decides it: after a closing the offset lies in what holds the closed node, which is a content branch
 /// for an inline leaf alone.
 fn class_at(doc: Doc<'_>, o: usize) -> OffsetClass
     requires tree { IsTree doc.tree.now.arena doc.tree.now.root (unvalued doc.list.now.items) }

@@ -1,7 +1,7 @@
 // The nearest content offset.
 ghost use Rattle.std.specs.Prelude.{◌≡◌, ◌≤◌, ◌↔◌, IsTrue, IfSome, IfNone, length};
 ghost use Rattle.ve_tree.specs.IsTree.{IsTree, unvalued};
-ghost use Rattle.ve_offsets.specs.Nearest.{IsNearestContent, HasNoContent, IsContentBefore, IsContentBehind};
+ghost use Rattle.ve_offsets.specs.Nearest.{IsNearestContent, HasNoContent, IsContentBefore, IsContentAfter};
 
 use crate::Doc;
 use crate::class::is_content;
@@ -18,11 +18,11 @@ fn is_content_before(doc: Doc<'_>, o: usize, away: usize) -> bool
     is_content(doc, o - away)
 }
 
-/// Whether the offset `away` items behind this one is content.
-fn is_content_behind(doc: Doc<'_>, o: usize, away: usize) -> bool
+/// Whether the offset `away` items after this one is content.
+fn is_content_after(doc: Doc<'_>, o: usize, away: usize) -> bool
     requires tree { IsTree doc.tree.now.arena doc.tree.now.root (unvalued doc.list.now.items) }
     requires within { o ≤ length doc.list.now.items }
-    ensures { IsTrue result ↔ IsContentBehind doc.entry.list.now.items o away }
+    ensures { IsTrue result ↔ IsContentAfter doc.entry.list.now.items o away }
 {
     if doc.list.len() - o < away {
         return false;
@@ -43,7 +43,7 @@ pub fn nearest_content(doc: Doc<'_>, o: usize) -> Option<usize>
         if is_content_before(doc, o, away) {
             return Some(o - away);
         }
-        if is_content_behind(doc, o, away) {
+        if is_content_after(doc, o, away) {
             return Some(o + away);
         }
         if away == len {

@@ -8,7 +8,7 @@ ghost use Rattle.ve_offsets.specs.Unmatched.{unmatched_in, UnmatchedAreOpen};
 use crate::Doc;
 use ve_tree::{Arena, NodeId, NodeWhat};
 
-/// A place in a row of siblings: so many items behind the start of one.
+/// A place in a row of siblings: so many items after the start of one.
 #[derive(Clone, Copy)]
 struct InRow {
     next: Option<NodeId>,

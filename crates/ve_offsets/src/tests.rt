@@ -51,14 +51,14 @@ fn class_of(doc: Doc<'_>, o: usize) -> Option<OffsetClass>
     }
 }
 
-/// What is asked of an offset: its class, the nearest content offset, how many nodes are open, and the unmatched brackets before and behind it.
+/// What is asked of an offset: its class, the nearest content offset, how many nodes are open, and the unmatched brackets before and after it.
 #[derive(Clone, Copy, Debug, PartialEq, Eq)]
 struct Offset {
     class: Option<OffsetClass>,
     nearest: Option<usize>,
     depth: usize,
     before: (usize, usize),
-    behind: (usize, usize),
+    suffix: (usize, usize),
 }
 
 /// All offsets of a page.
@@ -86,7 +86,7 @@ fn offsets_of<L: Ledger>(rt: &HostRuntime, blank: Blank, page: &[Item]) -> Resul
             nearest: nearest_content(doc, o),
             depth: state_at(doc, o).depth(),
             before: unmatched(doc, 0, o),
-            behind: unmatched(doc, o, list.len()),
+            suffix: unmatched(doc, o, list.len()),
         })?;
     }
     Ok(offsets)
@@ -94,7 +94,7 @@ fn offsets_of<L: Ledger>(rt: &HostRuntime, blank: Blank, page: &[Item]) -> Resul
 
 #[test]
 fn every_kind_has_its_class(rt: HostRuntime) -> Result<(), Fail> {
-    // each item of a page with the class of the offset behind it
+    // each item of a page with the class of the offset after it
     let page = [
         (opening(Kind::Section), Structural),
         (opening(Kind::H1), Content),
@@ -175,7 +175,7 @@ fn every_kind_has_its_class(rt: HostRuntime) -> Result<(), Fail> {
     }
     let offsets = offsets_of::<Brand>(&rt, Blank::new(1), items.as_slice())?;
     assert_eq!(rt; offsets.len(), page.len() + 1);
-    let mut expected = Structural; // in front of the page
+    let mut expected = Structural; // before the page
     for (o, offset) in offsets.iter().enumerate() {
         assert_eq!(rt; offset.class, Some(expected), "offset {o}");
         if o < page.len() {
@@ -222,7 +222,7 @@ fn offsets_lie_in_these_nodes(rt: HostRuntime) -> Result<(), Fail> {
         assert_eq!(rt; offset.nearest, Some(nearest));
         assert_eq!(rt; offset.depth, depth);
         assert_eq!(rt; offset.before, (0, depth));
-        assert_eq!(rt; offset.behind, (depth, 0));
+        assert_eq!(rt; offset.suffix, (depth, 0));
     }
     let empty = [opening(Kind::InternalList), closing(Kind::InternalList)];
     for offset in offsets_of::<Brand>(&rt, Blank::new(1), &empty)?.iter() {

@@ -5,12 +5,12 @@ use Rattle.ve_run.specs.Lines.{lines_of, onto_first, joined, last_line, newline,
 other_byte : {A : Type 0} (b : ℕ) (x y : A) → b ≢ 10 → (if b == 10 then x else y) ≡ y
 other_byte b x y h = grind arith
 
--- a line at the front
+-- a line at the prefix
 pub lines_of-line : (line bs : List ℕ) → IsLine line → lines_of (line ++ (10 ∷ bs)) ≡ line ∷ lines_of bs
 lines_of-line [] bs h = refl
 lines_of-line (b ∷ line) bs h = other_byte b _ _ h.0 ∙ ap (onto_first b) (lines_of-line line bs h.1)
 
--- whole lines at the front
+-- whole lines at the prefix
 pub lines_of-joined : (lines : List (List ℕ)) (bs : List ℕ) → AreLines lines → lines_of (joined lines ++ bs) ≡ lines ++ lines_of bs
 lines_of-joined [] bs h = refl
 lines_of-joined (line ∷ lines) bs h =

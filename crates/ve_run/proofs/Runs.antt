@@ -4,7 +4,7 @@ use Rattle.std.specs.Io.KnownBytes.{Appends}
 use Rattle.std.proofs.KnownBytes.{Appends-nil, Appends-trans}
 use Rattle.ve_run.specs.Lines.{lines_of, joined, newline, IsLine, AreLines}
 use Rattle.ve_run.specs.Output.{Meaning, reply_line, replies, state_after, cost_of, output}
-use Rattle.ve_run.specs.Run.{Scene, AppendsFront, Stepped, Answers, Answered, IsNextLine, BrokeOff, GaveUp}
+use Rattle.ve_run.specs.Run.{Scene, AppendsPrefix, Stepped, Answers, Answered, IsNextLine, BrokeOff, GaveUp}
 use Rattle.ve_run.proofs.Lines.{lines_of-joined, lines_of-line, lines_of-rest, lines_of-cut, last_line-some, AreLines-append, IsLine-append, IsCut-line, IsCut-bytes, IsCut-more, parts-more}
 
 pub replies-append : {W : Type 0} (m : Meaning W) (w : W) (ls ms : List (List ℕ)) → replies m w (ls ++ ms) ≡ replies m w ls ++ replies m (state_after m w ls) ms
@@ -71,7 +71,7 @@ Answered-more m a b c script kept piece rest h k = record {
 
 -- in the reply to a line that a newline ends
 pub BrokeOff-line : {W : Type 0} (m : Meaning W) (a b c : Scene W) (script kept end more all : List ℕ) (P : Type 0) → Answered m a b script kept → all ≡ script ++ (end ++ newline ∷ more) → IsLine end
-    → Stepped m b c (kept ++ end) → AppendsFront b.held c.held (reply_line (m.reply b.world (kept ++ end))) → BrokeOff m a c all P
+    → Stepped m b c (kept ++ end) → AppendsPrefix b.held c.held (reply_line (m.reply b.world (kept ++ end))) → BrokeOff m a c all P
 BrokeOff-line m a b c script kept end more all P h e k s w = record {
   lines = h.whole;
   line = kept ++ end;
@@ -89,7 +89,7 @@ BrokeOff-line m a b c script kept end more all P h e k s w = record {
 
 -- in the reply to the last line, which no newline ends
 pub BrokeOff-last : {W : Type 0} (m : Meaning W) (a b c : Scene W) (script line : List ℕ) (P : Type 0) → Answered m a b script line → 0 < length line → P
-    → Stepped m b c line → AppendsFront b.held c.held (reply_line (m.reply b.world line)) → BrokeOff m a c script P
+    → Stepped m b c line → AppendsPrefix b.held c.held (reply_line (m.reply b.world line)) → BrokeOff m a c script P
 BrokeOff-last m a b c script line P h some end s w = record {
   lines = h.whole;
   line = line;
@@ -159,45 +159,45 @@ Answers-last m a b c script line h some s w =
 pub Answers-whole : {W : Type 0} (m : Meaning W) (a b : Scene W) (script : List ℕ) → Answered m a b script [] → Answers m a b (lines_of script)
 Answers-whole m a b script h = subst (Answers m a b) (sym (append-nil h.whole) ∙ sym (lines_of-cut script h.whole [] h.cut)) h.answers
 
--- ---- a front of the output was written
+-- ---- a prefix of the output was written
 
-pub AppendsFront-whole : (old new : Option (List ℕ)) (all : List ℕ) → Appends old new all → AppendsFront old new all
-AppendsFront-whole old new all h = (all, [], sym (append-nil all), h)
+pub AppendsPrefix-whole : (old new : Option (List ℕ)) (all : List ℕ) → Appends old new all → AppendsPrefix old new all
+AppendsPrefix-whole old new all h = (all, [], sym (append-nil all), h)
 
 -- the replies to the lines, and then what was written of those to the rest
-front_of : {W : Type 0} (m : Meaning W) (w : W) (script : List ℕ) (lines : List (List ℕ)) (more front behind : List ℕ) → script ≡ joined lines ++ more → AreLines lines
-    → replies m (state_after m w lines) (lines_of more) ≡ front ++ behind → output m w script ≡ (replies m w lines ++ front) ++ behind
-front_of m w script lines more front behind e h k =
+prefix_of : {W : Type 0} (m : Meaning W) (w : W) (script : List ℕ) (lines : List (List ℕ)) (more prefix suffix : List ℕ) → script ≡ joined lines ++ more → AreLines lines
+    → replies m (state_after m w lines) (lines_of more) ≡ prefix ++ suffix → output m w script ≡ (replies m w lines ++ prefix) ++ suffix
+prefix_of m w script lines more prefix suffix e h k =
     ap (replies m w) (ap lines_of e ∙ lines_of-joined lines more h) ∙ replies-append m w lines (lines_of more)
-    ∙ ap (λ s. replies m w lines ++ s) k ∙ sym (append_assoc (replies m w lines) front behind)
+    ∙ ap (λ s. replies m w lines ++ s) k ∙ sym (append_assoc (replies m w lines) prefix suffix)
 
-pub AppendsFront-gave_up : {W : Type 0} (m : Meaning W) (a b : Scene W) (script : List ℕ) → GaveUp m a b script → AppendsFront a.held b.held (output m a.world script)
-AppendsFront-gave_up m a b script h = (
+pub AppendsPrefix-gave_up : {W : Type 0} (m : Meaning W) (a b : Scene W) (script : List ℕ) → GaveUp m a b script → AppendsPrefix a.held b.held (output m a.world script)
+AppendsPrefix-gave_up m a b script h = (
   replies m a.world h.lines ++ [],
   replies m (state_after m a.world h.lines) (lines_of h.more),
-  front_of m a.world script h.lines h.more [] (replies m (state_after m a.world h.lines) (lines_of h.more)) h.parts h.whole refl,
+  prefix_of m a.world script h.lines h.more [] (replies m (state_after m a.world h.lines) (lines_of h.more)) h.parts h.whole refl,
   subst (Appends a.held b.held) (sym (append-nil (replies m a.world h.lines))) h.written,
 )
 
-pub AppendsFront-answered : {W : Type 0} (m : Meaning W) (a b : Scene W) (script rest : List ℕ) → Answered m a b script rest → AppendsFront a.held b.held (output m a.world script)
-AppendsFront-answered m a b script rest h =
-    AppendsFront-gave_up m a b script (record { lines = h.whole; more = rest; parts = h.cut.parts; whole = h.cut.lines; written = h.answers.written })
+pub AppendsPrefix-answered : {W : Type 0} (m : Meaning W) (a b : Scene W) (script rest : List ℕ) → Answered m a b script rest → AppendsPrefix a.held b.held (output m a.world script)
+AppendsPrefix-answered m a b script rest h =
+    AppendsPrefix-gave_up m a b script (record { lines = h.whole; more = rest; parts = h.cut.parts; whole = h.cut.lines; written = h.answers.written })
 
 -- the lines of what follows begin with the next one
 lines_of-next : (line more : List ℕ) (P : Type 0) → IsLine line → IsNextLine line more P → (later : List (List ℕ)) × (lines_of more ≡ line ∷ later)
 lines_of-next line more P h (inl x) = (lines_of x.0, ap lines_of x.1 ∙ lines_of-line line x.0 h)
 lines_of-next line more P h (inr x) = ([], ap lines_of x.2 ∙ lines_of-rest line h ∙ last_line-some line x.1)
 
-pub AppendsFront-broke_off : {W : Type 0} (m : Meaning W) (a b : Scene W) (script : List ℕ) (P : Type 0) → BrokeOff m a b script P → AppendsFront a.held b.held (output m a.world script)
-AppendsFront-broke_off m a b script P h =
+pub AppendsPrefix-broke_off : {W : Type 0} (m : Meaning W) (a b : Scene W) (script : List ℕ) (P : Type 0) → BrokeOff m a b script P → AppendsPrefix a.held b.held (output m a.world script)
+AppendsPrefix-broke_off m a b script P h =
     let (later, next) = lines_of-next h.line h.more P h.is_line h.comes in
-    let (front, behind, reply, written) = h.written in
+    let (prefix, suffix, reply, written) = h.written in
     let turn = h.turn in
     let at_turn = state_after m a.world h.lines in
     let rest = replies m (m.next at_turn h.line) later in (
-      replies m a.world h.lines ++ front,
-      behind ++ rest,
-      front_of m a.world script h.lines h.more front (behind ++ rest) h.parts h.whole
-          (ap (replies m at_turn) next ∙ ap (λ w. reply_line (m.reply w h.line) ++ rest) (sym h.answers.state) ∙ ap (λ s. s ++ rest) reply ∙ append_assoc front behind rest),
-      Appends-trans a.held turn.held b.held (replies m a.world h.lines) front h.answers.written written,
+      replies m a.world h.lines ++ prefix,
+      suffix ++ rest,
+      prefix_of m a.world script h.lines h.more prefix (suffix ++ rest) h.parts h.whole
+          (ap (replies m at_turn) next ∙ ap (λ w. reply_line (m.reply w h.line) ++ rest) (sym h.answers.state) ∙ ap (λ s. s ++ rest) reply ∙ append_assoc prefix suffix rest),
+      Appends-trans a.held turn.held b.held (replies m a.world h.lines) prefix h.answers.written written,
     )

@@ -20,9 +20,9 @@ pub record Scene (W : Type 0) : Type 0 where
 abbrev pub scene : {W : Type 0} → W → ℕ → Option (List ℕ) → Scene W
 scene world steps held = record { world = world; steps = steps; held = held }
 
--- Some of these bytes, from the front, were appended.
-abbrev pub AppendsFront : Option (List ℕ) → Option (List ℕ) → List ℕ → Type 0
-AppendsFront old new all = (front : List ℕ) × (behind : List ℕ) × (all ≡ front ++ behind) × Appends old new front
+-- Some of these bytes, from the prefix, were appended.
+abbrev pub AppendsPrefix : Option (List ℕ) → Option (List ℕ) → List ℕ → Type 0
+AppendsPrefix old new all = (prefix : List ℕ) × (suffix : List ℕ) × (all ≡ prefix ++ suffix) × Appends old new prefix
 
 -- The machine took a line.
 pub record Stepped {W : Type 0} (m : Meaning W) (before after : Scene W) (line : List ℕ) : Type 0 where
@@ -45,7 +45,7 @@ pub record Answered {W : Type 0} (m : Meaning W) (before after : Scene W) (scrip
 abbrev pub IsNextLine : List ℕ → List ℕ → Type 0 → Type 0
 IsNextLine line more is_end = ((later : List ℕ) × (more ≡ line ++ newline ∷ later)) ⊎ (is_end × (0 < length line) × (more ≡ line))
 
--- A write failed within the reply to `line`: the lines before it were answered, the machine took it, and a front of its reply was written.
+-- A write failed within the reply to `line`: the lines before it were answered, the machine took it, and a prefix of its reply was written.
 pub record BrokeOff {W : Type 0} (m : Meaning W) (before after : Scene W) (script : List ℕ) (is_end : Type 0) : Type 0 where
   pub lines : List (List ℕ)
   pub line : List ℕ
@@ -58,7 +58,7 @@ pub record BrokeOff {W : Type 0} (m : Meaning W) (before after : Scene W) (scrip
   pub turn : Scene W
   pub answers : Answers m before turn lines
   pub stepped : Stepped m turn after line
-  pub written : AppendsFront turn.held after.held (reply_line (m.reply turn.world line))
+  pub written : AppendsPrefix turn.held after.held (reply_line (m.reply turn.world line))
 
 -- It had no memory to go on: the replies to some lines from the first on were written, whole, and nothing else.
 pub record GaveUp {W : Type 0} (m : Meaning W) (before after : Scene W) (script : List ℕ) : Type 0 where
@@ -102,9 +102,9 @@ pub record Starved {W : Type 0} (m : Meaning W) (left_before left : Option (List
   pub took : Took left_before left script extra
   pub gave_up : GaveUp m before after script
 
--- However it ended, a front of the output of the bytes taken was written.
-pub record WroteFront {W : Type 0} (m : Meaning W) (left_before left : Option (List ℕ)) (before after : Scene W) : Type 0 where
+-- However it ended, a prefix of the output of the bytes taken was written.
+pub record WrotePrefix {W : Type 0} (m : Meaning W) (left_before left : Option (List ℕ)) (before after : Scene W) : Type 0 where
   pub script : List ℕ
   pub extra : List ℕ
   pub took : Took left_before left script extra
-  pub written : AppendsFront before.held after.held (output m before.world script)
+  pub written : AppendsPrefix before.held after.held (output m before.world script)

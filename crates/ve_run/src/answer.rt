@@ -3,7 +3,7 @@ ghost use Rattle.std.specs.Prelude.{◌≡◌, ◌≤◌, ◌⊎◌, OnOk, OnErr
 ghost use Rattle.std.specs.Io.KnownBytes.{Appends};
 ghost use Rattle.ve_base.specs.Outside.{HasCause, Rose};
 ghost use Rattle.ve_run.specs.Output.{meaning, reply_line};
-ghost use Rattle.ve_run.specs.Run.{scene, AppendsFront, Stepped};
+ghost use Rattle.ve_run.specs.Run.{scene, AppendsPrefix, Stepped};
 
 use crate::Machine;
 use crate::stop::Stop;
@@ -12,10 +12,10 @@ use std::sync::ledger::Ledger;
 use ve_base::{Bytes, Failed, Memory, Sink, Steps};
 use ve_json::{Reply, reply_text};
 
-/// Writes a whole piece. At an `Err` a front of it was written.
+/// Writes a whole piece. At an `Err` a prefix of it was written.
 pub fn write_all<K: Sink>(sink: &mut K, piece: &[u8]) -> Result<(), Failed>
     ensures ok { OnOk result (Appends (K.held sink.old) (K.held sink.new) piece.now) }
-    ensures err { OnErr result (AppendsFront (K.held sink.old) (K.held sink.new) piece.now) }
+    ensures err { OnErr result (AppendsPrefix (K.held sink.old) (K.held sink.new) piece.now) }
     ensures cause { HasCause (K.faults sink.old) (K.faults sink.new) result }
 {
     let mut rest = piece;
@@ -48,7 +48,7 @@ pub fn answer<K: Sink, M: Machine, L: Ledger>(
     ensures written { OnOk result (Appends (K.held sink.old) (K.held sink.new) (reply_line (M.reply world.old line.now))) }
     ensures stepped_at_fault { IsErrOf result Stop.WriteFault → Stepped (meaning M.reply M.next M.cost)
         (scene world.old steps.old (K.held sink.old)) (scene world.new steps.new (K.held sink.new)) line.now }
-    ensures front { IsErrOf result Stop.WriteFault → AppendsFront (K.held sink.old) (K.held sink.new) (reply_line (M.reply world.old line.now)) }
+    ensures prefix { IsErrOf result Stop.WriteFault → AppendsPrefix (K.held sink.old) (K.held sink.new) (reply_line (M.reply world.old line.now)) }
     ensures rose { IsErrOf result Stop.WriteFault → Rose (K.faults sink.old) (K.faults sink.new) }
     ensures starved { IsErrOf result Stop.Memory → K.held sink.new ≡ K.held sink.old }
     ensures sink_alone { IsErrOf result Stop.ReadFault ⊎ IsErrOf result Stop.InputTooLong → ⊥ }

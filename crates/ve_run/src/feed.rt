@@ -4,7 +4,7 @@ ghost use Rattle.std.specs.Io.KnownBytes.{Appends};
 ghost use Rattle.ve_base.specs.Outside.{Rose};
 ghost use Rattle.ve_run.specs.Lines.{IsLine, newline};
 ghost use Rattle.ve_run.specs.Output.{meaning, reply_line};
-ghost use Rattle.ve_run.specs.Run.{scene, AppendsFront, Stepped, Answered, BrokeOff, GaveUp};
+ghost use Rattle.ve_run.specs.Run.{scene, AppendsPrefix, Stepped, Answered, BrokeOff, GaveUp};
 
 use crate::Machine;
 use crate::answer::answer;
@@ -44,7 +44,7 @@ fn end_line<K: Sink, M: Machine, L: Ledger>(
     ensures nothing { OnOk result (kept.new ≡ []) }
     ensures stepped_at_fault { IsErrOf result Stop.WriteFault → Stepped (meaning M.reply M.next M.cost)
         (scene world.old steps.old (K.held sink.old)) (scene world.new steps.new (K.held sink.new)) (kept.old ++ end.now) }
-    ensures front { IsErrOf result Stop.WriteFault → AppendsFront (K.held sink.old) (K.held sink.new) (reply_line (M.reply world.old (kept.old ++ end.now))) }
+    ensures prefix { IsErrOf result Stop.WriteFault → AppendsPrefix (K.held sink.old) (K.held sink.new) (reply_line (M.reply world.old (kept.old ++ end.now))) }
     ensures rose { IsErrOf result Stop.WriteFault → Rose (K.faults sink.old) (K.faults sink.new) }
     ensures starved { IsErrOf result Stop.Memory → K.held sink.new ≡ K.held sink.old }
     ensures sink_alone { IsErrOf result Stop.ReadFault ⊎ IsErrOf result Stop.InputTooLong → ⊥ }

@@ -19,7 +19,7 @@ const MAX_SCRIPT: usize = 67_108_864;
 /// How many bytes are asked for at once.
 const ROOM: usize = 4096;
 
-/// Reads at most so many bytes to the front of the buffer.
+/// Reads at most so many bytes to the prefix of the buffer.
 fn read_at_most<S: Source>(source: &mut S, buffer: &mut [u8], most: usize) -> Result<usize, Failed>
     requires room { 0 < length buffer.old }
     requires some { 0 < most }

@@ -13,11 +13,11 @@ pub enum Status {
     Usage,
     /// The source failed. The replies to all lines ended before it were written.
     ReadFault,
-    /// The sink failed. What was written is a front of the output.
+    /// The sink failed. What was written is a prefix of the output.
     WriteFault,
     /// The script is longer than 2^26 bytes. The replies to all lines that end within these were written.
     InputTooLong,
-    /// Memory was wanting. What was written is a front of the output.
+    /// Memory was wanting. What was written is a prefix of the output.
     Memory,
     /// Help was asked for, and the usage line was written.
     Help,

@@ -4,7 +4,7 @@ ghost use Rattle.std.specs.Io.KnownBytes.{Appends};
 ghost use Rattle.ve_base.specs.Outside.{Rose};
 ghost use Rattle.ve_run.specs.Lines.{lines_of};
 ghost use Rattle.ve_run.specs.Output.{meaning, output, state_after};
-ghost use Rattle.ve_run.specs.Run.{scene, max_script, AppendsFront, Ran, Stopped, Broke, Starved, WroteFront};
+ghost use Rattle.ve_run.specs.Run.{scene, max_script, AppendsPrefix, Ran, Stopped, Broke, Starved, WrotePrefix};
 ghost use Rattle.ve_run.specs.Status.{IsRun, usage_line};
 
 use crate::answer::write_all;
@@ -61,14 +61,14 @@ pub fn run<S: Source, K: Sink, M: Machine, L: Ledger>(
     ensures memory { result ≡ Status.Memory → IsRun words.now
         × Starved (meaning M.reply M.next M.cost) (S.left source.old) (S.left source.new)
         (scene world.old steps.old (K.held sink.old)) (scene world.new steps.new (K.held sink.new)) }
-    // At every status what was written is a front of the output of the bytes taken.
-    ensures front { IsRun words.now → WroteFront (meaning M.reply M.next M.cost) (S.left source.old) (S.left source.new)
+    // At every status what was written is a prefix of the output of the bytes taken.
+    ensures prefix { IsRun words.now → WrotePrefix (meaning M.reply M.next M.cost) (S.left source.old) (S.left source.new)
         (scene world.old steps.old (K.held sink.old)) (scene world.new steps.new (K.held sink.new)) }
 
     ensures usage { result ≡ Status.Usage → (IsRun words.now → ⊥) × Appends (K.held sink.old) (K.held sink.new) usage_line }
     ensures other_words { (IsRun words.now → ⊥) → (result ≡ Status.Usage) ⊎ (result ≡ Status.WriteFault) }
     ensures untouched { (IsRun words.now → ⊥) → (source.new ≡ source.old) × (world.new ≡ world.old) × (steps.new ≡ steps.old)
-        × AppendsFront (K.held sink.old) (K.held sink.new) usage_line }
+        × AppendsPrefix (K.held sink.old) (K.held sink.new) usage_line }
     ensures no_help { result ≡ Status.Help → ⊥ }
 
     // It doesn't give up by itself.

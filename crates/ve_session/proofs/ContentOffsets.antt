@@ -11,7 +11,7 @@ use Rattle.ve_session.specs.Plain.{opening, closing, character, characters, para
 use Rattle.ve_session.specs.World.{is_bracket, last_bracket, opens_content}
 use Rattle.ve_session.specs.Laws.{offset_after, TypesIntoParagraph, ContentIsInParagraphs}
 use Rattle.ve_session.proofs.Paragraphs.{items, and_left, and_right}
-use Rattle.ve_session.proofs.Fronts.{is_content-by}
+use Rattle.ve_session.proofs.Prefixes.{is_content-by}
 
 -- ---- the last bracket of a list
 
@@ -29,40 +29,40 @@ last_bracket-before xs text = last_bracket-append xs (characters text) ∙ ap (�
 
 -- ---- a page's items, cut within a paragraph
 
-front : List (List ℕ) → List ℕ → List Item
-front before left = items before ++ (opening P ∷ characters left)
+prefix : List (List ℕ) → List ℕ → List Item
+prefix before left = items before ++ (opening P ∷ characters left)
 
-behind : List ℕ → List (List ℕ) → List Item
-behind right after = characters right ++ (closing P ∷ (items after ++ internal_list))
+suffix : List ℕ → List (List ℕ) → List Item
+suffix right after = characters right ++ (closing P ∷ (items after ++ internal_list))
 
 regroup : (b l r a i : List Item) (o c : Item) → (b ++ (o ∷ ((l ++ r) ++ c ∷ []) ++ a)) ++ i ≡ (b ++ (o ∷ l)) ++ (r ++ (c ∷ (a ++ i)))
 regroup b l r a i o c = simp append_assoc
 
-cut : (before after : List (List ℕ)) (left right : List ℕ) → items_of (before ++ (left ++ right) ∷ after) ≡ front before left ++ behind right after
-unfolding front behind
+cut : (before after : List (List ℕ)) (left right : List ℕ) → items_of (before ++ (left ++ right) ∷ after) ≡ prefix before left ++ suffix right after
+unfolding prefix suffix
 cut before after left right =
     ap (λ is. is ++ internal_list) (flat_map-append paragraph_items before ((left ++ right) ∷ after))
     ∙ ap (λ is. (items before ++ (opening P ∷ (is ++ closing P ∷ []) ++ items after)) ++ internal_list) (map-append character left right)
     ∙ regroup (items before) (characters left) (characters right) (items after) internal_list (opening P) (closing P)
 
-length-front : (before : List (List ℕ)) (left : List ℕ) → offset_after before left ≡ length (front before left)
-unfolding front
-length-front before left =
+length-prefix : (before : List (List ℕ)) (left : List ℕ) → offset_after before left ≡ length (prefix before left)
+unfolding prefix
+length-prefix before left =
     let n = length-append (items before) (opening P ∷ characters left) in
     let m = length-map left character in
     omega arith
 
-content : (before : List (List ℕ)) (left : List ℕ) → last_bracket (front before left) ≡ Some (opening P)
-unfolding front
+content : (before : List (List ℕ)) (left : List ℕ) → last_bracket (prefix before left) ≡ Some (opening P)
+unfolding prefix
 content before left =
     ap last_bracket (sym (append_assoc (items before) (opening P ∷ []) (characters left)))
     ∙ last_bracket-before (items before ++ opening P ∷ []) left
     ∙ last_bracket-append (items before) (opening P ∷ [])
 
-within_front : (xs ys : List Item) (n : ℕ) → n ≡ length xs → n ≤ length (xs ++ ys)
-within_front xs ys n h = let l = length-append xs ys in omega arith
+within_prefix : (xs ys : List Item) (n : ℕ) → n ≡ length xs → n ≤ length (xs ++ ys)
+within_prefix xs ys n h = let l = length-append xs ys in omega arith
 
--- what stands before and after the end of a front
+-- what stands before and after the end of a prefix
 taken : (xs ys all : List Item) (n : ℕ) → n ≡ length xs → all ≡ xs ++ ys → take n all ≡ xs
 taken xs ys all n h e = ap (λ m. take m all) h ∙ ap (take (length xs)) e ∙ take-append_seam xs ys
 
@@ -72,33 +72,33 @@ dropped xs ys all n h e = ap (λ m. drop m all) h ∙ ap (drop (length xs)) e �
 no_more : (n : ℕ) → n + 0 ≡ n
 no_more n = omega arith
 
-joined : (left text right : List ℕ) (after : List (List ℕ)) (before : List (List ℕ)) → front before left ++ (characters text ++ behind right after) ≡ front before (left ++ text) ++ behind right after
-unfolding front
+joined : (left text right : List ℕ) (after : List (List ℕ)) (before : List (List ℕ)) → prefix before left ++ (characters text ++ suffix right after) ≡ prefix before (left ++ text) ++ suffix right after
+unfolding prefix
 joined left text right after before =
-    sym (append_assoc (front before left) (characters text) (behind right after))
-    ∙ ap (λ is. is ++ behind right after) (append_assoc (items before) (opening P ∷ characters left) (characters text) ∙ ap (λ is. items before ++ (opening P ∷ is)) (sym (map-append character left text)))
+    sym (append_assoc (prefix before left) (characters text) (suffix right after))
+    ∙ ap (λ is. is ++ suffix right after) (append_assoc (items before) (opening P ∷ characters left) (characters text) ∙ ap (λ is. items before ++ (opening P ∷ is)) (sym (map-append character left text)))
 
 pub types_into_paragraph : TypesIntoParagraph
 types_into_paragraph before after left right text =
     let all = items_of (before ++ (left ++ right) ∷ after) in
     let at = offset_after before left in
     let e = cut before after left right in
-    let n = length-front before left in (
-      is_content-by all at (Some (opening P)) (subst (λ is. at ≤ length is) (sym e) (within_front (front before left) (behind right after) at n))
-          (ap last_bracket (taken (front before left) (behind right after) all at n e) ∙ content before left),
-      ap (λ is. (is ++ characters text) ++ drop (at + 0) all) (taken (front before left) (behind right after) all at n e)
-          ∙ ap (λ m. (front before left ++ characters text) ++ drop m all) (no_more at)
-          ∙ ap (λ is. (front before left ++ characters text) ++ is) (dropped (front before left) (behind right after) all at n e)
-          ∙ append_assoc (front before left) (characters text) (behind right after)
+    let n = length-prefix before left in (
+      is_content-by all at (Some (opening P)) (subst (λ is. at ≤ length is) (sym e) (within_prefix (prefix before left) (suffix right after) at n))
+          (ap last_bracket (taken (prefix before left) (suffix right after) all at n e) ∙ content before left),
+      ap (λ is. (is ++ characters text) ++ drop (at + 0) all) (taken (prefix before left) (suffix right after) all at n e)
+          ∙ ap (λ m. (prefix before left ++ characters text) ++ drop m all) (no_more at)
+          ∙ ap (λ is. (prefix before left ++ characters text) ++ is) (dropped (prefix before left) (suffix right after) all at n e)
+          ∙ append_assoc (prefix before left) (characters text) (suffix right after)
           ∙ joined left text right after before
           ∙ sym (cut before after (left ++ text) right),
     )
 
 -- ---- every content offset is such a cut
 
-bracket_behind : (o : Option Item) → opens_content (option_or o (Some (closing P))) ≡ true → opens_content o ≡ true
-bracket_behind None h = cc h
-bracket_behind (Some item) h = h
+bracket_after : (o : Option Item) → opens_content (option_or o (Some (closing P))) ≡ true → opens_content o ≡ true
+bracket_after None h = cc h
+bracket_after (Some item) h = h
 
 one_page : (text : List ℕ) (ps : List (List ℕ)) → items_of (text ∷ ps) ≡ opening P ∷ (characters text ++ (closing P ∷ items_of ps))
 one_page text ps = simp append_assoc
@@ -142,7 +142,7 @@ length-page text ps = ap length (append_assoc (paragraph_items text) (items ps) 
 -- what the last bracket after a paragraph says
 passed : (text : List ℕ) (ps : List (List ℕ)) (n m : ℕ) → n ≡ length text + suc m → opens_content (last_bracket (take (suc n) (items_of (text ∷ ps)))) ≡ true → opens_content (last_bracket (take m (items_of ps))) ≡ true
 passed text ps n m e k =
-    bracket_behind (last_bracket (take m (items_of ps)))
+    bracket_after (last_bracket (take m (items_of ps)))
     (subst (λ o. opens_content o ≡ true)
     (ap (λ is. last_bracket (take (suc n) is)) (one_page text ps)
     ∙ ap (λ q. last_bracket (take (suc q) (opening P ∷ (characters text ++ (closing P ∷ items_of ps))))) e

@@ -1,5 +1,5 @@
 pub mod Literals
-pub mod Fronts
+pub mod Prefixes
 pub mod Refused
 pub mod Paragraphs
 pub mod PageLaws

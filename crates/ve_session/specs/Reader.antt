@@ -17,7 +17,7 @@ step EndLess ch = if ch == 47 then Some (EndSlash, None) else None
 step EndSlash ch = if ch == 112 then Some (EndName, None) else None
 step EndName ch = if ch == 62 then Some (Between, Some (closing P)) else None
 
--- a list's front
+-- a list's prefix
 abbrev pub put : Option Item → List Item → List Item
 put None items = items
 put (Some item) items = item ∷ items

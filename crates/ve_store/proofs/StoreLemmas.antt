@@ -44,8 +44,8 @@ there_holds (x ∷ xs) zero v h =
     ap (λ b. b || holds xs v) (subst P (sym same) (Means-value_same.itself v))
 there_holds (x ∷ xs) (suc at) v h = or_later (value_same v x) (holds xs v) (there_holds xs at v h)
 
-not_behind : (x : Value) (xs : List Value) → IsDistinct value_same (x ∷ xs) → (at : ℕ) (v : Value) → ◌≡◌ {A = Option Value} (Some x) (Some v) → slice_get xs at ≡ Some v → ⊥
-not_behind x xs d at v first later =
+not_after : (x : Value) (xs : List Value) → IsDistinct value_same (x ∷ xs) → (at : ℕ) (v : Value) → ◌≡◌ {A = Option Value} (Some x) (Some v) → slice_get xs at ≡ Some v → ⊥
+not_after x xs d at v first later =
     let same : x ≡ v = cc in
     let P : Value → Type 0 = λ y. holds xs y ≡ false in
     true≢false (sym (there_holds xs at v later) ∙ subst P same (none_holds x xs (IsDistinct-head value_same x xs d)))
@@ -53,8 +53,8 @@ not_behind x xs d at v first later =
 pub are_distinct : (values : List Value) → IsDistinct value_same values → AreDistinct values
 are_distinct [] d i j v p q = cc
 are_distinct (x ∷ xs) d zero zero v p q = refl
-are_distinct (x ∷ xs) d zero (suc j) v p q = absurd (not_behind x xs d j v p q)
-are_distinct (x ∷ xs) d (suc i) zero v p q = absurd (not_behind x xs d i v q p)
+are_distinct (x ∷ xs) d zero (suc j) v p q = absurd (not_after x xs d j v p q)
+are_distinct (x ∷ xs) d (suc i) zero v p q = absurd (not_after x xs d i v q p)
 are_distinct (x ∷ xs) d (suc i) (suc j) v p q = ap suc (are_distinct xs (IsDistinct-tail value_same x xs d) i j v p q)
 
 -- as a look-up answers
@@ -83,8 +83,8 @@ pub admitted_before : (values more : List Value) (v : Value) → Contains values
 admitted_before values more v h =
     sym (ap (λ b. if b then values ++ more else values ++ more ++ v ∷ []) (holds-append values more v ∙ ap (λ b. b || holds more v) (holds-Contains values v h)))
 
-pub admitted_behind : (values more : List Value) (v : Value) → ¬ Contains values v → values ++ admitted more v ≡ admitted (values ++ more) v
-admitted_behind values more v new =
+pub admitted_after : (values more : List Value) (v : Value) → ¬ Contains values v → values ++ admitted more v ≡ admitted (values ++ more) v
+admitted_after values more v new =
     let absent : holds values v ≡ false = false_from_ne_true (holds values v) (λ there. new (Contains-holds values v there)) in
     let same : holds (values ++ more) v ≡ holds more v = holds-append values more v ∙ ap (λ b. b || holds more v) absent in
     go (holds more v) ∙ sym (ap (λ b. if b then values ++ more else values ++ more ++ v ∷ []) same) where
@@ -97,11 +97,11 @@ get_before [] ys at x h = cc
 get_before (y ∷ xs) ys zero x h = h
 get_before (y ∷ xs) ys (suc at) x h = get_before xs ys at x h
 
-pub get_behind : {X : Type 0} (xs ys : List X) (at many : ℕ) (x : X) → many ≡ length xs → slice_get ys at ≡ Some x → slice_get (xs ++ ys) (many + at) ≡ Some x
-get_behind [] ys at many x e h = ap (λ n. slice_get ys n) (let f : many + at ≡ at = omega (arith, e) in f) ∙ h
-get_behind (y ∷ xs) ys at zero x e h = absurd (let none : ⊥ = omega (arith, e) in none)
-get_behind (y ∷ xs) ys at (suc many) x e h =
-    ap (λ n. slice_get (y ∷ (xs ++ ys)) n) (let f : suc many + at ≡ suc (many + at) = omega arith in f) ∙ get_behind xs ys at many x (omega (arith, e)) h
+pub get_after : {X : Type 0} (xs ys : List X) (at many : ℕ) (x : X) → many ≡ length xs → slice_get ys at ≡ Some x → slice_get (xs ++ ys) (many + at) ≡ Some x
+get_after [] ys at many x e h = ap (λ n. slice_get ys n) (let f : many + at ≡ at = omega (arith, e) in f) ∙ h
+get_after (y ∷ xs) ys at zero x e h = absurd (let none : ⊥ = omega (arith, e) in none)
+get_after (y ∷ xs) ys at (suc many) x e h =
+    ap (λ n. slice_get (y ∷ (xs ++ ys)) n) (let f : suc many + at ≡ suc (many + at) = omega arith in f) ∙ get_after xs ys at many x (omega (arith, e)) h
 
 -- a place in the list, or at its end
 pub place_within : (values : List Value) (v : Value) → position_or_len (value_same v) values ≤ length values

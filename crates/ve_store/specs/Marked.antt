@@ -15,11 +15,11 @@ marked marks mark = if list_any (mark_same mark) marks then marks else marks ++ 
 abbrev pub unmarked : List Mark → Mark → List Mark
 unmarked marks mark = filter (λ one. not (mark_same mark one)) marks
 
--- the values, and behind them these marks where an item has to cite them and they are not there yet
+-- the values, and after them these marks where an item has to cite them and they are not there yet
 abbrev pub with_marks : List Value → List Mark → List Value
 with_marks values [] = values
 with_marks values (one ∷ others) = admitted values (value.Marks (one ∷ others))
 
--- the values, and behind them what an item that gets the mark has to cite
+-- the values, and after them what an item that gets the mark has to cite
 abbrev pub values_marked : List Value → List Mark → Mark → List Value
 values_marked values marks mark = if list_any (mark_same mark) marks then values else admitted values (value.Marks (marks ++ mark ∷ []))

@@ -23,10 +23,10 @@ contains_cases {X} y x xs p = by_index p.0 p.1 p.2
     by_index (suc k) within found = inr (k, omega (arith, within), found)
 
 -- What the arena has of a node that stands at a place, in a forest under p with this before it: it is the first there, or it stands
--- behind a node of the forest, or it is the first inside one.
+-- after a node of the forest, or it is the first inside one.
 data Above (slots : Slots) (all : List NodePlace) (p at : ℕ) (start : Option ℕ) (y : NodePlace) : Type 0 where
   AtFirst : (links_of slots).before y.number ≡ start → y.from ≡ at → y.parent ≡ Some p → Above slots all p at start y
-  Behind : (z : NodePlace) → Contains all z → (links_of slots).before y.number ≡ Some z.number → z.to ≡ y.from → Above slots all p at start y
+  Following : (z : NodePlace) → Contains all z → (links_of slots).before y.number ≡ Some z.number → z.to ≡ y.from → Above slots all p at start y
   Within : (z : NodePlace) → Contains all z → (links_of slots).before y.number ≡ None → y.parent ≡ Some z.number → y.from ≡ suc z.from → Above slots all p at start y
 
 -- a node of the arena at a place
@@ -48,17 +48,17 @@ record IsAbove (slots : Slots) (all : List NodePlace) (p at : ℕ) (start : Opti
 wider : (slots : Slots) (all more : List NodePlace) (p at : ℕ) (start : Option ℕ) (y : NodePlace) → ((z : NodePlace) → Contains all z → Contains more z) →
     Above slots all p at start y → Above slots more p at start y
 wider slots all more p at start y w (AtFirst b f q) = AtFirst b f q
-wider slots all more p at start y w (Behind z c b e) = Behind z (w z c) b e
+wider slots all more p at start y w (Following z c b e) = Following z (w z c) b e
 wider slots all more p at start y w (Within z c b q e) = Within z (w z c) b q e
 
--- the nodes behind the first one
-behind_first : (slots : Slots) (all : List NodePlace) (p at end : ℕ) (first : NodePlace) (y : NodePlace) → Contains all first → IsAbove slots all p first.to (Some first.number) end y →
+-- the nodes after the first one
+after_first : (slots : Slots) (all : List NodePlace) (p at end : ℕ) (first : NodePlace) (y : NodePlace) → Contains all first → IsAbove slots all p first.to (Some first.number) end y →
     (start : Option ℕ) → IsAbove slots all p at start end y
-behind_first slots all p at end first y c a start = record { placed = a.placed; below_end = a.below_end; above = by_case a.above }
+after_first slots all p at end first y c a start = record { placed = a.placed; below_end = a.below_end; above = by_case a.above }
   where
     by_case : Above slots all p first.to (Some first.number) y → Above slots all p at start y
-    by_case (AtFirst b f q) = Behind first c b (sym f)
-    by_case (Behind z d b e) = Behind z d b e
+    by_case (AtFirst b f q) = Following first c b (sym f)
+    by_case (Following z d b e) = Following z d b e
     by_case (Within z d b q e) = Within z d b q e
 
 -- the nodes inside the first one
@@ -68,7 +68,7 @@ inside_first slots all p at end inner_end first y c le a start = record { placed
   where
     by_case : Above slots all first.number (suc first.from) None y → Above slots all p at start y
     by_case (AtFirst b f q) = Within first c b q f
-    by_case (Behind z d b e) = Behind z d b e
+    by_case (Following z d b e) = Following z d b e
     by_case (Within z d b q e) = Within z d b q e
 
 wider_above : (slots : Slots) (all more : List NodePlace) (p at : ℕ) (start : Option ℕ) (end : ℕ) (y : NodePlace) → ((z : NodePlace) → Contains all z → Contains more z) →
@@ -91,7 +91,7 @@ from_parts slots own inside later p at start inner_end end parts y c =
         | inl in_ ↦ inside_first slots (own ∷ (inside ++ later)) p at end inner_end own y (contains-here own (inside ++ later)) parts.within_end
             (wider_above slots inside (own ∷ (inside ++ later)) own.number (suc own.from) None inner_end y
             (λ z d. contains-later own z (inside ++ later) (Contains-append_left inside later z d)) (parts.inside_above y in_)) start
-        | inr after_ ↦ behind_first slots (own ∷ (inside ++ later)) p at end own y (contains-here own (inside ++ later))
+        | inr after_ ↦ after_first slots (own ∷ (inside ++ later)) p at end own y (contains-here own (inside ++ later))
             (wider_above slots later (own ∷ (inside ++ later)) p own.to (Some own.number) end y
             (λ z d. contains-later own z (inside ++ later) (Contains-append_right inside later z d)) (parts.later_above y after_)) start
       ]
@@ -230,8 +230,8 @@ step_before {slots = slots} {root = root} {items = items} tree x at from node be
     link : (links_of slots).before c.place.number ≡ option_map number_of (Some before)
     link = linked_before slots c.place.number at node c.number here ∙ ap (option_map number_of) is_before
 
-    behind : (z : NodePlace) → Contains (places root.0 0 tree.named) z → z.number ≡ before.0 → z.to ≡ c.place.from → StepBefore tree x before from
-    behind z d number ends =
+    suffix : (z : NodePlace) → Contains (places root.0 0 tree.named) z → z.number ≡ before.0 → z.to ≡ c.place.from → StepBefore tree x before from
+    suffix z d number ends =
         let all : Contains (tree_places tree) z = contains-later _ z (places root.0 0 tree.named) d in
         let placed = (listed_above slots tree.named root.0 0 None z tree.root_shown.children.row tree.shown (tree-runs tree) d).placed in
         record {
@@ -249,7 +249,7 @@ step_before {slots = slots} {root = root} {items = items} tree x at from node be
 
     by_above : Above slots (places root.0 0 tree.named) root.0 0 None c.place → StepBefore tree x before from
     by_above (AtFirst b f q) = let bad : ◌≡◌ {A = Option ℕ} None (Some before.0) = sym b ∙ link in absurd (cc)
-    by_above (Behind z d b e) = behind z d (numbers_same z.number before (sym b ∙ link)) e
+    by_above (Following z d b e) = suffix z d (numbers_same z.number before (sym b ∙ link)) e
     by_above (Within z d b q e) = let bad : ◌≡◌ {A = Option ℕ} None (Some before.0) = sym b ∙ link in absurd (cc)
 
     by_place : IsRootOr tree c.place → StepBefore tree x before from
@@ -273,7 +273,7 @@ step_parent {slots = slots} {root = root} {items = items} tree x at from node pa
 
     by_above : Above slots (places root.0 0 tree.named) root.0 0 None c.place → Climb tree x parent.0 (from + 1)
     by_above (AtFirst b f q) = absurd (not_root (sym (numbers_same root.0 parent (sym q ∙ parent_is))))
-    by_above (Behind z d b e) = let bad : ◌≡◌ {A = Option ℕ} (Some z.number) None = sym b ∙ link in absurd (cc)
+    by_above (Following z d b e) = let bad : ◌≡◌ {A = Option ℕ} (Some z.number) None = sym b ∙ link in absurd (cc)
     by_above (Within z d b q e) = record {
       place = z;
       listed = contains-later _ z (places root.0 0 tree.named) d;
@@ -312,7 +312,7 @@ step_top {slots = slots} {root = root} {items = items} tree x at from node c her
 
     by_above : Above slots (places root.0 0 tree.named) root.0 0 None c.place → c.place.from ≡ 0
     by_above (AtFirst b f q) = f
-    by_above (Behind z d b e) = let bad : ◌≡◌ {A = Option ℕ} (Some z.number) None = sym b ∙ link in absurd (cc)
+    by_above (Following z d b e) = let bad : ◌≡◌ {A = Option ℕ} (Some z.number) None = sym b ∙ link in absurd (cc)
     by_above (Within z d b q e) = absurd (not_inside z d (some_parent node.parent z.number (sym q ∙ parent_is) top))
 
     by_place : IsRootOr tree c.place → c.place.from ≡ 0

@@ -43,15 +43,15 @@ lent_new blocks count left block items whole rule count_is some found left_is =
 lent_less : (blocks : List (List Item)) (before : ℕ) (lent : List Item) (rest : Rest) → IsLent blocks before lent rest → 0 < rest.left →
     take (rest.left - 1) rest.items ≡ joined (take before blocks) ++ take (length lent - 1) lent
 lent_less blocks before lent rest h some =
-    let front = joined (take before blocks) in
+    let prefix = joined (take before blocks) in
     let many = h.some some in
     let size = length-take-le rest.left rest.items h.within in
-    let sizes : length (take rest.left rest.items) ≡ length front + length lent = ap length h.items ∙ length-append front lent in
-    let n : rest.left - 1 ≡ length front + (length lent - 1) = omega (arith, size, sizes, many) in
+    let sizes : length (take rest.left rest.items) ≡ length prefix + length lent = ap length h.items ∙ length-append prefix lent in
+    let n : rest.left - 1 ≡ length prefix + (length lent - 1) = omega (arith, size, sizes, many) in
     sym (take-take (rest.left - 1) rest.left rest.items (omega arith))
     ∙ ap (take (rest.left - 1)) h.items
-    ∙ ap (λ n. take n (front ++ lent)) n
-    ∙ take_over front lent (length lent - 1)
+    ∙ ap (λ n. take n (prefix ++ lent)) n
+    ∙ take_over prefix lent (length lent - 1)
 
 pub lent_passed : (blocks : List (List Item)) (before : ℕ) (lent : List Item) (rest : Rest) → IsLent blocks before lent rest → 0 < rest.left → 0 < length (take (length lent - 1) lent) →
     IsLent blocks before (take (length lent - 1) lent) (record { items = rest.items; left = rest.left - 1 })

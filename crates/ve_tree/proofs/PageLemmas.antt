@@ -1,4 +1,4 @@
--- A page that grows by a paragraph in front.
+-- A page that grows by a paragraph before.
 use Rattle.std.proofs.Common.{◌≡◌, ◌+◌, ◌*◌, ℕ, false, None, Ok, Result, List, [], ◌∷◌, length, ap, ◌∙◌, arith}
 use Rattle.ve_kinds.specs.declared.kind.Kind.TheVariants.{P, InternalList}
 use Rattle.model_items.specs.declared.item.Item.{Item}

@@ -240,7 +240,7 @@ opening_read items (suc k) at m kind g f outer lawful within reads closed ended 
       closed = both.1 ∙ ap (drop 1) closed;
     }
 
--- the children of a node begin behind its opening
+-- the children of a node begin after its opening
 pub begins_inside : (old cur s1 s2 : List (Option ArenaNode)) (p n : ℕ) (items : List Item) (to at before after from : ℕ) →
     to ≤ length items → Lawful (unvalued items) → Reached old cur p items to at before after →
     (m : ℕ) (kind : Kind) (pre : Option ValueId) → suc m ≡ at → slice_get items m ≡ Some (item.Closing kind pre) → ReadChildren s1 s2 n items from m → 1 ≤ from

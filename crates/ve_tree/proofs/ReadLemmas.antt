@@ -181,7 +181,7 @@ opening-inside items m (item.Opening k generated head marks pre origin) lawful a
     let here = subst (λ l. OpeningsClose (unvalued l)) (drop-at items m (item.Opening k generated head marks pre origin) at) (openings-drop items m all) in
     let both : ◌≡◌ {A = List Kind} [] (k ∷ drop 1 (closes_from items (suc m))) = sym e ∙ here.0 in absurd (cc)
 
--- each closing that is to come has its siblings behind it
+-- each closing that is to come has its siblings after it
 deep : (items : List PlainItem) → length (reading items).outer ≡ length (closes items)
 deep [] = refl
 deep (Char c marks ∷ items) = deep items

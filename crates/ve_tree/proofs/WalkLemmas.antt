@@ -241,7 +241,7 @@ walk_end {slots = slots} {root = root} {items = items} tree o inner left within 
     by_forest (NamedRun h count later) w = let bad = w.next_is in absurd (cc)
     by_forest (NamedBranch h kind inside later) w = let bad = w.next_is in absurd (cc)
 
--- in front of a node, or in a run
+-- before a node, or in a run
 pub walk_stop : {slots : Slots} {root : NodeId} {items : List PlainItem} (tree : IsTree slots root items) (o : ℕ) (inner child : NodeId) (left : ℕ) (node : ArenaNode) → o ≤ length items →
     Walk tree o inner.0 (Some child) left → slot_at slots child.0 ≡ Some node → left < node.len → (0 < left → node.what ≡ what.Run) → IsNodeAt tree inner (node_at items o)
 walk_stop {slots = slots} {root = root} {items = items} tree o inner child left node within w here lt stops = by_forest w.forest w.on

@@ -14,7 +14,7 @@ use Rattle.ve_tree.specs.Named.{Named, NoNode, NamedRun, NamedBranch, bare, numb
 use Rattle.ve_tree.specs.IsTree.{IsAlone, IsTree}
 use Rattle.ve_tree.specs.Fits.{IsLabelled}
 
--- the node says what it is, how long it is, and which node it stands in and behind
+-- the node says what it is, how long it is, and which node it stands in and after
 pub record IsReadAs (slots : List (Option ArenaNode)) (n p : ℕ) (before : Option ℕ) (sort : NodeWhat) (len : ℕ) : Type 0 where
   pub sort_is : option_map (λ node. node.what) (slot_at slots n) ≡ Some sort
   pub len_is : option_map (λ node. node.len) (slot_at slots n) ≡ Some len
@@ -24,7 +24,7 @@ pub record IsReadAs (slots : List (Option ArenaNode)) (n p : ℕ) (before : Opti
 abbrev pub HasNoChild : List (Option ArenaNode) → ℕ → Type 0
 HasNoChild slots n = ((links_of slots).first n ≡ None) × ((links_of slots).last n ≡ None)
 
--- The forest that is read from `here` on, among the children of p and behind `before`: the node, what is read from its first child, and what is read
+-- The forest that is read from `here` on, among the children of p and after `before`: the node, what is read from its first child, and what is read
 -- from its next sibling. The last one read is the last child.
 abbrev pub IsRead : List (Option ArenaNode) → ℕ → Option ℕ → Option ℕ → Named → Type 0
 IsRead slots p before here NoNode = (here ≡ None) × ((links_of slots).last p ≡ before)

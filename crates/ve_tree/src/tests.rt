@@ -250,7 +250,7 @@ struct Walked {
     misplaced: usize,
 }
 
-/// Counts the nodes, and asks for the range of some: the nodes behind the root are a paragraph and its text by turns, and a paragraph takes three items.
+/// Counts the nodes, and asks for the range of some: the nodes after the root are a paragraph and its text by turns, and a paragraph takes three items.
 fn walk(tree: &Tree) -> Walked
     requires { HoldsOffset tree.now.arena tree.now.root 0 }
 {

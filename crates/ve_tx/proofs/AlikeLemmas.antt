@@ -26,12 +26,12 @@ module _ {X Y : Type 0} (read : List Value → X → Y) (Cites : List Value → 
       let appended = (fill_appends values (citing (read store x))).appended in
       record {
         reads = λ more.
-            ap (λ front. front ++ rest) (map-append (read (new ++ more)) made (y ∷ [])) ∙ append_assoc (map (read (new ++ more)) made) (read (new ++ more) y ∷ []) rest
+            ap (λ prefix. prefix ++ rest) (map-append (read (new ++ more)) made (y ∷ [])) ∙ append_assoc (map (read (new ++ more)) made) (read (new ++ more) y ∷ []) rest
             ∙ ap (λ z. map (read (new ++ more)) made ++ z ∷ rest) (alike more).0 ∙ ap (λ zs. map (read (new ++ more)) made ++ map (read store) zs) (sym part)
-            ∙ ap (λ vs. map (read vs) made ++ map (read store) (drop i xs)) (ap (λ front. front ++ more) is ∙ grown values (citing (read store x)) more) ∙ g.reads (appended ++ more);
+            ∙ ap (λ vs. map (read vs) made ++ map (read store) (drop i xs)) (ap (λ prefix. prefix ++ more) is ∙ grown values (citing (read store x)) more) ∙ g.reads (appended ++ more);
         cites = λ more.
             let P = Cites (new ++ more) in
-            let all : new ++ more ≡ values ++ (appended ++ more) = ap (λ front. front ++ more) is ∙ grown values (citing (read store x)) more in
+            let all : new ++ more ≡ values ++ (appended ++ more) = ap (λ prefix. prefix ++ more) is ∙ grown values (citing (read store x)) more in
             All-append P made (y ∷ []) (subst (λ vs. All (Cites vs) made) (sym all) (g.cites (appended ++ more))) (All-cons P y [] (alike more).1 (All-nil P));
         fills =
             ap (λ vs. fill vs (flat_map citing rest)) is ∙ sym (fill-append values (citing (read store x)) (flat_map citing rest))

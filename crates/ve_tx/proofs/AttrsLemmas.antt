@@ -31,7 +31,7 @@ apart-new [] y zs apart within = absurd (let below = within.1 in omega arith)
 apart-new (x ∷ xs) y zs apart within =
     elim (Contains-append_cases (x.name ∷ []) (names xs) y.name within) [
       | inl first ↦ apart.0 (subst (λ n. Contains (names (xs ++ y ∷ zs)) n) (sym (contains_one x.name y.name first)) (contains_there xs y zs))
-      | inr behind ↦ apart-new xs y zs apart.1 behind
+      | inr suffix ↦ apart-new xs y zs apart.1 suffix
     ]
 
 pub apart-left : (xs ys : List Attr) → NamesApart (xs ++ ys) → NamesApart xs

@@ -79,10 +79,10 @@ module _ (items removed piece : List Item) (at done : ℕ)
       let small : k < length piece = shorter (length piece) k (drop done removed) part.0 in
       let long : length (drop done removed) ≡ length removed - done = length-drop done removed in
       let short : length (take (length piece) (drop done removed)) ≡ min (length piece) (length (drop done removed)) = length-take (length piece) (drop done removed) in
-      let front : take k (drop done removed) ≡ take k (drop done (drop at items)) =
+      let prefix : take k (drop done removed) ≡ take k (drop done (drop at items)) =
       sym (take-of (length piece) k (drop done removed) (omega arith)) ∙ part.1 ∙ take-of (length piece) k (drop done (drop at items)) (omega arith) in (
         omega (arith, part.0),
-        take-add done k removed ∙ ap (λ l. l ++ take k (drop done removed)) alike ∙ ap (λ l. take done (drop at items) ++ l) front ∙ sym (take-add done k (drop at items)),
+        take-add done k removed ∙ ap (λ l. l ++ take k (drop done removed)) alike ∙ ap (λ l. take done (drop at items) ++ l) prefix ∙ sym (take-add done k (drop at items)),
         λ same. part.2
             (get-take (length piece) k (drop done removed) small ∙ get-drop done k removed ∙ same ∙ sym (get-drop done k (drop at items))
             ∙ sym (get-take (length piece) k (drop done (drop at items)) small)),
@@ -117,7 +117,7 @@ differs-some values at zero (x ∷ one) (y ∷ other) distinct p q long h =
         (Means-item_same.equal (plain values x) (plain values y) e))))
     by_test false e = let n : at ≡ at + 0 = omega arith in ap Some n
 differs-some values at (suc k) (x ∷ one) (y ∷ other) distinct p q long h =
-    let front = h.1 in
+    let prefix = h.1 in
     let same : y ≡ x = cc in
     let rest : take k one ≡ take k other = cc in
     let P : Item → Type 0 = λ z. item_same (plain values x) (plain values z) ≡ true in

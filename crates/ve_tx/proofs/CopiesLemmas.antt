@@ -27,10 +27,10 @@ pub fill-append : (values xs ys : List Value) → fill values (xs ++ ys) ≡ fil
 fill-append values [] ys = refl
 fill-append values (x ∷ xs) ys = fill-append (admitted values x) xs ys
 
--- what is read over values with others behind them is read after a filling
+-- what is read over values with others after them is read after a filling
 pub grown : (values vs more : List Value) → fill values vs ++ more ≡ values ++ ((fill_appends values vs).appended ++ more)
 grown values vs more =
-    ap (λ front. front ++ more) (fill_appends values vs).parts ∙ append_assoc values (fill_appends values vs).appended more
+    ap (λ prefix. prefix ++ more) (fill_appends values vs).parts ∙ append_assoc values (fill_appends values vs).appended more
 
 -- what cites alike does so after a filling
 pub CitesAlike-fill : (store values vs new : List Value) (old id : Option ValueId) → new ≡ fill values vs → CitesAlike store values old id → CitesAlike store new old id
@@ -40,7 +40,7 @@ CitesAlike-fill store values vs new old id is h =
 pub ReadsAlike-fill : {X Y : Type 0} (read : List Value → X → Y) (Cites : List Value → X → Type 0) (store values vs new : List Value) (x y : X) → new ≡ fill values vs →
     ReadsAlike read Cites store values x y → ReadsAlike read Cites store new x y
 ReadsAlike-fill read Cites store values vs new x y is h more =
-    let all : new ++ more ≡ values ++ ((fill_appends values vs).appended ++ more) = ap (λ front. front ++ more) is ∙ grown values vs more in
+    let all : new ++ more ≡ values ++ ((fill_appends values vs).appended ++ more) = ap (λ prefix. prefix ++ more) is ∙ grown values vs more in
     let then_ = h ((fill_appends values vs).appended ++ more) in
     (ap (λ vals. read vals y) all ∙ then_.0, subst (λ vals. Cites vals y) (sym all) then_.1)
 
@@ -110,7 +110,7 @@ slice_get_none [] p e h = omega arith
 slice_get_none (x ∷ store) zero e h = cc
 slice_get_none (x ∷ store) (suc p) e h = slice_get_none store p e (omega arith)
 
--- where a value stands, it does so with others behind it
+-- where a value stands, it does so with others after it
 pub cites_alike : (store values : List Value) (p at : ℕ) (id : Option ValueId) → id ≡ Some (record { 0 = p }) → p < length store → slice_get values at ≡ slice_get store p →
     CitesAlike store values id (Some (record { 0 = at }))
 cites_alike store values p at id is within here =
@@ -159,9 +159,9 @@ pub unseen_copied : (store : List Value) (places places' : List ℕ) (values new
     places' ≡ insert_key nat_eq places p → is_new ≡ not (list_any (nat_eq p) places) → is_new ≡ true → slice_get store p ≡ Some v → new ≡ values ++ v ∷ [] →
     AreCopied store places' new
 unseen_copied store places places' values new p is_new v copied keys added unseen here pushed =
-    let behind : places' ≡ places ++ p ∷ [] = keys ∙ ap (λ b. if b then places else places ++ p ∷ []) (unseen_keys places p is_new added unseen) in
-    ap (map Some) pushed ∙ map-append Some values (v ∷ []) ∙ ap (λ front. front ++ Some v ∷ []) copied ∙ ap (λ one. map (slice_get store) places ++ one ∷ []) (sym here)
-    ∙ sym (map-append (slice_get store) places (p ∷ [])) ∙ sym (ap (map (slice_get store)) behind)
+    let suffix : places' ≡ places ++ p ∷ [] = keys ∙ ap (λ b. if b then places else places ++ p ∷ []) (unseen_keys places p is_new added unseen) in
+    ap (map Some) pushed ∙ map-append Some values (v ∷ []) ∙ ap (λ prefix. prefix ++ Some v ∷ []) copied ∙ ap (λ one. map (slice_get store) places ++ one ∷ []) (sym here)
+    ∙ sym (map-append (slice_get store) places (p ∷ [])) ∙ sym (ap (map (slice_get store)) suffix)
 
 -- what is cited is one value, or none
 head-one : (store : List Value) (id : Option ValueId) → CitesHead store id → head_cited (head_in (value_at store id)) ≡ one_cited store id

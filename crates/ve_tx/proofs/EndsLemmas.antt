@@ -45,11 +45,11 @@ core_end-last (op.Attribute name from to ∷ []) last h = first_is (op.Attribute
 core_end-last (op.Attribute name from to ∷ y ∷ ops) last h = sym (more_by last (length ops)) ∙ ap suc (core_end-last (y ∷ ops) last (later (op.Attribute name from to) y last ops h))
 
 -- one more operation of the core
-pub core-next : (ops : List Op) (kept : List (Option ℕ)) (front made next : List Operation) (o : Op) (k : Option ℕ) (i end : ℕ) → i < length ops → i < end →
+pub core-next : (ops : List Op) (kept : List (Option ℕ)) (prefix made next : List Operation) (o : Op) (k : Option ℕ) (i end : ℕ) → i < length ops → i < end →
     o ≡ get_or ops i o → k ≡ get_or kept i None → next ≡ made ++ with_position o k ∷ [] →
-    made ++ take (end - i) (drop i (with_positions ops kept)) ≡ front →
-    next ++ take (end - (i + 1)) (drop (i + 1) (with_positions ops kept)) ≡ front
-core-next ops kept front made next o k i end within below here there is so_far =
+    made ++ take (end - i) (drop i (with_positions ops kept)) ≡ prefix →
+    next ++ take (end - (i + 1)) (drop (i + 1) (with_positions ops kept)) ≡ prefix
+core-next ops kept prefix made next o k i end within below here there is so_far =
     let after : i + 1 ≡ suc i = omega arith in
     let left : end - i ≡ suc (end - suc i) = omega arith in
     let rest = drop (suc i) (with_positions ops kept) in
@@ -59,7 +59,7 @@ core-next ops kept front made next o k i end within below here there is so_far =
     ap (λ x. with_position x (get_or kept i None) ∷ rest) (sym here)
     ∙ ap (λ y. with_position o y ∷ rest) (sym there)
     ) in
-    ap (λ front. front ++ take (end - (i + 1)) (drop (i + 1) (with_positions ops kept))) is
+    ap (λ prefix. prefix ++ take (end - (i + 1)) (drop (i + 1) (with_positions ops kept))) is
     ∙ (
     append_assoc made (with_position o k ∷ []) (take (end - (i + 1)) (drop (i + 1) (with_positions ops kept)))
     ∙ (
@@ -98,10 +98,10 @@ module _ (values : List Value) where
   ends_by_value tx first last =
       map-append (operation_by_value values) (retain_of first) (core_of (map bare tx) tx ++ retain_of last)
       ∙ (
-      ap (λ front. front ++ by_value values (core_of (map bare tx) tx ++ retain_of last)) (retain_by_value first)
+      ap (λ prefix. prefix ++ by_value values (core_of (map bare tx) tx ++ retain_of last)) (retain_by_value first)
       ∙ ap (λ more. retained first ++ more) (
       map-append (operation_by_value values) (core_of (map bare tx) tx) (retain_of last)
-      ∙ (ap (λ middle. middle ++ by_value values (retain_of last)) (core_by_value tx) ∙ ap (λ behind. core (by_value values tx) ++ behind) (retain_by_value last))
+      ∙ (ap (λ middle. middle ++ by_value values (retain_of last)) (core_by_value tx) ∙ ap (λ suffix. core (by_value values tx) ++ suffix) (retain_by_value last))
       )
       )
 

@@ -88,7 +88,7 @@ module _ (store : List Value) (items : List Item) (at : ℕ) (head : Option Head
       ap (λ p. operation_by_value store (with_position p position)) is ∙ ap (λ k. Attribute (change_of name from to k)) position_is
       ∙ ap (λ l. Attribute (first_filled (change_of name from to kept) l)) (sym stands) ∙ ap (λ p. op_filled p (standing (plain_list store items) at head)) (sym by_value_is)
 
--- the walk goes on behind each operation
+-- the walk goes on after each operation
 filled-next : (p : model.Op) (ops : Transaction) (items : List PlainItem) → filled (p ∷ ops) items ≡ op_filled p items ∷ filled ops (passed p items)
 filled-next (Retain count) ops items = refl
 filled-next (Replace removed inserted) ops items = refl

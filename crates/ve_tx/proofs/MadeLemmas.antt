@@ -101,7 +101,7 @@ module _ (S0 : List Value) (old whole : List PlainItem) (V S : List Value) (made
       let passed : first_headed head (take (next - at) (drop at old)) ≡ take n left =
       ap (λ k. first_headed head (take k (drop at old))) goes ∙ ap (first_headed head) (take_min n (drop at old)) ∙ take-first_headed head n (drop at old) in
       let there : next ≡ at + min n (length (drop at old)) = omega arith in
-      let behind : first_headed None (drop next old) ≡ drop n left =
+      let suffix : first_headed None (drop next old) ≡ drop n left =
       first_headed-none (drop next old) ∙ ap (λ k. drop k old) there ∙ sym (drop-drop (min n (length (drop at old))) at old) ∙ drop_min n (drop at old)
       ∙ sym (drop-first_headed head n (drop at old) some) in
       record {
@@ -112,12 +112,12 @@ module _ (S0 : List Value) (old whole : List PlainItem) (V S : List Value) (made
         cites = cites;
         items =
             ap (λ l. l ++ edited ops (first_headed None (drop next old))) (items_are ∙ ap (λ l. plain_list S made ++ l) passed)
-            ∙ ap (λ l. (plain_list S made ++ take n left) ++ edited ops l) behind
+            ∙ ap (λ l. (plain_list S made ++ take n left) ++ edited ops l) suffix
             ∙ append_assoc (plain_list S made) (take n left) (edited ops (drop n left)) ∙ m.items;
         store =
             filled_on S S' (head_if (is_some head) left) (heads_from false ops (first_headed None (drop next old))) stored
-            ∙ ap (λ l. fill S (head_if (is_some head) left ++ heads_from false ops l)) behind ∙ m.store;
-        allowed = subst (AreAllowed ops) (sym behind) m.allowed;
+            ∙ ap (λ l. fill S (head_if (is_some head) left ++ heads_from false ops l)) suffix ∙ m.store;
+        allowed = subst (AreAllowed ops) (sym suffix) m.allowed;
         opening = λ h. cc;
       }
     where
@@ -136,7 +136,7 @@ module _ (S0 : List Value) (old whole : List PlainItem) (V S : List Value) (made
       by None k =
           let many : length (plain_list S0 removed) ≡ length removed = length-map removed (plain S0) in
           let same : plain_list S inserted ≡ plain_list S0 inserted = list-extended S0 S k.extends inserted cites in
-          let behind : first_headed None (drop next old) ≡ drop (length (plain_list S0 removed)) (first_headed None (drop at old)) =
+          let suffix : first_headed None (drop next old) ≡ drop (length (plain_list S0 removed)) (first_headed None (drop at old)) =
           first_headed-none (drop next old) ∙ ap (λ j. drop j old) next_is ∙ sym (drop-drop (length removed) at old) ∙ ap (λ j. drop j (drop at old)) (sym many)
           ∙ ap (drop (length (plain_list S0 removed))) (sym (first_headed-none (drop at old))) in
           let P : List Item → Type 0 = All (CitesWell S) in
@@ -151,9 +151,9 @@ module _ (S0 : List Value) (old whole : List PlainItem) (V S : List Value) (made
                 ∙ ap (λ l. l ++ edited ops (first_headed None (drop next old))) (map-append (plain S) made inserted)
                 ∙ ap (λ l. (plain_list S made ++ l) ++ edited ops (first_headed None (drop next old))) same
                 ∙ append_assoc (plain_list S made) (plain_list S0 inserted) (edited ops (first_headed None (drop next old)))
-                ∙ ap (λ l. plain_list S made ++ (plain_list S0 inserted ++ edited ops l)) behind ∙ k.items;
-            store = ap (λ l. fill S (heads_from false ops l)) behind ∙ k.store;
-            allowed = subst (AreAllowed ops) (sym behind) k.allowed;
+                ∙ ap (λ l. plain_list S made ++ (plain_list S0 inserted ++ edited ops l)) suffix ∙ k.items;
+            store = ap (λ l. fill S (heads_from false ops l)) suffix ∙ k.store;
+            allowed = subst (AreAllowed ops) (sym suffix) k.allowed;
             opening = λ h. cc;
           }
 

@@ -61,6 +61,6 @@ pub op_cites : (store : List Value) (ops : List Op) (kept : List (Option ℕ)) (
 op_cites store ops kept i o within here cites k =
     let P = OperationCites store in
     let rest = drop (i + 1) (with_positions ops kept) in
-    let behind : All P (with_position o (get_or kept i None) ∷ rest) =
+    let suffix : All P (with_position o (get_or kept i None) ∷ rest) =
     subst (All P) (op_at ops kept i o (get_or kept i None) within here refl) (All-drop P i (with_positions ops kept) cites) in
-    any_position store o (get_or kept i None) k (All-head P (with_position o (get_or kept i None)) rest behind)
+    any_position store o (get_or kept i None) k (All-head P (with_position o (get_or kept i None)) rest suffix)

@@ -27,7 +27,7 @@ changes-by_value values (change ∷ changes) = ap (λ more. model.Attribute chan
 joined : (values : List Value) (changes : List AttrChange) (o : Operation) (tx : List Operation) →
     by_value values (operations changes ++ o ∷ tx) ≡ attribute_ops changes ++ operation_by_value values o ∷ by_value values tx
 joined values changes o tx =
-    map-append (operation_by_value values) (operations changes) (o ∷ tx) ∙ ap (λ front. front ++ operation_by_value values o ∷ by_value values tx) (changes-by_value values changes)
+    map-append (operation_by_value values) (operations changes) (o ∷ tx) ∙ ap (λ prefix. prefix ++ operation_by_value values o ∷ by_value values tx) (changes-by_value values changes)
 
 turned_after-by_value : (values : List Value) (changes : List AttrChange) (tx : List Operation) →
     by_value values (turned_after (operations changes) tx) ≡ inverse_after changes (by_value values tx)
@@ -96,19 +96,19 @@ with_positions-append (x ∷ ops) (y ∷ kept) o k e = ap (λ more. with_positio
 pub put-change : (back : List Operation) (start : ℕ) (change : AttrChange) (rest : List Operation) → start ≤ length back →
     finished (inserted_at start (Attribute (change_back change)) back) start rest ≡ finished back start (Attribute change ∷ rest)
 put-change back start change rest h =
-    let front : take start (inserted_at start (Attribute (change_back change)) back) ≡ take start back = take-inserted start back (Attribute (change_back change)) h in
-    let behind : drop start (inserted_at start (Attribute (change_back change)) back) ≡ Attribute (change_back change) ∷ drop start back =
+    let prefix : take start (inserted_at start (Attribute (change_back change)) back) ≡ take start back = take-inserted start back (Attribute (change_back change)) h in
+    let suffix : drop start (inserted_at start (Attribute (change_back change)) back) ≡ Attribute (change_back change) ∷ drop start back =
     drop-inserted start back (Attribute (change_back change)) h in
-    rw (front, behind) refl
+    rw (prefix, suffix) refl
 
--- what undoes another operation goes behind all
-pub put-behind : (back : List Operation) (start next : ℕ) (o : Operation) (rest : List Operation) → next ≡ length (back ++ o ∷ []) →
+-- what undoes another operation goes after all
+pub put-suffix : (back : List Operation) (start next : ℕ) (o : Operation) (rest : List Operation) → next ≡ length (back ++ o ∷ []) →
     finished (back ++ o ∷ []) next rest ≡ take start back ++ (drop start back ++ o ∷ turned_after [] rest)
-put-behind back start next o rest e =
+put-suffix back start next o rest e =
     let all : take next (back ++ o ∷ []) ≡ back ++ o ∷ [] = rw e (take-length (back ++ o ∷ [])) in
     let none : drop next (back ++ o ∷ []) ≡ [] = drop-all (back ++ o ∷ []) next (omega arith) in
-    ap (λ front. front ++ turned_after (drop next (back ++ o ∷ [])) rest) all ∙ ap (λ changes. (back ++ o ∷ []) ++ turned_after changes rest) none
-    ∙ append_assoc back (o ∷ []) (turned_after [] rest) ∙ ap (λ front. front ++ o ∷ turned_after [] rest) (sym (take-append-drop start back))
+    ap (λ prefix. prefix ++ turned_after (drop next (back ++ o ∷ [])) rest) all ∙ ap (λ changes. (back ++ o ∷ []) ++ turned_after changes rest) none
+    ∙ append_assoc back (o ∷ []) (turned_after [] rest) ∙ ap (λ prefix. prefix ++ o ∷ turned_after [] rest) (sym (take-append-drop start back))
     ∙ append_assoc (take start back) (drop start back) (o ∷ turned_after [] rest)
 
 -- no attribute operation
@@ -129,17 +129,17 @@ put-change_of back new start o undone k rest {name} {from} {to} h is back_is o_i
 other_done : (back new : List Operation) (next start : ℕ) (o : Op) (k : Option ℕ) (rest : List Operation) → new ≡ back ++ with_position (op_back o) None ∷ [] →
     next ≡ length new → IsOther o → finished new next rest ≡ finished back start (with_position o k ∷ rest)
 other_done back new next start (op.Retain count) k rest is len other =
-    ap (λ all. finished all next rest) is ∙ put-behind back start next (Retain count) rest (len ∙ ap length is)
+    ap (λ all. finished all next rest) is ∙ put-suffix back start next (Retain count) rest (len ∙ ap length is)
 other_done back new next start (op.Replace removed inserted) k rest is len other =
-    ap (λ all. finished all next rest) is ∙ put-behind back start next (Replace inserted removed) rest (len ∙ ap length is)
+    ap (λ all. finished all next rest) is ∙ put-suffix back start next (Replace inserted removed) rest (len ∙ ap length is)
 other_done back new next start (op.Attribute name from to) k rest is len other = absurd other
 
-pub put-behind_ok : {E : Type 0} (result : Result ℕ E) (back new : List Operation) (count start : ℕ) (o undone : Op) (k : Option ℕ) →
+pub put-after_ok : {E : Type 0} (result : Result ℕ E) (back new : List Operation) (count start : ℕ) (o undone : Op) (k : Option ℕ) →
     IfOk result (λ len. len ≡ count) → OnOk result (new ≡ back ++ with_position undone None ∷ []) → count ≡ length new → undone ≡ op_back o → IsOther o →
     IfOk result (λ next. (rest : List Operation) → finished new next rest ≡ finished back start (with_position o k ∷ rest))
-put-behind_ok (Ok next) back new count start o undone k len is fits undone_is other =
+put-after_ok (Ok next) back new count start o undone k len is fits undone_is other =
     λ rest. other_done back new next start o k rest (is ∙ ap (λ u. back ++ with_position u None ∷ []) undone_is) (len ∙ fits) other
-put-behind_ok (Err e) back new count start o undone k len is fits undone_is other = tt
+put-after_ok (Err e) back new count start o undone k len is fits undone_is other = tt
 
 -- one step of the pass
 pub put-next : (back new : List Operation) (start next i : ℕ) (ops : List Op) (kept : List (Option ℕ)) (o : Op) (k : Option ℕ) → i < length ops → o ≡ get_or ops i o →

@@ -18,10 +18,10 @@ abbrev pub one_cited : List Value → Option ValueId → List Value
 one_cited values None = []
 one_cited values (Some id) = option_to_list (slice_get values id.0)
 
--- the second cites a value where the first does: over the values, with any others behind them, the one that the first cites in the store
+-- the second cites a value where the first does: over the values, with any others after them, the one that the first cites in the store
 abbrev pub CitesAlike : (store values : List Value) → Option ValueId → Option ValueId → Type 0
 CitesAlike store values old new = (is_some new ≡ is_some old) × ((more : List Value) → value_at (values ++ more) new ≡ value_at store old)
 
--- The second reads over the values, with any others behind them, as the first over the store, and cites well.
+-- The second reads over the values, with any others after them, as the first over the store, and cites well.
 abbrev pub ReadsAlike : {X Y : Type 0} → (List Value → X → Y) → (List Value → X → Type 0) → (store values : List Value) → X → X → Type 0
 ReadsAlike read Cites store values old new = (more : List Value) → (read (values ++ more) new ≡ read store old) × Cites (values ++ more) new

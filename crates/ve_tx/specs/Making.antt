@@ -10,7 +10,7 @@ use Rattle.model_change.specs.Transaction.{Transaction}
 use Rattle.model_change.specs.Join.{without_first}
 use Rattle.ve_tx.specs.Operation.{Operation, by_value}
 
--- the second list is the first with more behind it
+-- the second list is the first with more after it
 abbrev pub Extends : List Value → List Value → Type 0
 Extends old new = (more : List Value) × (new ≡ old ++ more)
 
@@ -36,7 +36,7 @@ abbrev pub MayHead : Option Head → PlainItem → Type 0
 MayHead None item = Unit {0}
 MayHead (Some head) item = IsOpening item
 
--- what the operations behind the first retain are, by value
+-- what the operations after the first retain are, by value
 abbrev pub active_ops : List Value → List Operation → Transaction
 active_ops values tx = without_first (by_value values tx)
 

@@ -28,7 +28,7 @@ fn cites_head(store: &Store, head: Option<ValueId>) -> bool
     }
 }
 
-/// Items of these tests have neither marks nor white text.
+/// Items of these tests have neither marks nor whitespace.
 fn cites_well(store: &Store, item: Item) -> bool
     ensures { result ≡ true → CitesWell store.now item }
 {
@@ -178,14 +178,14 @@ fn set(alloc: Global, name: &str, from: Option<&str>, to: Option<&str>) -> Resul
 }
 
 /// What a transaction of one operation between two retains answers on the page with the letters `ab`.
-fn refusal(alloc: Global, before: usize, op: Op, behind: usize) -> Result<Option<TxFault>, Memory> {
+fn refusal(alloc: Global, before: usize, op: Op, suffix: usize) -> Result<Option<TxFault>, Memory> {
     let mut ops = OpList::new(alloc);
     if before > 0 {
         ops.push(Op::Retain(before))?;
     }
     ops.push(op)?;
-    if behind > 0 {
-        ops.push(Op::Retain(behind))?;
+    if suffix > 0 {
+        ops.push(Op::Retain(suffix))?;
     }
     let mut list = page(alloc, "ab")?;
     let mut store = Store::new(alloc);

@@ -29,7 +29,7 @@ pub struct Change {
 }
 
 /// The change that operations make which apply to the list. The store takes the heads that are new, and the list takes
-/// room for the change. An `Err` may leave heads behind those that were there.
+/// room for the change. An `Err` may leave heads after those that were there.
 pub fn prepared(
     alloc: Global,
     ops: &[Op],

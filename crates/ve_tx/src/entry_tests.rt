@@ -11,8 +11,8 @@ use ve_items::{Item, Items, Linear};
 use ve_store::{NewValues, Store};
 
 /// The insertion of a letter between so many items.
-fn insertion(alloc: Global, before: usize, ch: char, behind: usize) -> Result<OpList, Memory>
-    ensures { IfOk result (λ ops. ops ≡ op.Retain before ∷ op.Replace [] (item.Char ch None ∷ []) ∷ op.Retain behind ∷ []) }
+fn insertion(alloc: Global, before: usize, ch: char, suffix: usize) -> Result<OpList, Memory>
+    ensures { IfOk result (λ ops. ops ≡ op.Retain before ∷ op.Replace [] (item.Char ch None ∷ []) ∷ op.Retain suffix ∷ []) }
 {
     let mut inserted = Items::new(alloc);
     inserted.push(Item::Char { ch, marks: None })?;
@@ -22,7 +22,7 @@ fn insertion(alloc: Global, before: usize, ch: char, behind: usize) -> Result<Op
         removed: Items::new(alloc),
         inserted,
     })?;
-    ops.push(Op::Retain(behind))?;
+    ops.push(Op::Retain(suffix))?;
     Ok(ops)
 }
 

@@ -27,7 +27,7 @@ struct Cursor {
     head: Option<Head>,
 }
 
-/// Past so many items. A changed head stays behind with its item.
+/// Past so many items. A changed head stays after with its item.
 fn past(cursor: Cursor, count: usize) -> Cursor
     requires { cursor.at + count ≤ 2 ^ 60 }
     ensures at { result.at ≡ cursor.at + count }

@@ -40,7 +40,7 @@ impl Gathered {
         Ok(())
     }
 
-    /// Puts an operation behind the others.
+    /// Puts an operation after the others.
     pub fn push(&mut self, op: Op, kept: Option<usize>) -> Result<(), Memory>
         requires even { vec_len self.old.ops ≡ vec_len self.old.kept }
         ensures even { OnOk result (vec_len self.new.ops ≡ vec_len self.new.kept) }
@@ -52,7 +52,7 @@ impl Gathered {
         Ok(())
     }
 
-    /// Puts a retain behind the others; one of nothing is left out.
+    /// Puts a retain after the others; one of nothing is left out.
     pub fn retain(&mut self, count: usize) -> Result<(), Memory>
         requires even { vec_len self.old.ops ≡ vec_len self.old.kept }
         ensures even { OnOk result (vec_len self.new.ops ≡ vec_len self.new.kept) }
@@ -64,7 +64,7 @@ impl Gathered {
         Ok(())
     }
 
-    /// Puts an operation that keeps no position behind the others. The result is how many there are then.
+    /// Puts an operation that keeps no position after the others. The result is how many there are then.
     pub fn append(&mut self, op: Op) -> Result<usize, Memory>
         requires even { vec_len self.old.ops ≡ vec_len self.old.kept }
         ensures even { OnOk result (vec_len self.new.ops ≡ vec_len self.new.kept) }

@@ -33,7 +33,7 @@ pub fn position_at(kept: &[Option<usize>], i: usize) -> Option<usize>
     if i < kept.len() { kept[i] } else { None }
 }
 
-/// Puts in what undoes the next operation: behind the others or, of an attribute operation, before those that undo the
+/// Puts in what undoes the next operation: after the others or, of an attribute operation, before those that undo the
 /// earlier ones of its place, which begin at `start`. The result is where they begin then.
 fn put_back(
     alloc: Global,

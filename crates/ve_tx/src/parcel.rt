@@ -23,7 +23,7 @@ pub struct Parcel {
 impl Parcel {
     /// The parcel of an entry: the same transactions by value, with their kept positions, and both numbers. Its values
     /// are those that the transactions cite in the store, each once, in the order in which they are first cited: in one
-    /// operation by the items removed and then by those inserted, and in one item by head, marks and white text.
+    /// operation by the items removed and then by those inserted, and in one item by head, marks and whitespace.
     pub fn of(alloc: Global, entry: &Entry, store: &Store) -> Result<Parcel, Memory>
         requires { All (TxCites store.now) entry.now.txs }
         ensures txs { IfOk result (λ parcel. map (by_value parcel.values) parcel.entry.txs ≡ map (by_value store.now) entry.now.txs) }

@@ -1,7 +1,7 @@
 use Rattle.std.proofs.Common.{◌+◌, ◌++◌, length, take, drop, arith, sym, ap, ◌∙◌, append_assoc, length-append}
 use Rattle.ve_items.specs.Blocks.{joined}
 use Rattle.ve_items.specs.Stacked.{from_top}
-use Rattle.ve_items.proofs.Pieces.{part_front, part_back, cut_shorter}
+use Rattle.ve_items.proofs.Pieces.{part_prefix, part_back, cut_shorter}
 use Rattle.ve_items.proofs.edit.remove.Goals as goal
 
 pub take_out-requires-clause-fits : goal.take_out-requires-clause-fits
@@ -29,5 +29,5 @@ returns-clause-items c =
     c.gather.ensures.items
     ∙ c.take_out.ensures.items
     ∙ sym (append_assoc before (take offset after) (drop (offset + c.args.removed) after))
-    ∙ ap (λ l. l ++ drop (offset + c.args.removed) after) (part_front list before after offset c.args.at opened.items opened.place)
+    ∙ ap (λ l. l ++ drop (offset + c.args.removed) after) (part_prefix list before after offset c.args.at opened.items opened.place)
     ∙ ap (λ l. take c.args.at list ++ l) (part_back list before after offset c.args.removed c.args.at opened.items opened.place)

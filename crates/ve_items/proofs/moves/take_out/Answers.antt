@@ -1,7 +1,7 @@
 use Rattle.std.proofs.Common.{◌≡◌, ◌+◌, ◌-◌, ◌++◌, length, min, take, drop, arith, rules, refl, sym, ap, ◌∙◌, length-append}
 use Rattle.ve_items.specs.Blocks.{joined}
 use Rattle.ve_items.specs.Stacked.{from_top, top}
-use Rattle.ve_items.proofs.Blocks.{from_top_was, top_was, sizes_below, behind_nothing}
+use Rattle.ve_items.proofs.Blocks.{from_top_was, top_was, sizes_below, after_nothing}
 use Rattle.ve_items.proofs.Pieces.{range_cut, range_gone, cut_shorter}
 use Rattle.ve_items.proofs.moves.take_out.Goals as goal
 
@@ -53,7 +53,7 @@ loop-left-preserved c =
       sizes = sizes_below _ _ first was inv.sizes;
       inside = omega arith;
       within = omega arith;
-      items = range_cut _ _ _ first rest _ (from_top c.loop-left.after.blocks) c.loop-left.offset c.loop-left.left (c.loop-left.offset + c.min.result) _ (sym inv.items) old c.cut_out.ensures (behind_nothing _ _ (omega arith)) (omega arith) refl (omega arith);
+      items = range_cut _ _ _ first rest _ (from_top c.loop-left.after.blocks) c.loop-left.offset c.loop-left.left (c.loop-left.offset + c.min.result) _ (sym inv.items) old c.cut_out.ensures (after_nothing _ _ (omega arith)) (omega arith) refl (omega arith);
       fits = omega (arith, inv.fits);
       count = omega (arith, inv.count);
       room_before = inv.room_before;

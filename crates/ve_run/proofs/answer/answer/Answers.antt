@@ -1,9 +1,9 @@
 use Rattle.std.proofs.Common.{ap, ◌∙◌, subst}
 use Rattle.ve_run.specs.Output.{reply_line}
-use Rattle.ve_run.specs.Run.{AppendsFront}
+use Rattle.ve_run.specs.Run.{AppendsPrefix}
 use Rattle.ve_run.proofs.answer.answer.Goals as goal
 
-pub returns-in_err-write_all-clause-front : goal.returns-in_err-write_all-clause-front
-returns-in_err-write_all-clause-front g c _ =
+pub returns-in_err-write_all-clause-prefix : goal.returns-in_err-write_all-clause-prefix
+returns-in_err-write_all-clause-prefix g c _ =
     let bytes = c.as_slice.ensures ∙ c.in_ok-piece.ensures ∙ ap reply_line c.in_ok-reply.ensures.reply in
-    subst (AppendsFront (g.K.Sink.held c.args.sink.now) (g.K.Sink.held c.write_all.new.sink)) bytes c.in_err-write_all.ensures.err
+    subst (AppendsPrefix (g.K.Sink.held c.args.sink.now) (g.K.Sink.held c.write_all.new.sink)) bytes c.in_err-write_all.ensures.err

@@ -50,7 +50,7 @@ returns-in_err-end_line-clause-broke_off g c fault =
     (all_of c.args.kept.now c.args.piece.now inv.fed (c.in-Some.end.now ++ newline ∷ c.in-Some.more.now) (inv.parts ∙ ap (λ s. inv.fed ++ s) split))
     is_line
     (c.end_line.ensures.stepped_at_fault (cc (p.1, p.2, c.in_err-end_line.was, fault)))
-    (c.end_line.ensures.front (cc (p.1, p.2, c.in_err-end_line.was, fault)))
+    (c.end_line.ensures.prefix (cc (p.1, p.2, c.in_err-end_line.was, fault)))
 
 pub returns-in_err-end_line-clause-starved : goal.returns-in_err-end_line-clause-starved
 returns-in_err-end_line-clause-starved g c want =

@@ -20,7 +20,7 @@ returns-in_err-answer-clause-write_fault g c fault =
           (subst (λ rest. Answered (meaning g.M.Machine.reply g.M.Machine.next g.M.Machine.cost) (scene c.args.world.now c.args.steps.now (g.K.Sink.held c.args.sink.now)) (scene c.read_lines.new.world c.read_lines.new.steps (g.K.Sink.held c.read_lines.new.sink)) script rest) (sym c.as_slice-line.ensures) answered)
           line_some c.in_ok-read_lines.ensures.end
           (c.answer.ensures.stepped_at_fault (cc (p.1, p.2, c.in_err-answer.was, fault)))
-          (c.answer.ensures.front (cc (p.1, p.2, c.in_err-answer.was, fault)));
+          (c.answer.ensures.prefix (cc (p.1, p.2, c.in_err-answer.was, fault)));
     }
 
 pub returns-clause-ok : goal.returns-clause-ok

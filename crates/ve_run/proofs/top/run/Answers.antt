@@ -3,9 +3,9 @@ use Rattle.std.specs.Option.{IsSomeAnd}
 use Rattle.ve_run.specs.declared.stop.Stop.{Stop}
 use Rattle.ve_run.specs.declared.stop.Stop.TheVariants.{Memory, ReadFault, WriteFault, InputTooLong}
 use Rattle.ve_run.specs.Output.{Meaning}
-use Rattle.ve_run.specs.Run.{Scene, max_script, Took, Stopped, Broke, Starved, WroteFront}
+use Rattle.ve_run.specs.Run.{Scene, max_script, Took, Stopped, Broke, Starved, WrotePrefix}
 use Rattle.ve_run.specs.Status.{status_of}
-use Rattle.ve_run.proofs.Runs.{AppendsFront-answered, AppendsFront-broke_off, AppendsFront-gave_up}
+use Rattle.ve_run.proofs.Runs.{AppendsPrefix-answered, AppendsPrefix-broke_off, AppendsPrefix-gave_up}
 use Rattle.ve_run.proofs.top.run.Goals as goal
 
 -- whatever stopped it
@@ -15,22 +15,22 @@ by_cause P ReadFault m r w l = r refl
 by_cause P WriteFault m r w l = w refl
 by_cause P InputTooLong m r w l = l refl
 
-front_at_stop : {W : Type 0} (m : Meaning W) (left_before left : Option (List ℕ)) (a b : Scene W) (extra : List ℕ) → Stopped m left_before left a b extra → WroteFront m left_before left a b
-front_at_stop m left_before left a b extra h = record { script = h.script; extra = extra; took = h.took; written = AppendsFront-answered m a b h.script h.rest h.answered }
+prefix_at_stop : {W : Type 0} (m : Meaning W) (left_before left : Option (List ℕ)) (a b : Scene W) (extra : List ℕ) → Stopped m left_before left a b extra → WrotePrefix m left_before left a b
+prefix_at_stop m left_before left a b extra h = record { script = h.script; extra = extra; took = h.took; written = AppendsPrefix-answered m a b h.script h.rest h.answered }
 
-front_at_fault : {W : Type 0} (m : Meaning W) (left_before left : Option (List ℕ)) (a b : Scene W) → Broke m left_before left a b → WroteFront m left_before left a b
-front_at_fault m left_before left a b h = record { script = h.script; extra = h.extra; took = h.took; written = AppendsFront-broke_off m a b h.script _ h.broke_off }
+prefix_at_fault : {W : Type 0} (m : Meaning W) (left_before left : Option (List ℕ)) (a b : Scene W) → Broke m left_before left a b → WrotePrefix m left_before left a b
+prefix_at_fault m left_before left a b h = record { script = h.script; extra = h.extra; took = h.took; written = AppendsPrefix-broke_off m a b h.script _ h.broke_off }
 
-front_at_want : {W : Type 0} (m : Meaning W) (left_before left : Option (List ℕ)) (a b : Scene W) → Starved m left_before left a b → WroteFront m left_before left a b
-front_at_want m left_before left a b h = record { script = h.script; extra = h.extra; took = h.took; written = AppendsFront-gave_up m a b h.script h.gave_up }
+prefix_at_want : {W : Type 0} (m : Meaning W) (left_before left : Option (List ℕ)) (a b : Scene W) → Starved m left_before left a b → WrotePrefix m left_before left a b
+prefix_at_want m left_before left a b h = record { script = h.script; extra = h.extra; took = h.took; written = AppendsPrefix-gave_up m a b h.script h.gave_up }
 
-pub returns-in-Err-run_script-clause-front : goal.returns-in-Err-run_script-clause-front
-returns-in-Err-run_script-clause-front g c _ =
+pub returns-in-Err-run_script-clause-prefix : goal.returns-in-Err-run_script-clause-prefix
+returns-in-Err-run_script-clause-prefix g c _ =
     by_cause _ c.in-Err-run_script.stop
-    (λ e. front_at_want _ _ _ _ _ (c.run_script.ensures.starved (cc (e, c.in-Err-run_script.is))))
-    (λ e. front_at_stop _ _ _ _ _ [] (c.run_script.ensures.read_fault (cc (e, c.in-Err-run_script.is))))
-    (λ e. front_at_fault _ _ _ _ _ (c.run_script.ensures.write_fault (cc (e, c.in-Err-run_script.is))))
-    (λ e. let (x, stopped) = c.run_script.ensures.too_long (cc (e, c.in-Err-run_script.is)) in front_at_stop _ _ _ _ _ (x ∷ []) stopped)
+    (λ e. prefix_at_want _ _ _ _ _ (c.run_script.ensures.starved (cc (e, c.in-Err-run_script.is))))
+    (λ e. prefix_at_stop _ _ _ _ _ [] (c.run_script.ensures.read_fault (cc (e, c.in-Err-run_script.is))))
+    (λ e. prefix_at_fault _ _ _ _ _ (c.run_script.ensures.write_fault (cc (e, c.in-Err-run_script.is))))
+    (λ e. let (x, stopped) = c.run_script.ensures.too_long (cc (e, c.in-Err-run_script.is)) in prefix_at_stop _ _ _ _ _ (x ∷ []) stopped)
 
 -- a byte past the limit can't be taken where no more than the limit were left
 not_past : (a c : Option (List ℕ)) (script : List ℕ) (x : ℕ) → Took a c script (x ∷ []) → IsSomeAnd a (λ s. length s ≤ max_script) → ⊥

@@ -1,6 +1,6 @@
 use Rattle.std.proofs.Common.{◌++◌, sym, ap, ◌∙◌}
 use Rattle.ve_session.specs.Written.{html_of}
-use Rattle.ve_session.proofs.Fronts.{html_of-block}
+use Rattle.ve_session.proofs.Prefixes.{html_of-block}
 use Rattle.ve_session.proofs.page.html_of.Goals as goal
 
 pub loop-k-preserved : goal.loop-k-preserved

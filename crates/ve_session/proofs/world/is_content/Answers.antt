@@ -1,5 +1,5 @@
 use Rattle.std.proofs.Common.{◌≤◌, length, sym, ◌∙◌, arith, rules}
-use Rattle.ve_session.proofs.Fronts.{last_bracket-take, is_content-by}
+use Rattle.ve_session.proofs.Prefixes.{last_bracket-take, is_content-by}
 use Rattle.ve_session.proofs.world.is_content.Goals as goal
 
 pub loop-before-preserved : goal.loop-before-preserved

@@ -9,9 +9,9 @@ returns-clause-bytes c =
     let P : List ℕ → Type 0 = λ s. c.give-given.result ≡ min (length (drop c.self.inside.given s)) c.size_after-most.result in
     let size : P c.self.inside.bytes = subst P bytes c.give-given.ensures.size in
     let F : List ℕ → Type 0 = λ s. take c.give-given.result c.give-given.new.room ≡ take c.give-given.result (drop c.self.inside.given s) in
-    let front : F c.self.inside.bytes = subst F bytes c.give-given.ensures.front in
+    let prefix : F c.self.inside.bytes = subst F bytes c.give-given.ensures.prefix in
     let some : 0 < length c.give-given.new.room → 0 < c.size_after-most.result = λ h. c.size_after-most.ensures.some (search rules) in
-    (sym (ap (λ f. f.left) c.self.view_is) ∙ consumed _ _ _ _ _ size front, λ none room. given_none _ _ _ _ size (some room) none)
+    (sym (ap (λ f. f.left) c.self.view_is) ∙ consumed _ _ _ _ _ size prefix, λ none room. given_none _ _ _ _ size (some room) none)
 
 pub returns-clause-ok : goal.returns-clause-ok
 returns-clause-ok c =

@@ -2,7 +2,7 @@ use Rattle.std.proofs.Common.{◌≡◌, ◌≤◌, ℕ, ◌++◌, List, length,
 use Rattle.ve_base.specs.declared.value.Value.{Value}
 use Rattle.model_change.specs.Store.{admitted}
 use Rattle.ve_store.specs.Following.{Following}
-use Rattle.ve_store.proofs.StoreLemmas.{admitted_before, admitted_behind, get_behind, place_within}
+use Rattle.ve_store.proofs.StoreLemmas.{admitted_before, admitted_after, get_after, place_within}
 use Rattle.ve_store.proofs.new_values.NewValues.id_of.Goals as goal
 
 pub returns-in-Some-clause-ok : goal.returns-in-Some-clause-ok
@@ -18,9 +18,9 @@ overflow_add-result c =
 pub returns-clause-stored : goal.returns-clause-stored
 returns-clause-stored c =
     let long : c.self.inside.after ≡ length c.args.store.now = ap (λ (n : Following). n.after) c.self.view_is ∙ c.requires in
-    get_behind c.args.store.now c.admit.new.self c.in_ok-id.id.0 c.self.inside.after c.args.value long c.in_ok-id.ensures.stored
+    get_after c.args.store.now c.admit.new.self c.in_ok-id.id.0 c.self.inside.after c.args.value long c.in_ok-id.ensures.stored
 
 pub returns-clause-ok : goal.returns-clause-ok
 returns-clause-ok c =
     ap (λ (vs : List Value). c.args.store.now ++ vs) (c.in_ok-id.ensures.ok ∙ ap (λ (n : Following). admitted n.values c.args.value) c.self.view_is)
-    ∙ admitted_behind c.args.store.now c.args.self.now.values c.args.value (λ there. true≢false (sym (c.in_default.ensures.some.1 there)))
+    ∙ admitted_after c.args.store.now c.args.self.now.values c.args.value (λ there. true≢false (sym (c.in_default.ensures.some.1 there)))

@@ -1,4 +1,4 @@
--- The front of a list, one item longer.
+-- The prefix of a list, one item longer.
 use Rattle.std.proofs.Common.{◌≡◌, ℕ, ◌+◌, ◌-◌, ◌<◌, ◌≤◌, List, [], ◌∷◌, ◌++◌, Bool, Option, Some, nat_le, length, take, find, if◌then◌else◌, ap, ◌∙◌, ◌&&◌, arith}
 use Rattle.std.proofs.lemmas.Option.{slice_get_within, get_or_from_slice_get}
 use Rattle.std.proofs.lemmas.List.{take_more, reverse-append}
