@@ -1,0 +1,3 @@
+mod Examples
+pub mod FindLemmas
+pub mod StartLemmas

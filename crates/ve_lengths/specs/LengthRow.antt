@@ -1,0 +1,7 @@
+-- What lengths are seen as.
+use Rattle.std.specs.Prelude.{ℕ, List}
+
+pub record LengthRow : Type 0 where
+  pub lens : List ℕ
+  -- how many lengths there is room for
+  pub room : ℕ
