@@ -8,7 +8,8 @@ use Rattle.model_items.specs.Law.{verdict}
 use Rattle.model_items.specs.declared.law_fault.LawFault.TheVariants.{TooDeep}
 use Rattle.model_edit.specs.declared.build_fault.BuildFault.TheVariants.{BadOffset, NoPlace, NotContent, BadDepth}
 use Rattle.model_edit.specs.Insert.{insertion, text_insertion, plain_text_insertion, split}
-use Rattle.model_edit.proofs.ExampleItems.{o, c, text, marked, plain_mark, node, internal, list_after}
+use Rattle.model_items.proofs.ExampleItems.{o, c, text, marked, plain_mark, node, internal}
+use Rattle.model_edit.proofs.ExampleItems.{list_after}
 
 -- text in an empty page stands in a new paragraph
 into_empty_page : text_insertion internal 0 (codes "a") ≡ Ok (Replace [] (node P (text (codes "a"))) ∷ Retain 2 ∷ [])

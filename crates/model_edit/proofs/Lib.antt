@@ -1,5 +1,4 @@
 pub mod ExampleItems
-mod OffsetExamples
 mod InsertExamples
 mod RemoveExamples
 mod ShapeExamples

@@ -5,7 +5,8 @@ use Rattle.ve_kinds.specs.declared.kind.Kind.TheVariants.{P, Ul, Ol, Li}
 use Rattle.model_items.specs.declared.plain_item.PlainItem.{PlainItem}
 use Rattle.model_edit.specs.declared.list_fault.ListFault.TheVariants.{NotListItem, NoSibling, NotNested}
 use Rattle.model_edit.specs.Lists.{indent, outdent}
-use Rattle.model_edit.proofs.ExampleItems.{text, node, internal, list_after}
+use Rattle.model_items.proofs.ExampleItems.{text, node, internal}
+use Rattle.model_edit.proofs.ExampleItems.{list_after}
 
 abbrev p : List ℕ → List PlainItem
 p cs = node P (text cs)

@@ -6,7 +6,8 @@ use Rattle.model_items.specs.declared.plain_item.PlainItem.{PlainItem}
 use Rattle.model_change.specs.Transaction.{Retain, Replace}
 use Rattle.model_edit.specs.declared.build_fault.BuildFault.TheVariants.{BadRange}
 use Rattle.model_edit.specs.Remove.{removal}
-use Rattle.model_edit.proofs.ExampleItems.{o, c, text, node, internal, list_after}
+use Rattle.model_items.proofs.ExampleItems.{o, c, text, node, internal}
+use Rattle.model_edit.proofs.ExampleItems.{list_after}
 
 -- a whole node, `<ul><li><p>a</p><p>x</p><p>b</p></li></ul>`
 abbrev three : List PlainItem

@@ -10,7 +10,7 @@ use Rattle.model_edit.specs.declared.selection.By.TheVariants.{Cluster, Word}
 use Rattle.model_edit.specs.declared.selection.Dir.TheVariants.{Back, Ahead}
 use Rattle.model_edit.specs.Translate.{translate, translate_range, moved, between}
 use Rattle.model_edit.specs.Next.{next}
-use Rattle.model_edit.proofs.ExampleItems.{o, text, node, internal}
+use Rattle.model_items.proofs.ExampleItems.{o, text, node, internal}
 
 -- an accent makes one cluster with its letter
 abbrev accented : List PlainItem

@@ -15,7 +15,8 @@ use Rattle.model_edit.specs.declared.wrap_plan.WrapPlan.{WrapPlan}
 use Rattle.model_edit.specs.Marking.{marking, unmarking}
 use Rattle.model_edit.specs.Wrap.{wrap}
 use Rattle.model_edit.specs.Convert.{convert, attribute}
-use Rattle.model_edit.proofs.ExampleItems.{o, c, with_attrs, attr, text, marked, plain_mark, node, internal, list_after}
+use Rattle.model_items.proofs.ExampleItems.{o, c, with_attrs, attr, text, marked, plain_mark, node, internal}
+use Rattle.model_edit.proofs.ExampleItems.{list_after}
 
 abbrev b : Mark
 b = plain_mark (codes "b")

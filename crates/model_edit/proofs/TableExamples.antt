@@ -11,7 +11,8 @@ use Rattle.model_edit.specs.declared.table_fault.TableFault.TheVariants.{NotTabl
 use Rattle.model_edit.specs.Grid.{Grid, grid}
 use Rattle.model_edit.specs.Layout.{Layout, layout_of, row_in_layout, col_in_layout, row_out_layout, col_out_layout}
 use Rattle.model_edit.specs.Tables.{row_in, col_in, row_out, col_out}
-use Rattle.model_edit.proofs.ExampleItems.{c, with_attrs, attr, text, node, internal, list_after}
+use Rattle.model_items.proofs.ExampleItems.{c, with_attrs, attr, text, node, internal}
+use Rattle.model_edit.proofs.ExampleItems.{list_after}
 
 abbrev cell : List ℕ → List PlainItem
 cell cs = node Td (node P (text cs))

@@ -1,11 +1,11 @@
 -- The items that builders make, and what they ask of one item.
-use Rattle.std.specs.Prelude.{Bool, true, false, ◌||◌, List, [], codes, Option, Some, None}
+use Rattle.std.specs.Prelude.{Bool, false, ◌||◌, List, [], codes, None}
 use Rattle.ve_kinds.specs.declared.kind.Kind.{Kind}
 use Rattle.ve_kinds.specs.declared.kind.Kind.TheVariants.{InternalList, InternalItem}
 use Rattle.ve_base.specs.declared.attrs.Attr.{Attr}
 use Rattle.model_items.specs.declared.plain_item.PlainItem.{PlainItem}
 use Rattle.model_items.specs.declared.plain_item.PlainItem.TheVariants.{Char, Opening, Closing}
-use Rattle.ve_kinds.specs.Table.{kind_same, is_among, inline_leaves}
+use Rattle.ve_kinds.specs.Table.{kind_same}
 use Rattle.model_change.specs.Attributes.{attr_removed}
 
 -- an opening with these attributes and nothing else
@@ -35,14 +35,6 @@ abbrev pub is_closing_of : Kind → PlainItem → Bool
 is_closing_of kind (Closing k pre) = kind_same k kind
 is_closing_of kind _ = false
 
-abbrev pub is_opening : PlainItem → Bool
-is_opening (Opening kind head marks pre origin generated) = true
-is_opening _ = false
-
-abbrev pub is_closing : PlainItem → Bool
-is_closing (Closing kind pre) = true
-is_closing _ = false
-
 -- the internal list or one of its items
 abbrev pub is_internal : Kind → Bool
 is_internal k = kind_same k InternalList || kind_same k InternalItem
@@ -51,11 +43,3 @@ abbrev pub is_internal_bracket : PlainItem → Bool
 is_internal_bracket (Char c marks) = false
 is_internal_bracket (Opening kind head marks pre origin generated) = is_internal kind
 is_internal_bracket (Closing kind pre) = is_internal kind
-
-abbrev pub is_inline_leaf : Kind → Bool
-is_inline_leaf = is_among inline_leaves
-
--- of the item at a place, if there is one
-abbrev pub passes : (PlainItem → Bool) → Option PlainItem → Bool
-passes test None = false
-passes test (Some item) = test item

@@ -8,8 +8,8 @@ use Rattle.model_change.specs.Attributes.{is_reserved}
 use Rattle.model_change.specs.Transaction.{Transaction}
 use Rattle.model_edit.specs.declared.build_fault.BuildFault.{BuildFault}
 use Rattle.model_edit.specs.declared.build_fault.BuildFault.TheVariants.{NotBranch, NotOpening, BadAttr}
-use Rattle.model_edit.specs.Brackets.{closing_of, passes}
-use Rattle.model_edit.specs.Offsets.{partner}
+use Rattle.model_edit.specs.Brackets.{closing_of}
+use Rattle.model_items.specs.Offsets.{partner, passes}
 use Rattle.model_edit.specs.Edits.{Change, Set, transaction_of}
 
 abbrev pub opens_kind : (Kind → Bool) → PlainItem → Bool

@@ -8,8 +8,8 @@ use Rattle.model_items.specs.declared.plain_item.PlainItem.TheVariants.{Opening}
 use Rattle.ve_kinds.specs.Table.{is_among}
 use Rattle.model_items.specs.Tree.{Open}
 use Rattle.model_change.specs.Attributes.{value_of}
-use Rattle.model_edit.specs.Brackets.{is_opening_of, passes}
-use Rattle.model_edit.specs.Offsets.{children}
+use Rattle.model_edit.specs.Brackets.{is_opening_of}
+use Rattle.model_items.specs.Offsets.{children, passes}
 use Rattle.model_edit.specs.declared.grid_cell.GridCell.{GridCell}
 use Rattle.model_edit.specs.declared.table_fault.TableFault.{TableFault}
 use Rattle.model_edit.specs.declared.table_fault.TableFault.TheVariants.{NotTable, Crooked}

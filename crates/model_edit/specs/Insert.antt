@@ -11,7 +11,7 @@ use Rattle.model_change.specs.Transaction.{Transaction}
 use Rattle.model_edit.specs.declared.build_fault.BuildFault.{BuildFault}
 use Rattle.model_edit.specs.declared.build_fault.BuildFault.TheVariants.{BadOffset, NoPlace, NotContent, BadDepth}
 use Rattle.model_edit.specs.Brackets.{opening_of, closing_of, closing_for, copy_of, is_internal}
-use Rattle.model_edit.specs.Offsets.{openings_at, stack_at, kind_at, is_content, is_inside_leaf, partner}
+use Rattle.model_items.specs.Offsets.{openings_at, stack_at, kind_at, is_content, is_inside_leaf, partner}
 use Rattle.model_edit.specs.Edits.{Change, transaction_of}
 
 -- nothing can be put here: at the end, past it, or inside a leaf

@@ -1,5 +1,4 @@
 pub mod Brackets
-pub mod Offsets
 pub mod Edits
 pub mod Insert
 pub mod Remove

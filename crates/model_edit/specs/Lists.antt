@@ -6,8 +6,8 @@ use Rattle.model_items.specs.declared.plain_item.PlainItem.{PlainItem}
 use Rattle.ve_kinds.specs.Table.{kind_same}
 use Rattle.model_items.specs.Tree.{Open}
 use Rattle.model_change.specs.Transaction.{Transaction}
-use Rattle.model_edit.specs.Brackets.{opening_of, closing_of, copy_of, is_opening_of, is_closing_of, passes}
-use Rattle.model_edit.specs.Offsets.{opens_at, kind_at, partner, end_of_node}
+use Rattle.model_edit.specs.Brackets.{opening_of, closing_of, copy_of, is_opening_of, is_closing_of}
+use Rattle.model_items.specs.Offsets.{opens_at, kind_at, partner, end_of_node, passes}
 use Rattle.model_edit.specs.Edits.{Edit, Change, transaction_of}
 use Rattle.model_edit.specs.declared.list_fault.ListFault.{ListFault}
 use Rattle.model_edit.specs.declared.list_fault.ListFault.TheVariants.{NotListItem, NoSibling, NotNested}

@@ -12,8 +12,7 @@ use Rattle.model_edit.specs.declared.build_fault.BuildFault.{BuildFault}
 use Rattle.model_edit.specs.declared.build_fault.BuildFault.TheVariants.{BadRange, BadMark, TooManyMarks}
 use Rattle.ve_kinds.specs.Table.{is_inline_leaf}
 use Rattle.ve_kinds.specs.Tags.{annotation_tags, is_one_of}
-use Rattle.model_edit.specs.Brackets.{passes}
-use Rattle.model_edit.specs.Offsets.{is_bad_span, places}
+use Rattle.model_items.specs.Offsets.{is_bad_span, places, passes}
 use Rattle.model_edit.specs.Edits.{Edit, Change, transaction_of}
 
 abbrev pub is_bad_mark : Mark → Bool

@@ -8,7 +8,7 @@ use Rattle.model_change.specs.Transaction.{Transaction}
 use Rattle.model_edit.specs.declared.build_fault.BuildFault.{BuildFault}
 use Rattle.model_edit.specs.declared.build_fault.BuildFault.TheVariants.{BadRange}
 use Rattle.model_edit.specs.Brackets.{closing_of, is_internal_bracket}
-use Rattle.model_edit.specs.Offsets.{is_bad_span, is_unmatched, partner, places, unmatched_places, some_in_range}
+use Rattle.model_items.specs.Offsets.{is_bad_span, is_unmatched, partner, places, unmatched_places, some_in_range}
 use Rattle.model_edit.specs.Edits.{Edit, Change, transaction_of}
 
 abbrev pub is_bad_removal : List PlainItem → ℕ → ℕ → Bool

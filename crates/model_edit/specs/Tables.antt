@@ -5,7 +5,7 @@ use Rattle.ve_kinds.specs.declared.kind.Kind.TheVariants.{Tr, Td, P}
 use Rattle.model_items.specs.declared.plain_item.PlainItem.{PlainItem}
 use Rattle.model_change.specs.Transaction.{Transaction}
 use Rattle.model_edit.specs.Brackets.{opening_of, closing_of}
-use Rattle.model_edit.specs.Offsets.{partner, end_of_node}
+use Rattle.model_items.specs.Offsets.{partner, end_of_node}
 use Rattle.model_edit.specs.Edits.{Edit, Change, Set, transaction_of}
 use Rattle.model_edit.specs.declared.grid_cell.GridCell.{GridCell}
 use Rattle.model_edit.specs.declared.table_fault.TableFault.{TableFault}

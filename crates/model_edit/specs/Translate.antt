@@ -2,7 +2,7 @@
 use Rattle.std.specs.Prelude.{ℕ, suc, ◌+◌, ◌-◌, min, Bool, ◌==◌, nat_le, nat_lt, if◌then◌else◌, List, [], ◌∷◌, length}
 use Rattle.model_items.specs.declared.plain_item.PlainItem.{PlainItem}
 use Rattle.model_change.specs.Transaction.{Retain, Replace, Attribute, Transaction}
-use Rattle.model_edit.specs.Offsets.{is_inside_leaf}
+use Rattle.model_items.specs.Offsets.{is_inside_leaf}
 use Rattle.model_edit.specs.declared.selection.Bias.{Bias}
 use Rattle.model_edit.specs.declared.selection.Bias.TheVariants.{Left, Right}
 use Rattle.model_edit.specs.declared.selection.Selection.{Selection}

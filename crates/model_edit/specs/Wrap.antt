@@ -8,8 +8,8 @@ use Rattle.model_items.specs.Tree.{Open}
 use Rattle.model_change.specs.Transaction.{Transaction}
 use Rattle.model_edit.specs.declared.build_fault.BuildFault.{BuildFault}
 use Rattle.model_edit.specs.declared.build_fault.BuildFault.TheVariants.{BadRange, NotWrapped}
-use Rattle.model_edit.specs.Brackets.{opening_of, closing_of, is_opening_of, is_internal_bracket, passes}
-use Rattle.model_edit.specs.Offsets.{kind_at, partner, end_of_node, siblings, is_unmatched, places, some_in_range}
+use Rattle.model_edit.specs.Brackets.{opening_of, closing_of, is_opening_of, is_internal_bracket}
+use Rattle.model_items.specs.Offsets.{kind_at, partner, end_of_node, siblings, is_unmatched, places, some_in_range, passes}
 use Rattle.model_edit.specs.Edits.{Edit, Change, transaction_of}
 use Rattle.model_edit.specs.declared.wrap_plan.Shape.{Shape}
 use Rattle.model_edit.specs.declared.wrap_plan.WrapPlan.{WrapPlan}

@@ -15,8 +15,8 @@ use Rattle.model_change.specs.Attributes.{NamesApartIn, AllNamesApart, is_reserv
 use Rattle.model_change.specs.Transaction.{Transaction, InsertedApart}
 use Rattle.model_edit.specs.declared.build_fault.BuildFault.{BuildFault}
 use Rattle.model_edit.specs.declared.list_fault.ListFault.{ListFault}
-use Rattle.model_edit.specs.Brackets.{opening_of, closing_of, closing_for, copy_of, is_closing_of, passes}
-use Rattle.model_edit.specs.Offsets.{is_bad_span, openings_at, stack_at, kind_at, opens_at, is_content, partner, end_of_node, is_unmatched, places, unmatched_places}
+use Rattle.model_edit.specs.Brackets.{opening_of, closing_of, closing_for, copy_of, is_closing_of}
+use Rattle.model_items.specs.Offsets.{is_bad_span, openings_at, stack_at, kind_at, opens_at, is_content, partner, end_of_node, is_unmatched, places, unmatched_places, passes}
 use Rattle.model_edit.specs.Edits.{Edit, Change, Set, transaction_of}
 use Rattle.model_edit.specs.Insert.{is_bad_offset, is_mixed, in_paragraph, is_content_pieces, levels_up, reopened, put_at, text_pieces, marks_before, is_bad_depth}
 use Rattle.model_edit.specs.Remove.{is_bad_removal, Join, join_at, removal_edits}

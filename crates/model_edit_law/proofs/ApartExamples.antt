@@ -6,7 +6,7 @@ use Rattle.model_items.specs.declared.plain_item.PlainItem.{PlainItem}
 use Rattle.model_change.specs.Transaction.{Transaction, all_inserted}
 use Rattle.model_edit.specs.Edits.{Change, Set}
 use Rattle.model_edit.specs.Insert.{split}
-use Rattle.model_edit.proofs.ExampleItems.{c, text, attr, with_attrs, internal}
+use Rattle.model_items.proofs.ExampleItems.{c, text, attr, with_attrs, internal}
 use Rattle.model_edit_law.specs.ApartLaws.{pieces_of}
 
 -- in the order of the edits, whichever they are

@@ -13,7 +13,7 @@ use Rattle.model_change.specs.Attributes.{attr_removed, NamesApartIn, AllNamesAp
 use Rattle.model_change.specs.Transaction.{Retain, Replace, Attribute, Transaction, all_inserted, InsertedApart}
 use Rattle.model_change.proofs.FilledLemmas.{names_stay_apart}
 use Rattle.model_edit.specs.Brackets.{copy_of, closing_for}
-use Rattle.model_edit.specs.Offsets.{openings_after, openings_at}
+use Rattle.model_items.specs.Offsets.{openings_after, openings_at}
 use Rattle.model_edit.specs.Edits.{Edit, Change, Set, retaining, merged, replacing, setting, transaction_from, transaction_of}
 use Rattle.model_edit_law.specs.ApartLaws.{pieces_of, EditsInsertPieces, EditsAreApart, EditsStayApart, FineStaysApart}
 use Rattle.model_edit_law.proofs.FineLemmas.{edits_are_fine, edits_substitute}

@@ -14,7 +14,7 @@ use Rattle.model_items.specs.Law.{State, start, finish, top, is_empty, is_over, 
 use Rattle.model_items.proofs.LawLemmas.{after-append, after_whole, if_ok, Ok-same, joined-ok, after_parts, opened_before, closed_before, after_from_Lawful}
 use Rattle.std.proofs.lemmas.List.{append_assoc, length-append}
 use Rattle.model_items.specs.Tree.{Open, opens_after, opens_with, length_to_close}
-use Rattle.model_edit.specs.Offsets.{partner, partner_of, openings_after, stack_at}
+use Rattle.model_items.specs.Offsets.{partner, partner_of, openings_after, stack_at}
 
 abbrev pub state_of : List Kind → Bool → State
 state_of stack seen = record { stack = stack; seen = seen }

@@ -8,7 +8,7 @@ use Rattle.ve_kinds.specs.declared.kind.Kind.TheVariants.{Tr}
 use Rattle.model_items.specs.declared.plain_item.PlainItem.{PlainItem}
 use Rattle.model_items.specs.Law.{Lawful}
 use Rattle.model_items.specs.Tree.{Open}
-use Rattle.model_edit.specs.Offsets.{partner, end_of_node}
+use Rattle.model_items.specs.Offsets.{partner, end_of_node}
 use Rattle.model_edit.specs.declared.grid_cell.GridCell.{GridCell}
 use Rattle.model_edit.specs.declared.table_fault.TableFault.{TableFault}
 use Rattle.model_edit.specs.Grid.{Row, children_of, section_rows, row_cells, placed, is_crooked, with_row, with_rows}

@@ -12,7 +12,7 @@ use Rattle.model_items.specs.Law.{Lawful}
 use Rattle.model_items.specs.Tree.{Open, length_to_close}
 use Rattle.model_change.specs.Attributes.{item_changed}
 use Rattle.model_change.specs.Transaction.{on_first}
-use Rattle.model_edit.specs.Offsets.{end_of_node, siblings}
+use Rattle.model_items.specs.Offsets.{end_of_node, siblings}
 use Rattle.model_edit.specs.Edits.{Edit, setting, substituted_from, InOrder}
 use Rattle.model_edit.specs.declared.grid_cell.GridCell.{GridCell}
 use Rattle.model_edit.specs.Tables.{set_columns, whole_node, cell_removed}

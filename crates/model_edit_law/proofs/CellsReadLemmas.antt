@@ -7,7 +7,7 @@ use Rattle.model_items.specs.declared.plain_item.PlainItem.{PlainItem}
 use Rattle.model_items.specs.Law.{Lawful}
 use Rattle.model_change.specs.Attributes.{item_changed}
 use Rattle.model_change.proofs.TouchLemmas.{get-take-append}
-use Rattle.model_edit.specs.Offsets.{end_of_node}
+use Rattle.model_items.specs.Offsets.{end_of_node}
 use Rattle.model_edit.specs.Edits.{setting, substituted_from}
 use Rattle.model_edit.specs.declared.grid_cell.GridCell.{GridCell}
 use Rattle.model_edit_law.proofs.TablePlaceLemmas.{Chain-ends, Chain-filter, cell_kinds, cell_at}

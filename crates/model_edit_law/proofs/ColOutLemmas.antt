@@ -10,8 +10,8 @@ use Rattle.model_items.specs.declared.plain_item.PlainItem.{PlainItem}
 use Rattle.model_items.specs.declared.plain_item.PlainItem.TheVariants.{Opening}
 use Rattle.model_items.specs.Law.{Lawful}
 use Rattle.model_items.specs.Tree.{Open}
-use Rattle.model_edit.specs.Brackets.{is_opening_of, passes}
-use Rattle.model_edit.specs.Offsets.{partner, end_of_node, siblings, children}
+use Rattle.model_edit.specs.Brackets.{is_opening_of}
+use Rattle.model_items.specs.Offsets.{partner, end_of_node, siblings, children, passes}
 use Rattle.model_edit.specs.Edits.{substituted_from}
 use Rattle.model_edit.specs.declared.grid_cell.GridCell.{GridCell}
 use Rattle.model_edit.specs.Grid.{Row, Grid, children_of, section_rows, table_rows, row_cells, covers_column, most_columns}

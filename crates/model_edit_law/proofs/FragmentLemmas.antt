@@ -10,7 +10,7 @@ use Rattle.ve_kinds.specs.Table.{kind_same, may_hold, is_content_branch, is_inli
 use Rattle.model_items.specs.declared.law_fault.LawFault.TheVariants.{Unlawful}
 use Rattle.model_items.specs.Law.{top, is_empty, is_over, may_open, after}
 use Rattle.model_edit.specs.Brackets.{opening_of, closing_of}
-use Rattle.model_edit.specs.Offsets.{stack_at, kind_at}
+use Rattle.model_items.specs.Offsets.{stack_at, kind_at}
 use Rattle.model_edit_law.proofs.BracketLemmas.{state_of, Leads, leads_cons, leads_append, opened_leads}
 use Rattle.model_edit.specs.Insert.{outer_items, is_bad_offset, is_mixed, is_content_item, is_content_pieces, in_paragraph, may_hold_item, levels_up}
 use Rattle.model_edit_law.specs.InsertLaws.{are_children, FragmentStaysLawful}

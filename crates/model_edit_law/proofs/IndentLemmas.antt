@@ -17,7 +17,7 @@ use Rattle.model_items.specs.Law.{State, start, top, may_open, step, joined, out
 use Rattle.model_items.proofs.LawLemmas.{Ok-same, joined-ok, after_parts, closed_before, piece_fits, piece_fails}
 use Rattle.model_change.specs.Transaction.{Transaction, edited}
 use Rattle.model_edit.specs.Brackets.{opening_of, closing_of, is_closing_of}
-use Rattle.model_edit.specs.Offsets.{kind_at, end_of_node}
+use Rattle.model_items.specs.Offsets.{kind_at, end_of_node}
 use Rattle.model_edit.specs.Edits.{Change, transaction_of, InOrder, MaySet}
 use Rattle.model_edit_law.proofs.EditLemmas.{edited-two, filter-append}
 use Rattle.model_edit_law.proofs.BracketLemmas.{state_of, stack_at-after, slice_get-split, HoldsSame-itself, Leads, leads_cons, leads_append, opened_leads, NodeParts, node_parts}

@@ -16,7 +16,7 @@ use Rattle.model_items.proofs.LawLemmas.{Ok-same, after_whole, after_parts, afte
 use Rattle.model_change.specs.Transaction.{Transaction, edited}
 use Rattle.model_edit.specs.declared.build_fault.BuildFault.{BuildFault}
 use Rattle.model_edit.specs.Brackets.{closing_for, copy_of, is_internal}
-use Rattle.model_edit.specs.Offsets.{openings_after, openings_at, stack_at, kind_at, is_content}
+use Rattle.model_items.specs.Offsets.{openings_after, openings_at, stack_at, kind_at, is_content}
 use Rattle.model_edit_law.specs.Fine.{Fine}
 use Rattle.model_edit.specs.Edits.{Change, transaction_of}
 use Rattle.model_edit_law.proofs.EditLemmas.{edited-transaction_from}
@@ -124,7 +124,7 @@ reopened_fits items at depth s h none =
 pub split_lawful : (items : List PlainItem) (at depth : ℕ) (t : Transaction) → Lawful items → split items at depth ≡ Ok t → Lawful (edited t items)
 split_lawful items at depth t lawful h =
     let p = if_ok_else (is_bad_offset items at) _ _ t h in
-    let q = if_ok_else (not (Rattle.model_edit.specs.Offsets.is_content items at)) _ _ t p.1 in
+    let q = if_ok_else (not (Rattle.model_items.specs.Offsets.is_content items at)) _ _ t p.1 in
     let r = if_ok_else (is_bad_depth (stack_at items at) depth) _ _ t q.1 in
     let within = leb-false (length items) at (or_parts (nat_le (length items) at) _ p.0).0 in
     let none = (or_parts (nat_lt (length (stack_at items at)) depth) _ (or_parts (Rattle.std.specs.Prelude.nat_eq depth 0) _ r.0).1).1 in

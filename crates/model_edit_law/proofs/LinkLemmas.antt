@@ -5,7 +5,8 @@ use Rattle.std.proofs.Common.{◌≡◌, ℕ, suc, ◌+◌, Bool, true, false, �
 use Rattle.model_items.specs.declared.plain_item.PlainItem.{PlainItem}
 use Rattle.ve_kinds.specs.declared.kind.Kind.TheVariants.{Table}
 use Rattle.model_items.specs.Tree.{Open}
-use Rattle.model_edit.specs.Brackets.{is_opening_of, passes}
+use Rattle.model_edit.specs.Brackets.{is_opening_of}
+use Rattle.model_items.specs.Offsets.{passes}
 use Rattle.model_edit.specs.declared.grid_cell.GridCell.{GridCell}
 use Rattle.model_edit.specs.declared.table_fault.TableFault.{TableFault}
 use Rattle.model_edit.specs.declared.table_fault.TableFault.TheVariants.{NotTable, Crooked}

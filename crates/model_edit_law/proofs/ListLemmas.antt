@@ -16,8 +16,8 @@ use Rattle.model_items.specs.Law.{State, start, finish, top, step, after, Lawful
 use Rattle.model_items.proofs.LawLemmas.{Ok-same, joined-ok, after_parts, after_from_Lawful, opened_before, closed_before}
 use Rattle.model_items.specs.Tree.{Open, opens_after, length_to_close}
 use Rattle.model_change.specs.Transaction.{Transaction, edited}
-use Rattle.model_edit.specs.Brackets.{opening_of, closing_of, is_opening_of, is_closing_of, passes}
-use Rattle.model_edit.specs.Offsets.{kind_at, stack_at, opens_at, partner, end_of_node, first_from}
+use Rattle.model_edit.specs.Brackets.{opening_of, closing_of, is_opening_of, is_closing_of}
+use Rattle.model_items.specs.Offsets.{kind_at, stack_at, opens_at, partner, end_of_node, first_from, passes}
 use Rattle.model_edit.specs.Edits.{Change, transaction_of}
 use Rattle.model_edit_law.proofs.EditLemmas.{edited-two}
 use Rattle.model_edit_law.proofs.BracketLemmas.{slice_get-at, slice_get-split, partner-opening, Ends, Ends-after, kinds_after, stack_at-after, Closes, closes}
@@ -428,7 +428,7 @@ module _ (items : List PlainItem) (a : ℕ) (r : Round items a) (p : Parts r.pre
       let joins' : joins_list old (suc a) ≡ true = subst (λ v. joins_list v (suc a) ≡ true) same joins in
       let kind' : kind_at old (suc a) ≡ list.kind = ap (λ v. kind_at v (suc a)) (sym same) ∙ sym nodes.4 in
       let opened_at : partner items (a - 1) ≡ list.from =
-      ap (λ v. Rattle.model_edit.specs.Offsets.partner_of v items (a - 1)) there
+      ap (λ v. Rattle.model_items.specs.Offsets.partner_of v items (a - 1)) there
       ∙ ap (λ v. first_from (opens_at v (a - 1))) same
       ∙ ap first_from (opens_at-whole done _ (a - 1) (sym n) ∙ nodes.3) in
       let apart : suc list.from ≡ length done → ⊥ =

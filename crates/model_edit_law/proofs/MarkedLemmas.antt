@@ -12,8 +12,7 @@ use Rattle.ve_kinds.specs.Table.{is_element}
 use Rattle.model_change.specs.Attributes.{is_reserved}
 use Rattle.model_change.specs.Transaction.{edited}
 use Rattle.model_edit.specs.declared.build_fault.BuildFault.{BuildFault}
-use Rattle.model_edit.specs.Brackets.{passes}
-use Rattle.model_edit.specs.Offsets.{is_bad_span, places}
+use Rattle.model_items.specs.Offsets.{is_bad_span, places, passes}
 use Rattle.model_edit.specs.Edits.{Edit, Change, Set, transaction_of}
 use Rattle.model_edit.specs.Convert.{opens_kind}
 use Rattle.model_edit.specs.Marking.{remark, remark_edit, remarked, marks_in, with_mark, without_mark, is_bad_mark}

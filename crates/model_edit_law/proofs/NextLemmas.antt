@@ -17,8 +17,7 @@ use Rattle.model_items.proofs.LawLemmas.{if_ok, Ok-same, opened_before, closed_b
 use Rattle.model_edit.specs.declared.selection.By.{By}
 use Rattle.model_edit.specs.declared.selection.Dir.{Dir}
 use Rattle.model_edit.specs.declared.selection.Dir.TheVariants.{Back, Ahead}
-use Rattle.model_edit.specs.Brackets.{is_opening, is_closing, passes}
-use Rattle.model_edit.specs.Offsets.{opens_at, is_content}
+use Rattle.model_items.specs.Offsets.{opens_at, is_content, is_opening, is_closing, passes}
 use Rattle.model_edit.specs.Next.{first_run, run_before, run_from, boundaries, last_below, first_above, boundary_at, next_ahead, next_back, cutting, next}
 use Rattle.model_edit_law.specs.NextLaws.{IsFarther, IsEnd, Goes, CaretStaysInBranch, CaretStopsAtEnds}
 use Rattle.model_edit_law.proofs.BracketLemmas.{fits, fits-after, stack_at-after, slice_get-within}

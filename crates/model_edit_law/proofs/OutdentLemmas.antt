@@ -18,7 +18,7 @@ use Rattle.model_items.proofs.LawLemmas.{Ok-same, joined-ok, after_whole, after_
 use Rattle.model_items.specs.Tree.{Open, length_to_close}
 use Rattle.model_change.specs.Transaction.{Transaction, edited}
 use Rattle.model_edit.specs.Brackets.{closing_of, copy_of}
-use Rattle.model_edit.specs.Offsets.{opens_at, partner}
+use Rattle.model_items.specs.Offsets.{opens_at, partner}
 use Rattle.model_edit.specs.Edits.{Edit, Change, transaction_of}
 use Rattle.model_edit_law.proofs.EditLemmas.{edited-two, filter-append}
 use Rattle.model_edit_law.proofs.BracketLemmas.{state_of, fits, fits-after, fits_parts, opened_fits, kinds_after, slice_get-split, HoldsSame-itself, Ends, Ends-after, Opened, Opened-after, Closes, closes, NodeParts, node_parts}

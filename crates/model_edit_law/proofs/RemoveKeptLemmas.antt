@@ -13,7 +13,7 @@ use Rattle.model_items.specs.Law.{State, finish, top, step, joined, outcome_move
 use Rattle.model_items.proofs.LawLemmas.{if_ok, Ok-same, joined-ok, after_parts, opened_before, closed_before}
 use Rattle.model_items.specs.Tree.{Open, opens_after, opens_with, length_to_close}
 use Rattle.model_edit.specs.Brackets.{is_internal, is_internal_bracket}
-use Rattle.model_edit.specs.Offsets.{partner, partner_of, is_unmatched, first_from}
+use Rattle.model_items.specs.Offsets.{partner, partner_of, is_unmatched, first_from}
 use Rattle.model_edit_law.proofs.EditLemmas.{take-whole}
 use Rattle.model_edit_law.proofs.BracketLemmas.{state_of, fits, fits_parts, fits-after, kinds_after, slice_get-at, drop-past}
 use Rattle.model_edit_law.proofs.NodeLemmas.{opened_state}

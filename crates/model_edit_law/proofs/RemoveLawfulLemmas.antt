@@ -19,7 +19,7 @@ use Rattle.model_items.specs.Tree.{Open, opens_after, length_to_close}
 use Rattle.model_change.specs.Transaction.{Transaction, edited}
 use Rattle.model_edit.specs.declared.build_fault.BuildFault.{BuildFault}
 use Rattle.model_edit.specs.Brackets.{closing_of, is_internal_bracket}
-use Rattle.model_edit.specs.Offsets.{is_bad_span, partner, is_unmatched, unmatched_places}
+use Rattle.model_items.specs.Offsets.{is_bad_span, partner, is_unmatched, unmatched_places}
 use Rattle.model_edit.specs.Edits.{Edit, Change, Set, transaction_of, substituted_from}
 use Rattle.model_edit_law.proofs.OrderLemmas.{Rising, Rising-within, Rising-filter, InOrder-Rising}
 use Rattle.model_edit_law.proofs.EditLemmas.{edited-transaction_from, edited-two, take-whole, drop-whole}

@@ -13,7 +13,7 @@ use Rattle.model_items.proofs.LawLemmas.{Ok-same}
 use Rattle.model_change.specs.Transaction.{Transaction}
 use Rattle.model_edit.specs.declared.build_fault.BuildFault.{BuildFault}
 use Rattle.model_edit.specs.Brackets.{closing_of}
-use Rattle.model_edit.specs.Offsets.{is_bad_span, partner, is_unmatched, unmatched_places}
+use Rattle.model_items.specs.Offsets.{is_bad_span, partner, is_unmatched, unmatched_places}
 use Rattle.model_edit_law.specs.Fine.{Fine}
 use Rattle.model_edit.specs.Edits.{Change, transaction_of}
 use Rattle.model_edit_law.proofs.OrderLemmas.{Rising, Fine-Rising, Rising-within, Rising-filter}

@@ -9,7 +9,7 @@ use Rattle.model_change.proofs.Fits.{gives_new_length}
 use Rattle.model_edit.specs.declared.selection.Bias.{Bias}
 use Rattle.model_edit.specs.declared.selection.Bias.TheVariants.{Left, Right}
 use Rattle.model_edit.specs.declared.selection.Selection.{Selection}
-use Rattle.model_edit.specs.Offsets.{is_inside_leaf}
+use Rattle.model_items.specs.Offsets.{is_inside_leaf}
 use Rattle.model_edit.specs.Translate.{is_before, items_before, translate, translate_range, between, past_leaf}
 use Rattle.model_edit_law.specs.SelectLaws.{OffsetsStayWithin, OffsetsKeepOrder, OffsetsKeepNeighbours, OffsetsOutsideStay, selects, SelectionKeepsItems, KeepsDirection, SelectionKeepsDirection}
 

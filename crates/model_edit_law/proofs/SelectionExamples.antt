@@ -4,7 +4,7 @@ use Rattle.std.specs.Prelude.{codes}
 use Rattle.model_change.specs.Transaction.{Retain, Replace, Transaction}
 use Rattle.model_change.specs.Touch.{new_place}
 use Rattle.model_edit.specs.Translate.{translate_range, between}
-use Rattle.model_edit.proofs.ExampleItems.{text}
+use Rattle.model_items.proofs.ExampleItems.{text}
 use Rattle.model_edit_law.specs.SelectLaws.{selects}
 
 -- the three items 2, 3 and 4, from either end

@@ -8,7 +8,7 @@ use Rattle.model_items.specs.Same.{marks_same}
 use Rattle.model_items.proofs.LawLemmas.{Ok-same}
 use Rattle.model_change.specs.Transaction.{Transaction, edited}
 use Rattle.model_edit.specs.declared.build_fault.BuildFault.{BuildFault}
-use Rattle.model_edit.specs.Offsets.{is_bad_span, places, partner}
+use Rattle.model_items.specs.Offsets.{is_bad_span, places, partner, passes}
 use Rattle.model_edit_law.specs.Fine.{Fine}
 use Rattle.model_edit.specs.Edits.{Change, transaction_of, Set, may_set}
 use Rattle.model_edit_law.proofs.OrderLemmas.{Rising, Fine-Rising, Rising-within, Rising-each, Fine-edits}
@@ -17,7 +17,7 @@ use Rattle.model_items.specs.declared.plain_item.PlainItem.TheVariants.{Char, Op
 use Rattle.ve_kinds.specs.Table.{is_content_branch, is_element}
 use Rattle.model_items.specs.Law.{Lawful}
 use Rattle.model_change.specs.Attributes.{is_reserved}
-use Rattle.model_edit.specs.Brackets.{closing_of, passes}
+use Rattle.model_edit.specs.Brackets.{closing_of}
 use Rattle.model_edit_law.proofs.EditLemmas.{edited-two}
 use Rattle.model_edit_law.proofs.NodeLemmas.{HoldsSame-content, content_held, content_not_first, other_node_lawful}
 use Rattle.model_edit_law.proofs.BracketLemmas.{node_parts, slice_get-split, slice_get-within}

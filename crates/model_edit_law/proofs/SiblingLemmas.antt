@@ -12,7 +12,7 @@ use Rattle.ve_base.specs.declared.marks.Mark.{Mark}
 use Rattle.model_items.specs.declared.plain_item.PlainItem.{PlainItem}
 use Rattle.model_items.specs.declared.plain_item.PlainItem.TheVariants.{Char, Opening, Closing}
 use Rattle.model_items.specs.Tree.{Open, length_to_close, Shape, Letter, Begin, End, shape_of}
-use Rattle.model_edit.specs.Offsets.{siblings, children}
+use Rattle.model_items.specs.Offsets.{siblings, children}
 use Rattle.model_edit.specs.Grid.{children_of}
 
 -- the walk of `siblings` over what items are to the tree

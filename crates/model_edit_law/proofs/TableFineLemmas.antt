@@ -11,7 +11,7 @@ use Rattle.ve_kinds.specs.Table.{is_among, is_element}
 use Rattle.model_items.proofs.LawLemmas.{Ok-same}
 use Rattle.model_change.specs.Attributes.{is_reserved}
 use Rattle.model_change.specs.Transaction.{Transaction}
-use Rattle.model_edit.specs.Offsets.{partner, end_of_node}
+use Rattle.model_items.specs.Offsets.{partner, end_of_node}
 use Rattle.model_edit_law.specs.Fine.{Fine}
 use Rattle.model_edit.specs.Edits.{Edit, Change, Set, transaction_of, InOrder, may_set, MaySet}
 use Rattle.model_edit_law.proofs.OrderLemmas.{Fine-edits}

@@ -24,7 +24,7 @@ use Rattle.model_items.proofs.LawLemmas.{Ok-same, after_parts, after_whole, afte
 use Rattle.model_change.specs.Attributes.{item_changed}
 use Rattle.model_change.specs.Transaction.{Transaction, on_first, edited}
 use Rattle.model_edit.specs.Brackets.{opening_of, closing_of}
-use Rattle.model_edit.specs.Offsets.{partner, end_of_node}
+use Rattle.model_items.specs.Offsets.{partner, end_of_node}
 use Rattle.model_edit.specs.Edits.{Edit, Change, Set, setting, transaction_of, substituted_from, InOrder}
 use Rattle.model_edit_law.proofs.NodeLemmas.{opened_state}
 use Rattle.model_edit.specs.declared.grid_cell.GridCell.{GridCell}

@@ -12,7 +12,7 @@ use Rattle.model_items.specs.declared.law_fault.LawFault.TheVariants.{TooDeep}
 use Rattle.model_items.specs.Law.{State, step, after, Lawful}
 use Rattle.model_items.proofs.LawLemmas.{Ok-same, joined-ok, after_parts, closed_before}
 use Rattle.model_change.specs.Transaction.{edited}
-use Rattle.model_edit.specs.Offsets.{partner, end_of_node}
+use Rattle.model_items.specs.Offsets.{partner, end_of_node}
 use Rattle.model_edit.specs.Edits.{Edit, Set, transaction_of}
 use Rattle.model_edit_law.proofs.EditLemmas.{take-whole}
 use Rattle.model_edit_law.proofs.BracketLemmas.{state_of, node_parts, HoldsSame-itself}

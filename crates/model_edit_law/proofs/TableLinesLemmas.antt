@@ -8,7 +8,7 @@ use Rattle.ve_kinds.specs.declared.kind.Kind.TheVariants.{Tr}
 use Rattle.model_items.specs.declared.plain_item.PlainItem.{PlainItem}
 use Rattle.model_items.specs.Law.{Lawful}
 use Rattle.model_items.specs.Tree.{Open}
-use Rattle.model_edit.specs.Offsets.{partner, end_of_node}
+use Rattle.model_items.specs.Offsets.{partner, end_of_node}
 use Rattle.model_edit.specs.Grid.{Row, children_of, section_rows, row_cells}
 use Rattle.model_edit_law.specs.Spans.{Line, span_after, lines_after, span_at, line_at}
 use Rattle.model_edit_law.proofs.SiblingLemmas.{place_without, node_without, Outside, no_less, node_outside, node_gone}

@@ -13,8 +13,8 @@ use Rattle.model_items.specs.declared.plain_item.PlainItem.TheVariants.{Char, Op
 use Rattle.ve_kinds.specs.Table.{is_among}
 use Rattle.model_items.specs.Law.{Lawful}
 use Rattle.model_items.specs.Tree.{Open, length_to_close}
-use Rattle.model_edit.specs.Brackets.{is_opening_of, passes}
-use Rattle.model_edit.specs.Offsets.{partner, end_of_node, siblings, children}
+use Rattle.model_edit.specs.Brackets.{is_opening_of}
+use Rattle.model_items.specs.Offsets.{partner, end_of_node, siblings, children, passes}
 use Rattle.model_edit_law.proofs.BracketLemmas.{node_parts, partner-opening, slice_get-at, slice_get-split}
 use Rattle.model_edit.specs.declared.grid_cell.GridCell.{GridCell}
 use Rattle.model_edit.specs.declared.table_fault.TableFault.{TableFault}

@@ -13,7 +13,7 @@ use Rattle.model_items.specs.Tree.{shape_of}
 use Rattle.model_change.specs.Attributes.{AttrChange, value_of, attr_replaced, attrs_changed, position_kept, item_changed}
 use Rattle.model_change.specs.Transaction.{on_first}
 use Rattle.model_change.proofs.TouchLemmas.{get-take-append}
-use Rattle.model_edit.specs.Offsets.{end_of_node}
+use Rattle.model_items.specs.Offsets.{end_of_node}
 use Rattle.model_edit.specs.Edits.{Change, setting, substituted_from, InOrder}
 use Rattle.model_edit.specs.declared.grid_cell.GridCell.{GridCell}
 use Rattle.model_edit_law.proofs.EditLemmas.{drop-on_first, length-on_first, order_ends, earlier_order}

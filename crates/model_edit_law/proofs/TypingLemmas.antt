@@ -16,7 +16,7 @@ use Rattle.model_items.proofs.LawLemmas.{if_ok, Ok-same, joined-ok, after_whole,
 use Rattle.model_change.specs.Transaction.{Transaction, edited}
 use Rattle.model_edit.specs.declared.build_fault.BuildFault.{BuildFault}
 use Rattle.model_edit.specs.Brackets.{opening_of, closing_of, closing_for, copy_of, is_internal}
-use Rattle.model_edit.specs.Offsets.{openings_at, stack_at, kind_at}
+use Rattle.model_items.specs.Offsets.{openings_at, stack_at, kind_at}
 use Rattle.model_edit.specs.Edits.{Change, transaction_of}
 use Rattle.model_edit_law.proofs.BracketLemmas.{fits_parts, state_of, fits, fits-after, Leads, leads_cons, leads_append, opened_leads, Openings, Openings-after, stack_at-after}
 use Rattle.model_edit.specs.Insert.{reopened, is_bad_offset, is_mixed, is_content_pieces, in_paragraph, may_hold_pieces, levels_up, put_at, text_pieces}

@@ -11,8 +11,8 @@ use Rattle.model_items.specs.Law.{Lawful}
 use Rattle.model_items.proofs.LawLemmas.{Ok-same}
 use Rattle.model_items.specs.Tree.{Open, length_to_close}
 use Rattle.model_edit.specs.declared.build_fault.BuildFault.{BuildFault}
-use Rattle.model_edit.specs.Brackets.{is_opening_of, passes}
-use Rattle.model_edit.specs.Offsets.{partner, end_of_node, siblings, is_unmatched, places}
+use Rattle.model_edit.specs.Brackets.{is_opening_of}
+use Rattle.model_items.specs.Offsets.{partner, end_of_node, siblings, is_unmatched, places, passes}
 use Rattle.model_edit_law.specs.Fine.{Fine}
 use Rattle.model_edit.specs.Edits.{Edit, Change, transaction_of}
 use Rattle.model_edit_law.proofs.OrderLemmas.{Rising, Fine-Rising, Rising-within, Rising-append}
@@ -169,7 +169,7 @@ wrap_fine items from to plan t lawful h =
     let bad = or_parts (not (is_whole_nodes items from to)) _ p.0 in
     let w = and_parts (nat_lt from to) _ (Rattle.std.proofs.lemmas.Bool.not-false _ bad.0) in
     let v = and_parts (nat_le to (length items)) _ w.1 in
-    let m = not-true _ (and_parts (not (Rattle.ve_kinds.specs.Table.is_content_branch (Rattle.model_edit.specs.Offsets.kind_at items from))) _ v.1).1 in
+    let m = not-true _ (and_parts (not (Rattle.ve_kinds.specs.Table.is_content_branch (Rattle.model_items.specs.Offsets.kind_at items from))) _ v.1).1 in
     let low = ltb-true from to w.0 in
     let high = leb-true to (length items) v.0 in
     by (wrong_place items from to plan.unwrap_outer plan.unwrap_each) refl p.1 low high m

@@ -8,7 +8,7 @@ use Rattle.model_items.specs.declared.law_fault.LawFault.TheVariants.{TooDeep}
 use Rattle.model_items.specs.Law.{Lawful, verdict}
 use Rattle.model_change.specs.Transaction.{Transaction, edited}
 use Rattle.model_edit.specs.Brackets.{closing_of, is_closing_of}
-use Rattle.model_edit.specs.Offsets.{kind_at, partner}
+use Rattle.model_items.specs.Offsets.{kind_at, partner}
 use Rattle.model_edit_law.specs.Fine.{Fine}
 use Rattle.model_edit.specs.Lists.{indent, outdent, passes_before}
 

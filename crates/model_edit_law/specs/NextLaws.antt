@@ -5,8 +5,7 @@ use Rattle.model_items.specs.Law.{Lawful}
 use Rattle.model_edit.specs.declared.selection.By.{By}
 use Rattle.model_edit.specs.declared.selection.Dir.{Dir}
 use Rattle.model_edit.specs.declared.selection.Dir.TheVariants.{Back, Ahead}
-use Rattle.model_edit.specs.Brackets.{is_opening, is_closing, passes}
-use Rattle.model_edit.specs.Offsets.{opens_at, is_content}
+use Rattle.model_items.specs.Offsets.{opens_at, is_content, is_opening, is_closing, passes}
 use Rattle.model_edit.specs.Next.{next}
 
 -- farther in the direction

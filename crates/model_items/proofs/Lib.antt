@@ -6,8 +6,11 @@ pub mod TreeLemmas
 pub mod OnlyLemmas
 pub mod LawfulTreeLemmas
 pub mod NodeAtLemmas
+pub mod NearestLemmas
+pub mod ExampleItems
 mod SameExamples
 mod PlainExamples
 mod LawExamples
 mod TreeExamples
 mod NodeAtExamples
+mod OffsetExamples

@@ -7,3 +7,4 @@ pub mod Law
 pub mod Tree
 pub mod LawfulTree
 pub mod NodeAt
+pub mod Offsets

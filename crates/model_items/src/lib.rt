@@ -2,85 +2,18 @@
 //! each public function here does nothing, and its contract is a law that is proved.
 #![tactic(auto)]
 
-ghost use Rattle.model_items.specs.Same.{Means, item_same, value_same};
-ghost use Rattle.model_items.specs.Plain.{PlainTellsApart};
-ghost use Rattle.model_items.specs.Law.{VerdictIsFirstOffence, LawReadsNoValues, VerdictReadsNoValues, PieceFails, PieceFits, PieceDiffers, StateDecided};
-ghost use Rattle.model_items.specs.Tree.{TreeSpells, TreeHasWholeRuns, TreeIsOnly, TreeReadsNoValues};
-ghost use Rattle.model_items.specs.LawfulTree.{LawfulHasTree, TreeIsLawful};
-ghost use Rattle.model_items.specs.NodeAt.{NodeAtIsFound, TreeHasAllItems, NodeAtIsInnermost, OpenIsStack, ClassIsOfTop};
-
 mod item;
 mod law_fault;
+mod laws;
 mod offset_class;
 mod plain_item;
 
 pub use item::Item;
 pub use law_fault::LawFault;
+pub use laws::{
+    equality_is_tested, lawful_lists_are_trees, nearest_content_is_nearest, node_at_is_innermost,
+    piece_decides, plain_tells_apart, state_is_decided, tree_spells, values_are_not_read,
+    verdict_is_first,
+};
 pub use offset_class::OffsetClass;
 pub use plain_item::PlainItem;
-
-/// The tests of equality that the definitions compute with are true exactly of equal values and equal items.
-#[tactic(auto, using(crate::proofs::SameLemmas::values_are_tested, crate::proofs::SameLemmas::items_are_tested))]
-pub fn equality_is_tested()
-    ensures values { Means value_same }
-    ensures items { Means item_same }
-{}
-
-/// Two items that cite one list of distinct values, each value of its sort and not empty, are equal where what they cite is.
-#[tactic(auto, using(crate::proofs::PlainLemmas::plain_tells_apart))]
-pub fn plain_tells_apart()
-    ensures { PlainTellsApart }
-{}
-
-/// The verdict over a list names the first item that is not allowed, or the list's end.
-pub fn verdict_is_first()
-    ensures { VerdictIsFirstOffence }
-{}
-
-/// Whether a list is lawful, and which tree it spells, does not depend on the values that its items cite.
-pub fn values_are_not_read()
-    ensures law { LawReadsNoValues }
-    ensures verdict { VerdictReadsNoValues }
-    ensures tree { TreeReadsNoValues }
-{}
-
-/// What a changed piece of a lawful list tells of the whole: where the piece fails from the state before it, the list fails there; where it ends
-/// in the state in which the old piece ends, the list stays lawful; else the first offence lies after the piece.
-#[tactic(auto, using(crate::proofs::LawLemmas::piece_fails, crate::proofs::LawLemmas::piece_fits, crate::proofs::LawLemmas::piece_differs))]
-pub fn piece_decides()
-    ensures fails { PieceFails }
-    ensures fits { PieceFits }
-    ensures differs { PieceDiffers }
-{}
-
-/// What follows a place decides the state there: the closings name the open kinds, and whether the internal list still comes names the flag.
-#[tactic(auto, using(crate::proofs::LawLemmas::state_decided))]
-pub fn state_is_decided()
-    ensures { StateDecided }
-{}
-
-/// The tree of a lawful list, written out, is the list, and no other forest of whole runs is.
-#[tactic(auto, using(crate::proofs::TreeLemmas::tree_spells, crate::proofs::OnlyLemmas::tree_has_whole_runs, crate::proofs::OnlyLemmas::tree_is_only))]
-pub fn tree_spells()
-    ensures spells { TreeSpells }
-    ensures whole { TreeHasWholeRuns }
-    ensures only { TreeIsOnly }
-{}
-
-/// A list is lawful exactly where a tree writes it out in which each node stands in one that may hold it, characters stand in content branches
-/// alone, at most 100 nodes stand one inside the other, and the root's last child, and no other, is the internal list.
-pub fn lawful_lists_are_trees()
-    ensures tree { LawfulHasTree }
-    ensures list { TreeIsLawful }
-{}
-
-/// The node at an offset of a lawful list is found by searching its tree, which has all items, and is the innermost of the tree's nodes that
-/// hold the offset. The open nodes there are the law's state,
-/// and the offset's class goes by the top of its stack.
-pub fn node_at_is_innermost()
-    ensures found { NodeAtIsFound }
-    ensures all { TreeHasAllItems }
-    ensures innermost { NodeAtIsInnermost }
-    ensures state { OpenIsStack }
-    ensures class { ClassIsOfTop }
-{}

@@ -16,7 +16,7 @@ use Rattle.model_change.specs.Transaction.{Retain, Replace, Attribute, Transacti
 use Rattle.model_change.proofs.Fits.{gives_new_length}
 use Rattle.model_edit.specs.declared.selection.Bias.{Bias}
 use Rattle.model_edit.specs.declared.selection.Bias.TheVariants.{Left, Right}
-use Rattle.model_edit.specs.Offsets.{is_inside_leaf}
+use Rattle.model_items.specs.Offsets.{is_inside_leaf}
 use Rattle.model_edit.specs.Translate.{is_before, items_before, translate, between, past_leaf}
 use Rattle.model_site_law.specs.SelectionLaws.{Stands, StandsIn, MovedStands}
 

@@ -5,7 +5,7 @@ use Rattle.model_items.specs.Law.{Lawful}
 use Rattle.model_change.specs.Transaction.{Transaction, edited}
 use Rattle.model_change.specs.Fault.{Applies}
 use Rattle.model_edit.specs.declared.selection.Selection.{Selection}
-use Rattle.model_edit.specs.Offsets.{is_inside_leaf}
+use Rattle.model_items.specs.Offsets.{is_inside_leaf}
 use Rattle.model_edit.specs.Translate.{moved}
 use Rattle.model_site.specs.Replica.{Replica, opened_with}
 use Rattle.model_site.specs.Session.{Member, Session, started}

@@ -9,7 +9,7 @@ use Rattle.model_page.specs.PageItems.{or_nothing}
 use Rattle.model_page.specs.Fragment.{pieces_of}
 use Rattle.model_page.specs.Limits.{fragment_limit}
 use Rattle.model_edit.specs.declared.build_fault.BuildFault.{BuildFault}
-use Rattle.model_edit.specs.Offsets.{stack_at}
+use Rattle.model_items.specs.Offsets.{stack_at}
 use Rattle.model_edit.specs.Edits.{setting}
 use Rattle.model_edit.specs.Insert.{is_bad_offset, insertion, text_insertion, plain_text_insertion, split}
 use Rattle.model_edit.specs.Remove.{removal}

@@ -23,8 +23,7 @@ use Rattle.model_page.specs.Fragment.{pieces_of}
 use Rattle.model_page.specs.Limits.{fragment_limit}
 use Rattle.model_edit.specs.declared.build_fault.BuildFault.{BuildFault}
 use Rattle.model_edit.specs.declared.build_fault.BuildFault.TheVariants as build
-use Rattle.model_edit.specs.Brackets.{passes}
-use Rattle.model_edit.specs.Offsets.{stack_at, kind_at, is_content, is_bad_span, places}
+use Rattle.model_items.specs.Offsets.{stack_at, kind_at, is_content, is_bad_span, places, passes}
 use Rattle.model_edit.specs.Edits.{setting}
 use Rattle.model_edit.specs.Insert.{is_bad_offset, is_mixed, is_bad_depth, in_paragraph, levels_up, put_at, marks_before, text_pieces, insertion, split}
 use Rattle.model_edit.specs.Remove.{is_bad_removal, removal}

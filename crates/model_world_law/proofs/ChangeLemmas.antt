@@ -19,7 +19,7 @@ use Rattle.model_page.specs.Fragment.{pieces_of}
 use Rattle.model_page.specs.Limits.{fragment_limit}
 use Rattle.model_page.specs.OpenPage.{read_page}
 use Rattle.model_page_law.proofs.OpenPageLemmas.{read_is_lawful, read_is_within}
-use Rattle.model_edit.specs.Offsets.{stack_at}
+use Rattle.model_items.specs.Offsets.{stack_at}
 use Rattle.model_edit.specs.Edits.{setting}
 use Rattle.model_edit.specs.Insert.{is_bad_offset, marks_before, text_pieces, insertion}
 use Rattle.model_site_law.specs.Sound.{Sound}

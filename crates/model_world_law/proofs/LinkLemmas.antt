@@ -11,7 +11,7 @@ use Rattle.model_edit.specs.declared.table_fault.TableFault.{TableFault}
 use Rattle.model_edit.specs.declared.list_fault.ListFault.{ListFault}
 use Rattle.model_edit.specs.declared.selection.Dir.{Dir}
 use Rattle.model_edit.specs.declared.selection.By.{By}
-use Rattle.model_edit.specs.Offsets.{kind_at, is_content, is_inside_leaf}
+use Rattle.model_items.specs.Offsets.{kind_at, is_content, is_inside_leaf}
 use Rattle.model_edit.specs.Insert.{marks_before, text_insertion}
 use Rattle.model_edit.specs.Next.{next}
 use Rattle.model_edit.specs.Translate.{between}

@@ -16,7 +16,7 @@ use Rattle.model_change.specs.Transaction.{Retain, Replace, Attribute, Transacti
 use Rattle.model_change.specs.Join.{first}
 use Rattle.model_edit.specs.declared.build_fault.BuildFault.{BuildFault}
 use Rattle.model_edit.specs.Brackets.{opening_of, closing_of, closing_for, copy_of}
-use Rattle.model_edit.specs.Offsets.{openings_at, stack_at, kind_at}
+use Rattle.model_items.specs.Offsets.{openings_at, stack_at, kind_at}
 use Rattle.model_edit.specs.Edits.{Change, retaining, merged, transaction_from, transaction_of}
 use Rattle.model_edit.specs.Insert.{is_bad_offset, is_mixed, is_content_pieces, in_paragraph, levels_up, reopened, put_at, text_pieces, insertion}
 use Rattle.model_edit_law.proofs.InsertLemmas.{if_ok_else, edited-put}

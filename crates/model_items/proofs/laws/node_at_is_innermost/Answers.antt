@@ -1,4 +1,4 @@
-use Rattle.model_items.proofs.node_at_is_innermost.Goals as goal
+use Rattle.model_items.proofs.laws.node_at_is_innermost.Goals as goal
 use Rattle.model_items.proofs.NodeAtLemmas as law
 
 pub returns-clause-found : goal.returns-clause-found

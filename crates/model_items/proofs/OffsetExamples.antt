@@ -3,8 +3,8 @@ use Rattle.std.proofs.Common.{◌≡◌, true, List, [], ◌∷◌, ◌++◌, So
 use Rattle.std.specs.Prelude.{codes}
 use Rattle.ve_kinds.specs.declared.kind.Kind.TheVariants.{P, Ul, Li, Br}
 use Rattle.model_items.specs.declared.plain_item.PlainItem.{PlainItem}
-use Rattle.model_edit.specs.Offsets.{stack_at, is_content, is_inside_leaf, is_structural, partner, unmatched, nearest_content}
-use Rattle.model_edit.proofs.ExampleItems.{text, node, internal}
+use Rattle.model_items.specs.Offsets.{stack_at, is_content, is_inside_leaf, is_structural, partner, unmatched, nearest_content}
+use Rattle.model_items.proofs.ExampleItems.{text, node, internal}
 
 -- `<p>ab</p><ul><li><p>cd</p></li></ul>`
 abbrev crossed : List PlainItem

@@ -1,4 +1,4 @@
-use Rattle.model_items.proofs.verdict_is_first.Goals as goal
+use Rattle.model_items.proofs.laws.verdict_is_first.Goals as goal
 use Rattle.model_items.proofs.LawLemmas.{verdict_is_first_offence}
 
 pub returns : goal.returns

@@ -1,4 +1,4 @@
-use Rattle.model_items.proofs.lawful_lists_are_trees.Goals as goal
+use Rattle.model_items.proofs.laws.lawful_lists_are_trees.Goals as goal
 use Rattle.model_items.proofs.LawfulTreeLemmas.{lawful_has_tree, tree_is_lawful}
 
 pub returns-clause-tree : goal.returns-clause-tree

@@ -1,4 +1,4 @@
-use Rattle.model_items.proofs.values_are_not_read.Goals as goal
+use Rattle.model_items.proofs.laws.values_are_not_read.Goals as goal
 use Rattle.model_items.proofs.VerdictLemmas.{law_reads_no_values, verdict_reads_no_values}
 use Rattle.model_items.proofs.OnlyLemmas.{tree_reads_no_values}
 

@@ -1,5 +1,5 @@
 -- What an offset of a list is, and which brackets belong together.
-use Rattle.std.specs.Prelude.{ℕ, zero, suc, ◌+◌, ◌-◌, Bool, not, ◌&&◌, ◌||◌, nat_le, nat_lt, if◌then◌else◌, List, [], ◌∷◌, length, map, take, drop, filter, count_by, slice_get, slice_range, Option, Some, None}
+use Rattle.std.specs.Prelude.{◌≡◌, ◌≤◌, ℕ, zero, suc, ◌+◌, ◌-◌, Bool, true, false, not, ◌&&◌, ◌||◌, nat_le, nat_lt, if◌then◌else◌, List, [], ◌∷◌, length, map, take, drop, filter, count_by, slice_get, slice_range, Option, Some, None}
 use Rattle.std.specs.List.{range_with_len, list_any}
 use Rattle.ve_kinds.specs.declared.kind.Kind.{Kind}
 use Rattle.model_items.specs.declared.plain_item.PlainItem.{PlainItem}
@@ -7,7 +7,19 @@ use Rattle.model_items.specs.declared.plain_item.PlainItem.TheVariants.{Char, Op
 use Rattle.ve_kinds.specs.Table.{is_content_branch, is_leaf}
 use Rattle.model_items.specs.Law.{top}
 use Rattle.model_items.specs.Tree.{Open, opens_after, length_to_close}
-use Rattle.model_edit.specs.Brackets.{is_opening, is_closing, passes}
+
+abbrev pub is_opening : PlainItem → Bool
+is_opening (Opening kind head marks pre origin generated) = true
+is_opening _ = false
+
+abbrev pub is_closing : PlainItem → Bool
+is_closing (Closing kind pre) = true
+is_closing _ = false
+
+-- of the item at a place, if there is one
+abbrev pub passes : (PlainItem → Bool) → Option PlainItem → Bool
+passes test None = false
+passes test (Some item) = test item
 
 -- the nodes that are open at an offset, innermost first
 abbrev pub opens_at : List PlainItem → ℕ → List Open
@@ -119,3 +131,26 @@ content_offsets items = filter (is_content items) (places 0 (suc (length items))
 -- the nearest content offset, the lower of two at one distance
 abbrev pub nearest_content : List PlainItem → ℕ → Option ℕ
 nearest_content items at = nearest at (content_offsets items)
+
+-- It is a content offset of the list, no other lies nearer, and of two at one distance it is the lower.
+pub record IsNearestContent (items : List PlainItem) (at place : ℕ) : Type 0 where
+  pub within : place ≤ length items
+  pub content : is_content items place ≡ true
+  pub none_nearer : (other : ℕ) → other ≤ length items → is_content items other ≡ true → distance at place ≤ distance at other
+  pub lowest : (other : ℕ) → other ≤ length items → is_content items other ≡ true → distance at other ≡ distance at place → place ≤ other
+
+abbrev pub HasNoContent : List PlainItem → Type 0
+HasNoContent items = (other : ℕ) → other ≤ length items → is_content items other ≡ false
+
+-- The nearest content offset is that one, and there is none only where the list has no content offset.
+abbrev pub NearestIsFound : Type 0
+NearestIsFound = (items : List PlainItem) (at place : ℕ) → nearest_content items at ≡ Some place → IsNearestContent items at place
+
+abbrev pub NearestIsOnly : Type 0
+NearestIsOnly = (items : List PlainItem) (at place : ℕ) → IsNearestContent items at place → nearest_content items at ≡ Some place
+
+abbrev pub NoneIsFound : Type 0
+NoneIsFound = (items : List PlainItem) (at : ℕ) → nearest_content items at ≡ None → HasNoContent items
+
+abbrev pub NoneIsOnly : Type 0
+NoneIsOnly = (items : List PlainItem) (at : ℕ) → HasNoContent items → nearest_content items at ≡ None
