@@ -10,7 +10,8 @@ use Rattle.model_change.specs.declared.tx_fault.TxFault.{TxFault}
 use Rattle.model_change.specs.declared.tx_fault.TxFault.TheVariants.{BadLength, Mismatch, BadAttr, Memory}
 use Rattle.model_change.specs.Attributes.{AttrChange, item_changed, allows}
 use Rattle.model_change.specs.Transaction.{Retain, Replace, Attribute, Transaction, old_length, on_first, may_precede, is_reduced}
-use Rattle.model_change.specs.Fault.{or_else, differs_at, mismatch_at, first_allows, bad_attribute_at, fault_by, fault, placed_removed, removals, placed_changes, Stands, MayChange, FirstAt, IsFault, FaultIsFirst, FaultIsOnly}
+use Rattle.model_change.specs.Fault.{differs_at, mismatch_at, first_allows, bad_attribute_at, fault_by, fault, placed_removed, removals, placed_changes, Stands, MayChange, FirstAt, IsFault, FaultIsFirst, FaultIsOnly}
+use Rattle.std.specs.Option.{option_or}
 use Rattle.model_change.proofs.InverseLemmas.{reduced_parts}
 use Rattle.model_change.proofs.AttributeJoin.{allows-other}
 
@@ -20,7 +21,7 @@ Outcome Holds placed None = All Holds placed
 Outcome Holds placed (Some at) = FirstAt Holds placed at
 
 module _ {A : Type 0} (Holds : ℕ × A → Type 0) where
-  outcome-append : (xs ys : List (ℕ × A)) (o p : Option ℕ) → Outcome Holds xs o → Outcome Holds ys p → Outcome Holds (xs ++ ys) (or_else o p)
+  outcome-append : (xs ys : List (ℕ × A)) (o p : Option ℕ) → Outcome Holds xs o → Outcome Holds ys p → Outcome Holds (xs ++ ys) (option_or o p)
   outcome-append xs ys None None h k = All-append Holds xs ys h k
   outcome-append xs ys None (Some at) h k = record {
     before = xs ++ k.before;
@@ -191,13 +192,13 @@ fault_is_first t items h =
     by_length (old_length t == length items) refl
   where
     by_causes : (m b : Option ℕ) → old_length t ≡ length items → Outcome (Stands items) (removals 0 t) m → Outcome (MayChange items) (placed_changes 0 t) b →
-        IsFault t items (or_else (fault_by (λ at. Mismatch at) m) (fault_by (λ at. BadAttr at) b))
+        IsFault t items (option_or (fault_by (λ at. Mismatch at) m) (fault_by (λ at. BadAttr at) b))
     by_causes None None e stand may = (e, stand, may)
     by_causes None (Some at) e stand bad = (e, stand, bad)
     by_causes (Some at) b e differs bad = (e, differs)
 
     by_length : (b : Bool) → (old_length t == length items) ≡ b →
-        IsFault t items (if b then or_else (fault_by (λ at. Mismatch at) (mismatch_at 0 t items)) (fault_by (λ at. BadAttr at) (bad_attribute_at 0 t items)) else Some (BadLength (length items) (old_length t)))
+        IsFault t items (if b then option_or (fault_by (λ at. Mismatch at) (mismatch_at 0 t items)) (fault_by (λ at. BadAttr at) (bad_attribute_at 0 t items)) else Some (BadLength (length items) (old_length t)))
     by_length true e =
         by_causes (mismatch_at 0 t items) (bad_attribute_at 0 t items) (eqb-true (old_length t) (length items) e)
         (mismatch_outcome items t 0 items h refl) (bad_attribute_outcome items t 0 items h refl)

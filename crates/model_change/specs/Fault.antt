@@ -1,15 +1,12 @@
 -- Where a transaction applies to a list, and the first cause where it does not.
 use Rattle.std.specs.Prelude.{◌≡◌, ◌≢◌, ℕ, suc, ◌+◌, Bool, true, false, ◌==◌, if◌then◌else◌, List, [], ◌∷◌, ◌++◌, length, drop, All, slice_get, Option, Some, None, Result, Ok, Err}
+use Rattle.std.specs.Option.{option_or}
 use Rattle.model_items.specs.declared.plain_item.PlainItem.{PlainItem}
 use Rattle.model_items.specs.Same.{item_same}
 use Rattle.model_change.specs.declared.tx_fault.TxFault.{TxFault}
 use Rattle.model_change.specs.declared.tx_fault.TxFault.TheVariants.{BadLength, Mismatch, BadAttr, Memory}
 use Rattle.model_change.specs.Attributes.{AttrChange, item_changed, allows, AllNamesApart}
 use Rattle.model_change.specs.Transaction.{Retain, Replace, Attribute, Transaction, old_length, new_length, on_first, edited, is_reduced, InsertedApart}
-
-abbrev pub or_else : {A : Type 0} → Option A → Option A → Option A
-or_else (Some x) other = Some x
-or_else None other = other
 
 -- the first place where the items do not begin with those removed
 abbrev pub differs_at : ℕ → List PlainItem → List PlainItem → Option ℕ
@@ -22,7 +19,7 @@ abbrev pub mismatch_at : ℕ → Transaction → List PlainItem → Option ℕ
 mismatch_at at [] items = None
 mismatch_at at (Retain count ∷ ops) items = mismatch_at (at + count) ops (drop count items)
 mismatch_at at (Replace removed inserted ∷ ops) items =
-    or_else (differs_at at removed items) (mismatch_at (at + length removed) ops (drop (length removed) items))
+    option_or (differs_at at removed items) (mismatch_at (at + length removed) ops (drop (length removed) items))
 mismatch_at at (Attribute change ∷ ops) items = mismatch_at at ops (on_first (item_changed change) items)
 
 abbrev pub first_allows : AttrChange → List PlainItem → Bool
@@ -45,7 +42,7 @@ fault_by named (Some at) = Some (named at)
 abbrev pub fault : Transaction → List PlainItem → Option TxFault
 fault t items =
     if old_length t == length items
-    then or_else (fault_by (λ at. Mismatch at) (mismatch_at 0 t items)) (fault_by (λ at. BadAttr at) (bad_attribute_at 0 t items))
+    then option_or (fault_by (λ at. Mismatch at) (mismatch_at 0 t items)) (fault_by (λ at. BadAttr at) (bad_attribute_at 0 t items))
     else Some (BadLength (length items) (old_length t))
 
 abbrev pub apply_unless : Option TxFault → List PlainItem → Result (List PlainItem) TxFault

@@ -11,7 +11,8 @@ use Rattle.ve_kinds.specs.Table.{is_element}
 use Rattle.model_items.proofs.SameLemmas.{Means-item_same, Means-text_same, Means-option_same}
 use Rattle.model_change.specs.Attributes.{AttrChange, value_of, is_reserved, item_changed}
 use Rattle.model_change.specs.Transaction.{Retain, Replace, Attribute, Transaction, is_reduced, may_precede, old_length, edited, on_first}
-use Rattle.model_change.specs.Fault.{or_else, differs_at, mismatch_at, first_allows, bad_attribute_at, apply}
+use Rattle.model_change.specs.Fault.{differs_at, mismatch_at, first_allows, bad_attribute_at, apply}
+use Rattle.std.specs.Option.{option_or}
 use Rattle.model_edit.specs.Edits.{Edit, Change, Set, retaining, merged, replacing, setting, transaction_from, transaction_of, substituted_from, substituted, InOrder, MaySet, may_set}
 
 pub order_ends : (at end : ℕ) (edits : List Edit) → InOrder at end edits → at ≤ end
@@ -279,9 +280,9 @@ mismatch-merged at removed inserted (Retain count ∷ ops) items h = rw h
 mismatch-merged at removed inserted (Attribute change ∷ ops) items h = rw h
 mismatch-merged at removed inserted (Replace next others ∷ ops) items h =
     let e : at + length (removed ++ next) ≡ (at + length removed) + length next = omega (arith, length-append removed next) in
-    ap (λ v. or_else v (mismatch_at (at + length (removed ++ next)) ops (drop (length (removed ++ next)) items))) (differs_at-append at removed next items h)
-    ∙ ap (λ k. or_else (differs_at (at + length removed) next (drop (length removed) items)) (mismatch_at k ops (drop (length (removed ++ next)) items))) e
-    ∙ ap (λ v. or_else (differs_at (at + length removed) next (drop (length removed) items)) (mismatch_at ((at + length removed) + length next) ops v))
+    ap (λ v. option_or v (mismatch_at (at + length (removed ++ next)) ops (drop (length (removed ++ next)) items))) (differs_at-append at removed next items h)
+    ∙ ap (λ k. option_or (differs_at (at + length removed) next (drop (length removed) items)) (mismatch_at k ops (drop (length (removed ++ next)) items))) e
+    ∙ ap (λ v. option_or (differs_at (at + length removed) next (drop (length removed) items)) (mismatch_at ((at + length removed) + length next) ops v))
     (ap (λ k. drop k items) (length-append removed next) ∙ drop-add (length removed) (length next) items)
 
 mismatch-replacing : (at : ℕ) (removed inserted : List PlainItem) (t : Transaction) (items : List PlainItem) → differs_at at removed items ≡ None →

@@ -1,4 +1,4 @@
--- The first place of a page where an item would be over 100 kinds or have over 64 marks.
+-- The first place of a page where an item would be inside of more than `max_open_kinds` kinds or of more than `max_marks` marks.
 use Rattle.std.specs.Prelude.{ℕ, suc, ◌+◌, ◌-◌, false, if◌then◌else◌, nat_lt, List, [], ◌∷◌, length, Option, Some, None, option_map}
 use Rattle.model_spelling.specs.Grammar.{Comment, token_text, start_text}
 use Rattle.model_spelling.specs.Forest.{Forest, spelling}
@@ -7,13 +7,14 @@ use Rattle.ve_kinds.specs.declared.kind.Kind.TheVariants.{Root, InternalItem}
 use Rattle.model_items.specs.declared.plain_item.PlainItem.{PlainItem}
 use Rattle.model_items.specs.declared.plain_item.PlainItem.TheVariants.{Char, Opening, Closing}
 use Rattle.model_spelling.specs.Parsed.{forest_of}
-use Rattle.model_page.specs.References.{or_else}
+use Rattle.std.specs.Option.{option_or}
 use Rattle.model_page.specs.Parts.{Parts, Ended, Words, Note, Group, Single, Parent, parts_of}
 use Rattle.model_page.specs.Fit.{Around, Flow, Annotation, Branch, around_in, fit_of}
 use Rattle.model_page.specs.Pieces.{Span, Owner, Made}
 use Rattle.model_page.specs.Convert.{marks_at, marked_around, element_source}
 use Rattle.model_page.specs.PageItems.{body_made, or_nothing, page_made}
 use Rattle.model_page.specs.Fragment.{context_of}
+use Rattle.ve_base.specs.Limits.{max_open_kinds, max_marks}
 
 -- what is over the limit, and the byte of the page where it starts
 pub data Limit : Type 0 where
@@ -30,16 +31,16 @@ earlier None other = other
 earlier (Some a) None = Some a
 earlier (Some a) (Some b) = if nat_lt (limit_at b) (limit_at a) then Some b else Some a
 
--- the byte of the first opening inside of 100 kinds, where so many are open before, and these are the spans of the openings
+-- the byte of the first opening inside of `max_open_kinds` kinds, where so many are open before, and these are the spans of the openings
 abbrev pub deep_at : ℕ → List PlainItem → List Span → Option ℕ
 deep_at depth [] spans = None
 deep_at depth (Char c marks ∷ items) spans = deep_at depth items spans
 deep_at depth (Closing kind pre ∷ items) spans = deep_at (depth - 1) items spans
 deep_at depth (Opening kind head marks pre origin generated ∷ items) [] = None
 deep_at depth (Opening kind head marks pre origin generated ∷ items) (span ∷ spans) =
-    if nat_lt depth 100 then deep_at (suc depth) items spans else Some span.from
+    if nat_lt depth max_open_kinds then deep_at (suc depth) items spans else Some span.from
 
--- the byte of the first annotation inside of 64 marks; the parts begin at the byte `at`
+-- the byte of the first annotation inside of `max_marks` marks; the parts begin at the byte `at`
 abbrev pub marked_at : Around → Parts → ℕ → Option ℕ
 marked_at around Ended at = None
 marked_at around (Words text later) at = marked_at around later (at + length text)
@@ -51,10 +52,10 @@ marked_at around (Parent name attrs children later) at =
     let suffix = at + length (element_source name attrs children) in
     elim (fit_of around name children) [
       | Annotation ↦
-          if nat_lt (length (marks_at around)) 64
-          then or_else (marked_at (marked_around around name attrs) children inside) (marked_at around later suffix)
+          if nat_lt (length (marks_at around)) max_marks
+          then option_or (marked_at (marked_around around name attrs) children inside) (marked_at around later suffix)
           else Some at
-      | Branch kind ↦ or_else (marked_at (around_in kind) children inside) (marked_at around later suffix)
+      | Branch kind ↦ option_or (marked_at (around_in kind) children inside) (marked_at around later suffix)
       | _ ↦ marked_at around later suffix
     ]
 
@@ -76,15 +77,15 @@ body_limit o =
 -- of the bodies, in the order of their owners
 abbrev pub first_body_limit : List Owner → Option Limit
 first_body_limit [] = None
-first_body_limit (o ∷ owners) = or_else (body_limit o) (first_body_limit owners)
+first_body_limit (o ∷ owners) = option_or (body_limit o) (first_body_limit owners)
 
 -- of a page whose body begins at the byte `at`; bodies come after the whole page
 abbrev pub page_limit : ℕ → Forest → Option Limit
 page_limit at forest =
     let made = page_made at forest in
-    or_else (limit_of 0 (Flow Root) (parts_of forest) at made) (first_body_limit made.owners)
+    option_or (limit_of 0 (Flow Root) (parts_of forest) at made) (first_body_limit made.owners)
 
--- The byte of the first annotation of a fragment inside of 64 marks, where these kinds are open, innermost first. How deep a fragment is says
+-- The byte of the first annotation of a fragment inside of `max_marks` marks, where these kinds are open, innermost first. How deep a fragment is says
 -- the law, once it is inserted.
 abbrev pub fragment_limit : List Kind → Forest → Option ℕ
 fragment_limit stack forest = let parts = parts_of forest in marked_at (around_in (context_of parts stack)) parts 0

@@ -9,6 +9,7 @@ use Rattle.model_spelling.specs.Page.{body_at, moved}
 use Rattle.model_change.specs.Store.{cited, fill}
 use Rattle.model_page.specs.PageItems.{Opened, opened_with, page_made, slice, or_nothing}
 use Rattle.model_page.specs.Limits.{Limit, page_limit}
+use Rattle.ve_base.specs.Limits.{max_page, max_items, max_values}
 
 pub data OpenFault : Type 0 where
   PageTooLong : (bytes : ℕ) → OpenFault
@@ -28,8 +29,8 @@ limit_in o = page_limit o.body.from (or_nothing (forest_of (slice o.page o.body.
 -- at most 2^22 items and 2^20 values
 abbrev pub if_small : Opened → Result Opened OpenFault
 if_small o =
-    if nat_lt 4194304 (length o.items) then Err (TooManyItems (length o.items))
-    else if nat_lt 1048576 (length (values_of o)) then Err StoreFull
+    if nat_lt max_items (length o.items) then Err (TooManyItems (length o.items))
+    else if nat_lt max_values (length (values_of o)) then Err StoreFull
     else Ok o
 
 abbrev pub if_within : Opened → Result Opened OpenFault
@@ -47,7 +48,7 @@ read_body page (Ok body) =
 
 -- a page, of at most 2^22 bytes
 abbrev pub read_page : List ℕ → Result Opened OpenFault
-read_page page = elim (nat_lt 4194304 (length page)) [
+read_page page = elim (nat_lt max_page (length page)) [
   | true ↦ Err (PageTooLong (length page))
   | false ↦ read_body page (body_at page)
 ]

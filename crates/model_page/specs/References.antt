@@ -1,6 +1,7 @@
 -- The references of a list of items: which one carries the body of its key, and how they are numbered.
 use Rattle.std.specs.Prelude.{ℕ, zero, suc, ◌==◌, Bool, false, not, ◌&&◌, ◌||◌, if◌then◌else◌, List, [], ◌∷◌, ◌++◌, map, filter, Option, Some, None}
 use Rattle.std.specs.List.{list_any}
+use Rattle.std.specs.Option.{option_or}
 use Rattle.ve_kinds.specs.declared.kind.Kind.TheVariants.{InternalList, InternalItem, Ref}
 use Rattle.ve_base.specs.declared.head.RefKey.{RefKey}
 use Rattle.model_items.specs.declared.plain_item.PlainItem.{PlainItem}
@@ -39,13 +40,9 @@ abbrev pub first_place : List RefAt → Option ℕ
 first_place [] = None
 first_place (r ∷ refs) = Some r.at
 
-abbrev pub or_else : {A : Type 0} → Option A → Option A → Option A
-or_else (Some x) other = Some x
-or_else None other = other
-
 -- the place of the first owner of the key, else of its first reference
 abbrev pub carrier_of : RefKey → List RefAt → Option ℕ
-carrier_of key refs = or_else (first_place (filter (λ r. has_key key r && r.owner) refs)) (first_place (filter (has_key key) refs))
+carrier_of key refs = option_or (first_place (filter (λ r. has_key key r && r.owner) refs)) (first_place (filter (has_key key) refs))
 
 abbrev pub is_carrier : List RefAt → RefAt → Bool
 is_carrier refs r = option_same (λ m n. m == n) (carrier_of r.key refs) (Some r.at)

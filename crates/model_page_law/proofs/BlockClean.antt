@@ -4,7 +4,7 @@ use Rattle.std.proofs.lemmas.Bool.{and_parts, and_from, cases_Bool}
 use Rattle.std.proofs.lemmas.Grind.{common_steps}
 use Rattle.std.specs.Prelude.{encode_utf8_all}
 use Rattle.model_spelling.specs.Forest.{Forest, Nothing, Text, Remark, Void, RawElement, Element, starts_with_text}
-use Rattle.model_spelling.specs.Written.{canon_attrs}
+use Rattle.model_spelling.specs.Written.{canon_attrs, attr_bytes}
 use denote.Enum.Bare.{same_true}
 use Rattle.ve_kinds.specs.contracts.kind.Kind.{the_type}
 use Rattle.ve_kinds.specs.declared.kind.Kind.{Kind}
@@ -16,7 +16,7 @@ use Rattle.model_page.specs.Parts.{Parent, parts_of}
 use Rattle.model_page.specs.Fit.{has_blocks_alone, is_convertible}
 use Rattle.model_page.specs.Tags.{tag_of, is_inline_tag}
 use Rattle.model_page_write.specs.Nodes.{Start, Nodes, Empty, Letter, Node}
-use Rattle.model_page_write.specs.Written.{is_empty, has_content, all_stay_inline, attr_bytes, white_after, is_bare, Writer}
+use Rattle.model_page_write.specs.Written.{is_empty, has_content, all_stay_inline, white_after, is_bare, Writer}
 use Rattle.model_page_law.proofs.FormedNodes.{IsContent, AreBlocks}
 use Rattle.model_page_law.proofs.NeatForests.{without}
 use Rattle.model_page_law.proofs.EscapeLemmas.{pick_true, pick_false}

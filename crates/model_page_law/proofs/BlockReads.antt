@@ -3,7 +3,7 @@ use Rattle.std.proofs.Common.{◌≡◌, ℕ, Bool, true, false, if◌then◌els
 use Rattle.std.proofs.lemmas.List.{map-append, append-nil}
 use Rattle.std.proofs.lemmas.Str.{encodes-IsAscii, chars-IsAscii}
 use Rattle.std.specs.Prelude.{chars, encode_utf8_all}
-use Rattle.model_spelling.specs.Written.{canon_attrs}
+use Rattle.model_spelling.specs.Written.{canon_attrs, attr_bytes}
 use Rattle.model_spelling.specs.Grammar.{Attr as Spelled, start_text, end_text}
 use Rattle.model_spelling.specs.Forest.{Forest, Nothing, Text, Remark, Void, RawElement, Element, spelling}
 use Rattle.ve_kinds.specs.declared.kind.Kind.{Kind}
@@ -22,7 +22,6 @@ use Rattle.model_page.specs.Convert.{inside_piece, leaf_made, marks_at, marked_a
 use Rattle.ve_base.specs.Empty.{empty_head}
 use Rattle.model_page_law.proofs.SourceLemmas.{parts_of-source}
 use Rattle.model_page_write.specs.Nodes.{Start}
-use Rattle.model_page_write.specs.Written.{attr_bytes}
 use Rattle.model_page_law.proofs.TileLemmas.{white-IsAscii, run_ended-source}
 use Rattle.model_page_law.proofs.ContentLemmas.{Reads}
 use Rattle.model_page_law.proofs.BlockText.{followed_by, white_before, block_element}

@@ -7,13 +7,13 @@ use Rattle.ve_kinds.specs.contracts.kind.Kind.{the_type}
 use Rattle.std.specs.Prelude.{encode_utf8_all, unwrap_or}
 use Rattle.model_spelling.specs.Grammar.{Comment, token_text, start_text, end_text}
 use Rattle.model_spelling.specs.Forest.{Forest, Nothing, Text, Remark, Void, RawElement, Element, spelling}
-use Rattle.model_spelling.specs.Written.{canon_attrs}
+use Rattle.model_spelling.specs.Written.{canon_attrs, attr_bytes}
 use Rattle.ve_kinds.specs.declared.kind.Kind.TheVariants.{P, InternalList}
 use Rattle.ve_kinds.specs.Table.{kind_same}
 use Rattle.ve_kinds.specs.Table.{is_content_branch, is_leaf}
 use Rattle.model_page.specs.Tags.{tag_of}
 use Rattle.model_page_write.specs.Nodes.{Carried, Start, Nodes, Empty, Letter, Node, node_items}
-use Rattle.model_page_write.specs.Written.{is_empty, has_content, all_stay_inline, attr_bytes, white_after, is_bare, Writer, element_text, fresh_text, original_of, content, blocks}
+use Rattle.model_page_write.specs.Written.{is_empty, has_content, all_stay_inline, white_after, is_bare, Writer, element_text, fresh_text, original_of, content, blocks}
 use Rattle.model_page_law.proofs.ContentLemmas.{content_levels}
 use Rattle.model_page_law.proofs.ContentText.{LeafTexts, KeepsNone, content-spelling}
 use Rattle.model_page_law.proofs.FormedNodes.{MarksMean}

@@ -10,7 +10,8 @@ use Rattle.model_spelling.specs.declared.scan_fault.ScanFault.{ScanFault}
 use Rattle.model_spelling.specs.Grammar.{Attr, Token, Start, End, Chars, Raw, Comment, attr_text, token_text, start_text, comment_open, is_text, is_run, begins_with}
 use Rattle.model_spelling.specs.Reading.{Between, ◌>>=◌, tag_at, between_at, token_at, some_token}
 use Rattle.model_spelling.specs.Tokens.{is_token}
-use Rattle.model_spelling.specs.Page.{is_whole, first_place, or_else, last_place, starts_body, ends_body, or_no_body, body_at}
+use Rattle.model_spelling.specs.Page.{is_whole, first_place, last_place, starts_body, ends_body, or_no_body, body_at}
+use Rattle.std.specs.Option.{option_or}
 use Rattle.model_spelling.proofs.Found.{ok, ok_same, not_ok}
 use Rattle.model_spelling.proofs.Proved.{law_token_found, law_body_inside}
 use Rattle.model_page.specs.PageItems.{slice}
@@ -45,7 +46,7 @@ unfolding first_place
 first_found test at [] p e = absurd (none_never p e)
 first_found test at (b ∷ bs) p e = first_by test at b bs p (test (b ∷ bs)) refl e (λ h. first_found test (at + 1) bs p h)
 
-last_by : (test : List ℕ → Bool) (at b : ℕ) (bs : List ℕ) (p : ℕ) (c : Bool) (later : Option ℕ) → test (b ∷ bs) ≡ c → last_place test (at + 1) bs ≡ later → or_else later (cond c (Some at) None) ≡ Some p → (last_place test (at + 1) bs ≡ Some p → FoundAt test (at + 1) bs p) → FoundAt test at (b ∷ bs) p
+last_by : (test : List ℕ → Bool) (at b : ℕ) (bs : List ℕ) (p : ℕ) (c : Bool) (later : Option ℕ) → test (b ∷ bs) ≡ c → last_place test (at + 1) bs ≡ later → option_or later (cond c (Some at) None) ≡ Some p → (last_place test (at + 1) bs ≡ Some p → FoundAt test (at + 1) bs p) → FoundAt test at (b ∷ bs) p
 last_by test at b bs p c (Some q) h l e rec = found_later test at b bs p (rec (l ∙ e))
 last_by test at b bs p true None h l e rec = found_here test at (b ∷ bs) p (some_same at p e) h
 last_by test at b bs p false None h l e rec = absurd (none_never p e)

@@ -5,9 +5,10 @@ use Rattle.std.proofs.lemmas.Bool.{and_parts, and_from, cases_Bool}
 use Rattle.std.specs.Prelude.{codes, bytes_eq, chars, encode_utf8_all, is_some}
 use Rattle.std.specs.List.{list_any}
 use Rattle.std.specs.Char.{IsScalar}
-use Rattle.model_spelling.specs.Grammar.{Attr as Spelled, begins_with, is_tag_name, is_void, is_raw}
+use Rattle.model_spelling.specs.Grammar.{Attr as Spelled, begins_with, is_tag_name}
+use Rattle.ve_kinds.specs.Tags.{is_void, is_raw}
 use Rattle.model_spelling.specs.Forest.{Forest, Nothing, Text, Remark, Void, RawElement, Element, starts_with_text}
-use Rattle.model_spelling.specs.Written.{decoded, escaped_byte, escaped, canon_attrs}
+use Rattle.model_spelling.specs.Written.{decoded, escaped_byte, escaped, canon_attrs, attr_bytes}
 use Rattle.ve_kinds.specs.declared.kind.Kind.{Kind}
 use Rattle.ve_base.specs.declared.attrs.Attr.{Attr}
 use Rattle.ve_base.specs.declared.marks.Mark.{Mark}
@@ -17,7 +18,7 @@ use Rattle.model_page.specs.Heads.{characters, attrs_of, head_with}
 use Rattle.model_page.specs.Fit.{Flow, Annotation, has_child, fit_of}
 use Rattle.model_page.specs.Tags.{tag_of, is_inline_tag}
 use Rattle.model_page_write.specs.Nodes.{Start, Nodes, Empty, Letter, Node}
-use Rattle.model_page_write.specs.Written.{is_empty, attr_bytes, letter, common_count, Writer}
+use Rattle.model_page_write.specs.Written.{is_empty, letter, common_count, Writer}
 use Rattle.model_spelling.specs.Grammar.{start_text}
 use Rattle.model_page_law.specs.Formed.{said, AreNamed, ArePlain, IsMark, AreMarks, IsHead}
 use Rattle.model_page_law.proofs.FormedNodes.{IsLeaf, IsContent}

@@ -6,7 +6,7 @@ use Rattle.std.specs.Str.{chars}
 use Rattle.std.specs.Char.{IsScalar}
 use Rattle.model_spelling.specs.Forest.{Forest, Nothing, Text, Remark, Void, RawElement, Element}
 use Rattle.model_spelling.specs.Grammar.{start_text}
-use Rattle.model_spelling.specs.Written.{canon_attrs, decoded_from}
+use Rattle.model_spelling.specs.Written.{canon_attrs, decoded_from, attr_bytes}
 use Rattle.ve_base.specs.declared.marks.Mark.{Mark}
 use Rattle.model_items.specs.declared.plain_item.PlainItem.{PlainItem}
 use Rattle.model_items.specs.declared.plain_item.PlainItem.TheVariants.{Char, Opening, Closing}
@@ -20,7 +20,7 @@ use Rattle.model_page.specs.Heads.{characters, attrs_of, head_with}
 use Rattle.model_page.specs.Pieces.{Place, past, leaf, span_at, in_run, Made}
 use Rattle.model_page.specs.Convert.{inside_of, element_source, element_made, leaf_made, made_of}
 use Rattle.model_page_write.specs.Nodes.{Start, Nodes, Empty, Letter, Node}
-use Rattle.model_page_write.specs.Written.{attr_bytes, letter, common_count}
+use Rattle.model_page_write.specs.Written.{letter, common_count}
 use Rattle.model_page_law.proofs.FormedNodes.{MarksMean}
 
 -- ---- the forest that content is written as

@@ -5,10 +5,10 @@ use Rattle.std.proofs.lemmas.List.Concat.{flat_map-append}
 use Rattle.std.specs.Prelude.{flat_map, unwrap_or}
 use Rattle.model_spelling.specs.Grammar.{start_text}
 use Rattle.model_spelling.specs.Forest.{Forest, Nothing, Text, Remark, Void, RawElement, Element, spelling}
-use Rattle.model_spelling.specs.Written.{canon_attrs}
+use Rattle.model_spelling.specs.Written.{canon_attrs, attr_bytes}
 use Rattle.ve_base.specs.declared.marks.Mark.{Mark}
 use Rattle.model_page_write.specs.Nodes.{Start, Nodes, Empty, Letter, Node, Carried, node_items}
-use Rattle.model_page_write.specs.Written.{attr_bytes, letter, common_count, mark_start, mark_end, marks_changed, Writer, leaf_text, content}
+use Rattle.model_page_write.specs.Written.{letter, common_count, mark_start, mark_end, marks_changed, Writer, leaf_text, content}
 use Rattle.model_page.specs.Tags.{tag_of}
 use Rattle.model_page_law.proofs.ContentLemmas.{Levels, with_text, mark_element, wrapped, opens, closes, changes, leaf_element, content_levels, Common-count, length-closes, drop-next}
 use Rattle.model_page_law.proofs.FormedNodes.{MarksMean}

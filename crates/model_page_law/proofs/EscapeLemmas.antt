@@ -6,8 +6,8 @@ use Rattle.std.proofs.lemmas.Grind.{common_steps}
 use Rattle.std.proofs.lemmas.Str.{chars-append, chars-encodes}
 use Rattle.std.specs.Prelude.{codes, encode_utf8_all, nat_eq, bytes_eq}
 use Rattle.std.specs.Str.{chars, all_scalars}
-use Rattle.model_spelling.specs.Grammar.{begins_with, is_same_name}
-use Rattle.model_spelling.specs.Written.{meanings, prefix_of, decoded_from, decoded, escaped_byte, escaped, canon_attr, canon_attrs}
+use Rattle.model_spelling.specs.Grammar.{begins_with, name_same}
+use Rattle.model_spelling.specs.Written.{meanings, prefix_of, decoded_from, decoded, escaped_byte, escaped, canon_attr, canon_attrs, attr_bytes}
 use Rattle.ve_base.specs.declared.attrs.Attr.{Attr}
 use Rattle.ve_base.specs.declared.marks.Mark.{Mark}
 use Rattle.ve_kinds.specs.declared.kind.Kind.TheVariants.{AlienInline}
@@ -16,7 +16,6 @@ use Rattle.ve_kinds.specs.Tags.{is_one_of, kind_of_tag, annotation_tags}
 use Rattle.model_page.specs.Tags.{is_annotation_tag}
 use Rattle.model_page.specs.Fit.{Content, Annotation, Whole, has_child, fit_in_content, fit_of}
 use Rattle.model_page.specs.Heads.{characters, attr_of, attrs_of}
-use Rattle.model_page_write.specs.Written.{attr_bytes}
 use Rattle.model_page_law.proofs.ContentLemmas.{LettersBack}
 
 -- ---- a byte that is no `&` stands for itself
@@ -159,9 +158,9 @@ same_bytes (x ∷ xs) [] h = cc
 same_bytes (x ∷ xs) (y ∷ ys) h =
     let p = and_parts (nat_eq x y) (bytes_eq xs ys) h in (λ i. eqb-true x y p.0 i ∷ same_bytes xs ys p.1 i)
 
-pub same_name : (a b : List ℕ) → is_same_name a b ≡ true → a ≡ b
-unfolding is_same_name
-same_name a b h = same_bytes a b h
+pub equal_names : (a b : List ℕ) → name_same a b ≡ true → a ≡ b
+unfolding name_same
+equal_names a b h = same_bytes a b h
 
 -- each tag of the list has no kind
 abbrev AllWithoutKind : List (List ℕ) → Type 0

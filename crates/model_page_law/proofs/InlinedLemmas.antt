@@ -4,7 +4,8 @@ use Rattle.std.proofs.lemmas.List.{append-nil}
 use Rattle.std.proofs.lemmas.Bool.{and_parts, and_from, cases_Bool}
 use Rattle.std.proofs.lemmas.Str.{encodes-IsAscii, encodes-chars}
 use Rattle.std.specs.Prelude.{chars, encode_utf8_all, IsUtf8, unwrap_or, option_map}
-use Rattle.model_spelling.specs.Grammar.{start_text, end_text, begins_with, is_text, is_start, is_void, is_raw, is_verbatim, comment_close}
+use Rattle.model_spelling.specs.Grammar.{start_text, end_text, begins_with, is_text, is_start, is_verbatim, comment_close}
+use Rattle.ve_kinds.specs.Tags.{is_void, is_raw}
 use Rattle.model_spelling.specs.Forest.{Forest, Nothing, Text, Remark, Void, RawElement, Element, spelling, is_forest, starts_with_text}
 use Rattle.model_spelling.specs.Written.{meanings, prefix_of, decoded_from, decoded}
 use Rattle.model_page.specs.Elements.{is_white_char, is_white, about_of, is_held}

@@ -14,7 +14,7 @@ use Rattle.model_items.specs.declared.plain_item.PlainItem.TheVariants.{Char, Op
 use Rattle.model_items.specs.Law.{State, start, finish, top, is_empty, is_over, may_open, opened, closed, step, outcome_moved, joined, after}
 use Rattle.model_items.proofs.LawLemmas.{after_whole, Lawful_from_after}
 use Rattle.model_items.proofs.SameLemmas.{Means-kind_same}
-use Rattle.model_page.specs.References.{or_else}
+use Rattle.std.specs.Option.{option_or}
 use Rattle.model_page.specs.Parts.{Parts, parts_of}
 use Rattle.model_page.specs.Fit.{Around, Flow}
 use Rattle.model_page.specs.Pieces.{Span, Owner, Made, Place}
@@ -182,7 +182,7 @@ moved_none : (at : ℕ) (l : Option Limit) → option_map (moved_to at) l ≡ No
 moved_none at None e = refl
 moved_none at (Some l) e = cc
 
-or_none : (a : Option Limit) (b : Option Limit) → or_else a b ≡ None → (a ≡ None) × (b ≡ None)
+or_none : (a : Option Limit) (b : Option Limit) → option_or a b ≡ None → (a ≡ None) × (b ≡ None)
 or_none None b e = (refl, e)
 or_none (Some l) b e = cc
 

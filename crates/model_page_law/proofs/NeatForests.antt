@@ -1,6 +1,7 @@
 -- Forests in which each part is delimited, without the grammar's bounds: what the writer makes is one, whatever the list.
 use Rattle.std.specs.Prelude.{◌≡◌, ℕ, ◌==◌, Bool, true, false, not, ◌&&◌, List, [], ◌∷◌, ◌++◌}
-use Rattle.model_spelling.specs.Grammar.{Attr as Spelled, begins_with, is_attr_name, is_tag_name, is_void, is_raw, end_text, comment_close}
+use Rattle.model_spelling.specs.Grammar.{Attr as Spelled, begins_with, is_attr_name, is_tag_name, end_text, comment_close}
+use Rattle.ve_kinds.specs.Tags.{is_void, is_raw}
 use Rattle.model_spelling.specs.Forest.{Forest, Nothing, Text, Remark, Void, RawElement, Element, spelling, starts_with_text, is_forest}
 use Rattle.model_page_write.specs.Written.{is_empty}
 

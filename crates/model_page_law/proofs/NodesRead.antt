@@ -3,7 +3,7 @@ use Rattle.std.proofs.Common.{◌≡◌, ℕ, Bool, true, false, ◌&&◌, if◌
 use Rattle.std.proofs.lemmas.List.{append-nil}
 use Rattle.std.proofs.lemmas.Bool.{and_from, cases_Bool}
 use Rattle.model_spelling.specs.Forest.{Forest, Nothing}
-use Rattle.model_spelling.specs.Written.{canon_attrs}
+use Rattle.model_spelling.specs.Written.{canon_attrs, attr_bytes}
 use Rattle.ve_kinds.specs.declared.kind.Kind.{Kind}
 use Rattle.ve_kinds.specs.declared.kind.Kind.TheVariants.{P}
 use Rattle.model_items.specs.declared.plain_item.PlainItem.{PlainItem}
@@ -19,7 +19,7 @@ use Rattle.ve_base.specs.Empty.{empty_head}
 use Rattle.model_page.specs.Pieces.{Place}
 use Rattle.model_page.specs.Convert.{inside_piece, made_of}
 use Rattle.model_page_write.specs.Nodes.{Start, Nodes, Empty, Letter, Node}
-use Rattle.model_page_write.specs.Written.{is_empty, attr_bytes, white_after, is_bare}
+use Rattle.model_page_write.specs.Written.{is_empty, white_after, is_bare}
 use Rattle.model_page_law.proofs.FormedNodes.{MarksMean, IsContent, IsBranch, AreBlocks}
 use Rattle.model_page_law.specs.Formed.{IsHead}
 use Rattle.model_page_law.proofs.EscapeLemmas.{pick_true, pick_false, letters_back}

@@ -4,11 +4,12 @@ use Rattle.std.proofs.lemmas.Bool.{and_parts, and_from, cases_Bool}
 use Rattle.std.proofs.lemmas.Grind.{common_steps}
 use Rattle.std.specs.Prelude.{codes, nat_eq}
 use Rattle.std.specs.List.{flat_map, list_all}
-use Rattle.model_spelling.specs.Grammar.{Attr, Comment, token_text, begins_with, comment_open, comment_close, is_one_of, is_same_name, raw_names, attr_text, start_text, end_text, is_letter, is_name_byte, is_attr_name, is_tag_name, is_barred, starts_reference, is_run, is_text, is_attr, are_attrs, are_distinct, is_start, is_void, is_raw, is_plaintext, is_verbatim}
+use Rattle.model_spelling.specs.Grammar.{Attr, Comment, token_text, begins_with, comment_open, comment_close, name_same, attr_text, start_text, end_text, is_letter, is_name_byte, is_attr_name, is_tag_name, is_barred, starts_reference, is_run, is_text, is_attr, are_attrs, are_distinct, is_start, is_plaintext, is_verbatim}
+use Rattle.ve_kinds.specs.Tags.{is_one_of, raw_tags, is_void, is_raw}
 use Rattle.model_spelling.specs.Forest.{Forest, Nothing, Text, Remark, Void, RawElement, Element, spelling, starts_with_text, is_forest}
 use Rattle.model_page_write.specs.Written.{is_empty}
 use Rattle.model_page_law.proofs.NeatForests.{without, NeatAttrs, ends_at, Neat, OneForest}
-use Rattle.model_page_law.proofs.EscapeLemmas.{same_name}
+use Rattle.model_page_law.proofs.EscapeLemmas.{equal_names}
 
 -- ---- texts up to a delimiter
 
@@ -451,21 +452,22 @@ abbrev NoneVoid : List (List ℕ) → Type 0
 NoneVoid [] = Unit {0}
 NoneVoid (n ∷ ns) = (is_void n ≡ false) × NoneVoid ns
 
-raws-NoneVoid : NoneVoid raw_names
-unfolding is_void is_same_name
+raws-NoneVoid : NoneVoid raw_tags
+unfolding is_void name_same
 raws-NoneVoid = (refl, (refl, (refl, (refl, (refl, (refl, tt))))))
 
 among_NoneVoid : (ns : List (List ℕ)) → NoneVoid ns → (name : List ℕ) → is_one_of ns name ≡ true → is_void name ≡ false
+unfolding name_same
 among_NoneVoid [] a name h = cc
 among_NoneVoid (n ∷ ns) a name h =
-    elim (cases_Bool (is_same_name n name)) [
-      | inl e ↦ ap is_void (sym (same_name n name e)) ∙ a.0
+    elim (cases_Bool (name_same n name)) [
+      | inl e ↦ ap is_void (sym (equal_names n name e)) ∙ a.0
       | inr e ↦ among_NoneVoid ns a.1 name (sym (ap (λ b. b || is_one_of ns name) e) ∙ h)
     ]
 
 raw_not_void : (name : List ℕ) → is_raw name ≡ true → is_void name ≡ false
 unfolding is_raw
-raw_not_void name h = among_NoneVoid raw_names raws-NoneVoid name h
+raw_not_void name h = among_NoneVoid raw_tags raws-NoneVoid name h
 
 none-without : (stop : ℕ) (t : List ℕ) → none (λ c. c == stop) t ≡ true → without stop t ≡ true
 none-without stop [] h = refl

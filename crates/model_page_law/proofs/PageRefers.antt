@@ -7,7 +7,8 @@ use Rattle.std.proofs.lemmas.Bool.{and_parts}
 use Rattle.std.proofs.lemmas.List.{length-append, get_or-drop}
 use Rattle.std.proofs.lemmas.Str.{IsUtf8-take, IsUtf8-drop, IsCharBoundary-before_ascii, IsCharBoundary-after_ascii, encodes-chars}
 use Rattle.model_spelling.specs.declared.scan_fault.ScanFault.{ScanFault}
-use Rattle.model_spelling.specs.Grammar.{Attr as Spelled, attr_text, end_text, is_attr, is_attr_name, is_run, is_start, is_void, is_raw}
+use Rattle.model_spelling.specs.Grammar.{Attr as Spelled, attr_text, end_text, is_attr, is_attr_name, is_run, is_start}
+use Rattle.ve_kinds.specs.Tags.{is_void, is_raw}
 use Rattle.model_spelling.specs.Forest.{Forest, Nothing, Text, Remark, Void, RawElement, Element, spelling, is_forest}
 use Rattle.model_spelling.specs.Parsed.{forest_of}
 use Rattle.model_spelling.specs.Page.{body_at}

@@ -4,12 +4,12 @@ use Rattle.std.specs.Prelude.{codes, encode_utf8_all}
 use Rattle.std.proofs.lemmas.Slice.Eq.{bytes_eq-Decides}
 use Rattle.model_spelling.specs.Grammar.{Attr as Spelled, start_text, end_text}
 use Rattle.model_spelling.specs.Forest.{spelling}
-use Rattle.model_spelling.specs.Written.{decoded, escaped, canon_attr, canon_attrs}
+use Rattle.model_spelling.specs.Written.{decoded, escaped, canon_attr, canon_attrs, attr_bytes}
 use Rattle.ve_base.specs.declared.attrs.Attr.{Attr}
 use Rattle.model_page.specs.Elements.{value_of}
 use Rattle.model_page.specs.DataMw.{reference_of, composed_mw}
 use Rattle.model_page.specs.Editable.{data_mw}
-use Rattle.model_page_write.specs.Written.{attr_bytes, with_mw}
+use Rattle.model_page_write.specs.Written.{with_mw}
 use Rattle.model_page_law.specs.Formed.{said}
 use Rattle.model_page_law.specs.WrittenReference.{ReferenceIsWritten, ReferenceHasBody}
 use Rattle.model_page_law.proofs.EscapeLemmas.{decoded-escaped, decoded-nil}

@@ -5,23 +5,23 @@ use Rattle.std.proofs.lemmas.Grind.{common_steps}
 use Rattle.std.proofs.lemmas.Str.{encodes-IsAscii}
 use Rattle.std.specs.Str.{IsAscii}
 use Rattle.std.specs.Prelude.{encode_utf8_all, nat_lt, bytes_eq}
-use Rattle.model_spelling.specs.Grammar.{is_same_name, is_void, is_raw, is_tag_name, is_plaintext, is_letter}
+use Rattle.model_spelling.specs.Grammar.{name_same, is_tag_name, is_plaintext, is_letter}
+use Rattle.ve_kinds.specs.Tags.{is_void, is_raw, is_one_of, kind_of_tag, annotation_tags}
 use Rattle.ve_kinds.specs.declared.kind.Kind.{Kind}
 use Rattle.ve_kinds.specs.declared.kind.Kind.TheVariants.{Root, P, H1, H2, H3, H4, H5, H6, Pre, Section, Li, Dt, Dd, Blockquote, Div, Td, Th, Caption, InternalItem, Ul, Ol, Dl, Table, Thead, Tbody, Tfoot, Tr, InternalList, TransBlock, AlienBlock, Br, Img, Ref, TransInline, AlienInline}
 use Rattle.ve_kinds.specs.Table.{kind_same}
 use Rattle.ve_kinds.specs.Table.{is_element, is_leaf, is_among, is_flow, is_content_branch, structural_kinds, may_hold}
-use Rattle.ve_kinds.specs.Tags.{is_one_of, kind_of_tag, annotation_tags}
 use Rattle.model_page.specs.Tags.{tag_of, is_annotation_tag, is_inline_tag}
 use denote.Enum.Bare.{same_true}
 use Rattle.ve_kinds.specs.contracts.kind.Kind.{the_type}
 use Rattle.ve_base.specs.declared.marks.Mark.{Mark}
 use Rattle.model_spelling.specs.Grammar.{start_text}
-use Rattle.model_spelling.specs.Written.{canon_attrs}
+use Rattle.model_spelling.specs.Written.{canon_attrs, attr_bytes}
 use Rattle.model_page.specs.Parts.{Ended}
 use Rattle.model_page.specs.Fit.{Content, Flow, Leaf, fit_of}
 use Rattle.ve_kinds.specs.Table.{is_inline_leaf}
 use Rattle.model_page_write.specs.Nodes.{Start}
-use Rattle.model_page_write.specs.Written.{attr_bytes, leaf_text, Writer}
+use Rattle.model_page_write.specs.Written.{leaf_text, Writer}
 use Rattle.model_page_law.proofs.EscapeLemmas.{same_bytes}
 
 abbrev all_small : List ℕ → Bool
@@ -48,7 +48,7 @@ pub record BranchTag (k : Kind) : Type 0 where
   pub structural : is_among structural_kinds k ≡ true → (is_content_branch k ≡ false) × (is_flow k ≡ false)
 
 pub branch_tag : (k : Kind) → is_element k ≡ true → is_leaf k ≡ false → BranchTag k
-unfolding is_void is_raw is_same_name is_plaintext is_letter
+unfolding is_void is_raw name_same is_plaintext is_letter
 branch_tag Root e l = cc
 branch_tag P e l = record { kind = refl; block = refl; name_is = refl; void_is = refl; raw_is = refl; bytes = ascii_bytes (tag_of P) refl; other = refl; class = λ a b. cc; structural = λ a. cc }
 branch_tag H1 e l = record { kind = refl; block = refl; name_is = refl; void_is = refl; raw_is = refl; bytes = ascii_bytes (tag_of H1) refl; other = refl; class = λ a b. cc; structural = λ a. cc }
@@ -96,7 +96,7 @@ AllMarkTags [] = Unit {0}
 AllMarkTags (n ∷ ns) = MarkTag n × AllMarkTags ns
 
 annotations-MarkTags : AllMarkTags annotation_tags
-unfolding is_void is_raw is_same_name is_plaintext is_letter
+unfolding is_void is_raw name_same is_plaintext is_letter
 annotations-MarkTags = (
   record { inline = refl; name_is = refl; void_is = refl; raw_is = refl },
   (
@@ -230,7 +230,7 @@ pub record LeafKind (k : Kind) : Type 0 where
   pub text : (w : Writer) (s : Start) → leaf_text w s k ≡ start_text (tag_of k) (canon_attrs (map attr_bytes s.head.attrs)) false
 
 br-LeafKind : LeafKind Br
-unfolding is_void is_raw is_same_name is_plaintext is_letter
+unfolding is_void is_raw name_same is_plaintext is_letter
 br-LeafKind = record {
   name_is = refl;
   void_is = refl;
@@ -242,7 +242,7 @@ br-LeafKind = record {
 }
 
 img-LeafKind : LeafKind Img
-unfolding is_void is_raw is_same_name is_plaintext is_letter
+unfolding is_void is_raw name_same is_plaintext is_letter
 img-LeafKind = record {
   name_is = refl;
   void_is = refl;

@@ -7,6 +7,7 @@ use Rattle.model_items.specs.Law.{Lawful}
 use Rattle.model_page.specs.PageItems.{Opened, opened_page, page_made, items_of}
 use Rattle.model_page.specs.Limits.{page_limit}
 use Rattle.model_page.specs.OpenPage.{BadPage, values_of, limit_in, read_page}
+use Rattle.ve_base.specs.Limits.{max_page, max_items, max_values}
 
 -- The items of a forest that is within the limits are a lawful list, wherever the body begins.
 abbrev pub LimitedIsLawful : Type 0
@@ -15,10 +16,10 @@ LimitedIsLawful = (at : ℕ) (f : Forest) → page_limit at f ≡ None → Lawfu
 -- A page opens within all limits.
 pub record IsWithin (page : List ℕ) (o : Opened) : Type 0 where
   pub opens : opened_page page ≡ Some o
-  pub bytes : length page ≤ 4194304
+  pub bytes : length page ≤ max_page
   pub limit : limit_in o ≡ None
-  pub items : length o.items ≤ 4194304
-  pub values : length (values_of o) ≤ 1048576
+  pub items : length o.items ≤ max_items
+  pub values : length (values_of o) ≤ max_values
 
 -- What is read as a page opens within the limits,
 abbrev pub ReadIsWithin : Type 0

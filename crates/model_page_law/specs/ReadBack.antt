@@ -7,6 +7,7 @@ use Rattle.model_items.specs.Law.{Lawful}
 use Rattle.model_page.specs.PageItems.{Opened, opened_page, items_of, page_made}
 use Rattle.model_page_write.specs.PageText.{fresh}
 use Rattle.model_page_law.specs.Formed.{AreFormed}
+use Rattle.ve_base.specs.Limits.{max_open_elements}
 
 -- up to origins and the flag generated
 abbrev pub settled : PlainItem → PlainItem
@@ -17,7 +18,7 @@ settled (Char c marks) = Char c marks
 -- Where a forest spells the fresh text of a lawful list of the form, its items are those of the list.
 abbrev pub FreshIsReadBack : Type 0
 FreshIsReadBack = (items : List PlainItem) → Lawful items → AreFormed items →
-    (f : Forest) (at : ℕ) → is_forest 200 f ≡ true → spelling f ≡ fresh items → map settled (items_of (page_made at f)) ≡ map settled items
+    (f : Forest) (at : ℕ) → is_forest max_open_elements f ≡ true → spelling f ≡ fresh items → map settled (items_of (page_made at f)) ≡ map settled items
 
 -- Where the fresh text opens as a page, the page's items are those of the list.
 abbrev pub FreshOpensAsItself : Type 0

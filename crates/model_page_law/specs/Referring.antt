@@ -12,6 +12,7 @@ use Rattle.model_change.specs.Replay.{replay, reversal, flattened, revoke, AllRu
 use Rattle.model_page.specs.PageItems.{Opened, opened_page, page_made, items_of}
 use Rattle.model_page.specs.Fragment.{pieces_of}
 use Rattle.model_page.specs.Editable.{all_refer}
+use Rattle.ve_base.specs.Limits.{max_open_elements}
 
 -- ---- what is read
 
@@ -21,7 +22,7 @@ OpenedRefers = (page : List ℕ) (o : Opened) → IsUtf8 page → opened_page pa
 
 -- The same of the items of every forest that may be spelled.
 abbrev pub SpelledRefers : Type 0
-SpelledRefers = (at : ℕ) (f : Forest) → is_forest 200 f ≡ true → IsUtf8 (spelling f) → all_refer (items_of (page_made at f)) ≡ true
+SpelledRefers = (at : ℕ) (f : Forest) → is_forest max_open_elements f ≡ true → IsUtf8 (spelling f) → all_refer (items_of (page_made at f)) ≡ true
 
 -- A fragment has neither references nor internal items, so the same holds of it, wherever it goes.
 abbrev pub FragmentsRefer : Type 0

@@ -4,6 +4,7 @@ use Rattle.model_spelling.specs.Forest.{Forest, Spells, spelling, is_forest}
 use Rattle.model_spelling.specs.Page.{body_at, page_fault}
 use Rattle.model_page.specs.PageItems.{slice, Opened, opened_with, opened_page, page_made}
 use Rattle.model_page_write.specs.PageText.{write}
+use Rattle.ve_base.specs.Limits.{max_open_elements}
 
 -- ---- which pages open, and as what
 
@@ -33,5 +34,5 @@ opened_as head f tail =
 
 -- So is every forest that may be spelled, between any head and any tail.
 abbrev pub SpelledIsWrittenBack : Type 0
-SpelledIsWrittenBack = (head tail : List ℕ) (f : Forest) → is_forest 200 f ≡ true → IsUtf8 (spelling f) →
+SpelledIsWrittenBack = (head tail : List ℕ) (f : Forest) → is_forest max_open_elements f ≡ true → IsUtf8 (spelling f) →
     write (opened_as head f tail) (opened_as head f tail).items ≡ head ++ (spelling f ++ tail)

@@ -3,10 +3,9 @@
 use Rattle.std.specs.Prelude.{ℕ, suc, Bool, true, false, not, ◌&&◌, ◌||◌, if◌then◌else◌, List, [], ◌∷◌, ◌++◌, drop, reverse, map, flat_map, Option, None, codes, bytes_eq, encode_utf8_all, option_map, unwrap_or}
 use Rattle.model_spelling.specs.Grammar.{end_text}
 use Rattle.model_spelling.specs.Forest.{Forest, Nothing, Text, Remark, Void, RawElement, Element}
-use Rattle.model_spelling.specs.Written.{escaped, canon_start}
+use Rattle.model_spelling.specs.Written.{escaped, canon_start, attr_bytes, start_tag}
 use Rattle.ve_kinds.specs.declared.kind.Kind.{Kind}
 use Rattle.ve_kinds.specs.declared.kind.Kind.TheVariants.{P, InternalList, Br, Img, Ref, TransInline, AlienInline}
-use Rattle.ve_base.specs.declared.attrs.Attr.{Attr}
 use Rattle.ve_base.specs.declared.marks.Mark.{Mark}
 use Rattle.ve_kinds.specs.Table.{kind_same}
 use Rattle.model_items.specs.Same.{mark_same}
@@ -19,12 +18,6 @@ use Rattle.model_page.specs.Tags.{is_inline_tag, tag_of}
 use Rattle.model_page_write.specs.Nodes.{Carried, Start, Nodes, Empty, Letter, Node, node_items}
 
 -- ---- tags and characters
-
-abbrev pub attr_bytes : Attr → List ℕ × List ℕ
-attr_bytes a = (encode_utf8_all a.name, encode_utf8_all a.value)
-
-abbrev pub start_tag : List ℕ → List (List ℕ × List ℕ) → List ℕ
-start_tag tag attrs = canon_start (encode_utf8_all tag) attrs
 
 abbrev pub end_tag : List ℕ → List ℕ
 end_tag tag = end_text (encode_utf8_all tag)
@@ -41,7 +34,7 @@ common_count (m ∷ opened) [] = 0
 common_count (m ∷ opened) (n ∷ marks) = if mark_same m n then suc (common_count opened marks) else 0
 
 abbrev pub mark_start : Mark → List ℕ
-mark_start m = start_tag m.tag (map attr_bytes m.attrs)
+mark_start m = start_tag (encode_utf8_all m.tag) m.attrs
 
 abbrev pub mark_end : Mark → List ℕ
 mark_end m = end_tag m.tag
@@ -114,18 +107,18 @@ with_mw a html = if bytes_eq a.0 (codes "data-mw") then (a.0, composed_mw a.1 ht
 
 abbrev pub ref_text : Writer → Start → List ℕ
 ref_text w s =
-    start_tag s.head.tag (map (λ a. with_mw (attr_bytes a) (option_map w.html s.body)) s.head.attrs)
+    canon_start (encode_utf8_all s.head.tag) (map (λ a. with_mw (attr_bytes a) (option_map w.html s.body)) s.head.attrs)
     ++ encode_utf8_all s.head.raw ++ end_tag s.head.tag
 
 abbrev pub leaf_text : Writer → Start → Kind → List ℕ
-leaf_text w s Br = start_tag (tag_of Br) (map attr_bytes s.head.attrs)
-leaf_text w s Img = start_tag (tag_of Img) (map attr_bytes s.head.attrs)
+leaf_text w s Br = start_tag (encode_utf8_all (tag_of Br)) s.head.attrs
+leaf_text w s Img = start_tag (encode_utf8_all (tag_of Img)) s.head.attrs
 leaf_text w s Ref = ref_text w s
 leaf_text w s _ = encode_utf8_all s.head.raw
 
 abbrev pub element_text : Start → List ℕ → List ℕ → List ℕ
 element_text s inside pre =
-    start_tag (tag_of s.kind) (map attr_bytes s.head.attrs) ++ inside ++ encode_utf8_all pre ++ end_tag (tag_of s.kind)
+    start_tag (encode_utf8_all (tag_of s.kind)) s.head.attrs ++ inside ++ encode_utf8_all pre ++ end_tag (tag_of s.kind)
 
 -- the text of a block, without the whitespace before it, where `inside` is the text of what is in it
 abbrev pub fresh_text : Writer → Bool → Start → List ℕ → List ℕ → List ℕ

@@ -6,7 +6,8 @@ use Rattle.model_items.specs.Law.{verdict}
 use Rattle.model_change.specs.declared.tx_fault.TxFault.{TxFault}
 use Rattle.model_change.specs.declared.tx_fault.TxFault.TheVariants as tx
 use Rattle.model_change.specs.Transaction.{Transaction}
-use Rattle.model_change.specs.Fault.{fault, or_else}
+use Rattle.model_change.specs.Fault.{fault}
+use Rattle.std.specs.Option.{option_or}
 use Rattle.model_site.specs.declared.edit_fault.EditFault.{EditFault}
 use Rattle.model_site.specs.declared.edit_fault.EditFault.TheVariants.{BadLength, Mismatch, BadAttr, Unlawful, TooDeep, TooManyItems, StoreFull, Memory}
 use Rattle.model_site.specs.Replica.{Replica, performed}
@@ -35,5 +36,5 @@ store_fault count = if nat_lt 1048576 count then Some StoreFull else None
 abbrev pub edit_fault : Transaction → Replica → Option EditFault
 edit_fault t r =
     let new = performed t r in
-    or_else (transaction_fault (fault t r.items))
-    (or_else (law_fault (verdict new.items)) (or_else (items_fault (length new.items)) (store_fault (length new.store))))
+    option_or (transaction_fault (fault t r.items))
+    (option_or (law_fault (verdict new.items)) (option_or (items_fault (length new.items)) (store_fault (length new.store))))

@@ -5,16 +5,17 @@ use Rattle.model_items.specs.declared.law_fault.LawFault.TheVariants as law
 use Rattle.model_items.specs.Law.{verdict}
 use Rattle.model_change.specs.declared.tx_fault.TxFault.{TxFault}
 use Rattle.model_change.specs.declared.tx_fault.TxFault.TheVariants as tx
-use Rattle.model_change.specs.Fault.{fault, or_else}
+use Rattle.model_change.specs.Fault.{fault}
+use Rattle.std.specs.Option.{option_or}
 use Rattle.model_site.specs.Replica.{performed}
 use Rattle.model_site.specs.Refused.{transaction_fault, law_fault}
 use Rattle.model_site_law.specs.MayHappen.{EditMayRun}
 
-first_none : {A : Type 0} (o p : Option A) → or_else o p ≡ None → o ≡ None
+first_none : {A : Type 0} (o p : Option A) → option_or o p ≡ None → o ≡ None
 first_none None p h = refl
 first_none (Some x) p h = cc
 
-rest_none : {A : Type 0} (o p : Option A) → or_else o p ≡ None → p ≡ None
+rest_none : {A : Type 0} (o p : Option A) → option_or o p ≡ None → p ≡ None
 rest_none None p h = h
 rest_none (Some x) p h = cc
 

@@ -3,7 +3,8 @@ use Rattle.std.proofs.Common.{◌≡◌, ℕ, zero, suc, ◌+◌, ◌-◌, ◌<�
 use Rattle.std.proofs.lemmas.List.{length-append, append-nil}
 use Rattle.std.proofs.Math.Seq.{drop-append_seam}
 use Rattle.model_spelling.specs.declared.scan_fault.ScanFault.{ScanFault}
-use Rattle.model_spelling.specs.Grammar.{is_tag_name, is_void, is_raw, is_text, is_verbatim, are_attrs, is_start, Attr, Token, Start, End, Chars, Raw, Comment, token_text, start_text, end_text, comment_close}
+use Rattle.model_spelling.specs.Grammar.{is_tag_name, is_text, is_verbatim, are_attrs, is_start, Attr, Token, Start, End, Chars, Raw, Comment, token_text, start_text, end_text, comment_close}
+use Rattle.ve_kinds.specs.Tags.{is_void, is_raw}
 use Rattle.model_spelling.specs.Reading.{token_at, between_at, Mode, Between, After, mode_after}
 use Rattle.model_spelling.specs.Tokens.{Placed, Tokens, with_placed, tokens_by, tokens_from, tokens_of, BeginsTag, Runs}
 use Rattle.model_spelling.specs.Forest.{Forest, Nothing, Text, Remark, Void, RawElement, Element, starts_with_text, spelling, is_forest}

@@ -4,7 +4,8 @@ use Rattle.std.specs.Prelude.{codes}
 use Rattle.std.specs.List.{flat_map}
 use Rattle.std.proofs.lemmas.List.{length-append, drop-drop}
 use Rattle.std.proofs.Math.Seq.{drop-append_seam}
-use Rattle.model_spelling.specs.Grammar.{Attr, Start, attr_text, begins_with, start_text, is_tag_name, is_void, are_attrs}
+use Rattle.model_spelling.specs.Grammar.{Attr, Start, attr_text, begins_with, start_text, is_tag_name, are_attrs}
+use Rattle.ve_kinds.specs.Tags.{is_void}
 use Rattle.model_spelling.specs.Reading.{tag_at}
 use Rattle.model_spelling.specs.Page.{is_whole, first_place, last_place, starts_body, ends_body, body_at, IsBody}
 use Rattle.model_spelling.proofs.AttrReading.{and_left}

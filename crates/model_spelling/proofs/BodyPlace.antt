@@ -6,9 +6,11 @@ use Rattle.std.proofs.lemmas.List.{length-drop, length-take, length-append, drop
 use Rattle.std.proofs.Math.Seq.{drop-append_seam}
 use Rattle.model_spelling.specs.declared.scan_fault.ScanFault.{ScanFault}
 use Rattle.model_spelling.specs.declared.scan_fault.ScanWhat.TheVariants.{NoBody}
-use Rattle.model_spelling.specs.Grammar.{Attr, Token, attr_text, start_text, begins_with, is_letter, is_plaintext, is_same_name, is_void, is_start, are_attrs}
+use Rattle.model_spelling.specs.Grammar.{Attr, Token, attr_text, start_text, begins_with, is_letter, is_plaintext, name_same, is_start, are_attrs}
+use Rattle.ve_kinds.specs.Tags.{is_void}
 use Rattle.model_spelling.specs.Reading.{◌>>=◌, fault, start_at, start_after, tag_at}
-use Rattle.model_spelling.specs.Page.{is_whole, first_place, or_else, last_place, starts_body, ends_body, or_no_body, body_at, parts_at, Parts, parts, IsBody}
+use Rattle.model_spelling.specs.Page.{is_whole, first_place, last_place, starts_body, ends_body, or_no_body, body_at, parts_at, Parts, parts, IsBody}
+use Rattle.std.specs.Option.{option_or}
 use Rattle.model_spelling.proofs.TokenRuns.{begins_parts}
 use Rattle.model_spelling.proofs.Found.{ok, ok_same, not_ok}
 use Rattle.model_spelling.proofs.FoundTokens.{AfterFound, after_by_name}
@@ -58,7 +60,7 @@ pub record LastFound (test : List ℕ → Bool) (at : ℕ) (text : List ℕ) (n 
   pub here : test (drop k text) ≡ true
   pub after : (m : ℕ) → k < m → test (drop m text) ≡ false
 
-none_by : (test : List ℕ → Bool) (at b : ℕ) (bs : List ℕ) (later : Option ℕ) (c : Bool) → test (b ∷ bs) ≡ c → (later ≡ None → (m : ℕ) → test (drop m bs) ≡ false) → or_else later (cond c (Some at) None) ≡ None → (m : ℕ) → test (drop m (b ∷ bs)) ≡ false
+none_by : (test : List ℕ → Bool) (at b : ℕ) (bs : List ℕ) (later : Option ℕ) (c : Bool) → test (b ∷ bs) ≡ c → (later ≡ None → (m : ℕ) → test (drop m bs) ≡ false) → option_or later (cond c (Some at) None) ≡ None → (m : ℕ) → test (drop m (b ∷ bs)) ≡ false
 none_by test at b bs (Some q) c h rest e m = absurd cc
 none_by test at b bs None true h rest e m = absurd cc
 none_by test at b bs None false h rest e zero = h
@@ -78,7 +80,7 @@ above_last test b bs k rest zero lt = absurd (omega (arith, lt))
 above_last test b bs k rest (suc m) lt = rest m (omega (arith, lt))
 
 last_by : (test : List ℕ → Bool) (at n b : ℕ) (bs : List ℕ) (later : Option ℕ) (c : Bool) → test (b ∷ bs) ≡ c → ((q : ℕ) → later ≡ Some q → LastFound test (at + 1) bs q) → (later ≡ None → (m : ℕ) → test (drop m bs) ≡ false)
-    → or_else later (cond c (Some at) None) ≡ Some n → LastFound test at (b ∷ bs) n
+    → option_or later (cond c (Some at) None) ≡ Some n → LastFound test at (b ∷ bs) n
 last_by test at n b bs (Some q) c h found none e =
     let r = found q refl in
     let same = some_same q n e in
@@ -126,7 +128,7 @@ pub after_prefix_is : (page : List ℕ) (tag : ℕ) → (f : BodyPrefix (drop ta
 after_prefix_is page tag f = sym (drop-drop 1 tag page) ∙ ap (drop 1) f.is
 
 body_void : is_void (codes "body") ≡ false
-unfolding is_void is_same_name
+unfolding is_void name_same
 body_void = refl
 
 no_slash : (slash void : Bool) → void ≡ false → (not slash || void) ≡ true → slash ≡ false
@@ -134,7 +136,7 @@ no_slash false void v e = refl
 no_slash true void v e = absurd (let h : false ≡ true = sym v ∙ e in cc)
 
 body_allowed : (attrs : List Attr) → are_attrs attrs ≡ true → is_start (codes "body") attrs false ≡ true
-unfolding is_letter is_plaintext is_same_name
+unfolding is_letter is_plaintext name_same
 body_allowed attrs e = rw e refl
 
 -- ---- the ways through

@@ -3,7 +3,8 @@ use Rattle.std.proofs.Common.{◌≡◌, ℕ, zero, suc, ◌-◌, ◌<◌, Bool,
 use Rattle.std.specs.Prelude.{◌==◌, nat_le}
 use Rattle.std.proofs.lemmas.List.{length-map, length-append}
 use Rattle.std.specs.List.{list_all}
-use Rattle.model_spelling.specs.Grammar.{is_barred, is_attr_name, is_tag_name, is_void, is_raw, is_run, is_text, is_verbatim, is_attr, has_name, are_distinct, are_attrs, is_start, is_same_name, begins_with, starts_reference, Attr, end_text, comment_close}
+use Rattle.model_spelling.specs.Grammar.{is_barred, is_attr_name, is_tag_name, is_run, is_text, is_verbatim, is_attr, has_name, are_distinct, are_attrs, is_start, name_same, begins_with, starts_reference, Attr, end_text, comment_close}
+use Rattle.ve_kinds.specs.Tags.{is_void, is_raw}
 use Rattle.model_spelling.specs.Forest.{Forest, Nothing, Text, Remark, Void, RawElement, Element, starts_with_text, is_forest}
 use Rattle.model_spelling.specs.Written.{meanings, prefix_of, decoded_from, decoded}
 use Rattle.model_spelling.specs.Canonical.{decoded_attr, decoded_forest, are_chars, is_some_chars, is_plain_attr, is_plain_start, is_plain}
@@ -78,7 +79,7 @@ attrs_plain (a ∷ attrs) e = and_both (is_plain_attr (decoded_attr a)) (list_al
 
 has_decoded : (name : List ℕ) (attrs : List Attr) → has_name name (map decoded_attr attrs) ≡ has_name name attrs
 has_decoded name [] = refl
-has_decoded name (a ∷ attrs) = ap (λ (x : Bool). is_same_name a.name name || x) (has_decoded name attrs)
+has_decoded name (a ∷ attrs) = ap (λ (x : Bool). name_same a.name name || x) (has_decoded name attrs)
 
 distinct_decoded : (attrs : List Attr) → are_distinct (map decoded_attr attrs) ≡ are_distinct attrs
 distinct_decoded [] = refl

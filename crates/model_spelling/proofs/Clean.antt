@@ -8,7 +8,8 @@ use Rattle.std.proofs.lemmas.Bool.Decides.{nat_tests}
 use Rattle.std.specs.List.{prefix_len, common_prefix_len, flat_map, list_all}
 use Rattle.model_spelling.specs.declared.scan_fault.ScanFault.{ScanFault}
 use Rattle.model_spelling.specs.declared.scan_fault.ScanWhat.TheVariants.{BadChar, BadTag, BadAttribute, BadReference, Doctype, UnclosedComment, UnclosedTag, TooManyAttributes, DuplicateAttribute}
-use Rattle.model_spelling.specs.Grammar.{is_barred, is_letter, is_name_byte, is_plaintext, is_void, begins_with, references, starts_reference, has_name, is_attr, is_attr_name, is_run, is_verbatim, Attr, attr_text, Token, Start, End, Comment, comment_close}
+use Rattle.model_spelling.specs.Grammar.{is_barred, is_letter, is_name_byte, is_plaintext, begins_with, references, starts_reference, has_name, is_attr, is_attr_name, is_run, is_verbatim, Attr, attr_text, Token, Start, End, Comment, comment_close}
+use Rattle.ve_kinds.specs.Tags.{is_void}
 use Rattle.model_spelling.specs.Reading.{◌>>=◌, fault, refused, longest_prefix, after_prefix, reference_fault, run_end, value_end, verbatim_end, name_len_at, quote_at, head_at, attr_at, attrs_at, name_ends, tag_close, start_after, with_name, start_at, end_after, end_at, comment_at, is_doctype, dash_at, markup_at, tag_at}
 use Rattle.model_spelling.specs.Canonical.{are_chars}
 use Rattle.model_spelling.specs.Standing.{is_open}

@@ -5,7 +5,8 @@ use Rattle.std.proofs.lemmas.Bool.{cases_Bool}
 use Rattle.std.specs.List.{list_all, flat_map}
 use Rattle.model_spelling.specs.declared.scan_fault.ScanFault.{ScanFault}
 use Rattle.model_spelling.specs.declared.scan_fault.ScanWhat.TheVariants.{UnclosedRaw}
-use Rattle.model_spelling.specs.Grammar.{is_barred, is_tag_name, is_raw, is_start, Token, Start, End, Chars, Raw, Comment, token_text, start_text, end_text, attr_text, Attr, are_attrs, are_distinct, is_attr, is_text, is_void, is_same_name, comment_open, comment_close}
+use Rattle.model_spelling.specs.Grammar.{is_barred, is_tag_name, is_start, Token, Start, End, Chars, Raw, Comment, token_text, start_text, end_text, attr_text, Attr, are_attrs, are_distinct, is_attr, is_text, name_same, comment_open, comment_close}
+use Rattle.ve_kinds.specs.Tags.{is_raw, is_void}
 use Rattle.model_spelling.specs.Reading.{◌>>=◌, fault, run_end, verbatim_end, some_token, tag_at, between_at, token_at, Mode, Between, After, Failed, Step, mode_after}
 use Rattle.model_spelling.specs.Tokens.{Placed, tokens_of, is_token, Inner, Closing, Runs}
 use Rattle.model_spelling.specs.Faults.{Open, ForestFault, Scan, Mismatched, Stray, TooDeep, fault_in, fault_of, after_token}
@@ -163,7 +164,7 @@ end_shut_by false false at os f e h = let same : Mismatched at ≡ f = cc in bot
 own_shut : (t : Token) (at : ℕ) (os : List Open) (f : ForestFault) → after_token t at os ≡ Err f → is_unclosed f ≡ true → ⊥
 own_shut (Start name attrs slash) at os f e h = shut_by (length os == 200) (is_void name) true at os name f e h
 own_shut (End name) at [] f e h = let same : Stray at ≡ f = cc in both (is_unclosed f) (ap is_unclosed (sym same)) h
-own_shut (End name) at (o ∷ os) f e h = end_shut_by (is_void name) (is_same_name o.name name) at os f e h
+own_shut (End name) at (o ∷ os) f e h = end_shut_by (is_void name) (name_same o.name name) at os f e h
 own_shut (Chars text) at os f e h = let g : Ok os ≡ Err f = e in cc
 own_shut (Raw text) at os f e h = let g : Ok os ≡ Err f = e in cc
 own_shut (Comment text) at os f e h = let g : Ok os ≡ Err f = e in cc

@@ -8,7 +8,7 @@ use Rattle.std.specs.Char.{to_ascii_lowercase}
 use Rattle.std.specs.List.{common_prefix_len, list_all, list_any}
 use Rattle.model_spelling.specs.declared.scan_fault.ScanFault.{ScanFault}
 use Rattle.model_spelling.specs.declared.scan_fault.ScanWhat.TheVariants.{BadChar, BadTag, BadReference, Doctype, UnclosedComment, UnclosedTag, UnclosedRaw}
-use Rattle.model_spelling.specs.Grammar.{is_barred, is_letter, is_tag_name, is_same_name, begins_with, references, starts_reference, is_run, end_text}
+use Rattle.model_spelling.specs.Grammar.{is_barred, is_letter, is_tag_name, name_same, begins_with, references, starts_reference, is_run, end_text}
 use Rattle.model_spelling.specs.Reading.{◌>>=◌, fault, refused, longest_prefix, after_prefix, reference_fault, run_end, verbatim_end, start_at, end_at, is_doctype, dash_at, markup_at, tag_at, some_token, between_at, token_at, Between, After}
 use Rattle.model_spelling.specs.Standing.{is_doctype_prefix}
 use Rattle.model_spelling.proofs.AttrReading.{and_left, and_right}
@@ -123,7 +123,7 @@ doctype_length : length (codes "doctype") ≡ 7
 doctype_length = refl
 
 doctype_from : (text : List ℕ) → length text ≡ 7 → codes "doctype" ≡ map to_ascii_lowercase text → is_doctype text ≡ true
-unfolding is_doctype is_same_name
+unfolding is_doctype name_same
 doctype_from text len e = (bytes_eq-Decides (codes "doctype") (map to_ascii_lowercase (take 7 text))).1 (e ∙ ap (map to_ascii_lowercase) (sym (take_all 7 text (omega (arith, len)))))
 
 -- what is missing of a doctype

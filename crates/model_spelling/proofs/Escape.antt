@@ -5,7 +5,8 @@ use Rattle.std.proofs.lemmas.List.{append-nil, length-map}
 use Rattle.std.proofs.lemmas.Bool.{and_parts, cases_Bool}
 use Rattle.std.proofs.lemmas.Grind.{common_steps}
 use Rattle.std.specs.List.{list_all}
-use Rattle.model_spelling.specs.Grammar.{is_barred, is_attr_name, is_tag_name, is_void, is_raw, is_run, is_text, is_verbatim, is_attr, has_name, are_distinct, are_attrs, is_start, is_same_name, begins_with, starts_reference, Attr, end_text, comment_close}
+use Rattle.model_spelling.specs.Grammar.{is_barred, is_attr_name, is_tag_name, is_run, is_text, is_verbatim, is_attr, has_name, are_distinct, are_attrs, is_start, name_same, begins_with, starts_reference, Attr, end_text, comment_close}
+use Rattle.ve_kinds.specs.Tags.{is_void, is_raw}
 use Rattle.model_spelling.specs.Forest.{Forest, Nothing, Text, Remark, Void, RawElement, Element, starts_with_text, spelling, is_forest}
 use Rattle.model_spelling.specs.Parsed.{forest_of}
 use Rattle.model_spelling.specs.Written.{meanings, prefix_of, decoded_from, decoded, escaped_byte, escaped}
@@ -220,7 +221,7 @@ attrs_written (a ∷ attrs) e = and_both (is_attr (written_attr a)) (list_all is
 
 has_written : (name : List ℕ) (attrs : List Attr) → has_name name (map written_attr attrs) ≡ has_name name attrs
 has_written name [] = refl
-has_written name (a ∷ attrs) = ap (λ (x : Bool). is_same_name a.name name || x) (has_written name attrs)
+has_written name (a ∷ attrs) = ap (λ (x : Bool). name_same a.name name || x) (has_written name attrs)
 
 distinct_written : (attrs : List Attr) → are_distinct (map written_attr attrs) ≡ are_distinct attrs
 distinct_written [] = refl

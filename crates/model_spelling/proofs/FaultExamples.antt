@@ -4,7 +4,8 @@ use Rattle.std.specs.Prelude.{codes}
 use Rattle.std.specs.List.{repeat}
 use Rattle.model_spelling.specs.declared.scan_fault.ScanWhat.{ScanWhat}
 use Rattle.model_spelling.specs.declared.scan_fault.ScanWhat.TheVariants.{BadTag, BadAttribute, DuplicateAttribute, TooManyAttributes, BadReference, BadChar, UnclosedTag, UnclosedComment, UnclosedRaw, Doctype}
-use Rattle.model_spelling.specs.Grammar.{is_letter, is_plaintext, is_same_name, is_barred, begins_with, is_void, is_raw, starts_reference}
+use Rattle.model_spelling.specs.Grammar.{is_letter, is_plaintext, name_same, is_barred, begins_with, starts_reference}
+use Rattle.ve_kinds.specs.Tags.{is_void, is_raw}
 use Rattle.model_spelling.specs.Reading.{fault, reference_fault, run_end, verbatim_end, head_at, attr_at, attrs_at, start_after, end_at, comment_at, is_doctype, dash_at, markup_at, start_at, tag_at, between_at, token_at}
 use Rattle.model_spelling.specs.Tokens.{tokens_from}
 use Rattle.model_spelling.specs.Faults.{ForestFault, Scan, Mismatched, Unclosed, Stray, TooDeep, fault_of}
@@ -22,7 +23,7 @@ prefix_faults lengths = map (λ n. fault_of (take n page)) lengths
 prefixes :
     prefix_faults (0 ∷ 1 ∷ 2 ∷ 3 ∷ 4 ∷ 5 ∷ 6 ∷ 7 ∷ 8 ∷ 9 ∷ 10 ∷ 11 ∷ 12 ∷ 13 ∷ 14 ∷ 15 ∷ 16 ∷ 17 ∷ 18 ∷ 19 ∷ 20 ∷ 21 ∷ [])
     ≡ None ∷ repeat 9 (scan 0 UnclosedTag ∷ []) ++ repeat 2 (Some (Unclosed 0) ∷ []) ++ repeat 4 (scan 11 BadReference ∷ []) ++ repeat 2 (Some (Unclosed 0) ∷ []) ++ repeat 3 (scan 17 UnclosedTag ∷ []) ++ None ∷ []
-unfolding fault_of tokens_from token_at between_at tag_at start_at markup_at dash_at is_doctype comment_at end_at start_after attrs_at attr_at head_at verbatim_end run_end reference_fault starts_reference is_letter is_plaintext is_same_name is_barred begins_with is_void is_raw
+unfolding fault_of tokens_from token_at between_at tag_at start_at markup_at dash_at is_doctype comment_at end_at start_after attrs_at attr_at head_at verbatim_end run_end reference_fault starts_reference is_letter is_plaintext name_same is_barred begins_with is_void is_raw
 prefixes = refl
 
 -- pages that are refused
@@ -46,7 +47,7 @@ refused_pages :
     ∷ Some (Mismatched 3)
     ∷ scan 8 Doctype
     ∷ []
-unfolding fault_of tokens_from token_at between_at tag_at start_at markup_at dash_at is_doctype comment_at end_at start_after attrs_at attr_at head_at verbatim_end run_end reference_fault starts_reference is_letter is_plaintext is_same_name is_barred begins_with is_void is_raw
+unfolding fault_of tokens_from token_at between_at tag_at start_at markup_at dash_at is_doctype comment_at end_at start_after attrs_at attr_at head_at verbatim_end run_end reference_fault starts_reference is_letter is_plaintext name_same is_barred begins_with is_void is_raw
 refused_pages = refl
 
 -- comments and what begins like one
@@ -70,7 +71,7 @@ comments :
     ∷ scan 0 BadTag
     ∷ scan 0 Doctype
     ∷ []
-unfolding fault_of tokens_from token_at between_at tag_at start_at markup_at dash_at is_doctype comment_at end_at start_after attrs_at attr_at head_at verbatim_end run_end reference_fault starts_reference is_letter is_plaintext is_same_name is_barred begins_with is_void is_raw
+unfolding fault_of tokens_from token_at between_at tag_at start_at markup_at dash_at is_doctype comment_at end_at start_after attrs_at attr_at head_at verbatim_end run_end reference_fault starts_reference is_letter is_plaintext name_same is_barred begins_with is_void is_raw
 comments = refl
 
 -- tags, and the name plaintext
@@ -96,7 +97,7 @@ tags :
     ∷ scan 0 BadTag
     ∷ scan 0 UnclosedTag
     ∷ []
-unfolding fault_of tokens_from token_at between_at tag_at start_at markup_at dash_at is_doctype comment_at end_at start_after attrs_at attr_at head_at verbatim_end run_end reference_fault starts_reference is_letter is_plaintext is_same_name is_barred begins_with is_void is_raw
+unfolding fault_of tokens_from token_at between_at tag_at start_at markup_at dash_at is_doctype comment_at end_at start_after attrs_at attr_at head_at verbatim_end run_end reference_fault starts_reference is_letter is_plaintext name_same is_barred begins_with is_void is_raw
 tags = refl
 
 -- attributes
@@ -120,7 +121,7 @@ attributes :
     ∷ scan 10 DuplicateAttribute
     ∷ None
     ∷ []
-unfolding fault_of tokens_from token_at between_at tag_at start_at markup_at dash_at is_doctype comment_at end_at start_after attrs_at attr_at head_at verbatim_end run_end reference_fault starts_reference is_letter is_plaintext is_same_name is_barred begins_with is_void is_raw
+unfolding fault_of tokens_from token_at between_at tag_at start_at markup_at dash_at is_doctype comment_at end_at start_after attrs_at attr_at head_at verbatim_end run_end reference_fault starts_reference is_letter is_plaintext name_same is_barred begins_with is_void is_raw
 attributes = refl
 
 -- the `/` of a void element; names have their case
@@ -140,7 +141,7 @@ slashes :
     ∷ scan 3 BadAttribute
     ∷ scan 3 BadAttribute
     ∷ []
-unfolding fault_of tokens_from token_at between_at tag_at start_at markup_at dash_at is_doctype comment_at end_at start_after attrs_at attr_at head_at verbatim_end run_end reference_fault starts_reference is_letter is_plaintext is_same_name is_barred begins_with is_void is_raw
+unfolding fault_of tokens_from token_at between_at tag_at start_at markup_at dash_at is_doctype comment_at end_at start_after attrs_at attr_at head_at verbatim_end run_end reference_fault starts_reference is_letter is_plaintext name_same is_barred begins_with is_void is_raw
 slashes = refl
 
 -- references in texts and in values
@@ -164,7 +165,7 @@ references :
     ∷ scan 0 BadReference
     ∷ None
     ∷ []
-unfolding fault_of tokens_from token_at between_at tag_at start_at markup_at dash_at is_doctype comment_at end_at start_after attrs_at attr_at head_at verbatim_end run_end reference_fault starts_reference is_letter is_plaintext is_same_name is_barred begins_with is_void is_raw
+unfolding fault_of tokens_from token_at between_at tag_at start_at markup_at dash_at is_doctype comment_at end_at start_after attrs_at attr_at head_at verbatim_end run_end reference_fault starts_reference is_letter is_plaintext name_same is_barred begins_with is_void is_raw
 references = refl
 
 -- raw elements
@@ -184,7 +185,7 @@ raw_elements :
     ∷ scan 7 UnclosedRaw
     ∷ scan 10 UnclosedRaw
     ∷ []
-unfolding fault_of tokens_from token_at between_at tag_at start_at markup_at dash_at is_doctype comment_at end_at start_after attrs_at attr_at head_at verbatim_end run_end reference_fault starts_reference is_letter is_plaintext is_same_name is_barred begins_with is_void is_raw
+unfolding fault_of tokens_from token_at between_at tag_at start_at markup_at dash_at is_doctype comment_at end_at start_after attrs_at attr_at head_at verbatim_end run_end reference_fault starts_reference is_letter is_plaintext name_same is_barred begins_with is_void is_raw
 raw_elements = refl
 
 -- an end tag of a void name is stray, whatever is open
@@ -198,7 +199,7 @@ end_tags :
     ∷ Some (Stray 4)
     ∷ Some (Stray 0)
     ∷ []
-unfolding fault_of tokens_from token_at between_at tag_at start_at markup_at dash_at is_doctype comment_at end_at start_after attrs_at attr_at head_at verbatim_end run_end reference_fault starts_reference is_letter is_plaintext is_same_name is_barred begins_with is_void is_raw
+unfolding fault_of tokens_from token_at between_at tag_at start_at markup_at dash_at is_doctype comment_at end_at start_after attrs_at attr_at head_at verbatim_end run_end reference_fault starts_reference is_letter is_plaintext name_same is_barred begins_with is_void is_raw
 end_tags = refl
 
 -- U+0000 or U+000D is the fault where no spelling allows any character before it to decide
@@ -244,7 +245,7 @@ barred :
     ∷ scan 15 BadChar
     ∷ scan 3 BadChar
     ∷ []
-unfolding fault_of tokens_from token_at between_at tag_at start_at markup_at dash_at is_doctype comment_at end_at start_after attrs_at attr_at head_at verbatim_end run_end reference_fault starts_reference is_letter is_plaintext is_same_name is_barred begins_with is_void is_raw
+unfolding fault_of tokens_from token_at between_at tag_at start_at markup_at dash_at is_doctype comment_at end_at start_after attrs_at attr_at head_at verbatim_end run_end reference_fault starts_reference is_letter is_plaintext name_same is_barred begins_with is_void is_raw
 barred = refl
 
 -- an earlier character decides
@@ -258,7 +259,7 @@ decided_before_barred :
     ∷ scan 0 BadTag
     ∷ scan 2 BadAttribute
     ∷ []
-unfolding fault_of tokens_from token_at between_at tag_at start_at markup_at dash_at is_doctype comment_at end_at start_after attrs_at attr_at head_at verbatim_end run_end reference_fault starts_reference is_letter is_plaintext is_same_name is_barred begins_with is_void is_raw
+unfolding fault_of tokens_from token_at between_at tag_at start_at markup_at dash_at is_doctype comment_at end_at start_after attrs_at attr_at head_at verbatim_end run_end reference_fault starts_reference is_letter is_plaintext name_same is_barred begins_with is_void is_raw
 decided_before_barred = refl
 
 -- ---- limits
@@ -286,7 +287,7 @@ depth :
     ∷ Some (TooDeep 600)
     ∷ scan 602 BadAttribute
     ∷ []
-unfolding fault_of tokens_from token_at between_at tag_at start_at markup_at dash_at is_doctype comment_at end_at start_after attrs_at attr_at head_at verbatim_end run_end reference_fault starts_reference is_letter is_plaintext is_same_name is_barred begins_with is_void is_raw
+unfolding fault_of tokens_from token_at between_at tag_at start_at markup_at dash_at is_doctype comment_at end_at start_after attrs_at attr_at head_at verbatim_end run_end reference_fault starts_reference is_letter is_plaintext name_same is_barred begins_with is_void is_raw
 depth = refl
 
 -- attributes with distinct names of four bytes
@@ -305,5 +306,5 @@ attributes_in_a_tag :
     ∷ scan 2051 TooManyAttributes
     ∷ scan 2051 TooManyAttributes
     ∷ []
-unfolding fault_of tokens_from token_at between_at tag_at start_at markup_at dash_at is_doctype comment_at end_at start_after attrs_at attr_at head_at verbatim_end run_end reference_fault starts_reference is_letter is_plaintext is_same_name is_barred begins_with is_void is_raw
+unfolding fault_of tokens_from token_at between_at tag_at start_at markup_at dash_at is_doctype comment_at end_at start_after attrs_at attr_at head_at verbatim_end run_end reference_fault starts_reference is_letter is_plaintext name_same is_barred begins_with is_void is_raw
 attributes_in_a_tag = refl

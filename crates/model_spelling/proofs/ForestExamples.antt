@@ -1,7 +1,8 @@
 -- A forest, its spelling and its rows, and what is decoded and written, by computation.
 use Rattle.std.proofs.Common.{◌≡◌, [], ◌∷◌, Some, refl, true, false, map}
 use Rattle.std.specs.Prelude.{codes}
-use Rattle.model_spelling.specs.Grammar.{is_letter, is_plaintext, is_same_name, is_barred, begins_with, is_void, is_raw, starts_reference}
+use Rattle.model_spelling.specs.Grammar.{is_letter, is_plaintext, name_same, is_barred, begins_with, starts_reference}
+use Rattle.ve_kinds.specs.Tags.{is_void, is_raw}
 use Rattle.model_spelling.specs.Reading.{reference_fault, run_end, verbatim_end, head_at, attr_at, attrs_at, start_after, end_at, comment_at, is_doctype, dash_at, markup_at, start_at, tag_at, between_at, token_at}
 use Rattle.model_spelling.specs.Tokens.{tokens_from}
 use Rattle.model_spelling.specs.Faults.{fault_of}
@@ -17,11 +18,11 @@ sample_is_spelled : spelling sample ≡ codes "<p id=\"x\">a&amp;b<br/></p><styl
 sample_is_spelled = refl
 
 sample_is_allowed : is_forest 200 sample ≡ true
-unfolding fault_of tokens_from token_at between_at tag_at start_at markup_at dash_at is_doctype comment_at end_at start_after attrs_at attr_at head_at verbatim_end run_end reference_fault starts_reference is_letter is_plaintext is_same_name is_barred begins_with is_void is_raw
+unfolding fault_of tokens_from token_at between_at tag_at start_at markup_at dash_at is_doctype comment_at end_at start_after attrs_at attr_at head_at verbatim_end run_end reference_fault starts_reference is_letter is_plaintext name_same is_barred begins_with is_void is_raw
 sample_is_allowed = refl
 
 sample_is_read : forest_of (codes "<p id=\"x\">a&amp;b<br/></p><style>x</style>") ≡ Some sample
-unfolding fault_of tokens_from token_at between_at tag_at start_at markup_at dash_at is_doctype comment_at end_at start_after attrs_at attr_at head_at verbatim_end run_end reference_fault starts_reference is_letter is_plaintext is_same_name is_barred begins_with is_void is_raw
+unfolding fault_of tokens_from token_at between_at tag_at start_at markup_at dash_at is_doctype comment_at end_at start_after attrs_at attr_at head_at verbatim_end run_end reference_fault starts_reference is_letter is_plaintext name_same is_barred begins_with is_void is_raw
 sample_is_read = refl
 
 -- the number past each node's subtree

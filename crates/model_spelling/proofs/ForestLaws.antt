@@ -5,7 +5,8 @@ use Rattle.std.proofs.lemmas.List.{length-append}
 use Rattle.std.proofs.lemmas.Bool.{ne_eqb}
 use Rattle.std.proofs.lemmas.Slice.Eq.{bytes_eq-Decides}
 use Rattle.model_spelling.specs.declared.scan_fault.ScanFault.{ScanFault}
-use Rattle.model_spelling.specs.Grammar.{Attr, Token, Start, End, Chars, Raw, Comment, token_text, start_text, end_text, is_same_name, raw_names, is_void, is_raw, is_text, is_verbatim, is_start, comment_close}
+use Rattle.model_spelling.specs.Grammar.{Attr, Token, Start, End, Chars, Raw, Comment, token_text, start_text, end_text, name_same, is_text, is_verbatim, is_start, comment_close}
+use Rattle.ve_kinds.specs.Tags.{raw_tags, is_void, is_raw}
 use Rattle.model_spelling.specs.Tokens.{Placed}
 use Rattle.model_spelling.specs.Forest.{Forest, Nothing, Text, Remark, Void, RawElement, Element, starts_with_text, spelling, is_forest}
 use Rattle.model_spelling.specs.Rows.{count, rows}
@@ -80,8 +81,8 @@ tokens_in at (Element name attrs children rest) =
     let end = from + length (spelling children) in
     placed (Start name attrs false) at ∷ (tokens_in from children ++ placed (End name) end ∷ tokens_in (end + length (end_text name)) rest)
 
-pub same_bytes : (name : List ℕ) → is_same_name name name ≡ true
-unfolding is_same_name
+pub same_bytes : (name : List ℕ) → name_same name name ≡ true
+unfolding name_same
 same_bytes name = (bytes_eq-Decides name name).1 refl
 
 opens_void : (last : Option ScanFault) (os : List Open) (name : List ℕ) (attrs : List Attr) (slash : Bool) (at : ℕ) (ts : List Placed) → length os ≢ 200 → is_void name ≡ true
@@ -112,22 +113,22 @@ any_passes p q (r ∷ rs) e h =
       | inr later ↦ any_passes p q rs later (and_right (q r) (list_all q rs) h)
     ]
 
-raw_names_not_void : list_all (λ r. not (is_void r)) raw_names ≡ true
-unfolding is_void is_same_name
+raw_names_not_void : list_all (λ r. not (is_void r)) raw_tags ≡ true
+unfolding is_void name_same
 raw_names_not_void = refl
 
-pub name_same : (a b : List ℕ) → is_same_name a b ≡ true → a ≡ b
-unfolding is_same_name
-name_same a b e = (bytes_eq-Decides a b).0 e
+pub equal_names : (a b : List ℕ) → name_same a b ≡ true → a ≡ b
+unfolding name_same
+equal_names a b e = (bytes_eq-Decides a b).0 e
 
-raw_one_of : (name : List ℕ) → is_raw name ≡ true → list_any (λ r. is_same_name r name) raw_names ≡ true
-unfolding is_raw
+raw_one_of : (name : List ℕ) → is_raw name ≡ true → list_any (λ r. name_same r name) raw_tags ≡ true
+unfolding is_raw name_same
 raw_one_of name e = e
 
 pub raw_not_void : (name : List ℕ) → is_raw name ≡ true → is_void name ≡ false
 raw_not_void name e =
-    let found = any_passes (λ r. is_same_name r name) (λ r. not (is_void r)) raw_names (raw_one_of name e) raw_names_not_void in
-    ap is_void (sym (name_same found.0 name found.1)) ∙ not_true (is_void found.0) found.2
+    let found = any_passes (λ r. name_same r name) (λ r. not (is_void r)) raw_tags (raw_one_of name e) raw_names_not_void in
+    ap is_void (sym (equal_names found.0 name found.1)) ∙ not_true (is_void found.0) found.2
 
 -- A forest that may be spelled, with these elements open around it, has no fault of a forest.
 pub fault_free : (last : Option ScanFault) (room : ℕ) (os : List Open) (at : ℕ) (f : Forest) (ts : List Placed) → is_forest room f ≡ true → length os + room ≡ 200

@@ -7,7 +7,8 @@ use Rattle.std.proofs.lemmas.Bool.{cases_Bool, le-leb}
 use Rattle.std.specs.List.{flat_map, list_all}
 use Rattle.model_spelling.specs.declared.scan_fault.ScanFault.{ScanFault}
 use Rattle.model_spelling.specs.declared.scan_fault.ScanWhat.TheVariants.{BadTag, BadAttribute, Doctype, UnclosedComment, UnclosedTag, UnclosedRaw}
-use Rattle.model_spelling.specs.Grammar.{is_letter, is_name_byte, is_tag_name, is_plaintext, is_same_name, is_void, is_run, is_text, is_verbatim, is_attr, has_name, are_distinct, are_attrs, Attr, attr_text, Token, Start, End, Chars, Raw, Comment, end_text, comment_open, comment_close}
+use Rattle.model_spelling.specs.Grammar.{is_letter, is_name_byte, is_tag_name, is_plaintext, name_same, is_run, is_text, is_verbatim, is_attr, has_name, are_distinct, are_attrs, Attr, attr_text, Token, Start, End, Chars, Raw, Comment, end_text, comment_open, comment_close}
+use Rattle.ve_kinds.specs.Tags.{is_void}
 use Rattle.model_spelling.specs.Reading.{◌>>=◌, is_doctype, fault, refused, run_end, verbatim_end, attrs_at, name_ends, slash_at, tag_close, start_after, with_name, start_at, end_after, end_at, comment_at, dash_at, markup_at, some_token, tag_at, between_at, token_at, Between, After, Step}
 use Rattle.model_spelling.specs.Tokens.{BeginsTag, IsRead, RawRead, Inner, Closing}
 use Rattle.model_spelling.proofs.AttrReading.{and_left, and_right}
@@ -20,11 +21,11 @@ two_false a b e f = rw (e, f) refl
 
 -- ---- distinct names
 
-has_apart : (name : List ℕ) (before : List Attr) (a : Attr) → has_name name (before ++ a ∷ []) ≡ false → (has_name name before ≡ false) × (is_same_name a.name name ≡ false)
-has_apart name [] a e = (refl, or_first (is_same_name a.name name) false e)
+has_apart : (name : List ℕ) (before : List Attr) (a : Attr) → has_name name (before ++ a ∷ []) ≡ false → (has_name name before ≡ false) × (name_same a.name name ≡ false)
+has_apart name [] a e = (refl, or_first (name_same a.name name) false e)
 has_apart name (b ∷ before) a e =
-    let more = has_apart name before a (or_second (is_same_name b.name name) (has_name name (before ++ a ∷ [])) e) in
-    (two_false (is_same_name b.name name) (has_name name before) (or_first (is_same_name b.name name) (has_name name (before ++ a ∷ [])) e) more.0, more.1)
+    let more = has_apart name before a (or_second (name_same b.name name) (has_name name (before ++ a ∷ [])) e) in
+    (two_false (name_same b.name name) (has_name name before) (or_first (name_same b.name name) (has_name name (before ++ a ∷ [])) e) more.0, more.1)
 
 none_before : (a : Attr) (before attrs : List Attr) → none_in (before ++ a ∷ []) attrs ≡ true → (none_in before attrs ≡ true) × (has_name a.name attrs ≡ false)
 none_before a before [] e = (refl, refl)
@@ -32,7 +33,7 @@ none_before a before (b ∷ attrs) e =
     let here = has_apart b.name before a (not_false (has_name b.name (before ++ a ∷ [])) (and_left (not (has_name b.name (before ++ a ∷ []))) (none_in (before ++ a ∷ []) attrs) e)) in
     let more = none_before a before attrs (and_right (not (has_name b.name (before ++ a ∷ []))) (none_in (before ++ a ∷ []) attrs) e) in (
       and_both (not (has_name b.name before)) (none_in before attrs) (not_true (has_name b.name before) here.0) more.0,
-      two_false (is_same_name b.name a.name) (has_name a.name attrs) (same_turned a.name b.name here.1) more.1,
+      two_false (name_same b.name a.name) (has_name a.name attrs) (same_turned a.name b.name here.1) more.1,
     )
 
 distinct_from : (before attrs : List Attr) → Apart before attrs → (are_distinct attrs ≡ true) × (none_in before attrs ≡ true)

@@ -4,7 +4,8 @@ use Rattle.std.specs.Prelude.{◌==◌}
 use Rattle.std.proofs.lemmas.List.{append-nil}
 use Rattle.model_spelling.specs.declared.scan_fault.ScanFault.{ScanFault}
 use Rattle.model_spelling.specs.declared.scan_fault.ScanWhat.TheVariants.{BadTag, BadReference, Doctype, UnclosedRaw}
-use Rattle.model_spelling.specs.Grammar.{begins_with, starts_reference, is_void, is_same_name, Token, Start, End, Chars, Raw, Comment, end_text}
+use Rattle.model_spelling.specs.Grammar.{begins_with, starts_reference, name_same, Token, Start, End, Chars, Raw, Comment, end_text}
+use Rattle.ve_kinds.specs.Tags.{is_void}
 use Rattle.model_spelling.specs.Reading.{fault, verbatim_end, token_at, Mode, Between, After, Failed, mode_after}
 use Rattle.model_spelling.specs.Tokens.{Placed, Tokens, tokens_of, Runs}
 use Rattle.model_spelling.specs.Faults.{Open, ForestFault, Scan, Mismatched, Unclosed, Stray, TooDeep, fault_in, fault_at_end, fault_of, after_token, or_fault}
@@ -95,7 +96,7 @@ end_own false false at os f e h = let same : Mismatched at ≡ f = cc in both (i
 own : (t : Token) (at : ℕ) (os : List Open) (f : ForestFault) → after_token t at os ≡ Err f → is_scan f ≡ true → ⊥
 own (Start name attrs slash) at os f e h = start_own (length os == 200) (is_void name) at os name f e h
 own (End name) at [] f e h = let same : Stray at ≡ f = cc in both (is_scan f) (ap is_scan (sym same)) h
-own (End name) at (o ∷ os) f e h = end_own (is_void name) (is_same_name o.name name) at os f e h
+own (End name) at (o ∷ os) f e h = end_own (is_void name) (name_same o.name name) at os f e h
 own (Chars text) at os f e h = let g : Ok os ≡ Err f = e in cc
 own (Raw text) at os f e h = let g : Ok os ≡ Err f = e in cc
 own (Comment text) at os f e h = let g : Ok os ≡ Err f = e in cc

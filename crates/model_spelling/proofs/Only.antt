@@ -6,12 +6,13 @@ use Rattle.std.proofs.Math.Seq.{drop-append_seam, take-append_seam}
 use Rattle.std.proofs.lemmas.Bool.{ne_eqb, cases_Bool, leb-true}
 use Rattle.std.specs.List.{prefix_len, flat_map, list_all}
 use Rattle.model_spelling.specs.declared.scan_fault.ScanWhat.TheVariants.{UnclosedComment, UnclosedTag, UnclosedRaw}
-use Rattle.model_spelling.specs.Grammar.{is_letter, is_name_byte, is_attr_name, is_tag_name, is_plaintext, is_same_name, is_void, is_run, is_verbatim, is_attr, has_name, are_distinct, are_attrs, is_start, Attr, attr_text, Token, Start, End, Chars, Raw, Comment, token_text, start_text, end_text, comment_open, comment_close}
+use Rattle.model_spelling.specs.Grammar.{is_letter, is_name_byte, is_attr_name, is_tag_name, is_plaintext, name_same, is_run, is_verbatim, is_attr, has_name, are_distinct, are_attrs, is_start, Attr, attr_text, Token, Start, End, Chars, Raw, Comment, token_text, start_text, end_text, comment_open, comment_close}
+use Rattle.ve_kinds.specs.Tags.{is_void}
 use Rattle.model_spelling.specs.Reading.{fault, value_end, verbatim_end, head_at, attr_at, attrs_at, name_ends, tag_close, start_after, with_name, start_at, end_at, comment_at, dash_at, markup_at, tag_at, between_at, token_at, Between, After}
 use Rattle.model_spelling.specs.Tokens.{is_token, BeginsTag, MayFollow}
 use Rattle.model_spelling.proofs.AttrReading.{and_left, and_right, prefix_all, attr_whole, attrs_stop, attrs_more}
 use Rattle.model_spelling.proofs.TokenRuns.{not_false, letter_names, run_only, text_only, verbatim_only, end_only, Follows}
-use Rattle.model_spelling.proofs.ForestLaws.{name_same, same_bytes}
+use Rattle.model_spelling.proofs.ForestLaws.{equal_names, same_bytes}
 
 -- ---- attributes
 
@@ -85,10 +86,10 @@ pub both : (b : Bool) → b ≡ false → b ≡ true → ⊥
 both true e f = absurd cc
 both false e f = cc
 
-pub same_turned : (a b : List ℕ) → is_same_name a b ≡ false → is_same_name b a ≡ false
+pub same_turned : (a b : List ℕ) → name_same a b ≡ false → name_same b a ≡ false
 same_turned a b e =
-    elim (cases_Bool (is_same_name b a)) [
-      | inl same ↦ absurd (both (is_same_name a b) e (ap (is_same_name a) (name_same b a same) ∙ same_bytes a))
+    elim (cases_Bool (name_same b a)) [
+      | inl same ↦ absurd (both (name_same a b) e (ap (name_same a) (equal_names b a same) ∙ same_bytes a))
       | inr other ↦ other
     ]
 
@@ -109,9 +110,9 @@ or_second false b e = e
 pub not_true : (b : Bool) → b ≡ false → not b ≡ true
 not_true b e = rw e refl
 
-has_pushed : (name : List ℕ) (before : List Attr) (a : Attr) → has_name name before ≡ false → is_same_name a.name name ≡ false → has_name name (before ++ a ∷ []) ≡ false
-has_pushed name [] a e f = or_both (is_same_name a.name name) false f refl
-has_pushed name (b ∷ before) a e f = or_both (is_same_name b.name name) (has_name name (before ++ a ∷ [])) (or_first (is_same_name b.name name) (has_name name before) e) (has_pushed name before a (or_second (is_same_name b.name name) (has_name name before) e) f)
+has_pushed : (name : List ℕ) (before : List Attr) (a : Attr) → has_name name before ≡ false → name_same a.name name ≡ false → has_name name (before ++ a ∷ []) ≡ false
+has_pushed name [] a e f = or_both (name_same a.name name) false f refl
+has_pushed name (b ∷ before) a e f = or_both (name_same b.name name) (has_name name (before ++ a ∷ [])) (or_first (name_same b.name name) (has_name name before) e) (has_pushed name before a (or_second (name_same b.name name) (has_name name before) e) f)
 
 pub and_both : (a b : Bool) → a ≡ true → b ≡ true → (a && b) ≡ true
 and_both a b e f = rw (e, f) refl
@@ -119,10 +120,10 @@ and_both a b e f = rw (e, f) refl
 none_pushed : (before : List Attr) (a : Attr) (attrs : List Attr) → none_in before attrs ≡ true → has_name a.name attrs ≡ false → none_in (before ++ a ∷ []) attrs ≡ true
 none_pushed before a [] e f = refl
 none_pushed before a (b ∷ attrs) e f =
-    let other : is_same_name a.name b.name ≡ false = same_turned b.name a.name (or_first (is_same_name b.name a.name) (has_name a.name attrs) f) in
+    let other : name_same a.name b.name ≡ false = same_turned b.name a.name (or_first (name_same b.name a.name) (has_name a.name attrs) f) in
     and_both (not (has_name b.name (before ++ a ∷ []))) (none_in (before ++ a ∷ []) attrs)
     (not_true (has_name b.name (before ++ a ∷ [])) (has_pushed b.name before a (not_false (has_name b.name before) (and_left (not (has_name b.name before)) (none_in before attrs) e)) other))
-    (none_pushed before a attrs (and_right (not (has_name b.name before)) (none_in before attrs) e) (or_second (is_same_name b.name a.name) (has_name a.name attrs) f))
+    (none_pushed before a attrs (and_right (not (has_name b.name before)) (none_in before attrs) e) (or_second (name_same b.name a.name) (has_name a.name attrs) f))
 
 pub apart_from : (before attrs : List Attr) → are_distinct attrs ≡ true → none_in before attrs ≡ true → Apart before attrs
 apart_from before [] e f = tt

@@ -3,7 +3,8 @@ use Rattle.std.proofs.Common.{◌≡◌, ℕ, [], ◌∷◌, Option, Some, None,
 use Rattle.std.specs.Prelude.{codes}
 use Rattle.model_spelling.specs.declared.scan_fault.ScanWhat.{ScanWhat}
 use Rattle.model_spelling.specs.declared.scan_fault.ScanWhat.TheVariants.{BadAttribute, UnclosedTag, Doctype, NoBody}
-use Rattle.model_spelling.specs.Grammar.{is_letter, is_plaintext, is_same_name, is_barred, begins_with, is_void, is_raw, starts_reference}
+use Rattle.model_spelling.specs.Grammar.{is_letter, is_plaintext, name_same, is_barred, begins_with, starts_reference}
+use Rattle.ve_kinds.specs.Tags.{is_void, is_raw}
 use Rattle.model_spelling.specs.Reading.{fault, reference_fault, run_end, verbatim_end, head_at, attr_at, attrs_at, start_after, end_at, comment_at, is_doctype, dash_at, markup_at, start_at, tag_at, between_at, token_at}
 use Rattle.model_spelling.specs.Tokens.{tokens_from}
 use Rattle.model_spelling.specs.Faults.{ForestFault, Scan, Unclosed, fault_of}
@@ -29,7 +30,7 @@ documents :
     ∷ None
     ∷ scan 8 Doctype
     ∷ []
-unfolding fault_of tokens_from token_at between_at tag_at start_at markup_at dash_at is_doctype comment_at end_at start_after attrs_at attr_at head_at verbatim_end run_end reference_fault starts_reference is_letter is_plaintext is_same_name is_barred begins_with is_void is_raw first_place last_place body_at page_fault
+unfolding fault_of tokens_from token_at between_at tag_at start_at markup_at dash_at is_doctype comment_at end_at start_after attrs_at attr_at head_at verbatim_end run_end reference_fault starts_reference is_letter is_plaintext name_same is_barred begins_with is_void is_raw first_place last_place body_at page_fault
 documents = refl
 
 -- the body's first and last byte; a page that isn't whole is all body
@@ -47,7 +48,7 @@ bodies :
     ∷ Ok (0, 23)
     ∷ Ok (0, 0)
     ∷ []
-unfolding fault_of tokens_from token_at between_at tag_at start_at markup_at dash_at is_doctype comment_at end_at start_after attrs_at attr_at head_at verbatim_end run_end reference_fault starts_reference is_letter is_plaintext is_same_name is_barred begins_with is_void is_raw first_place last_place body_at page_fault
+unfolding fault_of tokens_from token_at between_at tag_at start_at markup_at dash_at is_doctype comment_at end_at start_after attrs_at attr_at head_at verbatim_end run_end reference_fault starts_reference is_letter is_plaintext name_same is_barred begins_with is_void is_raw first_place last_place body_at page_fault
 bodies = refl
 
 -- where there is no body, and a body start tag that the page cuts off
@@ -61,10 +62,10 @@ no_bodies :
     ∷ Err (fault 15 UnclosedTag)
     ∷ Err (fault 33 NoBody)
     ∷ []
-unfolding fault_of tokens_from token_at between_at tag_at start_at markup_at dash_at is_doctype comment_at end_at start_after attrs_at attr_at head_at verbatim_end run_end reference_fault starts_reference is_letter is_plaintext is_same_name is_barred begins_with is_void is_raw first_place last_place body_at page_fault
+unfolding fault_of tokens_from token_at between_at tag_at start_at markup_at dash_at is_doctype comment_at end_at start_after attrs_at attr_at head_at verbatim_end run_end reference_fault starts_reference is_letter is_plaintext name_same is_barred begins_with is_void is_raw first_place last_place body_at page_fault
 no_bodies = refl
 
 -- the body start tag is looked for in comments too, and the last `</body>` counts
 three_parts : parts (codes "<!DocType x><!--<body>a</body>b</body>c") ≡ Ok (record { head = codes "<!DocType x><!--<body>"; body = codes "a</body>b"; tail = codes "</body>c" })
-unfolding fault_of tokens_from token_at between_at tag_at start_at markup_at dash_at is_doctype comment_at end_at start_after attrs_at attr_at head_at verbatim_end run_end reference_fault starts_reference is_letter is_plaintext is_same_name is_barred begins_with is_void is_raw first_place last_place body_at page_fault
+unfolding fault_of tokens_from token_at between_at tag_at start_at markup_at dash_at is_doctype comment_at end_at start_after attrs_at attr_at head_at verbatim_end run_end reference_fault starts_reference is_letter is_plaintext name_same is_barred begins_with is_void is_raw first_place last_place body_at page_fault
 three_parts = refl

@@ -6,7 +6,8 @@ use Rattle.std.proofs.Math.Seq.{drop-append_seam}
 use Rattle.std.proofs.lemmas.Bool.{cases_Bool, ne_eqb}
 use Rattle.std.specs.List.{list_all, flat_map}
 use Rattle.model_spelling.specs.declared.scan_fault.ScanFault.{ScanFault}
-use Rattle.model_spelling.specs.Grammar.{is_letter, is_name_byte, is_plaintext, is_same_name, is_tag_name, is_void, is_raw, is_text, is_run, is_barred, starts_reference, is_verbatim, are_attrs, is_start, Attr, Token, Start, End, Chars, Raw, Comment, token_text, start_text, end_text, comment_close, attr_text}
+use Rattle.model_spelling.specs.Grammar.{is_letter, is_name_byte, is_plaintext, name_same, is_tag_name, is_text, is_run, is_barred, starts_reference, is_verbatim, are_attrs, is_start, Attr, Token, Start, End, Chars, Raw, Comment, token_text, start_text, end_text, comment_close, attr_text}
+use Rattle.ve_kinds.specs.Tags.{is_void, is_raw}
 use Rattle.model_spelling.specs.Reading.{◌>>=◌, token_at, between_at, tag_at, some_token, run_end, Mode, Between, After, Failed, Step, mode_after}
 use Rattle.model_spelling.specs.Tokens.{Placed, Tokens, tokens_from, tokens_of, is_token, BeginsTag, MayFollow, RawRead, Inner, Closing, Runs}
 use Rattle.model_spelling.specs.Forest.{Forest, Nothing, Text, Remark, Void, RawElement, Element, starts_with_text, spelling, is_forest}
@@ -14,7 +15,7 @@ use Rattle.model_spelling.specs.Faults.{Open, ForestFault, TooDeep, Stray, Misma
 use Rattle.model_spelling.specs.Parsed.{Ending, first_of, with_token, ending, forest_of}
 use Rattle.model_spelling.proofs.AttrReading.{and_left, and_right}
 use Rattle.model_spelling.proofs.TokenRuns.{not_false}
-use Rattle.model_spelling.proofs.ForestLaws.{raw_not_void, name_same}
+use Rattle.model_spelling.proofs.ForestLaws.{raw_not_void, equal_names}
 use Rattle.model_spelling.proofs.Only.{and_both, both, close_text, start_regrouped}
 use Rattle.model_spelling.proofs.Back.{step_on, stop_at_end, stop_at_fault, void_made, element_made, raw_made, forest_by, text_some, cut, start_named, void_not_raw, raw_parts, element_parts}
 use Rattle.model_spelling.proofs.FoundTokens.{token_found, raw_found}
@@ -362,8 +363,8 @@ end_closes name from o os os2 a =
     elim (cases_Bool (is_void name)) [
       | inl v ↦ absurd (fails (after_end name from (o ∷ os)) (Stray from) os2 (rw v refl) a)
       | inr v ↦
-          elim (cases_Bool (is_same_name o.name name)) [
-            | inl same ↦ (same_opens (after_end name from (o ∷ os)) os os2 (rw (v, same) refl) a, name_same o.name name same)
+          elim (cases_Bool (name_same o.name name)) [
+            | inl same ↦ (same_opens (after_end name from (o ∷ os)) os os2 (rw (v, same) refl) a, equal_names o.name name same)
             | inr other ↦ absurd (fails (after_end name from (o ∷ os)) (Mismatched from) os2 (rw (v, other) refl) a)
           ]
     ]

@@ -3,7 +3,8 @@ use Rattle.std.proofs.Common.{◌≡◌, ℕ, List, [], ◌∷◌, Option, Some,
 use Rattle.std.specs.Prelude.{codes}
 use Rattle.std.specs.List.{repeat}
 use Rattle.model_spelling.specs.declared.scan_fault.ScanWhat.TheVariants.{BadReference, BadTag, Doctype}
-use Rattle.model_spelling.specs.Grammar.{is_letter, is_plaintext, is_same_name, is_barred, begins_with, is_void, is_raw, starts_reference}
+use Rattle.model_spelling.specs.Grammar.{is_letter, is_plaintext, name_same, is_barred, begins_with, starts_reference}
+use Rattle.ve_kinds.specs.Tags.{is_void, is_raw}
 use Rattle.model_spelling.specs.Reading.{fault, reference_fault, run_end, verbatim_end, head_at, attr_at, attrs_at, start_after, end_at, comment_at, is_doctype, dash_at, markup_at, start_at, tag_at, between_at, token_at}
 use Rattle.model_spelling.specs.Tokens.{tokens_from}
 use Rattle.model_spelling.specs.Faults.{ForestFault, Scan, fault_of}
@@ -35,7 +36,7 @@ faults_of_the_end :
     ∷ codes "<plaintext"
     ∷ [])
     ≡ repeat 13 (Some false ∷ [])
-unfolding fault_of tokens_from token_at between_at tag_at start_at markup_at dash_at is_doctype comment_at end_at start_after attrs_at attr_at head_at verbatim_end run_end reference_fault starts_reference is_letter is_plaintext is_same_name is_barred begins_with is_void is_raw
+unfolding fault_of tokens_from token_at between_at tag_at start_at markup_at dash_at is_doctype comment_at end_at start_after attrs_at attr_at head_at verbatim_end run_end reference_fault starts_reference is_letter is_plaintext name_same is_barred begins_with is_void is_raw
 faults_of_the_end = refl
 
 -- faults that no text after them takes away
@@ -52,14 +53,14 @@ faults_that_stand :
     ∷ codes "<plaintext "
     ∷ [])
     ≡ repeat 9 (Some true ∷ [])
-unfolding fault_of tokens_from token_at between_at tag_at start_at markup_at dash_at is_doctype comment_at end_at start_after attrs_at attr_at head_at verbatim_end run_end reference_fault starts_reference is_letter is_plaintext is_same_name is_barred begins_with is_void is_raw
+unfolding fault_of tokens_from token_at between_at tag_at start_at markup_at dash_at is_doctype comment_at end_at start_after attrs_at attr_at head_at verbatim_end run_end reference_fault starts_reference is_letter is_plaintext name_same is_barred begins_with is_void is_raw
 faults_that_stand = refl
 
 -- how a text goes on where its fault was one of the end
 gone_on :
     map fault_of (codes "<p>a</p>" ∷ codes "<!---->" ∷ codes "<style></style>" ∷ codes "<p></p>" ∷ codes "a&amp;" ∷ codes "<!Doctype" ∷ [])
     ≡ None ∷ None ∷ None ∷ None ∷ None ∷ Some (Scan (fault 0 Doctype)) ∷ []
-unfolding fault_of tokens_from token_at between_at tag_at start_at markup_at dash_at is_doctype comment_at end_at start_after attrs_at attr_at head_at verbatim_end run_end reference_fault starts_reference is_letter is_plaintext is_same_name is_barred begins_with is_void is_raw
+unfolding fault_of tokens_from token_at between_at tag_at start_at markup_at dash_at is_doctype comment_at end_at start_after attrs_at attr_at head_at verbatim_end run_end reference_fault starts_reference is_letter is_plaintext name_same is_barred begins_with is_void is_raw
 gone_on = refl
 
 abbrev left_open : List ℕ → Bool
@@ -69,5 +70,5 @@ left_open text = is_left_open (fault_of text)
 completed :
     (map fault_of (codes "a&am" ∷ codes "<p>a&am" ∷ codes "<!d" ∷ []) ≡ Some (Scan (fault 1 BadReference)) ∷ Some (Scan (fault 4 BadReference)) ∷ Some (Scan (fault 0 BadTag)) ∷ [])
     × (map left_open (codes "a&amp;" ∷ codes "<p>a&amp;" ∷ codes "a&am" ∷ codes "<p>a&ax;" ∷ codes "<p" ∷ codes "</p>" ∷ codes "<!doctype" ∷ []) ≡ true ∷ true ∷ false ∷ false ∷ false ∷ false ∷ false ∷ [])
-unfolding fault_of tokens_from token_at between_at tag_at start_at markup_at dash_at is_doctype comment_at end_at start_after attrs_at attr_at head_at verbatim_end run_end reference_fault starts_reference is_letter is_plaintext is_same_name is_barred begins_with is_void is_raw
+unfolding fault_of tokens_from token_at between_at tag_at start_at markup_at dash_at is_doctype comment_at end_at start_after attrs_at attr_at head_at verbatim_end run_end reference_fault starts_reference is_letter is_plaintext name_same is_barred begins_with is_void is_raw
 completed = (refl, refl)

@@ -9,7 +9,8 @@ use Rattle.std.specs.Char.{to_ascii_lowercase}
 use Rattle.std.specs.List.{prefix_len, flat_map, list_all}
 use Rattle.model_spelling.specs.declared.scan_fault.ScanFault.{ScanFault}
 use Rattle.model_spelling.specs.declared.scan_fault.ScanWhat.TheVariants.{BadTag, BadAttribute, Doctype, UnclosedComment, UnclosedTag, TooManyAttributes, DuplicateAttribute}
-use Rattle.model_spelling.specs.Grammar.{is_barred, is_letter, is_name_byte, is_same_name, is_void, begins_with, has_name, Attr, attr_text, Token, Start, Comment, comment_close}
+use Rattle.model_spelling.specs.Grammar.{is_barred, is_letter, is_name_byte, name_same, begins_with, has_name, Attr, attr_text, Token, Start, Comment, comment_close}
+use Rattle.ve_kinds.specs.Tags.{is_void}
 use Rattle.model_spelling.specs.Reading.{◌>>=◌, fault, refused, value_end, verbatim_end, name_len_at, quote_at, head_at, attr_at, attrs_at, name_ends, tag_close, start_after, with_name, start_at, end_after, end_at, comment_at, is_doctype, dash_at, markup_at, tag_at}
 use Rattle.model_spelling.specs.Standing.{is_doctype_prefix, stands}
 use Rattle.model_spelling.proofs.AttrReading.{prefix_all, attr_head_fault, attr_many, attr_twice, attr_value_fault, attr_whole, attrs_stop, attrs_fault, attrs_more}
@@ -194,9 +195,9 @@ close_stays tag at void (c ∷ []) more f ne e =
           ]
     ]
 
-name_same : (tag at : ℕ) (name text more : List ℕ) → 0 < length text → name_ends tag name at (text ++ more) ≡ name_ends tag name at text
-name_same tag at name [] more lt = absurd (omega arith)
-name_same tag at name (c ∷ rest) more lt = refl
+name_stays : (tag at : ℕ) (name text more : List ℕ) → 0 < length text → name_ends tag name at (text ++ more) ≡ name_ends tag name at text
+name_stays tag at name [] more lt = absurd (omega arith)
+name_stays tag at name (c ∷ rest) more lt = refl
 
 space_after : (rest more : List ℕ) → 0 < length rest → NoSpace rest → NoSpace (rest ++ more)
 space_after [] more lt n = absurd (omega arith)
@@ -218,19 +219,19 @@ after_stays_close tag at x name text more attrs f (Err g) lt ne n a c e =
     let left : drop (x - at) text ≡ found.rest = ap (λ (k : ℕ). drop k text) len ∙ ap (drop (length (flat_map attr_text found.more))) found.text_is ∙ drop-append_seam (flat_map attr_text found.more) found.rest in
     let bound : x - at ≤ length text = omega (arith, len, ap length found.text_is, length-append (flat_map attr_text found.more) found.rest) in
     let close = close_stays tag x (is_void name) (drop (x - at) text) more f ne (c ∙ ap err same) in
-    after_fails_close tag at x name (text ++ more) attrs f (name_same tag at name text more lt ∙ n) (attrs_same tag at text more attrs x found (omega (arith, close.1, ap length left)))
+    after_fails_close tag at x name (text ++ more) attrs f (name_stays tag at name text more lt ∙ n) (attrs_same tag at text more attrs x found (omega (arith, close.1, ap length left)))
     (ap (tag_close tag (is_void name) x) (drop-append-le (x - at) text more bound) ∙ close.0)
 
 after_stays_attrs : (tag at : ℕ) (name text more : List ℕ) (f : ScanFault) (a : Result (List Attr × ℕ) ScanFault) → 0 < length text → NotOpen tag f → name_ends tag name at text ≡ Ok tt → attrs_at 256 tag [] at text ≡ a → start_after tag name at text ≡ Err f → start_after tag name at (text ++ more) ≡ Err f
 after_stays_attrs tag at name text more f (Err g) lt ne n a e =
     let same = err_same (start_after tag name at text) g f (after_fails_attrs tag at name text g n a) e in
-    after_fails_attrs tag at name (text ++ more) f (name_same tag at name text more lt ∙ n) (attrs_stay 256 tag more f ne [] at text (a ∙ ap err same))
+    after_fails_attrs tag at name (text ++ more) f (name_stays tag at name text more lt ∙ n) (attrs_stay 256 tag more f ne [] at text (a ∙ ap err same))
 after_stays_attrs tag at name text more f (Ok (attrs, x)) lt ne n a e = after_stays_close tag at x name text more attrs f (tag_close tag (is_void name) x (drop (x - at) text)) lt ne n a refl e
 
 after_stays_name : (tag at : ℕ) (name text more : List ℕ) (f : ScanFault) (n : Result (Unit {0}) ScanFault) → 0 < length text → NotOpen tag f → name_ends tag name at text ≡ n → start_after tag name at text ≡ Err f → start_after tag name at (text ++ more) ≡ Err f
 after_stays_name tag at name text more f (Err g) lt ne n e =
     let same = err_same (start_after tag name at text) g f (after_fails tag at name text g n) e in
-    after_fails tag at name (text ++ more) f (name_same tag at name text more lt ∙ n ∙ ap err same)
+    after_fails tag at name (text ++ more) f (name_stays tag at name text more lt ∙ n ∙ ap err same)
 after_stays_name tag at name text more f (Ok tt) lt ne n e = after_stays_attrs tag at name text more f (attrs_at 256 tag [] at text) lt ne n refl e
 
 after_stays : (tag at : ℕ) (name text more : List ℕ) (f : ScanFault) → NotOpen tag f → start_after tag name at text ≡ Err f → (start_after tag name at (text ++ more) ≡ Err f) × (0 < length text)
@@ -294,12 +295,12 @@ dash_stays tag (d ∷ ds) more f ne e =
 -- ---- doctype
 
 doctype_is : (text : List ℕ) → is_doctype text ≡ true → codes "doctype" ≡ map to_ascii_lowercase (take 7 text)
-unfolding is_doctype is_same_name
+unfolding is_doctype name_same
 doctype_is text e = (bytes_eq-Decides (codes "doctype") (map to_ascii_lowercase (take 7 text))).0 e
 
 doctype_taken : (a b : List ℕ) → take 7 a ≡ take 7 b → is_doctype a ≡ is_doctype b
 unfolding is_doctype
-doctype_taken a b e = ap (λ (l : List ℕ). is_same_name (codes "doctype") (map to_ascii_lowercase l)) e
+doctype_taken a b e = ap (λ (l : List ℕ). name_same (codes "doctype") (map to_ascii_lowercase l)) e
 
 pub prefix_is : (cs : List ℕ) → is_doctype_prefix (60 ∷ (33 ∷ cs)) ≡ begins_with (map to_ascii_lowercase cs) (codes "doctype")
 unfolding begins_with

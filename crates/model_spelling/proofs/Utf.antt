@@ -6,7 +6,8 @@ use Rattle.std.proofs.lemmas.List.{append-nil, length-append, length-drop, get_o
 use Rattle.std.proofs.Math.Seq.{drop-append_seam, take-append_seam}
 use Rattle.std.proofs.lemmas.Bool.{cases_Bool, cases_eq, ne_eqb}
 use Rattle.std.proofs.lemmas.Str.{IsUtf8-append, IsUtf8-nil, IsUtf8-drop, IsUtf8-take, IsUtf8-past_char, IsCharBoundary-after_ascii, IsCharBoundary-before_ascii, encode_ascii, inside_one, length-le-encodes}
-use Rattle.model_spelling.specs.Grammar.{begins_with, Comment, token_text, start_text, end_text, is_void, is_text, is_start, is_verbatim, comment_close, Attr, attr_text, comment_open}
+use Rattle.model_spelling.specs.Grammar.{begins_with, Comment, token_text, start_text, end_text, is_text, is_start, is_verbatim, comment_close, Attr, attr_text, comment_open}
+use Rattle.ve_kinds.specs.Tags.{is_void}
 use Rattle.model_spelling.specs.Tokens.{BeginsTag}
 use Rattle.model_spelling.specs.Forest.{Forest, Nothing, Text, Remark, Void, RawElement, Element, starts_with_text, spelling, is_forest}
 use Rattle.model_spelling.specs.Written.{meanings, prefix_of, decoded_from, decoded}

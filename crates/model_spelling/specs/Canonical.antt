@@ -1,10 +1,12 @@
 -- The canonical writer on forests: decoded values in, spelled values out.
 use Rattle.std.specs.Prelude.{◌≡◌, ℕ, zero, suc, ◌≤◌, Bool, true, false, ◌&&◌, not, List, [], ◌∷◌, length, map, Some, ◌==◌, nat_le}
 use Rattle.std.specs.List.{list_all}
-use Rattle.model_spelling.specs.Grammar.{is_barred, is_attr_name, is_tag_name, is_void, is_raw, is_verbatim, are_distinct, Attr, end_text, comment_close}
+use Rattle.model_spelling.specs.Grammar.{is_barred, is_attr_name, is_tag_name, is_verbatim, are_distinct, Attr, end_text, comment_close}
+use Rattle.ve_kinds.specs.Tags.{is_void, is_raw}
 use Rattle.model_spelling.specs.Forest.{Forest, Nothing, Text, Remark, Void, RawElement, Element, starts_with_text, spelling, is_forest}
 use Rattle.model_spelling.specs.Parsed.{forest_of}
 use Rattle.model_spelling.specs.Written.{decoded, escaped}
+use Rattle.ve_base.specs.Limits.{max_attributes, max_open_elements}
 
 abbrev pub decoded_attr : Attr → Attr
 decoded_attr a = record { name = a.name; value = decoded a.value; quote = 34 }
@@ -43,7 +45,7 @@ abbrev pub is_plain_attr : Attr → Bool
 is_plain_attr a = is_attr_name a.name && are_chars a.value && a.quote == 34
 
 abbrev pub is_plain_start : List ℕ → List Attr → Bool
-is_plain_start name attrs = is_tag_name name && (list_all is_plain_attr attrs && are_distinct attrs && nat_le (length attrs) 256)
+is_plain_start name attrs = is_tag_name name && (list_all is_plain_attr attrs && are_distinct attrs && nat_le (length attrs) max_attributes)
 
 abbrev pub is_plain : ℕ → Forest → Bool
 is_plain room Nothing = true
@@ -61,7 +63,7 @@ is_plain (suc room) (Element name attrs children rest) =
 
 -- What the canonical writer writes is well spelled, is read back as it was written, and its decoded values are those that were written.
 abbrev pub WritesRight : Type 0
-WritesRight = (room : ℕ) (d : Forest) → room ≤ 200 → is_plain room d ≡ true →
+WritesRight = (room : ℕ) (d : Forest) → room ≤ max_open_elements → is_plain room d ≡ true →
     (is_forest room (written d) ≡ true) × (forest_of (spelling (written d)) ≡ Some (written d)) × (decoded_forest (written d) ≡ d)
 
 -- Each forest that is spelled can be written, so its canonical spelling is read back with the same decoded values.

@@ -1,10 +1,12 @@
 -- The first fault of a text that no forest spells.
 use Rattle.std.specs.Prelude.{ℕ, List, [], ◌∷◌, length, Option, Some, None, Result, Ok, Err, if◌then◌else◌, ◌==◌}
 use Rattle.model_spelling.specs.declared.scan_fault.ScanFault.{ScanFault}
-use Rattle.model_spelling.specs.Grammar.{is_same_name, Token, Start, End, Chars, Raw, Comment, is_void}
+use Rattle.model_spelling.specs.Grammar.{name_same, Token, Start, End, Chars, Raw, Comment}
+use Rattle.ve_kinds.specs.Tags.{is_void}
 use Rattle.model_spelling.specs.Tokens.{Placed, tokens_of}
+use Rattle.ve_base.specs.Limits.{max_open_elements}
 
--- A fault of a token, an end tag that isn't the innermost open element's, an element that is open at the end, an end tag where nothing is open or of a void name, or an element within 200 open ones. Each has the byte of its `<`.
+-- A fault of a token, an end tag that isn't the innermost open element's, an element that is open at the end, an end tag where nothing is open or of a void name, or an element within as many open ones as there may be. Each has the byte of its `<`.
 pub data ForestFault : Type 0 where
   Scan : ScanFault → ForestFault
   Mismatched : ℕ → ForestFault
@@ -26,14 +28,14 @@ fault_at_end (o ∷ os) None = Some (Unclosed o.at)
 -- the elements that are open after a start tag, or after an end tag
 abbrev pub after_start : List ℕ → ℕ → List Open → Result (List Open) ForestFault
 after_start name at opened =
-    if length opened == 200 then Err (TooDeep at)
+    if length opened == max_open_elements then Err (TooDeep at)
     else if is_void name then Ok opened
     else Ok (record { name = name; at = at } ∷ opened)
 
 abbrev pub after_end : List ℕ → ℕ → List Open → Result (List Open) ForestFault
 after_end name at [] = Err (Stray at)
 after_end name at (o ∷ os) =
-    if is_void name then Err (Stray at) else if is_same_name o.name name then Ok os else Err (Mismatched at)
+    if is_void name then Err (Stray at) else if name_same o.name name then Ok os else Err (Mismatched at)
 
 -- the elements that are open after a token that starts at this byte
 abbrev pub after_token : Token → ℕ → List Open → Result (List Open) ForestFault

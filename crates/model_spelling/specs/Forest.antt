@@ -1,6 +1,8 @@
 -- Forests, and the one text of each.
 use Rattle.std.specs.Prelude.{◌≡◌, ℕ, zero, suc, Bool, true, false, ◌&&◌, not, List, [], ◌++◌, IsTrue}
-use Rattle.model_spelling.specs.Grammar.{Attr, Chars, Comment, token_text, start_text, end_text, is_void, is_raw, is_text, is_verbatim, is_start, comment_close}
+use Rattle.model_spelling.specs.Grammar.{Attr, Chars, Comment, token_text, start_text, end_text, is_text, is_verbatim, is_start, comment_close}
+use Rattle.ve_kinds.specs.Tags.{is_void, is_raw}
+use Rattle.ve_base.specs.Limits.{max_open_elements}
 
 -- A forest is empty, or a first node and the forest of its siblings after it. A node is a text, a comment (`Remark`), a void element with its attributes and its `/`, a raw element with its text, or an element with its children. Texts and values are as they are spelled.
 pub data Forest : Type 0 where
@@ -41,7 +43,7 @@ is_forest zero (Element name attrs children rest) = false
 is_forest (suc room) (Element name attrs children rest) =
     not (is_void name) && not (is_raw name) && is_start name attrs false && is_forest room children && is_forest (suc room) rest
 
--- The forest spells the text. At most 200 elements are open at any place.
+-- The forest spells the text. At most `max_open_elements` are open at any place.
 pub record Spells (text : List ℕ) (f : Forest) : Type 0 where
-  pub allowed : IsTrue (is_forest 200 f)
+  pub allowed : IsTrue (is_forest max_open_elements f)
   pub text_is : text ≡ spelling f

@@ -3,6 +3,8 @@
 use Rattle.std.specs.Prelude.{ℕ, Bool, true, false, ◌&&◌, ◌||◌, not, List, [], ◌∷◌, ◌++◌, length, if◌then◌else◌, ◌==◌, nat_eq, nat_le, codes, bytes_eq}
 use Rattle.std.specs.List.{flat_map, list_any, list_all, starts_with}
 use Rattle.std.specs.Char.{is_ascii_alphabetic, is_ascii_alphanumeric}
+use Rattle.ve_base.specs.Limits.{max_attributes}
+use Rattle.ve_kinds.specs.Tags.{is_void}
 
 -- ---- bytes and names
 
@@ -21,28 +23,12 @@ is_name_byte b = is_ascii_alphanumeric b || b == 45 || b == 95 || b == 46 || b =
 unfoldable pub begins_with : List ℕ → List ℕ → Bool
 begins_with prefix text = starts_with nat_eq text prefix
 
-unfoldable pub is_same_name : List ℕ → List ℕ → Bool
-is_same_name a b = bytes_eq a b
-
-abbrev pub is_one_of : List (List ℕ) → List ℕ → Bool
-is_one_of names name = list_any (λ n. is_same_name n name) names
-
-abbrev pub void_names : List (List ℕ)
-void_names = codes "area" ∷ codes "base" ∷ codes "basefont" ∷ codes "bgsound" ∷ codes "br" ∷ codes "col" ∷ codes "embed" ∷ codes "frame" ∷ codes "hr" ∷ codes "img" ∷ codes "input" ∷ codes "keygen" ∷ codes "link" ∷ codes "meta" ∷ codes "param" ∷ codes "source" ∷ codes "track" ∷ codes "wbr" ∷ []
-
-abbrev pub raw_names : List (List ℕ)
-raw_names = codes "style" ∷ codes "script" ∷ codes "xmp" ∷ codes "iframe" ∷ codes "noembed" ∷ codes "noframes" ∷ []
-
--- void elements have no content and no end tag
-unfoldable pub is_void : List ℕ → Bool
-is_void name = is_one_of void_names name
-
--- the content of a raw element is its text up to its end tag, and nothing in it is decoded
-unfoldable pub is_raw : List ℕ → Bool
-is_raw name = is_one_of raw_names name
+-- whether two names are the same, byte by byte
+unfoldable pub name_same : List ℕ → List ℕ → Bool
+name_same a b = bytes_eq a b
 
 unfoldable pub is_plaintext : List ℕ → Bool
-is_plaintext name = is_same_name (codes "plaintext") name
+is_plaintext name = name_same (codes "plaintext") name
 
 -- the references that a text or a value may hold
 abbrev pub references : List (List ℕ)
@@ -118,7 +104,7 @@ is_attr a = is_attr_name a.name && (a.quote == 34 || a.quote == 39) && is_run a.
 
 -- whether an attribute has that name
 abbrev pub has_name : List ℕ → List Attr → Bool
-has_name name attrs = list_any (λ a. is_same_name a.name name) attrs
+has_name name attrs = list_any (λ a. name_same a.name name) attrs
 
 -- no name stands twice
 abbrev pub are_distinct : List Attr → Bool
@@ -126,7 +112,7 @@ are_distinct [] = true
 are_distinct (a ∷ attrs) = not (has_name a.name attrs) && are_distinct attrs
 
 abbrev pub are_attrs : List Attr → Bool
-are_attrs attrs = list_all is_attr attrs && are_distinct attrs && nat_le (length attrs) 256
+are_attrs attrs = list_all is_attr attrs && are_distinct attrs && nat_le (length attrs) max_attributes
 
 -- a start tag; only a void element has a `/`
 abbrev pub is_start : List ℕ → List Attr → Bool → Bool

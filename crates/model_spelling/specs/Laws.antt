@@ -7,6 +7,7 @@ use Rattle.model_spelling.specs.Tokens.{is_token, MayFollow, IsRead, RawRead}
 use Rattle.model_spelling.specs.Faults.{fault_of}
 use Rattle.model_spelling.specs.Parsed.{forest_of}
 use Rattle.model_spelling.specs.Page.{Parts, parts, is_whole, body_at, IsBody}
+use Rattle.ve_base.specs.Limits.{max_open_elements}
 
 -- ---- tokens
 
@@ -46,11 +47,11 @@ OneForestSpells = (text : List ℕ) (f g : Forest) → Spells text f → Spells 
 
 -- The spelling of a forest is read as that forest.
 abbrev pub SpellingIsReadBack : Type 0
-SpellingIsReadBack = (room : ℕ) (f : Forest) → room ≤ 200 → is_forest room f ≡ true → forest_of (spelling f) ≡ Some f
+SpellingIsReadBack = (room : ℕ) (f : Forest) → room ≤ max_open_elements → is_forest room f ≡ true → forest_of (spelling f) ≡ Some f
 
 -- The forest that a text is read as spells it.
 abbrev pub ReadForestSpells : Type 0
-ReadForestSpells = (text : List ℕ) (f : Forest) → forest_of text ≡ Some f → (spelling f ≡ text) × (is_forest 200 f ≡ true)
+ReadForestSpells = (text : List ℕ) (f : Forest) → forest_of text ≡ Some f → (spelling f ≡ text) × (is_forest max_open_elements f ≡ true)
 
 -- ---- pages
 

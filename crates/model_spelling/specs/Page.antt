@@ -1,6 +1,7 @@
 -- Head, body and tail of a page, and the first fault of a page.
 -- A page that begins with `<!doctype`, in any case of its letters, is whole; every other page is all body.
 use Rattle.std.specs.Prelude.{◌≡◌, ℕ, ◌+◌, ◌-◌, ◌<◌, Bool, true, false, ◌||◌, List, [], ◌∷◌, ◌++◌, length, take, drop, map, Option, Some, None, Result, Ok, Err, if◌then◌else◌, codes, bytes_eq}
+use Rattle.std.specs.Option.{option_or}
 use Rattle.std.specs.Char.{to_ascii_lowercase}
 use Rattle.model_spelling.specs.declared.scan_fault.ScanFault.{ScanFault}
 use Rattle.model_spelling.specs.declared.scan_fault.ScanWhat.TheVariants.{NoBody}
@@ -18,14 +19,10 @@ unfoldable pub first_place : (List ℕ → Bool) → ℕ → List ℕ → Option
 first_place test at [] = None
 first_place test at (b ∷ bs) = if test (b ∷ bs) then Some at else first_place test (at + 1) bs
 
-abbrev pub or_else : Option ℕ → Option ℕ → Option ℕ
-or_else (Some n) other = Some n
-or_else None other = other
-
 -- the last such place
 unfoldable pub last_place : (List ℕ → Bool) → ℕ → List ℕ → Option ℕ
 last_place test at [] = None
-last_place test at (b ∷ bs) = or_else (last_place test (at + 1) bs) (if test (b ∷ bs) then Some at else None)
+last_place test at (b ∷ bs) = option_or (last_place test (at + 1) bs) (if test (b ∷ bs) then Some at else None)
 
 -- `<body`, and then a space or the end of the tag
 abbrev pub starts_body : List ℕ → Bool

@@ -1,6 +1,7 @@
 -- The forest that spells a text, where one does.
 use Rattle.std.specs.Prelude.{ℕ, List, [], ◌∷◌, drop, Option, Some, None, if◌then◌else◌}
-use Rattle.model_spelling.specs.Grammar.{Token, Start, End, Chars, Raw, Comment, is_void, is_raw}
+use Rattle.model_spelling.specs.Grammar.{Token, Start, End, Chars, Raw, Comment}
+use Rattle.ve_kinds.specs.Tags.{is_void, is_raw}
 use Rattle.model_spelling.specs.Tokens.{Placed, tokens_of}
 use Rattle.model_spelling.specs.Forest.{Forest, Nothing, Text, Remark, Void, RawElement, Element}
 use Rattle.model_spelling.specs.Faults.{fault_of}

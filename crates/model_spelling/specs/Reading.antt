@@ -7,7 +7,9 @@ use Rattle.std.specs.Char.{to_ascii_lowercase}
 use Rattle.model_spelling.specs.declared.scan_fault.ScanFault.{ScanFault}
 use Rattle.model_spelling.specs.declared.scan_fault.ScanWhat.{ScanWhat}
 use Rattle.model_spelling.specs.declared.scan_fault.ScanWhat.TheVariants.{BadTag, BadAttribute, DuplicateAttribute, TooManyAttributes, BadReference, BadChar, UnclosedTag, UnclosedComment, UnclosedRaw, Doctype}
-use Rattle.model_spelling.specs.Grammar.{is_barred, is_letter, is_name_byte, begins_with, is_void, is_raw, is_plaintext, is_same_name, references, starts_reference, Attr, Token, Start, End, Chars, Raw, Comment, comment_close, end_text, has_name}
+use Rattle.model_spelling.specs.Grammar.{is_barred, is_letter, is_name_byte, begins_with, is_plaintext, name_same, references, starts_reference, Attr, Token, Start, End, Chars, Raw, Comment, comment_close, end_text, has_name}
+use Rattle.ve_kinds.specs.Tags.{is_void, is_raw}
+use Rattle.ve_base.specs.Limits.{max_attributes}
 
 infixl 10 ◌>>=◌
 abbrev pub ◌>>=◌ : {A B : Type 0} → Result A ScanFault → (A → Result B ScanFault) → Result B ScanFault
@@ -115,7 +117,7 @@ attrs_of (Err f) = []
 
 -- the attributes of the tag at tag, whose name ends at at
 abbrev pub attrs_from : ℕ → ℕ → List ℕ → List Attr
-attrs_from tag at text = attrs_of (attrs_at 256 tag [] at (drop at text))
+attrs_from tag at text = attrs_of (attrs_at max_attributes tag [] at (drop at text))
 
 -- ---- tags
 
@@ -141,7 +143,7 @@ name_ends tag name at (c ∷ rest) = if is_plaintext name then Err (refused at c
 unfoldable pub start_after : ℕ → List ℕ → ℕ → List ℕ → Result (Token × ℕ) ScanFault
 start_after tag name at text = do
   _ ← name_ends tag name at text
-  attrs ← attrs_at 256 tag [] at text
+  attrs ← attrs_at max_attributes tag [] at text
   close ← tag_close tag (is_void name) attrs.1 (drop (attrs.1 - at) text)
   Ok (Start name attrs.0 close.0, close.1)
 
@@ -168,7 +170,7 @@ comment_at tag text = do
 
 -- `doctype`, in any case of its letters
 unfoldable pub is_doctype : List ℕ → Bool
-is_doctype text = is_same_name (codes "doctype") (map to_ascii_lowercase (take 7 text))
+is_doctype text = name_same (codes "doctype") (map to_ascii_lowercase (take 7 text))
 
 -- after `<!-`
 unfoldable pub dash_at : ℕ → List ℕ → Result (Token × ℕ) ScanFault

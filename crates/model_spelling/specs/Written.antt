@@ -1,6 +1,8 @@
 -- What references stand for, and the canonical spelling of texts, values and tags (WHATWG HTML, "Serializing HTML fragments", but that `<` and `>` are written as references in values too).
-use Rattle.std.specs.Prelude.{ℕ, zero, suc, ◌-◌, Bool, true, false, ◌&&◌, List, [], ◌∷◌, ◌++◌, length, map, if◌then◌else◌, ◌==◌, codes}
-use Rattle.model_spelling.specs.Grammar.{begins_with, Attr, start_text}
+use Rattle.std.specs.Prelude.{ℕ, zero, suc, ◌-◌, Bool, true, false, ◌&&◌, List, [], ◌∷◌, ◌++◌, length, map, if◌then◌else◌, ◌==◌, codes, encode_utf8_all}
+use Rattle.ve_base.specs.declared.attrs.Attr.{Attr}
+use Rattle.model_spelling.specs.Grammar.{begins_with, start_text}
+use Rattle.model_spelling.specs.Grammar.{Attr as Spelled}
 
 -- a reference, and the character that it stands for
 abbrev pub meanings : List (List ℕ × List ℕ)
@@ -36,11 +38,19 @@ escaped in_value (b ∷ c ∷ bs) =
     if b == 194 && c == 160 then codes "&nbsp;" ++ escaped in_value bs else escaped_byte in_value b ++ escaped in_value (c ∷ bs)
 
 -- a decoded name and value, as the writer spells them
-abbrev pub canon_attr : List ℕ × List ℕ → Attr
+abbrev pub canon_attr : List ℕ × List ℕ → Spelled
 canon_attr a = record { name = a.0; value = escaped true a.1; quote = 34 }
 
-abbrev pub canon_attrs : List (List ℕ × List ℕ) → List Attr
+abbrev pub canon_attrs : List (List ℕ × List ℕ) → List Spelled
 canon_attrs attrs = map canon_attr attrs
 
 abbrev pub canon_start : List ℕ → List (List ℕ × List ℕ) → List ℕ
 canon_start name attrs = start_text name (canon_attrs attrs) false
+
+-- the bytes of the name and the value of an attribute that is held as two texts
+abbrev pub attr_bytes : Attr → List ℕ × List ℕ
+attr_bytes a = (encode_utf8_all a.name, encode_utf8_all a.value)
+
+-- the start tag of an element with these bytes as its name and these attributes, in their order
+abbrev pub start_tag : List ℕ → List Attr → List ℕ
+start_tag name attrs = canon_start name (map attr_bytes attrs)

@@ -10,7 +10,7 @@ pub enum ScanWhat {
     BadAttribute,
     /// The name stood before in this tag.
     DuplicateAttribute,
-    /// It is the 257th attribute.
+    /// As many attributes as a tag may have stand before it.
     TooManyAttributes,
     /// `&` doesn't start one of the six references.
     BadReference,

@@ -17,7 +17,8 @@ use Rattle.model_change.specs.declared.tx_fault.TxFault.{TxFault}
 use Rattle.model_change.specs.declared.tx_fault.TxFault.TheVariants as tx
 use Rattle.model_change.specs.Attributes.{item_changed, is_reserved}
 use Rattle.model_change.specs.Transaction.{Transaction, old_length, on_first}
-use Rattle.model_change.specs.Fault.{or_else, differs_at, mismatch_at, bad_attribute_at, fault_by, fault}
+use Rattle.model_change.specs.Fault.{differs_at, mismatch_at, bad_attribute_at, fault_by, fault}
+use Rattle.std.specs.Option.{option_or}
 use Rattle.model_page.specs.PageItems.{or_nothing}
 use Rattle.model_page.specs.Fragment.{pieces_of}
 use Rattle.model_page.specs.Limits.{fragment_limit}
@@ -217,7 +218,7 @@ mutual
       ops_match ops (at + count) (drop count items) (and_parts (operations.may_precede (op.Retain count) ops) (operations.is_normal ops) p.1).1
   ops_match (op.Remove count insert ∷ ops) at items h =
       let p = and_parts (operations.is_something (op.Remove count insert)) (operations.may_precede (op.Remove count insert) ops && operations.is_normal ops) h in
-      ap (λ o. or_else o (mismatch_at (at + length (take count items)) (ops_on ops (drop count items)) (drop (length (take count items)) items))) (same_prefix count at items)
+      ap (λ o. option_or o (mismatch_at (at + length (take count items)) (ops_on ops (drop count items)) (drop (length (take count items)) items))) (same_prefix count at items)
       ∙ ap (λ rest. mismatch_at (at + length (take count items)) (ops_on ops (drop count items)) rest) (take_gone count items)
       ∙ ops_match ops (at + length (take count items)) (drop count items) (and_parts (operations.may_precede (op.Remove count insert) ops) (operations.is_normal ops) p.1).1
   ops_match (op.Attr name to ∷ ops) at items h =
@@ -237,7 +238,7 @@ mutual
       let p = and_parts (operations.may_precede (op.Attr next value) ops) (operations.is_normal ops) h in
       after_match next value ops at items (on_first (item_changed (setting next value items)) other) p.0 p.1 (first_changed (item_changed (setting next value items)) other ∙ e)
 
-fault_none : (b : Bool) (o p : Option ℕ) (e : TxFault) → (if b then or_else (fault_by (λ at. tx.Mismatch at) o) (fault_by (λ at. tx.BadAttr at) p) else Some e) ≡ None → o ≡ None
+fault_none : (b : Bool) (o p : Option ℕ) (e : TxFault) → (if b then option_or (fault_by (λ at. tx.Mismatch at) o) (fault_by (λ at. tx.BadAttr at) p) else Some e) ≡ None → o ≡ None
 fault_none true None p e h = refl
 fault_none true (Some at) p e h = cc
 fault_none false o p e h = cc
@@ -313,20 +314,20 @@ store_left count t h = by (nat_lt 1048576 count) refl h
     by true e h = ltb-true 1048576 count e
     by false e h = cc
 
-items_left : (count stored : ℕ) (t : Transaction) → Told (or_else (items_fault count) (store_fault stored)) t → 1048576 < stored
+items_left : (count stored : ℕ) (t : Transaction) → Told (option_or (items_fault count) (store_fault stored)) t → 1048576 < stored
 items_left count stored t h = by (nat_lt 4194304 count) h
   where
-    by : (b : Bool) → Told (or_else (if b then Some (edit.TooManyItems count) else None) (store_fault stored)) t → 1048576 < stored
+    by : (b : Bool) → Told (option_or (if b then Some (edit.TooManyItems count) else None) (store_fault stored)) t → 1048576 < stored
     by true h = cc
     by false h = store_left stored t h
 
-law_left : (o : Option LawFault) (count stored : ℕ) (t : Transaction) → Told (or_else (law_fault o) (or_else (items_fault count) (store_fault stored))) t → 1048576 < stored
+law_left : (o : Option LawFault) (count stored : ℕ) (t : Transaction) → Told (option_or (law_fault o) (option_or (items_fault count) (store_fault stored))) t → 1048576 < stored
 law_left None count stored t h = items_left count stored t h
 law_left (Some (law.Unlawful at)) count stored t h = cc
 law_left (Some (law.TooDeep at)) count stored t h = cc
 
 matched_left : (b : Bool) (o p : Option ℕ) (has need : ℕ) (rest : Option EditFault) (t : Transaction) → o ≡ None →
-    Told (or_else (transaction_fault (if b then or_else (fault_by (λ at. tx.Mismatch at) o) (fault_by (λ at. tx.BadAttr at) p) else Some (tx.BadLength has need))) rest) t → Told rest t
+    Told (option_or (transaction_fault (if b then option_or (fault_by (λ at. tx.Mismatch at) o) (fault_by (λ at. tx.BadAttr at) p) else Some (tx.BadLength has need))) rest) t → Told rest t
 matched_left true None None has need rest t e h = h
 matched_left true None (Some at) has need rest t e h = cc
 matched_left true (Some at) p has need rest t e h = cc

@@ -2,7 +2,8 @@
 use Rattle.std.proofs.Common.{◌≡◌, ℕ, zero, suc, Bool, true, false, not, ◌&&◌, if◌then◌else◌, List, [], ◌∷◌, ◌++◌, map, Option, Some, None, refl, ap, subst}
 use Rattle.std.specs.Prelude.{chars, codes, flat_map, unwrap_or}
 use Rattle.std.proofs.lemmas.Bool.{and_parts}
-use Rattle.model_spelling.specs.Grammar.{Attr as Spelled, Comment, token_text, end_text, comment_close, is_start, is_void, is_raw, is_text, is_verbatim}
+use Rattle.model_spelling.specs.Grammar.{Attr as Spelled, Comment, token_text, end_text, comment_close, is_start, is_text, is_verbatim}
+use Rattle.ve_kinds.specs.Tags.{is_void, is_raw}
 use Rattle.model_spelling.specs.Forest.{Forest, Nothing, Text, Remark, Void, RawElement, Element, spelling, is_forest, starts_with_text}
 use Rattle.model_spelling.specs.Parsed.{forest_of}
 use Rattle.model_spelling.proofs.Proved.{law_reads_right}

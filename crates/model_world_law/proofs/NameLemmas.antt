@@ -6,7 +6,8 @@ use Rattle.std.proofs.lemmas.Bool.{and_parts, or_parts}
 use Rattle.std.proofs.lemmas.Str.{chars-IsAscii}
 use Rattle.std.proofs.lemmas.Slice.Eq.{bytes_eq-Decides}
 use Rattle.std.proofs.lemmas.Grind.{common_steps}
-use Rattle.model_spelling.specs.Grammar.{Attr as Spelled, is_name_byte, is_same_name, is_attr_name, is_attr, has_name, are_distinct, are_attrs, is_start, is_tag_name, is_void, is_run}
+use Rattle.model_spelling.specs.Grammar.{Attr as Spelled, is_name_byte, name_same, is_attr_name, is_attr, has_name, are_distinct, are_attrs, is_start, is_tag_name, is_run}
+use Rattle.ve_kinds.specs.Tags.{is_void}
 use Rattle.ve_base.specs.Names.{names, NamesApart}
 use Rattle.model_page.specs.Heads.{attrs_of}
 
@@ -22,8 +23,8 @@ name-kept : (name : List ℕ) → is_attr_name name ≡ true → chars name ≡ 
 name-kept [] h = cc
 name-kept (b ∷ bs) h = chars-IsAscii (b ∷ bs) (bytes-IsAscii (b ∷ bs) h)
 
-same_itself : (name : List ℕ) → is_same_name name name ≡ true
-unfolding is_same_name
+same_itself : (name : List ℕ) → name_same name name ≡ true
+unfolding name_same
 same_itself name = (bytes_eq-Decides name name).1 refl
 
 abbrev AreNames : List Spelled → Type 0
@@ -43,10 +44,10 @@ absent : (name : List ℕ) (attrs : List Spelled) → is_attr_name name ≡ true
 absent name [] n ns h k below e = omega arith
 absent name (a ∷ attrs) n ns h zero below e =
     let same : a.name ≡ name = sym (name-kept a.name ns.0) ∙ e ∙ name-kept name n in
-    let one : is_same_name a.name name ≡ false = (or_parts (is_same_name a.name name) (has_name name attrs) h).0 in
-    let two : is_same_name a.name name ≡ true = subst (λ m. is_same_name a.name m ≡ true) same (same_itself a.name) in
+    let one : name_same a.name name ≡ false = (or_parts (name_same a.name name) (has_name name attrs) h).0 in
+    let two : name_same a.name name ≡ true = subst (λ m. name_same a.name m ≡ true) same (same_itself a.name) in
     absurd (let f : false ≡ true = sym one ∙ two in cc)
-absent name (a ∷ attrs) n ns h (suc k) below e = absent name attrs n ns.1 (or_parts (is_same_name a.name name) (has_name name attrs) h).1 k (omega arith) e
+absent name (a ∷ attrs) n ns h (suc k) below e = absent name attrs n ns.1 (or_parts (name_same a.name name) (has_name name attrs) h).1 k (omega arith) e
 
 not_true : (b : Bool) → not b ≡ true → b ≡ false
 not_true true h = cc

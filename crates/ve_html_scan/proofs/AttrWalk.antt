@@ -6,7 +6,8 @@ use Rattle.std.proofs.lemmas.List.Folds.{length-prefix_len, list_any-append}
 use Rattle.std.proofs.Math.Seq.{drop-append_seam}
 use Rattle.std.proofs.lemmas.Bool.{cases_lt}
 use Rattle.std.specs.List.{prefix_len, slice_range, flat_map, list_all}
-use Rattle.model_spelling.specs.Grammar.{is_barred, starts_reference, is_name_byte, is_attr_name, is_same_name, is_one_of, Attr, attr_text, has_name}
+use Rattle.model_spelling.specs.Grammar.{is_barred, starts_reference, is_name_byte, is_attr_name, name_same, Attr, attr_text, has_name}
+use Rattle.ve_kinds.specs.Tags.{is_one_of}
 use Rattle.model_spelling.specs.declared.scan_fault.ScanFault.{ScanFault}
 use Rattle.model_spelling.specs.declared.scan_fault.ScanWhat.TheVariants.{DuplicateAttribute, TooManyAttributes, BadChar, UnclosedTag}
 use Rattle.model_spelling.specs.Reading.{fault, reference_fault, run_end, value_end, head_at, attr_at, attrs_at, attrs_of, attrs_from}
@@ -153,7 +154,7 @@ spelled_more (b ∷ attrs) a s h = (s.0, spelled_more attrs a s.1 h)
 
 -- the names more are these and the one
 abbrev pub Joins : List (List ℕ) → List ℕ → List (List ℕ) → Type 0
-Joins names name more = (x : List ℕ) → is_one_of more x ≡ (is_same_name name x || is_one_of names x)
+Joins names name more = (x : List ℕ) → is_one_of more x ≡ (name_same name x || is_one_of names x)
 
 or_swaps : (a b : Bool) → (a || b) ≡ (b || (a || false))
 or_swaps true true = refl
@@ -164,9 +165,9 @@ or_swaps false false = refl
 named_more : (names more : List (List ℕ)) (before : List Attr) (a : Attr) → Joins names a.name more → ((x : List ℕ) → is_one_of names x ≡ has_name x before) → (x : List ℕ) → is_one_of more x ≡ has_name x (before ++ a ∷ [])
 named_more names more before a joins named x =
     joins x
-    ∙ ap (λ (r : Bool). is_same_name a.name x || r) (named x)
-    ∙ or_swaps (is_same_name a.name x) (has_name x before)
-    ∙ sym (list_any-append (λ (b : Attr). is_same_name b.name x) before (a ∷ []))
+    ∙ ap (λ (r : Bool). name_same a.name x || r) (named x)
+    ∙ or_swaps (name_same a.name x) (has_name x before)
+    ∙ sym (list_any-append (λ (b : Attr). name_same b.name x) before (a ∷ []))
 
 pub so_far_more : {names more : List (List ℕ)} (t : List ℕ) (tag from at room n q to : ℕ) → get_or t at 0 ≡ 32 → head_at tag at (drop (at + 1) t) ≡ Ok (n, q) → 0 < n → n ≡ prefix_len is_name_byte (drop (at + 1) t)
     → get_or t (at + 1 + n) 0 ≡ 61 → get_or t (at + 1 + n + 1) 0 ≡ q → is_one_of names (take n (drop (at + 1) t)) ≡ false

@@ -13,7 +13,8 @@ use Rattle.model_spelling.proofs.BodyPlace.{first_found, last_found, last_within
 use Rattle.ve_html_scan.proofs.Lent.{prefix_byte, cut_after_close}
 use Rattle.std.proofs.Common.{◌≡◌, ℕ, zero, suc, ◌+◌, ◌-◌, ◌<◌, ◌≤◌, true, false, cond, List, length, drop, Some, None, refl, sym, ap, ◌∙◌, arith, get_or}
 use Rattle.std.proofs.lemmas.List.{drop_more, at_drop_all}
-use Rattle.model_spelling.specs.Page.{starts_body, ends_body, first_place, or_else, last_place}
+use Rattle.model_spelling.specs.Page.{starts_body, ends_body, first_place, last_place}
+use Rattle.std.specs.Option.{option_or}
 
 -- ---- upward
 
@@ -35,7 +36,7 @@ pub ruleset first_steps = (first_here, first_later, first_none)
 
 -- ---- downward
 
-last_is : (at : ℕ) (t : List ℕ) → at < length t → last_place ends_body at (drop at t) ≡ or_else (last_place ends_body (at + 1) (drop (at + 1) t)) (cond (ends_body (drop at t)) (Some at) None)
+last_is : (at : ℕ) (t : List ℕ) → at < length t → last_place ends_body at (drop at t) ≡ option_or (last_place ends_body (at + 1) (drop (at + 1) t)) (cond (ends_body (drop at t)) (Some at) None)
 unfolding last_place
 last_is at t lt = rw (drop_more t at 0 lt) refl
 

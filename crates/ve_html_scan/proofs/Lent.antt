@@ -3,7 +3,8 @@ use Rattle.std.specs.List.{list_all}
 use Rattle.std.specs.Prelude.{nat_le}
 use Rattle.std.proofs.lemmas.List.{drop-take}
 use Rattle.std.proofs.Common.{take, not, ◌&&◌, ◌||◌}
-use Rattle.model_spelling.specs.Grammar.{Attr, is_attr, is_start, is_tag_name, are_attrs, are_distinct, is_void}
+use Rattle.model_spelling.specs.Grammar.{Attr, is_attr, is_start, is_tag_name, are_attrs, are_distinct}
+use Rattle.ve_kinds.specs.Tags.{is_void, is_raw}
 use Rattle.model_spelling.proofs.AttrReading.{and_left, and_right}
 use Rattle.model_spelling.proofs.FoundTokens.{start_found}
 use Rattle.std.proofs.Common.{◌≡◌, ◌≢◌, ℕ, ◌+◌, ◌-◌, ◌<◌, ◌≤◌, Bool, true, cond, eqb, List, [], ◌∷◌, ◌++◌, length, get_or, drop, Some, None, Result, Ok, Err, refl, sym, ap, ◌∙◌, arith, eq-eqb, IsUtf8, IsCharBoundary, Bor, subst, lit<, add-zero, inl, inr}
@@ -15,7 +16,7 @@ use Rattle.std.proofs.lemmas.Bool.{ne_eqb, cases_lt}
 use Rattle.model_spelling.specs.declared.scan_fault.ScanWhat.TheVariants.{UnclosedRaw}
 use Rattle.std.specs.List.{slice_range, flat_map}
 use Rattle.model_spelling.specs.declared.scan_fault.ScanFault.{ScanFault}
-use Rattle.model_spelling.specs.Grammar.{is_letter, is_raw, begins_with, Token, Start, End, Comment, Chars, Raw, attr_text, comment_close, end_text}
+use Rattle.model_spelling.specs.Grammar.{is_letter, begins_with, Token, Start, End, Comment, Chars, Raw, attr_text, comment_close, end_text}
 use Rattle.model_spelling.specs.Reading.{◌>>=◌, fault, some_token, Between, After, Failed, run_end, verbatim_end, tag_at, between_at, token_at, start_at, end_at, markup_at, attrs_from}
 use Rattle.ve_html_scan.specs.declared.token.Token.TheVariants as lent
 use Rattle.ve_html_scan.specs.Parts.{close_text}

@@ -17,15 +17,16 @@ use Rattle.std.proofs.lemmas.Cmp.{nat_list_cmp_total, alike_right}
 use Rattle.std.proofs.lemmas.List.Folds.{list_any_none, list_any_at}
 use Rattle.std.proofs.lemmas.List.Sorted.{list_any-IsPermutation, IsPermutation-insert, IsNonDecreasingBy-insert}
 use Rattle.std.proofs.lemmas.Map.Text.{is_eq-slice_cmp}
-use Rattle.model_spelling.specs.Grammar.{is_same_name, is_one_of}
+use Rattle.model_spelling.specs.Grammar.{name_same}
+use Rattle.ve_kinds.specs.Tags.{is_one_of}
 use Rattle.ve_html_scan.specs.Names.{texts, CanBeSearched}
 
 -- how a name that is lent stands to another
 abbrev pub against : List ℕ → Bor (List ℕ) → Ordering
 against x n = slice_cmp nat_cmp n.now x
 
-same_as : (a b : List ℕ) (o : Ordering) → slice_cmp nat_cmp a b ≡ o → is_same_name a b ≡ is_eq o
-unfolding is_same_name
+same_as : (a b : List ℕ) (o : Ordering) → slice_cmp nat_cmp a b ≡ o → name_same a b ≡ is_eq o
+unfolding name_same
 same_as a b o e = sym (is_eq-slice_cmp a b) ∙ ap is_eq e
 
 any_lent : (p : List ℕ → Bool) (names : List (Bor (List ℕ))) → list_any p (texts names) ≡ list_any (λ (n : Bor (List ℕ)). p n.now) names
@@ -33,21 +34,24 @@ any_lent p [] = refl
 any_lent p (n ∷ names) = ap (λ (r : Bool). p n.now || r) (any_lent p names)
 
 pub not_among : (names : List (Bor (List ℕ))) (x : List ℕ) (i : ℕ) → IsPartitionPoint (λ n. against x n ≡ Less) (λ n. against x n ≡ Greater) names i → is_one_of (texts names) x ≡ false
+unfolding name_same
 not_among names x i parted =
-    any_lent (λ n. is_same_name n x) names
-    ∙ list_any_none (λ (n : Bor (List ℕ)). is_same_name n.now x) names (λ k d lt. elim (cases_lt k i) [
+    any_lent (λ n. name_same n x) names
+    ∙ list_any_none (λ (n : Bor (List ℕ)). name_same n.now x) names (λ k d lt. elim (cases_lt k i) [
       | inl l ↦ same_as (get_or names k d).now x Less (parted.0 k d (omega arith) l)
       | inr g ↦ same_as (get_or names k d).now x Greater (parted.1 k d g lt)
     ])
 
 pub is_among : (names : List (Bor (List ℕ))) (name : Bor (List ℕ)) (i : ℕ) → i < length names → HoldsAt (λ n. against name.now n ≡ Equal) names i → is_one_of (texts names) name.now ≡ true
+unfolding name_same
 is_among names name i lt found =
-    any_lent (λ n. is_same_name n name.now) names
-    ∙ list_any_at (λ (n : Bor (List ℕ)). is_same_name n.now name.now) names i name lt (same_as (get_or names i name).now name.now Equal (found name))
+    any_lent (λ n. name_same n name.now) names
+    ∙ list_any_at (λ (n : Bor (List ℕ)). name_same n.now name.now) names i name lt (same_as (get_or names i name).now name.now Equal (found name))
 
-pub among_more : (names : List (Bor (List ℕ))) (name : Bor (List ℕ)) (i : ℕ) (x : List ℕ) → is_one_of (texts (insert names i name)) x ≡ (is_same_name name.now x || is_one_of (texts names) x)
+pub among_more : (names : List (Bor (List ℕ))) (name : Bor (List ℕ)) (i : ℕ) (x : List ℕ) → is_one_of (texts (insert names i name)) x ≡ (name_same name.now x || is_one_of (texts names) x)
+unfolding name_same
 among_more names name i x =
-    let p : List ℕ → Bool = λ n. is_same_name n x in
+    let p : List ℕ → Bool = λ n. name_same n x in
     any_lent p (insert names i name)
     ∙ sym (list_any-IsPermutation (λ (n : Bor (List ℕ)). p n.now) (name ∷ names) (insert names i name) (IsPermutation-insert names i name))
     ∙ ap (λ (r : Bool). p name.now || r) (sym (any_lent p names))
@@ -104,13 +108,13 @@ put xs ys part len place x le lt p e =
 
 -- ---- a name that is there already
 
-already_by : (names : List (List ℕ)) (name x : List ℕ) (r : Bool) → is_one_of names name ≡ true → is_same_name name x ≡ r → is_one_of names x ≡ (r || is_one_of names x)
-unfolding is_same_name
+already_by : (names : List (List ℕ)) (name x : List ℕ) (r : Bool) → is_one_of names name ≡ true → name_same name x ≡ r → is_one_of names x ≡ (r || is_one_of names x)
+unfolding name_same
 already_by names name x true e same = ap (is_one_of names) (sym ((bytes_eq-Decides name x).0 same)) ∙ e
 already_by names name x false e same = refl
 
-pub already : (names : List (List ℕ)) (name x : List ℕ) → is_one_of names name ≡ true → is_one_of names x ≡ (is_same_name name x || is_one_of names x)
-already names name x e = already_by names name x (is_same_name name x) e refl
+pub already : (names : List (List ℕ)) (name x : List ℕ) → is_one_of names name ≡ true → is_one_of names x ≡ (name_same name x || is_one_of names x)
+already names name x e = already_by names name x (name_same name x) e refl
 
 -- ---- what the answers say
 

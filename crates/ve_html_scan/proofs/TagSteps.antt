@@ -5,7 +5,8 @@ use Rattle.std.proofs.lemmas.Bool.{ne_eqb}
 use Rattle.std.specs.List.{prefix_len, slice_range}
 use Rattle.model_spelling.specs.declared.scan_fault.ScanFault.{ScanFault}
 use Rattle.model_spelling.specs.declared.scan_fault.ScanWhat.TheVariants.{BadTag, UnclosedTag, UnclosedComment, Doctype}
-use Rattle.model_spelling.specs.Grammar.{is_barred, is_letter, is_name_byte, is_plaintext, is_void, Attr, Token, Start, End, Comment, comment_close}
+use Rattle.model_spelling.specs.Grammar.{is_barred, is_letter, is_name_byte, is_plaintext, Attr, Token, Start, End, Comment, comment_close}
+use Rattle.ve_kinds.specs.Tags.{is_void}
 use Rattle.model_spelling.specs.Reading.{◌>>=◌, fault, refused, attrs_at, tag_close, start_after, start_at, tag_at, some_token, end_at, end_after, with_name, comment_at, is_doctype, dash_at, markup_at, verbatim_end}
 
 -- ---- end tags

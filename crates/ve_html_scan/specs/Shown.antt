@@ -10,6 +10,7 @@ use Rattle.ve_html_scan.specs.declared.token.Token.TheVariants as lent
 use Rattle.model_spelling.specs.Grammar as g
 use Rattle.model_spelling.specs.Reading as reading
 use Rattle.model_spelling.specs.Reading.{Mode, Between, After, Failed, Step, token_at, attrs_from}
+use Rattle.ve_kinds.specs.Tags.{is_raw}
 use Rattle.ve_html_scan.specs.Parts.{close_text}
 
 abbrev pub span_of : Token → Span
@@ -51,7 +52,7 @@ Shows _ _ = ⊥
 
 -- what a scanner waits for after a token
 abbrev pub mode_after : Token → Mode
-mode_after (lent.StartTag name attrs span) = if g.is_raw name.now then After name.now else Between
+mode_after (lent.StartTag name attrs span) = if is_raw name.now then After name.now else Between
 mode_after (lent.EndTag name span) = Between
 mode_after (lent.Chars text span) = Between
 mode_after (lent.Raw text span) = Between

@@ -1,29 +1,30 @@
 //! The names of a start tag's attributes.
 
 ghost use Rattle.std.specs.Prelude.{◌≡◌, ◌≤◌, ◌<◌, ◌+◌, ◌==◌, ◌||◌, ℕ, List, [], not, length, take, insert, if◌then◌else◌};
-ghost use Rattle.model_spelling.specs.Grammar.{is_same_name, is_one_of};
+ghost use Rattle.model_spelling.specs.Grammar.{name_same};
+ghost use Rattle.ve_base.specs.Limits.{max_attributes};
+ghost use Rattle.ve_kinds.specs.Tags.{is_one_of};
 
 use std::marker::Model;
-
-/// The most attributes of a tag.
-const MOST_ATTRIBUTES: usize = 256;
+use ve_base::MAX_ATTRIBUTES;
 
 /// Names of a tag's attributes, each once. They are kept in the order of their bytes, so that a name is looked for by few comparisons.
 #[derive(Drop)]
 pub struct AttrNames<'a> {
-    sorted: [&'a [u8]; MOST_ATTRIBUTES],
+    sorted: [&'a [u8]; MAX_ATTRIBUTES],
     len: usize,
 }
 
 impl<'a> Model for AttrNames<'a> {
     ghost use Rattle.std.specs.Prelude.{◌≤◌, ℕ, List, take};
+    ghost use Rattle.ve_base.specs.Limits.{max_attributes};
     ghost use Rattle.ve_html_scan.specs.Names.{texts, CanBeSearched};
 
     ghost Value = { List (List ℕ) };
 
     ghost view = { λ names. texts (take names.len names.sorted) };
 
-    ghost invariant = { λ names. (names.len ≤ 256) × CanBeSearched (take names.len names.sorted) };
+    ghost invariant = { λ names. (names.len ≤ max_attributes) × CanBeSearched (take names.len names.sorted) };
 }
 
 /// Puts a name before those from that place on, where so many names stand at the prefix.
@@ -41,7 +42,7 @@ impl<'a> AttrNames<'a> {
         ensures { result ≡ [] }
     {
         AttrNames {
-            sorted: [&[]; MOST_ATTRIBUTES],
+            sorted: [&[]; MAX_ATTRIBUTES],
             len: 0,
         }
     }
@@ -54,17 +55,17 @@ impl<'a> AttrNames<'a> {
 
     /// Whether there are as many as a tag may have.
     pub fn is_full(&self) -> bool
-        ensures value { result ≡ (length self.now == 256) }
-        ensures bound { length self.now ≤ 256 }
+        ensures value { result ≡ (length self.now == max_attributes) }
+        ensures bound { length self.now ≤ max_attributes }
     {
-        self.len == MOST_ATTRIBUTES
+        self.len == MAX_ATTRIBUTES
     }
 
     /// Adds a name, where it isn't among them; answers whether it was added.
     pub fn insert(&mut self, name: &'a [u8]) -> bool
-        requires { length self.old < 256 }
+        requires { length self.old < max_attributes }
         ensures added { result ≡ not (is_one_of self.old name.now) }
-        ensures known { (x : List ℕ) → is_one_of self.new x ≡ (is_same_name name.now x || is_one_of self.old x) }
+        ensures known { (x : List ℕ) → is_one_of self.new x ≡ (name_same name.now x || is_one_of self.old x) }
         ensures len { length self.new ≡ (if result then length self.old + 1 else length self.old) }
     {
         let len = self.len;

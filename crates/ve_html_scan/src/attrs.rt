@@ -2,6 +2,7 @@
 
 ghost use Rattle.std.specs.Prelude.{◌≡◌, ◌≤◌, ◌<◌, ◌+◌, ◌-◌, ◌++◌, ◌==◌, ◌||◌, ℕ, List, [], not, length, drop, slice_range, slice_index, IfOk};
 ghost use Rattle.std.specs.List.{flat_map, prefix_len};
+ghost use Rattle.ve_base.specs.Limits.{max_attributes};
 ghost use Rattle.model_spelling.specs.Grammar.{is_name_byte, attr_text};
 ghost use Rattle.model_spelling.specs.Reading.{fault, refused, head_at, value_end, attrs_at, attrs_from, tag_close};
 ghost use Rattle.ve_html_scan.specs.Parts.{Finds, AreSpelled, IsQuote, close_text};
@@ -103,7 +104,7 @@ pub fn attrs_end<'a>(
     names: &mut AttrNames<'a>,
 ) -> Result<usize, ScanFault>
     requires { from ≤ length bytes.now }
-    ensures read { Finds (λ to. (attrs_from tag from bytes.now, to)) result (attrs_at 256 tag [] from (drop from bytes.now)) }
+    ensures read { Finds (λ to. (attrs_from tag from bytes.now, to)) result (attrs_at max_attributes tag [] from (drop from bytes.now)) }
     ensures bound { IfOk result (λ to. (from ≤ to) × (to ≤ length bytes.now)) }
     ensures first { IfOk result (λ to. from < to → slice_index bytes.now from < 128) }
     ensures spelled { IfOk result (λ to. AreSpelled (attrs_from tag from bytes.now)) }

@@ -17,7 +17,6 @@ pub use attr_tokens::{AttrToken, AttrTokens};
 pub use body::body_of;
 pub use decode::decoded;
 pub use model_spelling::{ScanFault, ScanWhat};
-pub use names::{is_raw_name, is_void_name};
 pub use scanner::Scanner;
 pub use token::{Span, Token};
 

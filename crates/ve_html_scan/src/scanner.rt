@@ -9,10 +9,10 @@ ghost use Rattle.ve_html_scan.specs.Scanned.{shown_mode};
 use crate::attr_names::AttrNames;
 use crate::attr_tokens::AttrTokens;
 use crate::fault::{fault_at, refusal};
-use crate::names::is_raw_name;
 use crate::runs::{Close, characters_end, closing_at, is_tag_letter};
 use crate::tags::{end_tag, markup, start_tag};
 use crate::token::{Span, Token};
+use ve_kinds::is_raw_name;
 use model_spelling::{ScanFault, ScanWhat};
 use std::marker::Model;
 

@@ -9,8 +9,9 @@ ghost use Rattle.ve_html_scan.specs.Parts.{Finds, start_view, close_text, AreSpe
 use crate::attr_names::AttrNames;
 use crate::attrs::{attrs_end, tag_end};
 use crate::fault::{fault_at, refusal};
-use crate::names::{is_plaintext_name, is_void_name};
+use crate::names::is_plaintext_name;
 use crate::runs::{Close, closing_at, is_tag_letter, name_end, rest};
+use ve_kinds::is_void_name;
 use model_spelling::{ScanFault, ScanWhat};
 
 /// Where the name of an end tag ends.
@@ -42,7 +43,7 @@ pub fn end_tag(bytes: &[u8], tag: usize) -> Result<usize, ScanFault>
     Ok(to)
 }
 
-#[tactic(auto, unfolding(model_spelling::specs::Reading::is_doctype, model_spelling::specs::Grammar::is_same_name))]
+#[tactic(auto, unfolding(model_spelling::specs::Reading::is_doctype, model_spelling::specs::Grammar::name_same))]
 fn is_doctype_word(text: &[u8]) -> bool
     ensures { result ≡ is_doctype text.now }
 {

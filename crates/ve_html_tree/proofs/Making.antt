@@ -1,7 +1,8 @@
 -- The tokens of a forest make its rows.
 use Rattle.std.proofs.Common.{◌≡◌, ℕ, zero, suc, ◌+◌, ◌-◌, Bool, true, false, not, ◌&&◌, List, [], ◌∷◌, ◌++◌, length, refl, sym, ap, ◌∙◌, arith, append_assoc, add-zero}
 use Rattle.std.proofs.lemmas.List.{length-append, append-nil}
-use Rattle.model_spelling.specs.Grammar.{Attr, Start, End, Chars, Raw, Comment, token_text, start_text, end_text, is_void, is_text, is_start, is_verbatim, comment_close}
+use Rattle.model_spelling.specs.Grammar.{Attr, Start, End, Chars, Raw, Comment, token_text, start_text, end_text, is_text, is_start, is_verbatim, comment_close}
+use Rattle.ve_kinds.specs.Tags.{is_void}
 use Rattle.model_spelling.specs.Tokens.{Placed}
 use Rattle.model_spelling.specs.Forest.{Forest, Nothing, Text, Remark, Void, RawElement, Element, starts_with_text, spelling, is_forest}
 use Rattle.model_spelling.specs.Rows.{Row, count, leaf, rows}

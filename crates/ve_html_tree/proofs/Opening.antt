@@ -1,7 +1,8 @@
 -- What start and end tags make of the open elements.
 use Rattle.std.proofs.Common.{◌≡◌, ◌≢◌, ℕ, ◌-◌, Bool, true, false, cond, List, [], ◌∷◌, ◌++◌, map, length, get_or, Result, Ok, Err, OnOk, IfErr, refl, sym, ap, ◌∙◌, subst}
 use Rattle.std.proofs.lemmas.Bool.{ne_eqb}
-use Rattle.model_spelling.specs.Grammar.{is_void, is_same_name}
+use Rattle.model_spelling.specs.Grammar.{name_same}
+use Rattle.ve_kinds.specs.Tags.{is_void}
 use Rattle.model_spelling.specs.Faults.{Open, Mismatched, after_start, after_end}
 use Rattle.ve_html_scan.specs.Shown.{span_of}
 use Rattle.ve_html_scan.specs.declared.token.Token.{Token}
@@ -60,27 +61,27 @@ module _ (ns ms : List Node) (t : Token) (o : Opened) (name : List ℕ) (k : ℕ
 
 -- ---- end tags
 
-same_name : (tag first name : List ℕ) (r : Bool) → r ≡ is_same_name first name → first ≡ tag → is_same_name tag name ≡ r
-same_name tag first name r e f = ap (λ (n : List ℕ). is_same_name n name) (sym f) ∙ sym e
+name_is_same : (tag first name : List ℕ) (r : Bool) → r ≡ name_same first name → first ≡ tag → name_same tag name ≡ r
+name_is_same tag first name r e f = ap (λ (n : List ℕ). name_same n name) (sym f) ∙ sym e
 
-end_closes : (name : List ℕ) (at : ℕ) (o : Open) (os : List Open) → is_void name ≡ false → is_same_name o.name name ≡ true → after_end name at (o ∷ os) ≡ Ok os
+end_closes : (name : List ℕ) (at : ℕ) (o : Open) (os : List Open) → is_void name ≡ false → name_same o.name name ≡ true → after_end name at (o ∷ os) ≡ Ok os
 end_closes name at o os v s = rw (v, s) refl
 
-end_differs : (name : List ℕ) (at : ℕ) (o : Open) (os : List Open) → is_void name ≡ false → is_same_name o.name name ≡ false → after_end name at (o ∷ os) ≡ Err (Mismatched at)
+end_differs : (name : List ℕ) (at : ℕ) (o : Open) (os : List Open) → is_void name ≡ false → name_same o.name name ≡ false → after_end name at (o ∷ os) ≡ Err (Mismatched at)
 end_differs name at o os v s = rw (v, s) refl
 
 -- where m is the node of the innermost element
 module _ (ns ms : List Node) (o : Opened) (m : Node) (l : AreLinked ns o) (ne : o.count ≢ 0) (first : m ≡ get_or ns o.innermost m) where
-  pub close_differs : (name tag : List ℕ) (at : ℕ) (r : Bool) → is_void name ≡ false → r ≡ is_same_name tag name → tag ≡ start_name m.token → r ≡ false → after_end name at (opens ns o) ≡ Err (Mismatched at)
+  pub close_differs : (name tag : List ℕ) (at : ℕ) (r : Bool) → is_void name ≡ false → r ≡ name_same tag name → tag ≡ start_name m.token → r ≡ false → after_end name at (opens ns o) ≡ Err (Mismatched at)
   close_differs name tag at r v e named f =
       ap (after_end name at) (first_opens ns o m ne l first)
-      ∙ end_differs name at (shown_node m) (map (open_at ns) (numbers_from ns (o.count - 1) m.next)) v (same_name (start_name m.token) tag name r e named ∙ f)
+      ∙ end_differs name at (shown_node m) (map (open_at ns) (numbers_from ns (o.count - 1) m.next)) v (name_is_same (start_name m.token) tag name r e named ∙ f)
 
   module _ (from to next : ℕ) (is : ms ≡ ended_at o.innermost from to next ns) where
-    pub close_goes : (name tag : List ℕ) (at : ℕ) (r : Bool) → is_void name ≡ false → r ≡ is_same_name tag name → tag ≡ start_name m.token → r ≡ true → after_end name at (opens ns o) ≡ Ok (opens ms (without o m))
+    pub close_goes : (name tag : List ℕ) (at : ℕ) (r : Bool) → is_void name ≡ false → r ≡ name_same tag name → tag ≡ start_name m.token → r ≡ true → after_end name at (opens ns o) ≡ Ok (opens ms (without o m))
     close_goes name tag at r v e named f =
         ap (after_end name at) (closed_opens ns o m ne l first from to next)
-        ∙ end_closes name at (shown_node m) (opens (ended_at o.innermost from to next ns) (without o m)) v (same_name (start_name m.token) tag name r e named ∙ f)
+        ∙ end_closes name at (shown_node m) (opens (ended_at o.innermost from to next ns) (without o m)) v (name_is_same (start_name m.token) tag name r e named ∙ f)
         ∙ ap (λ (l2 : List Node). Ok (opens l2 (without o m))) (sym is)
 
     pub close_numbers : numbers ns o ≡ o.innermost ∷ numbers ms (without o m)

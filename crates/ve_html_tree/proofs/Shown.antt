@@ -1,4 +1,5 @@
 -- What the nodes show, as nodes are appended and ended.
+use Rattle.ve_kinds.specs.Tags.{is_void}
 use Rattle.ve_html_tree.specs.declared.open.Opened.{Opened}
 use Rattle.ve_html_tree.specs.Opened.{numbers_from, numbers, opens, LinkedFrom, AreLinked}
 use Rattle.ve_html_tree.proofs.Links.{leaf_numbers, leaf_opens, leaf_links}
@@ -105,27 +106,27 @@ abbrev pub link_of : Bool → ℕ → ℕ → ℕ
 link_of v n around = cond v (n + 1) around
 
 start_by : (name : Bor (List ℕ)) (attrs : AttrTokens) (span : Span) (k : g.Token) (from to : ℕ) (rs : List Row) (ks : List ℕ) → Shows (lent.StartTag name attrs span) k
-    → (rs ++ row_of k from to (link_of (g.is_void name.now) (length rs) (around ks)) ∷ [] ≡ (taken k from to (built rs ks)).rows) × ((taken k from to (built rs ks)).open_ ≡ cond (g.is_void name.now) ks (length rs ∷ ks))
+    → (rs ++ row_of k from to (link_of (is_void name.now) (length rs) (around ks)) ∷ [] ≡ (taken k from to (built rs ks)).rows) × ((taken k from to (built rs ks)).open_ ≡ cond (is_void name.now) ks (length rs ∷ ks))
 start_by name attrs span (g.Start m attributes slash) from to rs ks h =
-    (ap (λ (x : List ℕ). rs ++ row_of (g.Start m attributes slash) from to (link_of (g.is_void x) (length rs) (around ks)) ∷ []) h.0, ap (λ (x : List ℕ). cond (g.is_void x) ks (length rs ∷ ks)) (sym h.0))
+    (ap (λ (x : List ℕ). rs ++ row_of (g.Start m attributes slash) from to (link_of (is_void x) (length rs) (around ks)) ∷ []) h.0, ap (λ (x : List ℕ). cond (is_void x) ks (length rs ∷ ks)) (sym h.0))
 start_by name attrs span (g.End m) from to rs ks h = absurd h
 start_by name attrs span (g.Chars x) from to rs ks h = absurd h
 start_by name attrs span (g.Raw x) from to rs ks h = absurd h
 start_by name attrs span (g.Comment x) from to rs ks h = absurd h
 
 module _ {A E : Type 0} (r : Result A E) (new old : List Node) (t : Token) (name : Bor (List ℕ)) (attrs : AttrTokens) (span : Span) (k : g.Token) (rs : List Row) (o : Opened) (is : t ≡ lent.StartTag name attrs span) (h : Shows t k) (s : ShowRows old rs) where
-  start_taken : (rs ++ row_at k t (link_of (g.is_void name.now) (length rs) (around (numbers old o))) ∷ [] ≡ (taken k (span_of t).from (span_of t).to (built rs (numbers old o))).rows)
-      × ((taken k (span_of t).from (span_of t).to (built rs (numbers old o))).open_ ≡ cond (g.is_void name.now) (numbers old o) (length rs ∷ numbers old o))
+  start_taken : (rs ++ row_at k t (link_of (is_void name.now) (length rs) (around (numbers old o))) ∷ [] ≡ (taken k (span_of t).from (span_of t).to (built rs (numbers old o))).rows)
+      × ((taken k (span_of t).from (span_of t).to (built rs (numbers old o))).open_ ≡ cond (is_void name.now) (numbers old o) (length rs ∷ numbers old o))
   start_taken = start_by name attrs span k (span_of t).from (span_of t).to rs (numbers old o) (subst (λ (x : Token). Shows x k) is h)
 
-  pub start_rows : AreLinked old o → HasText t k → OnOk r (new ≡ old ++ node_of t (link_of (g.is_void name.now) (length old) o.innermost) ∷ []) → OnOk r (ShowRows new (taken k (span_of t).from (span_of t).to (built rs (numbers old o))).rows)
+  pub start_rows : AreLinked old o → HasText t k → OnOk r (new ≡ old ++ node_of t (link_of (is_void name.now) (length old) o.innermost) ∷ []) → OnOk r (ShowRows new (taken k (span_of t).from (span_of t).to (built rs (numbers old o))).rows)
   start_rows l w e =
-      let link : link_of (g.is_void name.now) (length old) o.innermost ≡ link_of (g.is_void name.now) (length rs) (around (numbers old o)) =
-      ap (λ (n : ℕ). link_of (g.is_void name.now) n o.innermost) (length_shows old rs s) ∙ ap (link_of (g.is_void name.now) (length rs)) (sym (around_by old (length old) o.count o.innermost l)) in
-      subst (λ (l2 : List Row). OnOk r (ShowRows new l2)) (ap (λ (n : ℕ). rs ++ row_at k t n ∷ []) link ∙ start_taken.0) (pushed_shows r new old t k rs (link_of (g.is_void name.now) (length old) o.innermost) e w h s)
+      let link : link_of (is_void name.now) (length old) o.innermost ≡ link_of (is_void name.now) (length rs) (around (numbers old o)) =
+      ap (λ (n : ℕ). link_of (is_void name.now) n o.innermost) (length_shows old rs s) ∙ ap (link_of (is_void name.now) (length rs)) (sym (around_by old (length old) o.count o.innermost l)) in
+      subst (λ (l2 : List Row). OnOk r (ShowRows new l2)) (ap (λ (n : ℕ). rs ++ row_at k t n ∷ []) link ∙ start_taken.0) (pushed_shows r new old t k rs (link_of (is_void name.now) (length old) o.innermost) e w h s)
 
-  pub start_numbers : (ks : List ℕ) → OnOk r (ks ≡ cond (g.is_void name.now) (numbers old o) (length old ∷ numbers old o)) → OnOk r ((taken k (span_of t).from (span_of t).to (built rs (numbers old o))).open_ ≡ ks)
-  start_numbers ks e = on_ok r e (λ x. start_taken.1 ∙ ap (λ (n : ℕ). cond (g.is_void name.now) (numbers old o) (n ∷ numbers old o)) (sym (length_shows old rs s)) ∙ sym x)
+  pub start_numbers : (ks : List ℕ) → OnOk r (ks ≡ cond (is_void name.now) (numbers old o) (length old ∷ numbers old o)) → OnOk r ((taken k (span_of t).from (span_of t).to (built rs (numbers old o))).open_ ≡ ks)
+  start_numbers ks e = on_ok r e (λ x. start_taken.1 ∙ ap (λ (n : ℕ). cond (is_void name.now) (numbers old o) (n ∷ numbers old o)) (sym (length_shows old rs s)) ∙ sym x)
 
 -- ---- what an end tag does
 

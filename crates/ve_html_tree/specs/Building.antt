@@ -1,6 +1,7 @@
 -- What the tokens that were read have made: rows, of which those of the open elements have no end yet.
 use Rattle.std.specs.Prelude.{ℕ, zero, suc, ◌+◌, ◌-◌, List, [], ◌∷◌, ◌++◌, length, if◌then◌else◌}
-use Rattle.model_spelling.specs.Grammar.{Token, Start, End, Chars, Raw, Comment, is_void}
+use Rattle.model_spelling.specs.Grammar.{Token, Start, End, Chars, Raw, Comment}
+use Rattle.ve_kinds.specs.Tags.{is_void}
 use Rattle.model_spelling.specs.Rows.{Row}
 
 -- the rows, and the numbers of the open elements, the innermost first

@@ -21,7 +21,7 @@ pub enum HtmlFault {
     /// An end tag of a void element, or with no element open.
     #[error("the end tag at byte {at} closes nothing")]
     Stray { at: usize },
-    /// An element within 200 open ones.
+    /// An element within as many open ones as there may be.
     #[error("the element at byte {at} is nested too deep")]
     TooDeep { at: usize },
     #[error("there is no memory for it")]

@@ -1,7 +1,8 @@
 // The elements that are open.
 ghost use Rattle.std.specs.Prelude.{◌≡◌, ◌+◌, ◌++◌, ◌∷◌, [], OnOk, None, length, if◌then◌else◌};
 ghost use Rattle.model_spelling.specs.Faults.{after_start, after_end, fault_at_end};
-ghost use Rattle.model_spelling.specs.Grammar.{is_void, is_same_name};
+ghost use Rattle.model_spelling.specs.Grammar.{name_same};
+ghost use Rattle.ve_kinds.specs.Tags.{is_void};
 ghost use Rattle.ve_html_scan.specs.Shown.{span_of};
 ghost use Rattle.ve_html_tree.specs.Nodes.{HasRoom, node_of, ended_at};
 ghost use Rattle.ve_html_tree.specs.Opened.{start_name, opens, numbers, AreLinked};
@@ -9,7 +10,9 @@ ghost use Rattle.ve_html_tree.specs.Seen.{Goes, Ends};
 
 use crate::node::{end_node, push_node};
 use crate::{HtmlFault, Node};
-use ve_html_scan::{Span, Token, is_void_name};
+use ve_base::MAX_OPEN_ELEMENTS;
+use ve_html_scan::{Span, Token};
+use ve_kinds::is_void_name;
 
 /// The elements that are open: how many, and the number of the innermost one's node. Until an element is closed, its node's `next` is the number of the node of the element around it; so the nodes are all the memory that reading takes.
 #[derive(Clone, Copy)]
@@ -17,9 +20,6 @@ pub struct Opened {
     pub count: usize,
     pub innermost: usize,
 }
-
-/// The most elements that may be open.
-const MOST_OPEN: usize = 200;
 
 /// Appends the node of a start tag with that name, and opens its element, where it isn't void.
 pub fn open_element<'a>(
@@ -37,7 +37,7 @@ pub fn open_element<'a>(
     ensures linked { OnOk result (AreLinked nodes.new.items opened.new) }
 {
     let number = nodes.len();
-    if opened.count == MOST_OPEN {
+    if opened.count == MAX_OPEN_ELEMENTS {
         let at = token.span().from;
         return Err(HtmlFault::TooDeep { at });
     }
@@ -50,9 +50,9 @@ pub fn open_element<'a>(
     Ok(())
 }
 
-#[tactic(auto, unfolding(model_spelling::specs::Grammar::is_same_name))]
+#[tactic(auto, unfolding(model_spelling::specs::Grammar::name_same))]
 fn is_same(name: &str, other: &str) -> bool
-    ensures { result ≡ is_same_name name.now other.now }
+    ensures { result ≡ name_same name.now other.now }
 {
     name == other
 }

@@ -2,8 +2,7 @@
 use Rattle.std.proofs.Common.{◌≡◌, [], ◌∷◌, refl}
 use Rattle.std.specs.Prelude.{codes}
 use Rattle.std.proofs.Math.Utf8.{encode}
-use Rattle.model_spelling.specs.Written.{escaped}
-use Rattle.ve_html_write.specs.Tags.{start_tag}
+use Rattle.model_spelling.specs.Written.{escaped, start_tag}
 
 -- no attributes
 bare : start_tag (codes "p") [] ≡ codes "<p>"

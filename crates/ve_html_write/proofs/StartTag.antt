@@ -5,8 +5,8 @@ use Rattle.std.proofs.lemmas.List.{take_all}
 use Rattle.std.proofs.lemmas.List.Folds.{flat_map-map}
 use Rattle.ve_base.specs.declared.attrs.Attr.{Attr}
 use Rattle.model_spelling.specs.Grammar.{attr_text}
-use Rattle.model_spelling.specs.Written.{canon_attr}
-use Rattle.ve_html_write.specs.Tags.{attr_bytes, attr_written, start_tag}
+use Rattle.model_spelling.specs.Written.{canon_attr, attr_bytes, start_tag}
+use Rattle.ve_html_write.specs.Tags.{attr_written}
 
 start_is : (tag : List ℕ) (attrs : List Attr) → (60 ∷ tag ++ flat_map attr_written attrs) ++ 62 ∷ [] ≡ start_tag tag attrs
 start_is tag attrs =

@@ -2,7 +2,8 @@
 
 ghost use Rattle.std.specs.Prelude.{◌≡◌, ◌++◌, IfOk, OnOk, OnErr};
 ghost use Rattle.model_spelling.specs.Grammar.{end_text};
-ghost use Rattle.ve_html_write.specs.Tags.{attr_written, start_tag};
+ghost use Rattle.ve_html_write.specs.Tags.{attr_written};
+ghost use Rattle.model_spelling.specs.Written.{start_tag};
 
 use crate::escape::push_escaped;
 use std::alloc::Global;

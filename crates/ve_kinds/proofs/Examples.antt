@@ -2,7 +2,7 @@
 use Rattle.std.specs.Prelude.{◌≡◌, true, false, codes, Some, None, refl}
 use Rattle.ve_kinds.specs.declared.kind.Kind.TheVariants.{Td, Ref, Section, P, Li, Ul, Table, AlienBlock}
 use Rattle.ve_kinds.specs.Table.{may_hold}
-use Rattle.ve_kinds.specs.Tags.{kind_of_tag, tag_of_kind, is_one_of, annotation_tags, inline_tags, void_tags}
+use Rattle.ve_kinds.specs.Tags.{kind_of_tag, tag_of_kind, is_one_of, annotation_tags, inline_tags, is_void}
 
 cell : kind_of_tag (codes "td") ≡ Some Td
 cell = refl
@@ -20,7 +20,8 @@ a_break_is_inline = refl
 no_annotation : is_one_of annotation_tags (codes "wbr") ≡ false
 no_annotation = refl
 
-a_rule_is_void : is_one_of void_tags (codes "hr") ≡ true
+a_rule_is_void : is_void (codes "hr") ≡ true
+unfolding is_void
 a_rule_is_void = refl
 
 an_item_in_a_list : may_hold Ul Li ≡ true

@@ -57,6 +57,12 @@ void_tags =
     ∷ codes "hr" ∷ codes "img" ∷ codes "input" ∷ codes "keygen" ∷ codes "link" ∷ codes "meta" ∷ codes "param" ∷ codes "source"
     ∷ codes "track" ∷ codes "wbr" ∷ []
 
--- elements whose text is kept as it stands (the same section)
+unfoldable pub is_void : List ℕ → Bool
+is_void tag = is_one_of void_tags tag
+
+-- elements whose content is their text up to their end tag, in which nothing is decoded (the same section)
 abbrev pub raw_tags : List (List ℕ)
 raw_tags = codes "style" ∷ codes "script" ∷ codes "xmp" ∷ codes "iframe" ∷ codes "noembed" ∷ codes "noframes" ∷ []
+
+unfoldable pub is_raw : List ℕ → Bool
+is_raw tag = is_one_of raw_tags tag

@@ -5,11 +5,18 @@ ghost use Rattle.ve_kinds.specs.Tags as table;
 
 use crate::Kind;
 
+/// Whether the tag with these bytes is among these, with its case.
+fn is_one_of_bytes(tags: &[&str], tag: &[u8]) -> bool
+    ensures { result ≡ list_any (λ one. bytes_eq one.now tag.now) tags.now }
+{
+    tags.iter().any(|one| one.as_bytes() == tag)
+}
+
 /// Whether a tag is among these, with its case.
 fn is_one_of(tags: &[&str], tag: &str) -> bool
     ensures { result ≡ list_any (λ one. bytes_eq one.now tag.now) tags.now }
 {
-    tags.iter().any(|one| *one == tag)
+    is_one_of_bytes(tags, tag.as_bytes())
 }
 
 /// The element kind that a tag spells, with its case.
@@ -121,13 +128,14 @@ pub fn is_inline_tag(tag: &str) -> bool
         )
 }
 
-/// Whether elements of this tag have no content and no end tag.
+/// Whether elements of the tag with these bytes have no content and no end tag.
 ///
 /// WHATWG HTML, "Serializing HTML fragments": the void elements and those that are written like them.
-pub fn is_void_tag(tag: &str) -> bool
-    ensures { result ≡ table.is_one_of table.void_tags tag.now }
+#[tactic(auto, unfolding(crate::specs::Tags::is_void))]
+pub fn is_void_name(tag: &[u8]) -> bool
+    ensures { result ≡ table.is_void tag.now }
 {
-    is_one_of(
+    is_one_of_bytes(
         &[
             "area", "base", "basefont", "bgsound", "br", "col", "embed", "frame", "hr", "img",
             "input", "keygen", "link", "meta", "param", "source", "track", "wbr",
@@ -136,14 +144,29 @@ pub fn is_void_tag(tag: &str) -> bool
     )
 }
 
-/// Whether text in elements of this tag is kept as it stands.
+/// Whether text in elements of the tag with these bytes is kept as it stands.
 ///
 /// WHATWG HTML, "Serializing HTML fragments": the elements whose text is written without replacements.
-pub fn is_raw_tag(tag: &str) -> bool
-    ensures { result ≡ table.is_one_of table.raw_tags tag.now }
+#[tactic(auto, unfolding(crate::specs::Tags::is_raw))]
+pub fn is_raw_name(tag: &[u8]) -> bool
+    ensures { result ≡ table.is_raw tag.now }
 {
-    is_one_of(
+    is_one_of_bytes(
         &["style", "script", "xmp", "iframe", "noembed", "noframes"],
         tag,
     )
+}
+
+/// Whether elements of this tag have no content and no end tag.
+pub fn is_void_tag(tag: &str) -> bool
+    ensures { result ≡ table.is_void tag.now }
+{
+    is_void_name(tag.as_bytes())
+}
+
+/// Whether text in elements of this tag is kept as it stands.
+pub fn is_raw_tag(tag: &str) -> bool
+    ensures { result ≡ table.is_raw tag.now }
+{
+    is_raw_name(tag.as_bytes())
 }

@@ -9,7 +9,8 @@ use Rattle.model_items.specs.Same.{item_same}
 use Rattle.model_items.proofs.SameLemmas.{Means-item_same}
 use Rattle.model_items.proofs.PlainLemmas.{plain_tells_apart}
 use Rattle.model_change.specs.Attributes.{AttrChange, allows}
-use Rattle.model_change.specs.Fault.{or_else, differs_at, first_allows}
+use Rattle.model_change.specs.Fault.{differs_at, first_allows}
+use Rattle.std.specs.Option.{option_or}
 use Rattle.ve_tx.specs.declared.op.Op.{Op}
 use Rattle.ve_tx.specs.declared.op.Op.TheVariants as op
 use Rattle.ve_tx.specs.Operation.{Operation, with_position, unkept}
@@ -135,14 +136,14 @@ module _ (values : List Value) (items : List Item) (at : ℕ) (removed inserted 
       mismatch_in values items at (op.Replace removed inserted ∷ ops) ≡ mismatch_in values items (at + length removed) ops
   mismatch-passed h =
       let none = differs-none values at removed (drop at items) h in
-      ap (λ o. or_else o (mismatch_in values items (at + length removed) ops)) none
+      ap (λ o. option_or o (mismatch_in values items (at + length removed) ops)) none
 
   pub mismatch-found : (k : ℕ) → AreDistinct values → All (CitesWell values) removed → All (CitesWell values) items → at + length removed ≤ length items →
       DiffersFirst removed (drop at items) k → mismatch_in values items at (op.Replace removed inserted ∷ ops) ≡ Some (at + k)
   mismatch-found k distinct p q long h =
       let cut : length (drop at items) ≡ length items - at = length-drop at items in
       let some = differs-some values at k removed (drop at items) distinct p (All-drop at items q) (omega arith) h in
-      ap (λ o. or_else o (mismatch_in values items (at + length removed) ops)) some
+      ap (λ o. option_or o (mismatch_in values items (at + length removed) ops)) some
     where
       All-drop : (n : ℕ) (xs : List Item) → All (CitesWell values) xs → All (CitesWell values) (drop n xs)
       All-drop n xs a k d below =

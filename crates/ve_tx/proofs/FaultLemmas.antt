@@ -11,7 +11,8 @@ use Rattle.model_items.specs.Same.{text_same}
 use Rattle.model_change.specs.declared.tx_fault.TxFault.TheVariants.{BadLength, Mismatch, BadAttr}
 use Rattle.model_change.specs.Attributes.{AttrChange, item_changed}
 use Rattle.model_change.specs.Transaction.{Retain, Replace, Attribute, Transaction, old_length, on_first, may_precede, is_reduced}
-use Rattle.model_change.specs.Fault.{or_else, differs_at, mismatch_at, first_allows, bad_attribute_at, fault_by, fault}
+use Rattle.model_change.specs.Fault.{differs_at, mismatch_at, first_allows, bad_attribute_at, fault_by, fault}
+use Rattle.std.specs.Option.{option_or}
 use Rattle.model_change.proofs.InverseLemmas.{reduced_parts}
 use Rattle.model_change.proofs.AttributeJoin.{allows-other}
 use Rattle.ve_tx.specs.Checked.{old_size, mismatch_in, bad_in, change_of, fault_in}
@@ -84,9 +85,9 @@ module _ (values : List Value) (items : List Item) where
       ap (λ n. mismatch_at (at + n) (by_value values tx) (drop n (drop at (plain_list values items)))) l
       ∙ ap (mismatch_at (at + length removed) (by_value values tx)) (drop-more at (length removed))
       ∙ mismatch-by_value tx (at + length removed) (reduced_parts (Replace (plain_list values removed) (plain_list values inserted)) (by_value values tx) h).2 in
-      ap (λ l. or_else (differs_at at (plain_list values removed) l)
+      ap (λ l. option_or (differs_at at (plain_list values removed) l)
       (mismatch_at (at + length (plain_list values removed)) (by_value values tx) (drop (length (plain_list values removed)) (drop at (plain_list values items))))) here
-      ∙ ap (or_else (differs_at at (plain_list values removed) (plain_list values (drop at items)))) rest
+      ∙ ap (option_or (differs_at at (plain_list values removed) (plain_list values (drop at items)))) rest
   mismatch-by_value (kept.Attribute change ∷ tx) at h =
       let p = reduced_parts (Attribute change) (by_value values tx) h in
       mismatch-on_first change (by_value values tx) at (item_changed change) (drop at (plain_list values items)) p.2 p.1 ∙ mismatch-by_value tx at p.2
@@ -127,14 +128,14 @@ module _ (values : List Value) (items : List Item) where
       let t = by_value values tx in
       let L = plain_list values items in
       ap (λ n. if n == length L
-      then or_else (fault_by (λ at. Mismatch at) (mismatch_at 0 t L)) (fault_by (λ at. BadAttr at) (bad_attribute_at 0 t L))
+      then option_or (fault_by (λ at. Mismatch at) (mismatch_at 0 t L)) (fault_by (λ at. BadAttr at) (bad_attribute_at 0 t L))
       else Some (BadLength (length L) n)) size
       ∙ ap (λ n. if old_size (map bare tx) == n
-      then or_else (fault_by (λ at. Mismatch at) (mismatch_at 0 t L)) (fault_by (λ at. BadAttr at) (bad_attribute_at 0 t L))
+      then option_or (fault_by (λ at. Mismatch at) (mismatch_at 0 t L)) (fault_by (λ at. BadAttr at) (bad_attribute_at 0 t L))
       else Some (BadLength n (old_size (map bare tx)))) long
       ∙ ap (λ o. if old_size (map bare tx) == length items
-      then or_else (fault_by (λ at. Mismatch at) o) (fault_by (λ at. BadAttr at) (bad_attribute_at 0 t L))
+      then option_or (fault_by (λ at. Mismatch at) o) (fault_by (λ at. BadAttr at) (bad_attribute_at 0 t L))
       else Some (BadLength (length items) (old_size (map bare tx)))) m
       ∙ ap (λ o. if old_size (map bare tx) == length items
-      then or_else (fault_by (λ at. Mismatch at) (mismatch_in values items 0 (map bare tx))) (fault_by (λ at. BadAttr at) o)
+      then option_or (fault_by (λ at. Mismatch at) (mismatch_in values items 0 (map bare tx))) (fault_by (λ at. BadAttr at) o)
       else Some (BadLength (length items) (old_size (map bare tx)))) b

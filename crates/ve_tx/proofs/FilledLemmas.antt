@@ -16,7 +16,8 @@ use Rattle.model_items.proofs.SameLemmas.{Means-text_same, Means-option_same}
 use Rattle.model_change.specs.Attributes.{AttrChange, value_of, is_reserved, item_changed, allows, position_kept}
 use Rattle.model_change.specs.Transaction.{Transaction, Retain, Replace, Attribute, old_length, on_first, is_normal}
 use Rattle.model_change.specs.Transaction as model
-use Rattle.model_change.specs.Fault.{or_else, fault_by, mismatch_at, bad_attribute_at, first_allows, Applies}
+use Rattle.model_change.specs.Fault.{fault_by, mismatch_at, bad_attribute_at, first_allows, Applies}
+use Rattle.std.specs.Option.{option_or}
 use Rattle.model_change.specs.Inverse.{filled, first_filled, IsRestorable}
 use Rattle.model_change.proofs.FilledLemmas.{filling_is_neutral}
 use Rattle.model_change.specs.declared.tx_fault.TxFault.{TxFault}
@@ -166,12 +167,12 @@ applies-allowed t items h = by_length (old_length t == length items) h
     none_of None e = refl
     none_of (Some at) e = cc
 
-    by_mismatch : (o : Option TxFault) → or_else o (fault_by (λ at. BadAttr at) (bad_attribute_at 0 t items)) ≡ None → bad_attribute_at 0 t items ≡ None
+    by_mismatch : (o : Option TxFault) → option_or o (fault_by (λ at. BadAttr at) (bad_attribute_at 0 t items)) ≡ None → bad_attribute_at 0 t items ≡ None
     by_mismatch None e = none_of (bad_attribute_at 0 t items) e
     by_mismatch (Some f) e = cc
 
     by_length : (b : Bool) →
-        (if b then or_else (fault_by (λ at. Mismatch at) (mismatch_at 0 t items)) (fault_by (λ at. BadAttr at) (bad_attribute_at 0 t items)) else Some (BadLength (length items) (old_length t))) ≡ None →
+        (if b then option_or (fault_by (λ at. Mismatch at) (mismatch_at 0 t items)) (fault_by (λ at. BadAttr at) (bad_attribute_at 0 t items)) else Some (BadLength (length items) (old_length t))) ≡ None →
         bad_attribute_at 0 t items ≡ None
     by_length true e = by_mismatch (fault_by (λ at. Mismatch at) (mismatch_at 0 t items)) e
     by_length false e = cc

@@ -6,7 +6,8 @@ use Rattle.model_items.specs.Plain.{plain_list}
 use Rattle.model_change.specs.declared.tx_fault.TxFault.{TxFault}
 use Rattle.model_change.specs.declared.tx_fault.TxFault.TheVariants.{BadLength, Mismatch, BadAttr}
 use Rattle.model_change.specs.Attributes.{AttrChange}
-use Rattle.model_change.specs.Fault.{or_else, differs_at, first_allows, fault_by}
+use Rattle.model_change.specs.Fault.{differs_at, first_allows, fault_by}
+use Rattle.std.specs.Option.{option_or}
 use Rattle.ve_tx.specs.declared.op.Op.{Op}
 use Rattle.ve_tx.specs.declared.op.Op.TheVariants.{Retain, Replace, Attribute}
 
@@ -26,7 +27,7 @@ abbrev pub mismatch_in : List Value → List Item → ℕ → List Op → Option
 mismatch_in values items at [] = None
 mismatch_in values items at (Retain count ∷ ops) = mismatch_in values items (at + count) ops
 mismatch_in values items at (Replace removed inserted ∷ ops) =
-    or_else (differs_at at (plain_list values removed) (plain_list values (drop at items))) (mismatch_in values items (at + length removed) ops)
+    option_or (differs_at at (plain_list values removed) (plain_list values (drop at items))) (mismatch_in values items (at + length removed) ops)
 mismatch_in values items at (Attribute name from to ∷ ops) = mismatch_in values items at ops
 
 abbrev pub change_of : List ℕ → Option (List ℕ) → Option (List ℕ) → Option ℕ → AttrChange
@@ -44,5 +45,5 @@ bad_in values items at (Attribute name from to ∷ ops) =
 abbrev pub fault_in : List Value → List Item → List Op → Option TxFault
 fault_in values items ops =
     if old_size ops == length items
-    then or_else (fault_by (λ at. Mismatch at) (mismatch_in values items 0 ops)) (fault_by (λ at. BadAttr at) (bad_in values items 0 ops))
+    then option_or (fault_by (λ at. Mismatch at) (mismatch_in values items 0 ops)) (fault_by (λ at. BadAttr at) (bad_in values items 0 ops))
     else Some (BadLength (length items) (old_size ops))

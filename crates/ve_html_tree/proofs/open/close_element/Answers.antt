@@ -1,4 +1,4 @@
-use Rattle.model_spelling.specs.Grammar.{is_void}
+use Rattle.ve_kinds.specs.Tags.{is_void}
 use Rattle.std.proofs.Common.{ap, ◌∙◌, sym}
 use Rattle.ve_html_tree.proofs.Opening.{close_goes, close_numbers, close_links}
 use Rattle.ve_html_tree.proofs.open.close_element.Goals as goal

@@ -1,6 +1,7 @@
 use Rattle.std.proofs.Common.{◌≡◌, ◌∙◌, sym, ap, arith, not, take, true, false, List, ℕ, ◌||◌, subst, length, Bor}
 use Rattle.std.proofs.lemmas.List.{length-take, length-map}
-use Rattle.model_spelling.specs.Grammar.{is_same_name, is_one_of}
+use Rattle.model_spelling.specs.Grammar.{name_same}
+use Rattle.ve_kinds.specs.Tags.{is_one_of}
 use Rattle.ve_html_scan.specs.Names.{texts, CanBeSearched}
 use Rattle.ve_html_scan.proofs.NameOrder.{not_among, is_among, among_more, searched_more, already}
 use Rattle.ve_html_scan.proofs.attr_names.AttrNames.insert.Goals as goal
@@ -29,4 +30,4 @@ returns-in-Err-clause-added c =
 pub returns-in-Err-clause-known : goal.returns-in-Err-clause-known
 returns-in-Err-clause-known c = λ x.
     let names : List (Bor (List ℕ)) = take c.self.inside.len c.self.inside.sorted in
-    ap (λ (l : List (Bor (List ℕ))). is_one_of (texts l) x) c.put_name.ensures ∙ among_more names c.args.name c.in-Err.place x ∙ ap (λ (l : List (List ℕ)). is_same_name c.args.name.now x || is_one_of l x) c.self.view_is
+    ap (λ (l : List (Bor (List ℕ))). is_one_of (texts l) x) c.put_name.ensures ∙ among_more names c.args.name c.in-Err.place x ∙ ap (λ (l : List (List ℕ)). name_same c.args.name.now x || is_one_of l x) c.self.view_is
