@@ -5,12 +5,7 @@ use Rattle.model_site.specs.Replica.{Replica, performed, all_performed}
 use Rattle.model_world.specs.declared.change.Change.{Change}
 use Rattle.model_world.specs.declared.refusal.Refusal.{Refusal}
 use Rattle.model_world.specs.Edits.{BatchRefusal, change_on, batch_from}
-use Rattle.model_world.specs.World.{reply}
-use Rattle.model_world.specs.Laws.{EachLineIsAnswered, MadeInTurn, BatchIsWhole, WholeIsBatch, BatchStopsAtFirst}
-
-pub each_line_is_answered : EachLineIsAnswered
-each_line_is_answered w [] = refl
-each_line_is_answered w (line ∷ lines) = ap suc (each_line_is_answered (reply w line).1 lines)
+use Rattle.model_world.specs.Laws.{MadeInTurn, BatchIsWhole, WholeIsBatch, BatchStopsAtFirst}
 
 abbrev Batch : Type 0
 Batch = Result (List Transaction) BatchRefusal

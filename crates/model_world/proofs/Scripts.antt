@@ -2,7 +2,7 @@
 use Rattle.std.specs.Prelude.{◌≡◌, ℕ, zero, suc, List, [], ◌∷◌, ◌++◌, codes}
 use Rattle.serde_json.specs.Data.{string}
 use Rattle.serde_json.specs.Written.{compact_text}
-use Rattle.model_world.specs.World.{Closed, output}
+use Rattle.model_world.specs.World.{Closed, output_of}
 
 -- each line with its reply
 abbrev pub Lines : Type 0
@@ -18,7 +18,7 @@ replies_of ((line, reply) ∷ lines) = reply ++ 10 ∷ replies_of lines
 
 -- to a world without a page
 abbrev pub Answered : Lines → Type 0
-Answered lines = output Closed (script_of lines) ≡ replies_of lines
+Answered lines = output_of Closed (script_of lines) ≡ replies_of lines
 
 -- the line that opens a page
 abbrev pub opening : List ℕ → List ℕ

@@ -27,8 +27,9 @@ use Rattle.model_world.specs.Commands.{command}
 use Rattle.model_world.specs.Refusals.{refused_as, undo_refusal, redo_refusal, send_refusal, revoke_refusal, table_refusal, list_refusal}
 use Rattle.model_world.specs.Edits.{BatchRefusal, allowed, change_on, batch_on}
 use Rattle.model_world.specs.Opening.{open_page}
-use Rattle.model_world.specs.Answers.{Outcome, Asked, asked, site_of, replica_of, items_of, told, refused, changed_or_no, performed_or_no, batch_or_no, selected, is_no_end, select_between, next_place, moved_or_no, lower, higher, to_erase, erased_or_no, typing, typed_or_no, items_shown_or_no, node_told, node_or_no, grid_or_no, table_changed, list_changed, sent_or_no, served_or_no, taken_or_no, taken_reply, revoked_or_no}
-use Rattle.model_world.specs.World.{World, Closed, Open, Answer, opened_or_no, on_page, asked_of, answered, answered_if, answer, settled, longest_line}
+use Rattle.model_world.specs.Answers.{Outcome, Asked, asked, site_of, replica_of, site_items, told, refused, changed_or_no, performed_or_no, batch_or_no, selected, is_no_end, select_between, next_place, moved_or_no, lower, higher, to_erase, erased_or_no, typing, typed_or_no, items_shown_or_no, node_told, node_or_no, grid_or_no, table_changed, list_changed, sent_or_no, served_or_no, taken_or_no, taken_reply, revoked_or_no}
+use Rattle.ve_base.specs.Limits.{max_line}
+use Rattle.model_world.specs.World.{World, Closed, Open, Answer, opened_or_no, on_page, asked_of, answered, answered_if, answer, settled}
 use Rattle.model_world.specs.Laws.{is_refusal, RefusalsChangeNothing}
 
 -- a reply with a session is no refusal
@@ -102,18 +103,18 @@ revoke_answers a i = by_seen (nat_lt i (site_of a).seen)
 
 show_answers : (a : Asked) (from to : ℕ) → Answers (items_shown_or_no a from to)
 show_answers a from to =
-    either (nat_lt to from || nat_lt (length (items_of a)) to) (refused (BadRange from to))
-    (told a (reply.Items (slice_range (items_of a) from to))) tt refl
+    either (nat_lt to from || nat_lt (length (site_items a)) to) (refused (BadRange from to))
+    (told a (reply.Items (slice_range (site_items a) from to))) tt refl
 
 node_answers : (a : Asked) (at : ℕ) → Answers (node_or_no a at)
-node_answers a at = either (nat_lt (length (items_of a)) at) (refused (BadOffset at)) (node_told a at) tt refl
+node_answers a at = either (nat_lt (length (site_items a)) at) (refused (BadOffset at)) (node_told a at) tt refl
 
 select_answers : (a : Asked) (anchor focus : ℕ) → Answers (select_between a anchor focus)
 select_answers a anchor focus =
     let done = selected a (between anchor focus) in
-    let second = if is_no_end (items_of a) focus then refused (BadOffset focus) else done in
-    either (is_no_end (items_of a) anchor) (refused (BadOffset anchor)) second tt
-    (either (is_no_end (items_of a) focus) (refused (BadOffset focus)) done tt refl)
+    let second = if is_no_end (site_items a) focus then refused (BadOffset focus) else done in
+    either (is_no_end (site_items a) anchor) (refused (BadOffset anchor)) second tt
+    (either (is_no_end (site_items a) focus) (refused (BadOffset focus)) done tt refl)
 
 asked_answers : (a : Asked) (r : Request) → Answers (asked a r)
 asked_answers a request.Html = refl
@@ -125,21 +126,21 @@ asked_answers a request.Redo = site_answers a (refused_as redo_refusal (redo (si
 asked_answers a request.Send = sent_answers a (refused_as send_refusal (send (site_of a)))
 asked_answers a request.Serve = served_answers (serve_next a.k a.member a.session)
 asked_answers a request.Take = taken_answers (take_next a.k a.member a.session)
-asked_answers a (request.ShowItems from to) = show_answers a from (unwrap_or to (length (items_of a)))
+asked_answers a (request.ShowItems from to) = show_answers a from (unwrap_or to (length (site_items a)))
 asked_answers a (request.At at) = node_answers a at
 asked_answers a (request.Edit change) = performed_answers a (change_on (replica_of a) change)
 asked_answers a (request.Batch cmds) = batch_answers a (batch_on (replica_of a) cmds)
 asked_answers a (request.Select anchor focus) = select_answers a anchor focus
-asked_answers a (request.Move dir by keep) = moved_answers a keep (next_place (items_of a) (replica_of a).selection.focus dir by)
+asked_answers a (request.Move dir by keep) = moved_answers a keep (next_place (site_items a) (replica_of a).selection.focus dir by)
 asked_answers a (request.TypeText text) = typed_answers a (batch_on (replica_of a) (typing (replica_of a).selection text))
 asked_answers a (request.Erase dir by) = erased_answers a (to_erase (replica_of a) dir by)
-asked_answers a (request.Grid at) = grid_answers a (grid (items_of a) at)
-asked_answers a (request.RowIn at row) = table_answers a (row_in (items_of a) at row)
-asked_answers a (request.RowOut at row) = table_answers a (row_out (items_of a) at row)
-asked_answers a (request.ColIn at column) = table_answers a (col_in (items_of a) at column)
-asked_answers a (request.ColOut at column) = table_answers a (col_out (items_of a) at column)
-asked_answers a (request.Indent at) = list_answers a (indent (items_of a) at)
-asked_answers a (request.Outdent at) = list_answers a (outdent (items_of a) at)
+asked_answers a (request.Grid at) = grid_answers a (grid (site_items a) at)
+asked_answers a (request.RowIn at row) = table_answers a (row_in (site_items a) at row)
+asked_answers a (request.RowOut at row) = table_answers a (row_out (site_items a) at row)
+asked_answers a (request.ColIn at column) = table_answers a (col_in (site_items a) at column)
+asked_answers a (request.ColOut at column) = table_answers a (col_out (site_items a) at column)
+asked_answers a (request.Indent at) = list_answers a (indent (site_items a) at)
+asked_answers a (request.Outdent at) = list_answers a (outdent (site_items a) at)
 asked_answers a (request.Revoke entry) = revoke_answers a entry
 
 page_answers : (page : Opened) (r : Outcome) → Answers r → Answers (on_page page r)
@@ -165,7 +166,7 @@ asking_answers w (Err refusal) = tt
 asking_answers w (Ok c) = command_answers w c
 
 line_answers : (w : World) (line : List ℕ) → Answers (answer w line)
-line_answers w line = by_length (nat_lt longest_line (length line))
+line_answers w line = by_length (nat_lt max_line (length line))
   where
     by_length : (b : Bool) → Answers {A = World} (elim b [
       | true ↦ Err (reply.No (LineTooLong (length line)))

@@ -56,8 +56,8 @@ site_of a = a.member.site
 abbrev pub replica_of : Asked → Replica
 replica_of a = a.member.site.replica
 
-abbrev pub items_of : Asked → List PlainItem
-items_of a = a.member.site.replica.items
+abbrev pub site_items : Asked → List PlainItem
+site_items a = a.member.site.replica.items
 
 -- ---- what comes of it
 
@@ -106,8 +106,8 @@ is_no_end items at = nat_lt (length items) at || is_inside_leaf items at
 
 abbrev pub select_between : Asked → ℕ → ℕ → Outcome
 select_between a anchor focus =
-    if is_no_end (items_of a) anchor then refused (BadOffset anchor)
-    else (if is_no_end (items_of a) focus then refused (BadOffset focus)
+    if is_no_end (site_items a) anchor then refused (BadOffset anchor)
+    else (if is_no_end (site_items a) focus then refused (BadOffset focus)
     else selected a (between anchor focus))
 
 abbrev pub edge_or : ℕ → Option ℕ → Result ℕ Refusal
@@ -179,15 +179,15 @@ typed_or_no a (Ok ts) = changed a (with_selection (between (after_text ts) (afte
 
 abbrev pub items_shown_or_no : Asked → ℕ → ℕ → Outcome
 items_shown_or_no a from to =
-    if nat_lt to from || nat_lt (length (items_of a)) to
+    if nat_lt to from || nat_lt (length (site_items a)) to
     then refused (BadRange from to)
-    else told a (reply.Items (slice_range (items_of a) from to))
+    else told a (reply.Items (slice_range (site_items a) from to))
 
 abbrev pub node_told : Asked → ℕ → Outcome
-node_told a at = let node = node_at (items_of a) at in told a (reply.At node.kind node.from node.to (class_at (items_of a) at))
+node_told a at = let node = node_at (site_items a) at in told a (reply.At node.kind node.from node.to (class_at (site_items a) at))
 
 abbrev pub node_or_no : Asked → ℕ → Outcome
-node_or_no a at = if nat_lt (length (items_of a)) at then refused (BadOffset at) else node_told a at
+node_or_no a at = if nat_lt (length (site_items a)) at then refused (BadOffset at) else node_told a at
 
 abbrev pub grid_or_no : Asked → Result Grid TableFault → Outcome
 grid_or_no a (Err fault) = refused (table_refusal fault)
@@ -228,28 +228,28 @@ revoked_or_no a i = elim (nat_lt i (site_of a).seen) [
 -- ---- each request
 
 abbrev pub asked : Asked → Request → Outcome
-asked a request.Html = told a (reply.Page (chars (write a.page (items_of a))))
-asked a request.Tree = told a (reply.Tree (tree_words (tree_of (items_of a))))
-asked a request.Refs = told a (reply.Refs (table (items_of a)))
+asked a request.Html = told a (reply.Page (chars (write a.page (site_items a))))
+asked a request.Tree = told a (reply.Tree (tree_words (tree_of (site_items a))))
+asked a request.Refs = told a (reply.Refs (table (site_items a)))
 asked a request.Caret = told a (reply.Caret (replica_of a).selection.anchor (replica_of a).selection.focus)
 asked a request.Undo = changed_or_no a (refused_as undo_refusal (undo (site_of a)))
 asked a request.Redo = changed_or_no a (refused_as redo_refusal (redo (site_of a)))
 asked a request.Send = sent_or_no a (refused_as send_refusal (send (site_of a)))
 asked a request.Serve = served_or_no (serve_next a.k a.member a.session)
 asked a request.Take = taken_or_no (take_next a.k a.member a.session)
-asked a (request.ShowItems from to) = items_shown_or_no a from (unwrap_or to (length (items_of a)))
+asked a (request.ShowItems from to) = items_shown_or_no a from (unwrap_or to (length (site_items a)))
 asked a (request.At at) = node_or_no a at
 asked a (request.Edit change) = performed_or_no a (change_on (replica_of a) change)
 asked a (request.Batch cmds) = batch_or_no a (batch_on (replica_of a) cmds)
 asked a (request.Select anchor focus) = select_between a anchor focus
-asked a (request.Move dir by keep) = moved_or_no a keep (next_place (items_of a) (replica_of a).selection.focus dir by)
+asked a (request.Move dir by keep) = moved_or_no a keep (next_place (site_items a) (replica_of a).selection.focus dir by)
 asked a (request.TypeText text) = typed_or_no a (batch_on (replica_of a) (typing (replica_of a).selection text))
 asked a (request.Erase dir by) = erased_or_no a (to_erase (replica_of a) dir by)
-asked a (request.Grid at) = grid_or_no a (grid (items_of a) at)
-asked a (request.RowIn at row) = table_changed a (row_in (items_of a) at row)
-asked a (request.RowOut at row) = table_changed a (row_out (items_of a) at row)
-asked a (request.ColIn at column) = table_changed a (col_in (items_of a) at column)
-asked a (request.ColOut at column) = table_changed a (col_out (items_of a) at column)
-asked a (request.Indent at) = list_changed a (indent (items_of a) at)
-asked a (request.Outdent at) = list_changed a (outdent (items_of a) at)
+asked a (request.Grid at) = grid_or_no a (grid (site_items a) at)
+asked a (request.RowIn at row) = table_changed a (row_in (site_items a) at row)
+asked a (request.RowOut at row) = table_changed a (row_out (site_items a) at row)
+asked a (request.ColIn at column) = table_changed a (col_in (site_items a) at column)
+asked a (request.ColOut at column) = table_changed a (col_out (site_items a) at column)
+asked a (request.Indent at) = list_changed a (indent (site_items a) at)
+asked a (request.Outdent at) = list_changed a (outdent (site_items a) at)
 asked a (request.Revoke entry) = revoked_or_no a entry

@@ -1,6 +1,7 @@
 -- Attributes, marks and kinds, as a line writes them.
 use Rattle.std.specs.Prelude.{ℕ, Bool, true, not, ◌&&◌, ◌||◌, nat_le, List, [], ◌∷◌, length, codes, Option, Some, option_and_then}
 use Rattle.std.specs.List.{list_any}
+use Rattle.ve_base.specs.Limits.{max_marks}
 use Rattle.serde_json.specs.Data.{Data}
 use Rattle.serde_json.specs.Find.{as_str, as_object}
 use Rattle.ve_kinds.specs.declared.kind.Kind.{Kind}
@@ -58,9 +59,9 @@ mark_in json = do
   attrs ← attrs_in pair.1
   such_that is_mark (Some (record { tag = tag; attrs = attrs }))
 
--- at most 64 marks
+-- no more marks than an item may have
 abbrev pub marks_in : Data → Option (List Mark)
-marks_in json = such_that (λ marks. nat_le (length marks) 64) (list_in mark_in json)
+marks_in json = such_that (λ marks. nat_le (length marks) max_marks) (list_in mark_in json)
 
 -- ---- kinds
 

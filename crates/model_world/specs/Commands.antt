@@ -1,6 +1,7 @@
 -- What a line of a script asks.
 use Rattle.std.specs.Prelude.{ℕ, ◌&&◌, nat_le, false, if◌then◌else◌, List, [], ◌∷◌, length, map, codes, Bool, Option, Some, None, option_map, Result, Ok, Err}
 use Rattle.std.specs.Str.{is_utf8}
+use Rattle.ve_base.specs.Limits.{max_batch, max_sites}
 use Rattle.serde_json.specs.Data.{Data, object, Members}
 use Rattle.serde_json.specs.Find.{as_bool}
 use Rattle.serde_json.specs.Read.{read}
@@ -49,7 +50,7 @@ show_read members = do
   Ok (request.ShowItems from to)
 
 abbrev pub is_batch : List Change → Bool
-is_batch cmds = nat_le 1 (length cmds) && nat_le (length cmds) 1000
+is_batch cmds = nat_le 1 (length cmds) && nat_le (length cmds) max_batch
 
 abbrev pub batch_read : Reader Request
 batch_read members = do
@@ -132,7 +133,7 @@ ask_read read members = do
 abbrev pub open_read : Reader Command
 open_read members = do
   page ← needed field.Page source_in members
-  sites ← defaulted field.Sites 1 (number_between 1 8) members
+  sites ← defaulted field.Sites 1 (number_between 1 max_sites) members
   Ok (OpenPage page sites)
 
 abbrev pub commands : List (List ℕ × Reader Command)
@@ -155,9 +156,9 @@ command_or_refusal None = Err BadJson
 command_or_refusal (Some json) = command_in json
 
 -- a line as JSON; one that is not UTF-8 is none
-abbrev pub json_in : List ℕ → Option Data
-json_in line = if is_utf8 line then read line else None
+abbrev pub line_json : List ℕ → Option Data
+line_json line = if is_utf8 line then read line else None
 
 -- what a line asks, or why it asks nothing
 abbrev pub command : List ℕ → Result Command Refusal
-command line = command_or_refusal (json_in line)
+command line = command_or_refusal (line_json line)

@@ -1,5 +1,5 @@
 -- Items as a line writes them: as a reply shows them, with a text for its characters. They have no origin and are not generated.
-use Rattle.std.specs.Prelude.{ℕ, Bool, true, false, not, ◌||◌, if◌then◌else◌, List, [], ◌∷◌, ◌++◌, map, codes, Option, Some, None, option_map, option_and_then}
+use Rattle.std.specs.Prelude.{ℕ, Bool, flat_map, false, not, ◌||◌, if◌then◌else◌, List, [], ◌∷◌, codes, Option, Some, None, option_map, option_and_then}
 use Rattle.serde_json.specs.Data.{Data, string, array, object, Members}
 use Rattle.serde_json.specs.Find.{get_member}
 use Rattle.ve_kinds.specs.declared.kind.Kind.{Kind}
@@ -7,8 +7,10 @@ use Rattle.ve_kinds.specs.Table.{is_leaf, is_inline_leaf, is_content_branch}
 use Rattle.ve_base.specs.declared.attrs.Attr.{Attr}
 use Rattle.ve_base.specs.declared.marks.Mark.{Mark}
 use Rattle.model_items.specs.declared.plain_item.PlainItem.{PlainItem}
-use Rattle.model_items.specs.declared.plain_item.PlainItem.TheVariants.{Char, Opening, Closing}
+use Rattle.model_items.specs.declared.plain_item.PlainItem.TheVariants.{Opening, Closing}
 use Rattle.model_page.specs.Elements.{is_white}
+use Rattle.model_page_write.specs.Written.{is_empty}
+use Rattle.model_edit.specs.Insert.{text_pieces}
 use Rattle.model_world.specs.Values.{◌>>=◌, such_that, text_in, list_in, pair_in, member_or}
 use Rattle.model_world.specs.Attributes.{free_attrs_in, marks_in, element_in}
 
@@ -17,13 +19,9 @@ use Rattle.model_world.specs.Attributes.{free_attrs_in, marks_in, element_in}
 abbrev pub white_in : Data → Option (List ℕ)
 white_in json = such_that is_white (text_in json)
 
-abbrev pub has_none : {A : Type 0} → List A → Bool
-has_none [] = true
-has_none (x ∷ xs) = false
-
 -- marks stand on inline leaves alone, and whitespace before everything else
 abbrev pub may_open : Kind → List Mark → List ℕ → Bool
-may_open kind marks pre = if is_inline_leaf kind then has_none pre else has_none marks
+may_open kind marks pre = if is_inline_leaf kind then is_empty pre else is_empty marks
 
 abbrev pub opening_with : Kind → List Attr → List Mark → List ℕ → Option PlainItem
 opening_with kind attrs marks pre =
@@ -41,7 +39,7 @@ opening_in members kind = do
 
 -- no whitespace stands before the closing of a leaf or of a content branch
 abbrev pub may_close : Kind → List ℕ → Bool
-may_close kind pre = has_none pre || not (is_leaf kind || is_content_branch kind)
+may_close kind pre = is_empty pre || not (is_leaf kind || is_content_branch kind)
 
 abbrev pub closing_in : Members → Kind → Option PlainItem
 closing_in members kind = do
@@ -55,30 +53,27 @@ bracket_in members None closed = option_and_then (closing_in members) (option_an
 
 -- ---- characters
 
-abbrev pub with_marks : List Mark → List ℕ → List PlainItem
-with_marks marks text = map (λ c. Char c marks) text
-
 -- `[text, marks]`
 abbrev pub marked_text_in : Data → Option (List PlainItem)
 marked_text_in json = do
   pair ← pair_in json
   text ← text_in pair.0
   marks ← marks_in pair.1
-  Some (with_marks marks text)
+  Some (text_pieces marks text)
 
 -- ---- items
 
 -- a text, a text with marks, or a bracket
 abbrev pub items_in : Data → Option (List PlainItem)
-items_in (string bytes) = option_map (with_marks []) (text_in (string bytes))
+items_in (string bytes) = option_map (text_pieces []) (text_in (string bytes))
 items_in (array items) = marked_text_in (array items)
 items_in (object members) =
     option_map (λ one. one ∷ []) (bracket_in members (get_member (codes "open") members) (get_member (codes "close") members))
 items_in _ = None
 
-abbrev pub joined : {A : Type 0} → List (List A) → List A
-joined [] = []
-joined (xs ∷ more) = xs ++ joined more
+-- one list of all their items
+abbrev pub one_list : List (List PlainItem) → List PlainItem
+one_list lists = flat_map (λ items. items) lists
 
 abbrev pub all_items_in : Data → Option (List PlainItem)
-all_items_in json = option_map joined (list_in items_in json)
+all_items_in json = option_map one_list (list_in items_in json)

@@ -1,12 +1,12 @@
 -- The laws of the plain machine: refusals change nothing, and a batch is all of its changes or none.
-use Rattle.std.specs.Prelude.{◌≡◌, ℕ, Bool, true, false, List, [], ◌∷◌, length, take, slice_get, Some, Ok, Err}
+use Rattle.std.specs.Prelude.{◌≡◌, ℕ, Bool, true, false, List, [], ◌∷◌, take, slice_get, Some, Ok, Err}
 use Rattle.model_change.specs.Transaction.{Transaction}
 use Rattle.model_site.specs.Replica.{Replica, performed, all_performed}
 use Rattle.model_world.specs.declared.change.Change.{Change}
 use Rattle.model_world.specs.declared.reply.Reply.{Reply}
 use Rattle.model_world.specs.declared.reply.Reply.TheVariants.{No, NoBatch}
 use Rattle.model_world.specs.Edits.{BatchRefusal, change_on, batch_on}
-use Rattle.model_world.specs.World.{World, reply, replies}
+use Rattle.model_world.specs.World.{World, reply}
 
 abbrev pub is_refusal : Reply → Bool
 is_refusal (No refusal) = true
@@ -16,11 +16,6 @@ is_refusal _ = false
 -- Where the reply to a line is a refusal, the world stays as it is, whatever the world and the line.
 abbrev pub RefusalsChangeNothing : Type 0
 RefusalsChangeNothing = (w : World) (line : List ℕ) → is_refusal (reply w line).0 ≡ true → (reply w line).1 ≡ w
-
--- ---- scripts
-
-abbrev pub EachLineIsAnswered : Type 0
-EachLineIsAnswered = (w : World) (lines : List (List ℕ)) → length (replies w lines) ≡ length lines
 
 -- ---- batches
 

@@ -35,24 +35,24 @@ op_in json = do
   op_by members (get_member (codes "retain") members) (get_member (codes "remove") members)
 
 -- The normal form, as of transactions: no two retains or removals are neighbours, and the attributes set at one place have different names and are followed by a retain.
-abbrev pub may_precede : OpWords → List OpWords → Bool
-may_precede (Retain count) (Retain other ∷ ops) = false
-may_precede (Retain count) _ = true
-may_precede (Remove count insert) (Remove other others ∷ ops) = false
-may_precede (Remove count insert) _ = true
-may_precede (Attr name to) (Retain count ∷ ops) = true
-may_precede (Attr name to) (Attr other value ∷ ops) = not (text_same name other) && may_precede (Attr name to) ops
-may_precede (Attr name to) _ = false
+abbrev pub word_may_precede : OpWords → List OpWords → Bool
+word_may_precede (Retain count) (Retain other ∷ ops) = false
+word_may_precede (Retain count) _ = true
+word_may_precede (Remove count insert) (Remove other others ∷ ops) = false
+word_may_precede (Remove count insert) _ = true
+word_may_precede (Attr name to) (Retain count ∷ ops) = true
+word_may_precede (Attr name to) (Attr other value ∷ ops) = not (text_same name other) && word_may_precede (Attr name to) ops
+word_may_precede (Attr name to) _ = false
 
 -- it passes, removes or inserts something, or sets an attribute
-abbrev pub is_something : OpWords → Bool
-is_something (Retain count) = nat_lt 0 count
-is_something (Remove count insert) = nat_lt 0 (count + length insert)
-is_something (Attr name to) = true
+abbrev pub word_is_something : OpWords → Bool
+word_is_something (Retain count) = nat_lt 0 count
+word_is_something (Remove count insert) = nat_lt 0 (count + length insert)
+word_is_something (Attr name to) = true
 
-abbrev pub is_normal : List OpWords → Bool
-is_normal [] = true
-is_normal (op ∷ ops) = is_something op && (may_precede op ops && is_normal ops)
+abbrev pub words_are_normal : List OpWords → Bool
+words_are_normal [] = true
+words_are_normal (op ∷ ops) = word_is_something op && (word_may_precede op ops && words_are_normal ops)
 
 abbrev pub ops_in : Data → Option (List OpWords)
-ops_in json = such_that is_normal (list_in op_in json)
+ops_in json = such_that words_are_normal (list_in op_in json)

@@ -21,32 +21,32 @@ use Rattle.model_world.specs.Names.{kind_name}
 
 -- ---- lists, texts and numbers
 
-abbrev pub items_of : List Data → Items
-items_of [] = no_items
-items_of (one ∷ more) = item one (items_of more)
+abbrev pub json_items : List Data → Items
+json_items [] = no_items
+json_items (one ∷ more) = item one (json_items more)
 
-abbrev pub list_of : List Data → Data
-list_of values = array (items_of values)
+abbrev pub json_list : List Data → Data
+json_list values = array (json_items values)
 
-abbrev pub text_of : List ℕ → Data
-text_of text = string (encode_utf8_all text)
+abbrev pub json_text : List ℕ → Data
+json_text text = string (encode_utf8_all text)
 
-abbrev pub number_of : ℕ → Data
-number_of n = number (unsigned n)
+abbrev pub json_number : ℕ → Data
+json_number n = number (unsigned n)
 
 -- ---- attributes, marks and references
 
 abbrev pub attr_shown : Attr → Data
-attr_shown a = list_of (text_of a.name ∷ text_of a.value ∷ [])
+attr_shown a = json_list (json_text a.name ∷ json_text a.value ∷ [])
 
 abbrev pub attrs_shown : List Attr → Data
-attrs_shown attrs = list_of (map attr_shown attrs)
+attrs_shown attrs = json_list (map attr_shown attrs)
 
 abbrev pub mark_shown : Mark → Data
-mark_shown m = list_of (text_of m.tag ∷ attrs_shown m.attrs ∷ [])
+mark_shown m = json_list (json_text m.tag ∷ attrs_shown m.attrs ∷ [])
 
 abbrev pub marks_shown : List Mark → Data
-marks_shown marks = list_of (map mark_shown marks)
+marks_shown marks = json_list (map mark_shown marks)
 
 -- `n:` and the name, or `a:` and the number
 abbrev pub key_text : Key → List ℕ
@@ -54,13 +54,13 @@ key_text (Named name) = codes "n:" ++ name
 key_text (Auto n) = codes "a:" ++ decimal n
 
 abbrev pub key_shown : RefKey → Data
-key_shown key = list_of (text_of key.group ∷ text_of (key_text key.key) ∷ [])
+key_shown key = json_list (json_text key.group ∷ json_text (key_text key.key) ∷ [])
 
 -- ---- brackets: each member but the first stands only where it is not empty; members stand in the order of their names
 
 abbrev pub with_text : List ℕ → List ℕ → Members → Members
 with_text name [] members = members
-with_text name (c ∷ cs) members = put name (text_of (c ∷ cs)) members
+with_text name (c ∷ cs) members = put name (json_text (c ∷ cs)) members
 
 abbrev pub with_attrs : List Attr → Members → Members
 with_attrs [] members = members
@@ -76,7 +76,7 @@ with_flag name true members = put name (boolean true) members
 
 abbrev pub with_origin : Option ℕ → Members → Members
 with_origin None members = members
-with_origin (Some k) members = put (codes "origin") (number_of k) members
+with_origin (Some k) members = put (codes "origin") (json_number k) members
 
 abbrev pub with_reference : Option RefKey → Members → Members
 with_reference None members = members
@@ -84,7 +84,7 @@ with_reference (Some key) members = put (codes "ref") (key_shown key) members
 
 abbrev pub opening_shown : Kind → Head → List Mark → List ℕ → Option ℕ → Bool → Members
 opening_shown kind head marks pre origin generated =
-    put (codes "open") (text_of (kind_name kind))
+    put (codes "open") (json_text (kind_name kind))
     (with_attrs head.attrs
     (with_flag (codes "gen") generated
     (with_marks marks
@@ -96,14 +96,14 @@ opening_shown kind head marks pre origin generated =
     (with_text (codes "tag") head.tag no_members)))))))))
 
 abbrev pub closing_shown : Kind → List ℕ → Members
-closing_shown kind pre = put (codes "close") (text_of (kind_name kind)) (with_text (codes "pre") pre no_members)
+closing_shown kind pre = put (codes "close") (json_text (kind_name kind)) (with_text (codes "pre") pre no_members)
 
 -- ---- items
 
 -- a text, with its marks where there are some
 abbrev pub run_shown : List Mark → List ℕ → Data
-run_shown [] text = text_of text
-run_shown (m ∷ marks) text = list_of (text_of text ∷ marks_shown (m ∷ marks) ∷ [])
+run_shown [] text = json_text text
+run_shown (m ∷ marks) text = json_list (json_text text ∷ marks_shown (m ∷ marks) ∷ [])
 
 -- the items from a place on: a run of characters with equal marks and what follows it, or what begins with no character
 pub data Shown : Type 0 where
@@ -130,29 +130,29 @@ shown (Opening kind head marks pre origin generated ∷ items) =
 shown (Closing kind pre ∷ items) = Apart (object (closing_shown kind pre) ∷ all_shown (shown items))
 
 abbrev pub items_shown : List PlainItem → Data
-items_shown items = list_of (all_shown (shown items))
+items_shown items = json_list (all_shown (shown items))
 
 -- ---- references and cells
 
 abbrev pub place_or_null : Option ℕ → Data
 place_or_null None = null
-place_or_null (Some at) = number_of at
+place_or_null (Some at) = json_number at
 
 -- `[place, group, key, number, carrier, body]`
 abbrev pub row_shown : RefRow → Data
 row_shown r =
-    list_of
-    (number_of r.at
-    ∷ text_of r.key.group
-    ∷ text_of (key_text r.key.key)
-    ∷ number_of r.number
+    json_list
+    (json_number r.at
+    ∷ json_text r.key.group
+    ∷ json_text (key_text r.key.key)
+    ∷ json_number r.number
     ∷ boolean r.carrier
     ∷ place_or_null r.body_at
     ∷ [])
 
 -- `[place, row, column, rows, columns]`
 abbrev pub cell_shown : GridCell → Data
-cell_shown c = list_of (number_of c.at ∷ number_of c.row ∷ number_of c.column ∷ number_of c.rows ∷ number_of c.columns ∷ [])
+cell_shown c = json_list (json_number c.at ∷ json_number c.row ∷ json_number c.column ∷ json_number c.rows ∷ json_number c.columns ∷ [])
 
 -- ---- trees
 

@@ -9,7 +9,7 @@ use Rattle.model_world.specs.declared.refusal.Refusal.TheVariants as refusal
 use Rattle.model_world.specs.declared.reply.Reply.{Reply}
 use Rattle.model_world.specs.declared.reply.Reply.TheVariants as reply
 use Rattle.model_world.specs.Names.{field_name, kind_name, class_name, html_word}
-use Rattle.model_world.specs.Shown.{text_of, list_of, items_shown, row_shown, cell_shown}
+use Rattle.model_world.specs.Shown.{json_text, json_list, items_shown, row_shown, cell_shown}
 
 -- each number after a space
 abbrev pub numbers : List ℕ → List ℕ
@@ -83,11 +83,11 @@ ok_json json = codes "ok " ++ compact_text json
 
 abbrev pub reply_text : Reply → List ℕ
 reply_text (reply.Length count) = with_numbers (codes "ok") (count ∷ [])
-reply_text (reply.Page page) = ok_json (text_of page)
+reply_text (reply.Page page) = ok_json (json_text page)
 reply_text (reply.Items items) = ok_json (items_shown items)
 reply_text (reply.Tree words) = codes "ok" ++ flat_map tree_word words
 reply_text (reply.At kind from to class) = codes "ok " ++ (with_numbers (kind_name kind) (from ∷ to ∷ []) ++ 32 ∷ class_name class)
-reply_text (reply.Refs rows) = ok_json (list_of (map row_shown rows))
+reply_text (reply.Refs rows) = ok_json (json_list (map row_shown rows))
 reply_text (reply.Caret anchor focus) = with_numbers (codes "ok") (anchor ∷ focus ∷ [])
 reply_text (reply.Sent entries) = with_numbers (codes "ok") (entries ∷ [])
 reply_text (reply.Served accepted total clash) =
@@ -96,6 +96,6 @@ reply_text (reply.TookForeign entries dropped) =
     with_numbers (codes "ok foreign") (entries ∷ []) ++ with_numbers (codes " dropped") (dropped ∷ [])
 reply_text (reply.TookAck accepted) = with_numbers (codes "ok ack") (accepted ∷ [])
 reply_text (reply.Grid rows columns cells) =
-    with_numbers (codes "ok") (rows ∷ columns ∷ []) ++ 32 ∷ compact_text (list_of (map cell_shown cells))
+    with_numbers (codes "ok") (rows ∷ columns ∷ []) ++ 32 ∷ compact_text (json_list (map cell_shown cells))
 reply_text (reply.No refusal) = codes "no " ++ refusal_text refusal
 reply_text (reply.NoBatch at refusal) = with_numbers (codes "no batch") (at ∷ []) ++ 32 ∷ refusal_text refusal

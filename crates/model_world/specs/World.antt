@@ -1,5 +1,7 @@
 -- The world, the reply to a line, and the output of a script.
-use Rattle.std.specs.Prelude.{ℕ, ◌==◌, nat_lt, true, false, List, [], ◌∷◌, ◌++◌, length, slice_get, Option, Some, None, Result, Ok, Err}
+use Rattle.std.specs.Prelude.{ℕ, nat_lt, true, false, List, length, slice_get, Option, Some, None, Result, Ok, Err}
+use Rattle.ve_base.specs.Limits.{max_line}
+use Rattle.model_script.specs.Output.{Meaning, state_after, output}
 use Rattle.model_page.specs.PageItems.{Opened}
 use Rattle.model_site.specs.Session.{Session, Member}
 use Rattle.model_world.specs.declared.command.Request.{Request}
@@ -47,12 +49,8 @@ abbrev pub answered_if : World → Result Command Refusal → Answer
 answered_if w (Err refusal) = Err (No refusal)
 answered_if w (Ok command) = answered w command
 
--- how long a line may be, in bytes
-abbrev pub longest_line : ℕ
-longest_line = 8388608
-
 abbrev pub answer : World → List ℕ → Answer
-answer w line = elim (nat_lt longest_line (length line)) [
+answer w line = elim (nat_lt max_line (length line)) [
   | true ↦ Err (No (LineTooLong (length line)))
   | false ↦ answered_if w (command line)
 ]
@@ -68,30 +66,14 @@ reply w line = settled w (answer w line)
 
 -- ---- scripts
 
--- the replies to these lines, in order
-abbrev pub replies : World → List (List ℕ) → List Reply
-replies w [] = []
-replies w (line ∷ lines) = let r = reply w line in r.0 ∷ replies r.1 lines
+-- The plain machine: the reply to a line and the world after it. It links no nodes, so it counts no steps.
+abbrev pub meaning : Meaning World Reply
+meaning = record { reply = λ w line. (reply w line).0; next = λ w line. (reply w line).1; cost = λ w line. 0 }
 
--- the world after them
+-- the world after these lines
 abbrev pub world_after : World → List (List ℕ) → World
-world_after w [] = w
-world_after w (line ∷ lines) = world_after (reply w line).1 lines
+world_after w lines = state_after meaning w lines
 
-abbrev pub onto_first : ℕ → List (List ℕ) → List (List ℕ)
-onto_first b [] = (b ∷ []) ∷ []
-onto_first b (line ∷ lines) = (b ∷ line) ∷ lines
-
--- a script is cut at its newlines, and a rest that is not empty is a line
-abbrev pub lines_of : List ℕ → List (List ℕ)
-lines_of [] = []
-lines_of (b ∷ bs) = elim (b == 10) [ true ↦ [] ∷ lines_of bs | false ↦ onto_first b (lines_of bs) ]
-
--- each reply as a line
-abbrev pub reply_lines : List Reply → List ℕ
-reply_lines [] = []
-reply_lines (r ∷ rs) = reply_text r ++ 10 ∷ reply_lines rs
-
--- what is written for a script
-abbrev pub output : World → List ℕ → List ℕ
-output w script = reply_lines (replies w (lines_of script))
+-- what is written for a script: each reply as a line
+abbrev pub output_of : World → List ℕ → List ℕ
+output_of w script = output reply_text meaning w script

@@ -1,16 +1,10 @@
 // The laws of the plain machine: they speak of the definitions alone.
-ghost use Rattle.model_world.specs.Laws.{RefusalsChangeNothing, EachLineIsAnswered, BatchIsWhole, WholeIsBatch, BatchStopsAtFirst};
+ghost use Rattle.model_world.specs.Laws.{RefusalsChangeNothing, BatchIsWhole, WholeIsBatch, BatchStopsAtFirst};
 
 /// A refusal leaves the world as it was: page, sites, lists, stores, selections, entries and queues.
 #[tactic(auto, using(crate::proofs::Unchanged::refusals_change_nothing))]
 pub fn refusals_change_nothing()
     ensures { RefusalsChangeNothing }
-{}
-
-/// Each line has one reply.
-#[tactic(auto, using(crate::proofs::BatchLemmas::each_line_is_answered))]
-pub fn each_line_is_answered()
-    ensures { EachLineIsAnswered }
 {}
 
 /// A batch is all of its changes, each made on what those before it make, or none: then it is refused at the first change that is refused there, for the

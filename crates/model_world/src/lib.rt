@@ -25,7 +25,7 @@ mod tests;
 pub use change::{Change, ChangeList, OpWordList, OpWords, TextMarks};
 pub use command::{Command, Request};
 pub use field::Field;
-pub use laws::{batches_are_whole, each_line_is_answered, refusals_change_nothing};
+pub use laws::{batches_are_whole, refusals_change_nothing};
 pub use refusal::{HtmlWord, Refusal};
 pub use reply::Reply;
 pub use shown::{GridCells, PlainList, TreeWord, TreeWords};

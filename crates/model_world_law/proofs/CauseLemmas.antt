@@ -211,31 +211,31 @@ first_changed f (item ∷ items) = refl
 
 -- after attributes of the first item were set, which a retain follows
 mutual
-  ops_match : (ops : List OpWords) (at : ℕ) (items : List PlainItem) → operations.is_normal ops ≡ true → mismatch_at at (ops_on ops items) items ≡ None
+  ops_match : (ops : List OpWords) (at : ℕ) (items : List PlainItem) → operations.words_are_normal ops ≡ true → mismatch_at at (ops_on ops items) items ≡ None
   ops_match [] at items h = refl
   ops_match (op.Retain count ∷ ops) at items h =
-      let p = and_parts (operations.is_something (op.Retain count)) (operations.may_precede (op.Retain count) ops && operations.is_normal ops) h in
-      ops_match ops (at + count) (drop count items) (and_parts (operations.may_precede (op.Retain count) ops) (operations.is_normal ops) p.1).1
+      let p = and_parts (operations.word_is_something (op.Retain count)) (operations.word_may_precede (op.Retain count) ops && operations.words_are_normal ops) h in
+      ops_match ops (at + count) (drop count items) (and_parts (operations.word_may_precede (op.Retain count) ops) (operations.words_are_normal ops) p.1).1
   ops_match (op.Remove count insert ∷ ops) at items h =
-      let p = and_parts (operations.is_something (op.Remove count insert)) (operations.may_precede (op.Remove count insert) ops && operations.is_normal ops) h in
+      let p = and_parts (operations.word_is_something (op.Remove count insert)) (operations.word_may_precede (op.Remove count insert) ops && operations.words_are_normal ops) h in
       ap (λ o. option_or o (mismatch_at (at + length (take count items)) (ops_on ops (drop count items)) (drop (length (take count items)) items))) (same_prefix count at items)
       ∙ ap (λ rest. mismatch_at (at + length (take count items)) (ops_on ops (drop count items)) rest) (take_gone count items)
-      ∙ ops_match ops (at + length (take count items)) (drop count items) (and_parts (operations.may_precede (op.Remove count insert) ops) (operations.is_normal ops) p.1).1
+      ∙ ops_match ops (at + length (take count items)) (drop count items) (and_parts (operations.word_may_precede (op.Remove count insert) ops) (operations.words_are_normal ops) p.1).1
   ops_match (op.Attr name to ∷ ops) at items h =
-      let p = and_parts (operations.may_precede (op.Attr name to) ops) (operations.is_normal ops) h in
+      let p = and_parts (operations.word_may_precede (op.Attr name to) ops) (operations.words_are_normal ops) h in
       after_match name to ops at items (on_first (item_changed (setting name to items)) items) p.0 p.1 (first_changed (item_changed (setting name to items)) items)
 
-  after_match : (name : List ℕ) (to : Option (List ℕ)) (ops : List OpWords) (at : ℕ) (items other : List PlainItem) → operations.may_precede (op.Attr name to) ops ≡ true →
-      operations.is_normal ops ≡ true → drop 1 other ≡ drop 1 items → mismatch_at at (ops_on ops items) other ≡ None
+  after_match : (name : List ℕ) (to : Option (List ℕ)) (ops : List OpWords) (at : ℕ) (items other : List PlainItem) → operations.word_may_precede (op.Attr name to) ops ≡ true →
+      operations.words_are_normal ops ≡ true → drop 1 other ≡ drop 1 items → mismatch_at at (ops_on ops items) other ≡ None
   after_match name to [] at items other m h e = cc
   after_match name to (op.Retain zero ∷ ops) at items other m h e = cc
   after_match name to (op.Retain (suc n) ∷ ops) at items other m h e =
-      let p = and_parts (operations.is_something (op.Retain (suc n))) (operations.may_precede (op.Retain (suc n)) ops && operations.is_normal ops) h in
+      let p = and_parts (operations.word_is_something (op.Retain (suc n))) (operations.word_may_precede (op.Retain (suc n)) ops && operations.words_are_normal ops) h in
       ap (λ rest. mismatch_at (at + suc n) (ops_on ops (drop (suc n) items)) rest) (past_first n other items e)
-      ∙ ops_match ops (at + suc n) (drop (suc n) items) (and_parts (operations.may_precede (op.Retain (suc n)) ops) (operations.is_normal ops) p.1).1
+      ∙ ops_match ops (at + suc n) (drop (suc n) items) (and_parts (operations.word_may_precede (op.Retain (suc n)) ops) (operations.words_are_normal ops) p.1).1
   after_match name to (op.Remove count insert ∷ ops) at items other m h e = cc
   after_match name to (op.Attr next value ∷ ops) at items other m h e =
-      let p = and_parts (operations.may_precede (op.Attr next value) ops) (operations.is_normal ops) h in
+      let p = and_parts (operations.word_may_precede (op.Attr next value) ops) (operations.words_are_normal ops) h in
       after_match next value ops at items (on_first (item_changed (setting next value items)) other) p.0 p.1 (first_changed (item_changed (setting next value items)) other ∙ e)
 
 fault_none : (b : Bool) (o p : Option ℕ) (e : TxFault) → (if b then option_or (fault_by (λ at. tx.Mismatch at) o) (fault_by (λ at. tx.BadAttr at) p) else Some e) ≡ None → o ≡ None
@@ -276,7 +276,7 @@ fragment_match items at html t h = by (is_bad_offset items at) h
     by true h = cc
     by false h = text_match items at (encode_utf8_all html) t h
 
-applied_match : (items : List PlainItem) (ops : List OpWords) (t : Transaction) → operations.is_normal ops ≡ true → applied items ops ≡ Ok t → Matches t items
+applied_match : (items : List PlainItem) (ops : List OpWords) (t : Transaction) → operations.words_are_normal ops ≡ true → applied items ops ≡ Ok t → Matches t items
 applied_match items ops t normal h = by (needs ops == length items) h
   where
     by : (b : Bool) → (elim b as (λ _. Result Transaction Refusal) [

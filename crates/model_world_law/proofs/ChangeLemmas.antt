@@ -59,7 +59,7 @@ op_on (op.Retain count) items = Retain count
 op_on (op.Remove count insert) items = Replace (take count items) insert
 op_on (op.Attr name to) items = Attribute (setting name to items)
 
-precedes : (o : OpWords) (ops : List OpWords) (here items : List PlainItem) → operations.may_precede o ops ≡ true → may_precede (op_on o here) (ops_on ops items) ≡ true
+precedes : (o : OpWords) (ops : List OpWords) (here items : List PlainItem) → operations.word_may_precede o ops ≡ true → may_precede (op_on o here) (ops_on ops items) ≡ true
 precedes (op.Retain count) [] here items h = refl
 precedes (op.Retain count) (op.Retain other ∷ ops) here items h = cc
 precedes (op.Retain count) (op.Remove other others ∷ ops) here items h = refl
@@ -72,7 +72,7 @@ precedes (op.Attr name to) [] here items h = cc
 precedes (op.Attr name to) (op.Retain other ∷ ops) here items h = refl
 precedes (op.Attr name to) (op.Remove other others ∷ ops) here items h = cc
 precedes (op.Attr name to) (op.Attr other value ∷ ops) here items h =
-    let p = and_parts (not (text_same name other)) (operations.may_precede (op.Attr name to) ops) h in
+    let p = and_parts (not (text_same name other)) (operations.word_may_precede (op.Attr name to) ops) h in
     and_from (not (text_same (setting name to here).name (setting other value items).name)) (may_precede (Attribute (setting name to here)) (ops_on ops items))
     ((λ i. not (text_same (setting_name name to here i) (setting_name other value items i))) ∙ p.0)
     (precedes (op.Attr name to) ops here items p.1)
@@ -82,34 +82,34 @@ taken zero items h = refl
 taken (suc n) [] h = absurd (omega arith)
 taken (suc n) (item ∷ items) h = ap suc (taken n items (omega arith))
 
-somethings : (o : OpWords) (items : List PlainItem) → needs (o ∷ []) ≤ length items → operations.is_something o ≡ true → is_something (op_on o items) ≡ true
+somethings : (o : OpWords) (items : List PlainItem) → needs (o ∷ []) ≤ length items → operations.word_is_something o ≡ true → is_something (op_on o items) ≡ true
 somethings (op.Retain count) items n h = h
 somethings (op.Remove count insert) items n h = ap (λ k. nat_lt 0 (k + length insert)) (taken count items (omega arith)) ∙ h
 somethings (op.Attr name to) items n h = refl
 
-ops_reduced : (ops : List OpWords) (items : List PlainItem) → needs ops ≤ length items → operations.is_normal ops ≡ true → is_reduced (ops_on ops items) ≡ true
+ops_reduced : (ops : List OpWords) (items : List PlainItem) → needs ops ≤ length items → operations.words_are_normal ops ≡ true → is_reduced (ops_on ops items) ≡ true
 ops_reduced [] items n h = refl
 ops_reduced (op.Retain count ∷ ops) items n h =
-    let p = and_parts (operations.is_something (op.Retain count)) (operations.may_precede (op.Retain count) ops && operations.is_normal ops) h in
-    let q = and_parts (operations.may_precede (op.Retain count) ops) (operations.is_normal ops) p.1 in
+    let p = and_parts (operations.word_is_something (op.Retain count)) (operations.word_may_precede (op.Retain count) ops && operations.words_are_normal ops) h in
+    let q = and_parts (operations.word_may_precede (op.Retain count) ops) (operations.words_are_normal ops) p.1 in
     let rest = drop count items in
     and_from (nat_lt 0 count) (may_precede (Retain count) (ops_on ops rest) && is_reduced (ops_on ops rest)) p.0
     (and_from (may_precede (Retain count) (ops_on ops rest)) (is_reduced (ops_on ops rest)) (precedes (op.Retain count) ops items rest q.0)
     (ops_reduced ops rest (omega (arith, length-drop count items)) q.1))
 ops_reduced (op.Remove count insert ∷ ops) items n h =
-    let p = and_parts (operations.is_something (op.Remove count insert)) (operations.may_precede (op.Remove count insert) ops && operations.is_normal ops) h in
-    let q = and_parts (operations.may_precede (op.Remove count insert) ops) (operations.is_normal ops) p.1 in
+    let p = and_parts (operations.word_is_something (op.Remove count insert)) (operations.word_may_precede (op.Remove count insert) ops && operations.words_are_normal ops) h in
+    let q = and_parts (operations.word_may_precede (op.Remove count insert) ops) (operations.words_are_normal ops) p.1 in
     let rest = drop count items in
     let here = Replace (take count items) insert in
     and_from (is_something here) (may_precede here (ops_on ops rest) && is_reduced (ops_on ops rest)) (somethings (op.Remove count insert) items (omega arith) p.0)
     (and_from (may_precede here (ops_on ops rest)) (is_reduced (ops_on ops rest)) (precedes (op.Remove count insert) ops items rest q.0)
     (ops_reduced ops rest (omega (arith, length-drop count items)) q.1))
 ops_reduced (op.Attr name to ∷ ops) items n h =
-    let q = and_parts (operations.may_precede (op.Attr name to) ops) (operations.is_normal ops) h in
+    let q = and_parts (operations.word_may_precede (op.Attr name to) ops) (operations.words_are_normal ops) h in
     let here = Attribute (setting name to items) in
     and_from (may_precede here (ops_on ops items)) (is_reduced (ops_on ops items)) (precedes (op.Attr name to) ops items items q.0) (ops_reduced ops items n q.1)
 
-applied_fits : (items : List PlainItem) (ops : List OpWords) (t : Transaction) → operations.is_normal ops ≡ true → OpsApart ops → applied items ops ≡ Ok t → Fit t
+applied_fits : (items : List PlainItem) (ops : List OpWords) (t : Transaction) → operations.words_are_normal ops ≡ true → OpsApart ops → applied items ops ≡ Ok t → Fit t
 applied_fits items ops t normal apart h = by (needs ops == length items) refl h
   where
     by : (b : Bool) → (needs ops == length items) ≡ b → (elim b as (λ _. Result Transaction Refusal) [

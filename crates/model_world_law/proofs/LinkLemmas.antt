@@ -47,7 +47,7 @@ use Rattle.model_world.specs.declared.refusal.Refusal.TheVariants.{BadRange, Bad
 use Rattle.model_world.specs.declared.reply.Reply.TheVariants as reply
 use Rattle.model_world.specs.Refusals.{refused_as, build_refusal, undo_refusal, redo_refusal, send_refusal, revoke_refusal, table_refusal, list_refusal}
 use Rattle.model_world.specs.Edits.{BatchRefusal, allowed, unless_faulty, change_of, change_on, batch_from, batch_on}
-use Rattle.model_world.specs.Answers.{Outcome, Asked, asked, with_site, site_of, replica_of, items_of, told, refused, changed_or_no, performed_or_no, batch_or_no, selected, is_no_end, select_between, next_place, moved_or_no, lower, higher, is_collapsed, to_erase, erased_or_no, typing, after_text, typed_or_no, items_shown_or_no, node_told, node_or_no, grid_or_no, table_changed, list_changed, sent_or_no, served_or_no, taken_or_no, revoked_or_no, edge_or}
+use Rattle.model_world.specs.Answers.{Outcome, Asked, asked, with_site, site_of, replica_of, site_items, told, refused, changed_or_no, performed_or_no, batch_or_no, selected, is_no_end, select_between, next_place, moved_or_no, lower, higher, is_collapsed, to_erase, erased_or_no, typing, after_text, typed_or_no, items_shown_or_no, node_told, node_or_no, grid_or_no, table_changed, list_changed, sent_or_no, served_or_no, taken_or_no, revoked_or_no, edge_or}
 use Rattle.model_world_law.specs.Fit.{Fit, IsWritten, AllWritten, RequestWritten, LayersFit}
 use Rattle.model_world.specs.Laws.{MadeInTurn}
 use Rattle.model_world.proofs.BatchLemmas.{batch_is_whole}
@@ -129,8 +129,8 @@ put_put (suc k) m n (x ∷ ms) = ap (λ r. x ∷ r) (put_put k m n ms)
 -- the site is there, and its list is sound
 pub record Stands (a : Asked) : Type 0 where
   pub there : slice_get a.session.members a.k ≡ Some a.member
-  pub sound : Sound (items_of a)
-  pub selection : StandsIn (items_of a) (replica_of a).selection
+  pub sound : Sound (site_items a)
+  pub selection : StandsIn (site_items a) (replica_of a).selection
 
 abbrev pub Leads : Asked → Outcome → Type 0
 Leads a (Ok r) = Becomes a.session r.1
@@ -152,27 +152,27 @@ of_member a s f = ap (λ o. at_member a.session o f) (sym s.there)
 perform_same : (a : Asked) → Stands a → (ts : List Transaction) → with_site a (with_entry ts (site_of a)) ≡ happens a.session (Perform a.k ts)
 perform_same a s ts = of_member a s (λ m. events.with_site a.k m (with_entry ts m.site) a.session)
 
-performs : (a : Asked) → Stands a → (ts : List Transaction) → AllMayRun ts (items_of a) → Becomes a.session (with_site a (with_entry ts (site_of a)))
+performs : (a : Asked) → Stands a → (ts : List Transaction) → AllMayRun ts (site_items a) → Becomes a.session (with_site a (with_entry ts (site_of a)))
 performs a s ts may =
     one_event a (Perform a.k ts) _ (λ m e. subst (λ n. AllMayRun ts n.site.replica.items) (same_member a s m e) may) tt (perform_same a s ts)
 
-performed_leads : (a : Asked) → Stands a → (r : Result Transaction Refusal) → ((t : Transaction) → r ≡ Ok t → MayRun t (items_of a)) → Leads a (performed_or_no a r)
+performed_leads : (a : Asked) → Stands a → (r : Result Transaction Refusal) → ((t : Transaction) → r ≡ Ok t → MayRun t (site_items a)) → Leads a (performed_or_no a r)
 performed_leads a s (Err refusal) may = tt
 performed_leads a s (Ok t) may = performs a s (t ∷ []) (may t refl, tt)
 
 allowed_leads : (a : Asked) → Stands a → (r : Result Transaction Refusal) → ((u : Transaction) → r ≡ Ok u → Fit u) → Leads a (performed_or_no a (allowed (replica_of a) r))
 allowed_leads a s r fit = performed_leads a s (allowed (replica_of a) r) (λ t e. may_run (replica_of a) r t fit e)
 
-batch_leads : (a : Asked) → Stands a → (r : Result (List Transaction) BatchRefusal) → ((ts : List Transaction) → r ≡ Ok ts → AllMayRun ts (items_of a)) → Leads a (batch_or_no a r)
+batch_leads : (a : Asked) → Stands a → (r : Result (List Transaction) BatchRefusal) → ((ts : List Transaction) → r ≡ Ok ts → AllMayRun ts (site_items a)) → Leads a (batch_or_no a r)
 batch_leads a s (Err f) may = tt
 batch_leads a s (Ok ts) may = performs a s ts (may ts refl)
 
-selects : (a : Asked) → Stands a → (sel : Selection) → StandsIn (items_of a) sel → Leads a (selected a sel)
+selects : (a : Asked) → Stands a → (sel : Selection) → StandsIn (site_items a) sel → Leads a (selected a sel)
 selects a s sel within =
     one_event a (Select a.k sel) _ tt (λ m e. subst (λ n. StandsIn n.site.replica.items sel) (same_member a s m e) within)
     (of_member a s (λ m. events.with_site a.k m (with_selection sel m.site) a.session))
 
-typed_leads : (a : Asked) → Stands a → (r : Result (List Transaction) BatchRefusal) → ((ts : List Transaction) → r ≡ Ok ts → AllMayRun ts (items_of a)) →
+typed_leads : (a : Asked) → Stands a → (r : Result (List Transaction) BatchRefusal) → ((ts : List Transaction) → r ≡ Ok ts → AllMayRun ts (site_items a)) →
     ((ts : List Transaction) → r ≡ Ok ts → selection.Stands (all_performed ts (replica_of a)).items (after_text ts)) → Leads a (typed_or_no a r)
 typed_leads a s (Err f) may stands = tt
 typed_leads a s (Ok ts) may stands =
@@ -214,11 +214,11 @@ typing_after r sel text ts some h may = by (is_collapsed sel) ts (batch_is_whole
     by false (t ∷ []) m may = absurd m.1
     by false (t ∷ u ∷ us) m may = text_after (performed t r) (lower sel) text (u ∷ us) some m.1 may.1
 
-moved_leads : (a : Asked) → Stands a → (keep : Bool) (r : Result ℕ Refusal) → ((at : ℕ) → r ≡ Ok at → selection.Stands (items_of a) at) → Leads a (moved_or_no a keep r)
+moved_leads : (a : Asked) → Stands a → (keep : Bool) (r : Result ℕ Refusal) → ((at : ℕ) → r ≡ Ok at → selection.Stands (site_items a) at) → Leads a (moved_or_no a keep r)
 moved_leads a s keep (Err refusal) stands = tt
 moved_leads a s keep (Ok at) stands = selects a s (between (if keep then (replica_of a).selection.anchor else at) at) (record { anchor = by keep; focus = stands at refl })
   where
-    by : (b : Bool) → selection.Stands (items_of a) (if b then (replica_of a).selection.anchor else at)
+    by : (b : Bool) → selection.Stands (site_items a) (if b then (replica_of a).selection.anchor else at)
     by true = s.selection.anchor
     by false = stands at refl
 
@@ -305,7 +305,7 @@ list_leads a s r fit = allowed_leads a s (refused_as list_refusal r) (by_result 
     by_result (Err f) fit u e = cc
 
 change_leads : LayersFit → (a : Asked) → Stands a → (c : Change) → IsWritten c → Leads a (performed_or_no a (change_on (replica_of a) c))
-change_leads fit a s c written = allowed_leads a s (change_of (items_of a) c) (λ u e. fit.changes (items_of a) c u written s.sound e)
+change_leads fit a s c written = allowed_leads a s (change_of (site_items a) c) (λ u e. fit.changes (site_items a) c u written s.sound e)
 
 erased_leads : LayersFit → (a : Asked) → Stands a → (r : Result Selection Refusal) → Leads a (erased_or_no a r)
 erased_leads fit a s (Err refusal) = tt
@@ -313,23 +313,23 @@ erased_leads fit a s (Ok sel) = change_leads fit a s (change.Remove (lower sel) 
 
 show_leads : (a : Asked) (from to : ℕ) → Leads a (items_shown_or_no a from to)
 show_leads a from to =
-    either a (nat_lt to from || nat_lt (length (items_of a)) to) (refused (BadRange from to)) (told a (reply.Items (slice_range (items_of a) from to))) tt (stays a)
+    either a (nat_lt to from || nat_lt (length (site_items a)) to) (refused (BadRange from to)) (told a (reply.Items (slice_range (site_items a) from to))) tt (stays a)
 
 node_leads : (a : Asked) (at : ℕ) → Leads a (node_or_no a at)
-node_leads a at = either a (nat_lt (length (items_of a)) at) (refused (BadOffset at)) (node_told a at) tt (stays a)
+node_leads a at = either a (nat_lt (length (site_items a)) at) (refused (BadOffset at)) (node_told a at) tt (stays a)
 
 stands_from : (items : List PlainItem) (at : ℕ) → is_no_end items at ≡ false → selection.Stands items at
 stands_from items at h = let p = or_parts (nat_lt (length items) at) (is_inside_leaf items at) h in (ltb-false (length items) at p.0, p.1)
 
 select_leads : (a : Asked) → Stands a → (anchor focus : ℕ) → Leads a (select_between a anchor focus)
-select_leads a s anchor focus = by (is_no_end (items_of a) anchor) (is_no_end (items_of a) focus) refl refl
+select_leads a s anchor focus = by (is_no_end (site_items a) anchor) (is_no_end (site_items a) focus) refl refl
   where
-    by : (b c : Bool) → is_no_end (items_of a) anchor ≡ b → is_no_end (items_of a) focus ≡ c →
+    by : (b c : Bool) → is_no_end (site_items a) anchor ≡ b → is_no_end (site_items a) focus ≡ c →
         Leads a (if b then refused (BadOffset anchor) else (if c then refused (BadOffset focus) else selected a (between anchor focus)))
     by true true d e = tt
     by true false d e = tt
     by false true d e = tt
-    by false false d e = selects a s (between anchor focus) (record { anchor = stands_from (items_of a) anchor d; focus = stands_from (items_of a) focus e })
+    by false false d e = selects a s (between anchor focus) (record { anchor = stands_from (site_items a) anchor d; focus = stands_from (site_items a) focus e })
 
 pub asked_leads : LayersFit → (a : Asked) → Stands a → (r : Request) → RequestWritten r → Leads a (asked a r)
 asked_leads fit a s request.Html o = stays a
@@ -341,24 +341,24 @@ asked_leads fit a s request.Redo o = redo_leads a s (redo (site_of a)) refl
 asked_leads fit a s request.Send o = send_leads a s (send (site_of a)) refl
 asked_leads fit a s request.Serve o = serve_leads a s (serve_next a.k a.member a.session) refl
 asked_leads fit a s request.Take o = take_leads a s (take_next a.k a.member a.session) refl
-asked_leads fit a s (request.ShowItems from to) o = show_leads a from (unwrap_or to (length (items_of a)))
+asked_leads fit a s (request.ShowItems from to) o = show_leads a from (unwrap_or to (length (site_items a)))
 asked_leads fit a s (request.At at) o = node_leads a at
 asked_leads fit a s (request.Edit c) o = change_leads fit a s c o
 asked_leads fit a s (request.Batch cmds) o = batch_leads a s (batch_on (replica_of a) cmds) (λ ts e. batch_may fit 0 cmds (replica_of a) ts o s.sound e)
 asked_leads fit a s (request.Select anchor focus) o = select_leads a s anchor focus
 asked_leads fit a s (request.Move dir by keep) o =
-    moved_leads a s keep (next_place (items_of a) (replica_of a).selection.focus dir by) (λ at e. place_stands (items_of a) (replica_of a).selection.focus dir by at s.sound.lawful e)
+    moved_leads a s keep (next_place (site_items a) (replica_of a).selection.focus dir by) (λ at e. place_stands (site_items a) (replica_of a).selection.focus dir by at s.sound.lawful e)
 asked_leads fit a s (request.TypeText text) o =
     let sel = (replica_of a).selection in
-    let may : (ts : List Transaction) → batch_on (replica_of a) (typing sel text) ≡ Ok ts → AllMayRun ts (items_of a) =
+    let may : (ts : List Transaction) → batch_on (replica_of a) (typing sel text) ≡ Ok ts → AllMayRun ts (site_items a) =
     λ ts e. batch_may fit 0 (typing sel text) (replica_of a) ts (typing_written sel text) s.sound e in
     typed_leads a s (batch_on (replica_of a) (typing sel text)) may (λ ts e. typing_after (replica_of a) sel text ts o e (may ts e))
 asked_leads fit a s (request.Erase dir by) o = erased_leads fit a s (to_erase (replica_of a) dir by)
-asked_leads fit a s (request.Grid at) o = grid_leads a (grid (items_of a) at)
-asked_leads fit a s (request.RowIn at row) o = table_leads a s (row_in (items_of a) at row) (λ t e. fit.moves.row_in (items_of a) at row t s.sound e)
-asked_leads fit a s (request.RowOut at row) o = table_leads a s (row_out (items_of a) at row) (λ t e. fit.moves.row_out (items_of a) at row t s.sound e)
-asked_leads fit a s (request.ColIn at column) o = table_leads a s (col_in (items_of a) at column) (λ t e. fit.moves.col_in (items_of a) at column t s.sound e)
-asked_leads fit a s (request.ColOut at column) o = table_leads a s (col_out (items_of a) at column) (λ t e. fit.moves.col_out (items_of a) at column t s.sound e)
-asked_leads fit a s (request.Indent at) o = list_leads a s (indent (items_of a) at) (λ t e. fit.moves.indent (items_of a) at t s.sound e)
-asked_leads fit a s (request.Outdent at) o = list_leads a s (outdent (items_of a) at) (λ t e. fit.moves.outdent (items_of a) at t s.sound e)
+asked_leads fit a s (request.Grid at) o = grid_leads a (grid (site_items a) at)
+asked_leads fit a s (request.RowIn at row) o = table_leads a s (row_in (site_items a) at row) (λ t e. fit.moves.row_in (site_items a) at row t s.sound e)
+asked_leads fit a s (request.RowOut at row) o = table_leads a s (row_out (site_items a) at row) (λ t e. fit.moves.row_out (site_items a) at row t s.sound e)
+asked_leads fit a s (request.ColIn at column) o = table_leads a s (col_in (site_items a) at column) (λ t e. fit.moves.col_in (site_items a) at column t s.sound e)
+asked_leads fit a s (request.ColOut at column) o = table_leads a s (col_out (site_items a) at column) (λ t e. fit.moves.col_out (site_items a) at column t s.sound e)
+asked_leads fit a s (request.Indent at) o = list_leads a s (indent (site_items a) at) (λ t e. fit.moves.indent (site_items a) at t s.sound e)
+asked_leads fit a s (request.Outdent at) o = list_leads a s (outdent (site_items a) at) (λ t e. fit.moves.outdent (site_items a) at t s.sound e)
 asked_leads fit a s (request.Revoke entry) o = revoked_leads a s entry

@@ -31,7 +31,8 @@ use Rattle.model_world.specs.Commands.{command}
 use Rattle.model_world.specs.Refusals.{open_refusal}
 use Rattle.model_world.specs.Opening.{open_page}
 use Rattle.model_world.specs.Answers.{Outcome, Asked, asked}
-use Rattle.model_world.specs.World.{World, Closed, Open, Answer, opened_or_no, on_page, asked_of, answered, answered_if, answer, settled, reply, world_after, longest_line}
+use Rattle.ve_base.specs.Limits.{max_line}
+use Rattle.model_world.specs.World.{World, Closed, Open, Answer, opened_or_no, on_page, asked_of, answered, answered_if, answer, settled, reply, world_after}
 use Rattle.model_world_law.specs.Fit.{RequestWritten, LayersFit}
 use Rattle.model_world_law.specs.Reached.{Becomes, IsReached, WorldReached, EveryWorldIsReached, SiteHolds, EverySiteHolds, SitesMeet, UneditedIsWrittenBack}
 use Rattle.model_world_law.proofs.LinkLemmas.{Stands, Leads, asked_leads}
@@ -115,7 +116,7 @@ command_reached fit w reached line (Ok (OpenPage page sites)) e = open_reached f
 command_reached fit w reached line (Ok (Ask r k)) e = ask_reached fit w reached r k (fit.lines line r k e)
 
 line_reached : LayersFit → (w : World) → WorldReached w → (line : List ℕ) → AnswerReached (answer w line)
-line_reached fit w reached line = by_length (nat_lt longest_line (length line))
+line_reached fit w reached line = by_length (nat_lt max_line (length line))
   where
     by_length : (b : Bool) → AnswerReached (elim b as (λ _. Answer) [
       | true ↦ Err (No (LineTooLong (length line)))

@@ -19,8 +19,9 @@ use Rattle.model_world.specs.declared.change.OpWords.{OpWords}
 use Rattle.model_world.specs.declared.change.OpWords.TheVariants as op
 use Rattle.model_world.specs.Values.{such_that, number_in, text_in, text_or_null_in, list_in, listed, all_read, pair_in, member_in, read_or, member_or}
 use Rattle.model_world.specs.Attributes.{name_in, attr_in, attrs_in, are_apart, are_free, free_attrs_in, marks_in, element_in, branch_in, shape_in, shapes_in}
-use Rattle.model_world.specs.ItemWords.{white_in, may_open, opening_with, opening_in, may_close, closing_in, bracket_in, with_marks, marked_text_in, items_in, joined, all_items_in}
-use Rattle.model_world.specs.Operations.{removal_in, setting_in, op_by, op_in, is_normal, ops_in}
+use Rattle.model_edit.specs.Insert.{text_pieces}
+use Rattle.model_world.specs.ItemWords.{white_in, may_open, opening_with, opening_in, may_close, closing_in, bracket_in, marked_text_in, items_in, all_items_in, one_list}
+use Rattle.model_world.specs.Operations.{removal_in, setting_in, op_by, op_in, words_are_normal, ops_in}
 use Rattle.model_world_law.specs.Fit.{OpsApart}
 use Rattle.model_edit_law.specs.ApartLaws.{ShapesApart}
 use Rattle.model_edit_law.proofs.ApartLemmas.{AllNamesApart-append as apart-append}
@@ -175,18 +176,18 @@ pub items_apart : (json : Data) → Of AllNamesApart (items_in json)
 items_apart null = tt
 items_apart (boolean b) = tt
 items_apart (number n) = tt
-items_apart (string bytes) = Of-map (λ text. Unit {0}) AllNamesApart (with_marks []) (text_in (string bytes)) (Of-always (λ text. Unit {0}) (text_in (string bytes)) (λ text. tt)) (λ text u. apart-chars [] text)
+items_apart (string bytes) = Of-map (λ text. Unit {0}) AllNamesApart (text_pieces []) (text_in (string bytes)) (Of-always (λ text. Unit {0}) (text_in (string bytes)) (λ text. tt)) (λ text u. apart-chars [] text)
 items_apart (array items) = marked_apart (array items)
 items_apart (object ms) =
     let bracket = bracket_in ms (get_member (codes "open") ms) (get_member (codes "close") ms) in
     Of-map NamesApartIn AllNamesApart (λ one. one ∷ []) bracket (bracket_apart ms (get_member (codes "open") ms) (get_member (codes "close") ms)) (λ one p. (p, tt))
 
-pub joined_apart : (lists : List (List PlainItem)) → Each AllNamesApart lists → AllNamesApart (joined lists)
-joined_apart [] p = tt
-joined_apart (xs ∷ more) p = apart-append xs (joined more) p.0 (joined_apart more p.1)
+pub one_list_apart : (lists : List (List PlainItem)) → Each AllNamesApart lists → AllNamesApart (one_list lists)
+one_list_apart [] p = tt
+one_list_apart (xs ∷ more) p = apart-append xs (one_list more) p.0 (one_list_apart more p.1)
 
 pub all_items_apart : (json : Data) → Of AllNamesApart (all_items_in json)
-all_items_apart json = Of-map (Each AllNamesApart) AllNamesApart joined (list_in items_in json) (Of-list_in AllNamesApart items_in items_apart json) joined_apart
+all_items_apart json = Of-map (Each AllNamesApart) AllNamesApart one_list (list_in items_in json) (Of-list_in AllNamesApart items_in items_apart json) one_list_apart
 
 -- ---- operations
 
@@ -216,9 +217,9 @@ each_op (op.Remove count insert ∷ ops) p = ((p.0).0, each_op ops p.1)
 each_op (op.Attr name to ∷ ops) p = each_op ops p.1
 
 abbrev pub OpsWritten : List OpWords → Type 0
-OpsWritten ops = (is_normal ops ≡ true) × OpsApart ops
+OpsWritten ops = (words_are_normal ops ≡ true) × OpsApart ops
 
 pub ops_written : (json : Data) → Of OpsWritten (ops_in json)
 ops_written json =
-    Of-such_that OpsWritten is_normal (list_in op_in json)
-    (Of-weaken (Each OpApart) (λ ops. is_normal ops ≡ true → OpsWritten ops) (list_in op_in json) (Of-list_in OpApart op_in op_in_apart json) (λ ops p normal. (normal, each_op ops p)))
+    Of-such_that OpsWritten words_are_normal (list_in op_in json)
+    (Of-weaken (Each OpApart) (λ ops. words_are_normal ops ≡ true → OpsWritten ops) (list_in op_in json) (Of-list_in OpApart op_in op_in_apart json) (λ ops p normal. (normal, each_op ops p)))

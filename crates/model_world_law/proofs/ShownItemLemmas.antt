@@ -20,8 +20,9 @@ use Rattle.model_items.proofs.SameLemmas.{Means-marks_same}
 use Rattle.model_page.specs.Elements.{is_white}
 use Rattle.model_world.specs.Values.{such_that, all_read, read_or, member_or}
 use Rattle.model_world.specs.Attributes.{are_free, free_attrs_in, marks_in, element_in}
-use Rattle.model_world.specs.ItemWords.{white_in, may_open, opening_with, opening_in, may_close, closing_in, bracket_in, with_marks, items_in, joined}
-use Rattle.model_world.specs.Shown.{text_of, attrs_shown, marks_shown, opening_shown, closing_shown, run_shown, Shown, Together, Apart, all_shown, char_shown, shown}
+use Rattle.model_edit.specs.Insert.{text_pieces}
+use Rattle.model_world.specs.ItemWords.{white_in, may_open, opening_with, opening_in, may_close, closing_in, bracket_in, items_in, one_list}
+use Rattle.model_world.specs.Shown.{json_text, attrs_shown, marks_shown, opening_shown, closing_shown, run_shown, Shown, Together, Apart, all_shown, char_shown, shown}
 use Rattle.model_world_law.specs.ShownLaws.{IsText, AreAttrs, AreMarks, IsWhite, plain_head, CanWrite, ShownIsRead}
 use Rattle.model_world_law.proofs.ShownLemmas.{passes, text_back, listed_back, free_back, marks_back, kind_back, if_some, opened, open_at, attrs_at, marks_at, pre_at, close_at, no_open_at, closed_pre_at}
 
@@ -35,10 +36,10 @@ marks_or : (marks : List Mark) → AreMarks marks → read_or [] marks_in (if_so
 marks_or [] p = refl
 marks_or (m ∷ marks) p = marks_back (m ∷ marks) p
 
-white_back : (pre : List ℕ) → IsWhite pre → white_in (text_of pre) ≡ Some pre
+white_back : (pre : List ℕ) → IsWhite pre → white_in (json_text pre) ≡ Some pre
 white_back pre p = ap (such_that is_white) (text_back pre p.text) ∙ passes is_white pre p.white
 
-white_or : (pre : List ℕ) → IsWhite pre → read_or [] white_in (if_some text_of pre) ≡ Some pre
+white_or : (pre : List ℕ) → IsWhite pre → read_or [] white_in (if_some json_text pre) ≡ Some pre
 white_or [] p = refl
 white_or (c ∷ pre) p = white_back (c ∷ pre) p
 
@@ -73,10 +74,10 @@ closing_back kind pre e white may =
 
 -- ---- runs
 
-run_back : (marks : List Mark) (text : List ℕ) → AreMarks marks → IsText text → items_in (run_shown marks text) ≡ Some (with_marks marks text)
-run_back [] text ms t = ap (option_map (with_marks [])) (text_back text t)
+run_back : (marks : List Mark) (text : List ℕ) → AreMarks marks → IsText text → items_in (run_shown marks text) ≡ Some (text_pieces marks text)
+run_back [] text ms t = ap (option_map (text_pieces [])) (text_back text t)
 run_back (m ∷ marks) text ms t =
-    let inner : List ℕ → Option (List Mark) → Option (List PlainItem) = λ cs o. option_and_then (λ ns. Some (with_marks ns cs)) o in
+    let inner : List ℕ → Option (List Mark) → Option (List PlainItem) = λ cs o. option_and_then (λ ns. Some (text_pieces ns cs)) o in
     ap (λ o. option_and_then (λ cs. inner cs (marks_in (marks_shown (m ∷ marks)))) o) (text_back text t)
     ∙ ap (inner text) (marks_back (m ∷ marks) ms)
 
@@ -95,7 +96,7 @@ longer c text one more = record {
 pub record Backs (values : List Data) (items : List PlainItem) : Type 0 where
   pub lists : List (List PlainItem)
   pub are : all_read items_in values ≡ Some lists
-  pub whole : items ≡ joined lists
+  pub whole : items ≡ one_list lists
 
 one_back : (json : Data) (more : List Data) (xs items : List PlainItem) → items_in json ≡ Some xs → Backs more items → Backs (json ∷ more) (xs ++ items)
 one_back json more xs items h b = record {
@@ -110,7 +111,7 @@ pub record RunBacks (marks : List Mark) (text : List ℕ) (later : List Data) (i
   pub text_is : IsText text
   pub suffix : List PlainItem
   pub rest : Backs later suffix
-  pub parts : items ≡ with_marks marks text ++ suffix
+  pub parts : items ≡ text_pieces marks text ++ suffix
 
 abbrev Back : Shown → List PlainItem → Type 0
 Back (Together marks text later) items = RunBacks marks text later items
@@ -119,7 +120,7 @@ Back (Apart later) items = Backs later items
 all_back : (s : Shown) (items : List PlainItem) → Back s items → Backs (all_shown s) items
 all_back (Apart later) items b = b
 all_back (Together marks text later) items b =
-    subst (Backs (run_shown marks text ∷ later)) (sym b.parts) (one_back (run_shown marks text) later (with_marks marks text) b.suffix (run_back marks text b.marked b.text_is) b.rest)
+    subst (Backs (run_shown marks text ∷ later)) (sym b.parts) (one_back (run_shown marks text) later (text_pieces marks text) b.suffix (run_back marks text b.marked b.text_is) b.rest)
 
 char_back : (c : ℕ) (marks : List Mark) (s : Shown) (items : List PlainItem) → IsText (c ∷ []) → AreMarks marks → Back s items → Back (char_shown c marks s) (Char c marks ∷ items)
 char_back c marks (Apart later) items one ms b = record { marked = ms; text_is = one; suffix = items; rest = b; parts = refl }
@@ -149,6 +150,6 @@ shown_back (Closing kind pre ∷ items) p =
 pub shown_is_read : ShownIsRead
 shown_is_read items p =
     let b = all_back (shown items) items (shown_back items p) in
-    ap (λ values. option_map joined (all_read items_in values)) (listed_back (all_shown (shown items)))
-    ∙ ap (option_map joined) b.are
+    ap (λ values. option_map one_list (all_read items_in values)) (listed_back (all_shown (shown items)))
+    ∙ ap (option_map one_list) b.are
     ∙ ap (λ xs. Some xs) (sym b.whole)

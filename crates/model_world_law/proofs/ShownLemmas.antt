@@ -3,6 +3,7 @@ use Rattle.std.proofs.Common.{◌≡◌, ℕ, Bool, true, false, not, nat_le, if
 use Rattle.std.specs.Prelude.{chars, codes, encode_utf8_all, option_map, option_and_then}
 use Rattle.std.specs.List.{AllByRecursion}
 use Rattle.std.proofs.lemmas.Str.{chars-encodes}
+use Rattle.ve_base.specs.Limits.{max_marks}
 use Rattle.serde_json.specs.Data.{Data, Members}
 use Rattle.serde_json.specs.Find.{get_member}
 use Rattle.model_spelling.specs.Grammar.{is_attr_name}
@@ -15,7 +16,7 @@ use Rattle.ve_base.specs.declared.marks.Mark.{Mark}
 use Rattle.model_world.specs.Names.{kind_name}
 use Rattle.model_world.specs.Values.{such_that, text_in, listed, all_read, list_in}
 use Rattle.model_world.specs.Attributes.{name_in, attr_in, are_apart, attrs_in, are_free, free_attrs_in, is_mark, mark_in, marks_in, element_in}
-use Rattle.model_world.specs.Shown.{items_of, list_of, text_of, attr_shown, attrs_shown, mark_shown, marks_shown, opening_shown, closing_shown}
+use Rattle.model_world.specs.Shown.{json_items, json_list, json_text, attr_shown, attrs_shown, mark_shown, marks_shown, opening_shown, closing_shown}
 use Rattle.model_world_law.specs.ShownLaws.{IsText, IsAttr, AreAttrs, IsMark, AreMarks, plain_head}
 
 -- ---- texts and lists
@@ -23,11 +24,11 @@ use Rattle.model_world_law.specs.ShownLaws.{IsText, IsAttr, AreAttrs, IsMark, Ar
 pub passes : {A : Type 0} (test : A → Bool) (x : A) → test x ≡ true → such_that test (Some x) ≡ Some x
 passes test x h = ap (λ b. if b then Some x else None) h
 
-pub text_back : (text : List ℕ) → IsText text → text_in (text_of text) ≡ Some text
+pub text_back : (text : List ℕ) → IsText text → text_in (json_text text) ≡ Some text
 text_back text t =
     ap (λ b. option_map chars (if not b then Some (encode_utf8_all text) else None)) t.free ∙ ap (λ cs. Some cs) (chars-encodes text t.scalars)
 
-pub listed_back : (values : List Data) → listed (items_of values) ≡ values
+pub listed_back : (values : List Data) → listed (json_items values) ≡ values
 listed_back [] = refl
 listed_back (one ∷ more) = ap (λ r. one ∷ r) (listed_back more)
 
@@ -39,17 +40,17 @@ all_back Can show read h (x ∷ xs) p =
     ∙ ap (λ o. option_map (λ ys. x ∷ ys) o) (all_back Can show read h xs p.1)
 
 list_back : {A : Type 0} (Can : A → Type 0) (show : A → Data) (read : Data → Option A) → ((x : A) → Can x → read (show x) ≡ Some x) → (xs : List A) → AllByRecursion Can xs →
-    list_in read (list_of (map show xs)) ≡ Some xs
+    list_in read (json_list (map show xs)) ≡ Some xs
 list_back Can show read h xs p = ap (all_read read) (listed_back (map show xs)) ∙ all_back Can show read h xs p
 
 -- ---- attributes, marks and kinds
 
-name_back : (a : Attr) → IsAttr a → name_in (text_of a.name) ≡ Some a.name
+name_back : (a : Attr) → IsAttr a → name_in (json_text a.name) ≡ Some a.name
 name_back a p = ap (such_that is_attr_name) (text_back a.name p.name) ∙ passes is_attr_name a.name p.named
 
 attr_back : (a : Attr) → IsAttr a → attr_in (attr_shown a) ≡ Some a
 attr_back a p =
-    ap (λ o. option_and_then (λ name. option_and_then (λ value. Some (record { name = name; value = value })) (text_in (text_of a.value))) o) (name_back a p)
+    ap (λ o. option_and_then (λ name. option_and_then (λ value. Some (record { name = name; value = value })) (text_in (json_text a.value))) o) (name_back a p)
     ∙ ap (λ o. option_and_then (λ value. Some (record { name = a.name; value = value })) o) (text_back a.value p.value)
 
 attrs_back : (attrs : List Attr) → AreAttrs attrs → attrs_in (attrs_shown attrs) ≡ Some attrs
@@ -65,9 +66,9 @@ mark_back m p =
     ∙ passes is_mark m p.mark
 
 pub marks_back : (marks : List Mark) → AreMarks marks → marks_in (marks_shown marks) ≡ Some marks
-marks_back marks p = ap (such_that (λ ms. nat_le (length ms) 64)) (list_back IsMark mark_shown mark_in mark_back marks p.each) ∙ passes (λ ms. nat_le (length ms) 64) marks p.few
+marks_back marks p = ap (such_that (λ ms. nat_le (length ms) max_marks)) (list_back IsMark mark_shown mark_in mark_back marks p.each) ∙ passes (λ ms. nat_le (length ms) max_marks) marks p.few
 
-pub kind_back : (k : Kind) → is_element k ≡ true → element_in (text_of (kind_name k)) ≡ Some k
+pub kind_back : (k : Kind) → is_element k ≡ true → element_in (json_text (kind_name k)) ≡ Some k
 unfolding page_on_literals
 kind_back Root e = cc
 kind_back P e = refl
@@ -114,7 +115,7 @@ if_some show (x ∷ xs) = Some (show (x ∷ xs))
 abbrev pub opened : Kind → List Attr → List Mark → List ℕ → Members
 opened kind attrs marks pre = opening_shown kind (plain_head attrs) marks pre None false
 
-pub open_at : (kind : Kind) (attrs : List Attr) (marks : List Mark) (pre : List ℕ) → get_member (codes "open") (opened kind attrs marks pre) ≡ Some (text_of (kind_name kind))
+pub open_at : (kind : Kind) (attrs : List Attr) (marks : List Mark) (pre : List ℕ) → get_member (codes "open") (opened kind attrs marks pre) ≡ Some (json_text (kind_name kind))
 unfolding page_on_literals
 open_at kind [] [] [] = refl
 open_at kind [] [] (c ∷ pre) = refl
@@ -147,7 +148,7 @@ marks_at kind (a ∷ attrs) [] (c ∷ pre) = refl
 marks_at kind (a ∷ attrs) (m ∷ marks) [] = refl
 marks_at kind (a ∷ attrs) (m ∷ marks) (c ∷ pre) = refl
 
-pub pre_at : (kind : Kind) (attrs : List Attr) (marks : List Mark) (pre : List ℕ) → get_member (codes "pre") (opened kind attrs marks pre) ≡ if_some text_of pre
+pub pre_at : (kind : Kind) (attrs : List Attr) (marks : List Mark) (pre : List ℕ) → get_member (codes "pre") (opened kind attrs marks pre) ≡ if_some json_text pre
 unfolding page_on_literals
 pre_at kind [] [] [] = refl
 pre_at kind [] [] (c ∷ pre) = refl
@@ -158,7 +159,7 @@ pre_at kind (a ∷ attrs) [] (c ∷ pre) = refl
 pre_at kind (a ∷ attrs) (m ∷ marks) [] = refl
 pre_at kind (a ∷ attrs) (m ∷ marks) (c ∷ pre) = refl
 
-pub close_at : (kind : Kind) (pre : List ℕ) → get_member (codes "close") (closing_shown kind pre) ≡ Some (text_of (kind_name kind))
+pub close_at : (kind : Kind) (pre : List ℕ) → get_member (codes "close") (closing_shown kind pre) ≡ Some (json_text (kind_name kind))
 unfolding page_on_literals
 close_at kind [] = refl
 close_at kind (c ∷ pre) = refl
@@ -168,7 +169,7 @@ unfolding page_on_literals
 no_open_at kind [] = refl
 no_open_at kind (c ∷ pre) = refl
 
-pub closed_pre_at : (kind : Kind) (pre : List ℕ) → get_member (codes "pre") (closing_shown kind pre) ≡ if_some text_of pre
+pub closed_pre_at : (kind : Kind) (pre : List ℕ) → get_member (codes "pre") (closing_shown kind pre) ≡ if_some json_text pre
 unfolding page_on_literals
 closed_pre_at kind [] = refl
 closed_pre_at kind (c ∷ pre) = refl

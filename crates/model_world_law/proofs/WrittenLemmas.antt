@@ -2,6 +2,7 @@
 use Rattle.std.proofs.Common.{◌≡◌, ℕ, ◌<◌, true, false, List, [], ◌∷◌, length, map, Option, Some, None, Result, Ok, Err, subst}
 use Rattle.std.specs.Prelude.{bytes_eq}
 use Rattle.std.proofs.lemmas.Bool.{ltb-true}
+use Rattle.ve_base.specs.Limits.{max_sites}
 use Rattle.serde_json.specs.Data.{Data, null, boolean, number, string, array, object, Members}
 use Rattle.serde_json.specs.Find.{get_member, as_str, as_bool, as_object}
 use Rattle.ve_base.specs.declared.marks.Mark as base
@@ -22,7 +23,7 @@ use Rattle.model_world.specs.Members as members
 use Rattle.model_world.specs.Attributes.{name_in, attrs_in, branch_in, kinds_in, shapes_in}
 use Rattle.model_world.specs.Operations.{ops_in}
 use Rattle.model_world.specs.Changes.{some_text_in, some_source_in, text_marks_in, text_read, insert_read, remove_read, split_read, mark_read, wrap_read, convert_read, attr_read, apply_read, changes, reader_in, if_well_formed, change_with, change_in}
-use Rattle.model_world.specs.Commands.{some_number_in, dir_in, by_in, at_read, table_read, show_read, is_batch, batch_read, select_read, move_read, type_read, erase_read, revoke_read, requests, ask_read, open_read, commands, or_bad_command, read_by, command_in, command_or_refusal, json_in}
+use Rattle.model_world.specs.Commands.{some_number_in, dir_in, by_in, at_read, table_read, show_read, is_batch, batch_read, select_read, move_read, type_read, erase_read, revoke_read, requests, ask_read, open_read, commands, or_bad_command, read_by, command_in, command_or_refusal, line_json}
 use Rattle.model_world_law.specs.Fit.{IsWritten, AllWritten, RequestWritten, LinesAreWritten}
 use Rattle.model_edit_law.specs.ApartLaws.{ShapesApart}
 use Rattle.model_world_law.proofs.ReadLemmas.{Of-then, Of-then_with, Of-such_that, Of-passing, Of-always, Of-choice, Of-list_in, Of-member_in, Of-member_or, Of-weaken, shapes_apart, ops_written, Of, OfOk, Each, OpsWritten}
@@ -258,7 +259,7 @@ ask_rows [] h = tt
 ask_rows (row ∷ rows) h = ((λ ms. bind_with RequestWritten CommandWritten (row.1 ms) _ (h.0 ms) (λ asked p. bind CommandWritten (defaulted field.Site 0 number_in ms) _ (λ site. p))), ask_rows rows h.1)
 
 open_written : Reads CommandWritten open_read
-open_written ms = bind CommandWritten (needed field.Page source_in ms) _ (λ page. bind CommandWritten (defaulted field.Sites 1 (number_between 1 8) ms) _ (λ sites. tt))
+open_written ms = bind CommandWritten (needed field.Page source_in ms) _ (λ page. bind CommandWritten (defaulted field.Sites 1 (number_between 1 max_sites) ms) _ (λ sites. tt))
 
 commands_written : Rows CommandWritten commands
 commands_written = (open_written, ask_rows requests requests_written)
@@ -284,4 +285,4 @@ line_written None = tt
 line_written (Some json) = json_written json
 
 pub lines_are_written : LinesAreWritten
-lines_are_written line asked k h = subst (OfOk CommandWritten) h (line_written (json_in line))
+lines_are_written line asked k h = subst (OfOk CommandWritten) h (line_written (line_json line))

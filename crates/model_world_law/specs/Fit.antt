@@ -15,7 +15,7 @@ use Rattle.model_world.specs.declared.change.Change.TheVariants as change
 use Rattle.model_world.specs.declared.command.Request.{Request}
 use Rattle.model_world.specs.declared.command.Request.TheVariants as request
 use Rattle.model_world.specs.declared.command.Command.TheVariants.{Ask}
-use Rattle.model_world.specs.Operations.{is_normal}
+use Rattle.model_world.specs.Operations.{words_are_normal}
 use Rattle.model_world.specs.Commands.{command}
 use Rattle.model_world.specs.Edits.{change_of}
 use Rattle.model_world.specs.Opening.{open_page}
@@ -31,7 +31,7 @@ OpsApart (op.Attr name to ∷ ops) = OpsApart ops
 
 -- operations are in normal form, and what is put in has distinct names
 abbrev pub IsWritten : Change → Type 0
-IsWritten (change.Apply ops) = (is_normal ops ≡ true) × OpsApart ops
+IsWritten (change.Apply ops) = (words_are_normal ops ≡ true) × OpsApart ops
 IsWritten (change.Wrap from to plan) = PlanApart plan
 IsWritten _ = Unit {0}
 

@@ -2,6 +2,7 @@
 use Rattle.std.specs.Prelude.{◌≡◌, ℕ, true, false, nat_le, List, [], ◌∷◌, length, encode_utf8_all, Some, None}
 use Rattle.std.specs.List.{AllByRecursion, list_any}
 use Rattle.std.specs.Str.{all_scalars}
+use Rattle.ve_base.specs.Limits.{max_marks}
 use Rattle.model_spelling.specs.Grammar.{is_barred, is_attr_name}
 use Rattle.ve_kinds.specs.Table.{is_element}
 use Rattle.ve_base.specs.declared.attrs.Attr.{Attr}
@@ -35,7 +36,7 @@ pub record IsMark (m : Mark) : Type 0 where
 
 pub record AreMarks (marks : List Mark) : Type 0 where
   pub each : AllByRecursion IsMark marks
-  pub few : nat_le (length marks) 64 ≡ true
+  pub few : nat_le (length marks) max_marks ≡ true
 
 pub record IsWhite (pre : List ℕ) : Type 0 where
   pub text : IsText pre

@@ -3,6 +3,7 @@
 
 mod commands;
 mod line;
+mod quoted;
 mod reply;
 #[cfg(test)]
 mod tests;

@@ -1,8 +1,8 @@
 // What a script's lines are answered.
 ghost use Rattle.std.specs.Prelude.{◌≡◌, ◌++◌, ◌∷◌, [], OnOk, OnErr, codes};
-ghost use Rattle.ve_json.specs.Spelled.{spelled, refusal_word};
+ghost use Rattle.ve_json.specs.Spelled.{spelled, refusal_word, Keeps};
 
-use serde_json::Value;
+use crate::quoted::push_quoted;
 use std::alloc::Global;
 use ve_base::{Bytes, Memory, Text};
 
@@ -42,39 +42,36 @@ impl Refusal {
 }
 
 impl Reply {
-    /// Appends its words, without a newline. After an `Err` some of them may stand there.
-    pub fn spell(&self, alloc: Global, out: &mut Bytes) -> Result<(), Memory>
-        ensures { OnOk result (out.new ≡ out.old ++ spelled self.now) }
+    /// Appends its words, without a newline. After an `Err` some of them may stand after what stood there.
+    fn spell(&self, alloc: Global, out: &mut Bytes) -> Result<(), Memory>
+        ensures ok { OnOk result (out.new ≡ out.old ++ spelled self.now) }
+        ensures err { OnErr result (Keeps out.old out.new) }
     {
         match self {
             Reply::Length(length) => {
-                out.push(b"ok ")?;
                 let digits = length.to_string(alloc)?;
-                out.push(digits.as_bytes())?;
+                out.push(b"ok ")?;
+                out.push(digits.as_bytes())
             }
             Reply::Page(page) => {
                 out.push(b"ok ")?;
-                spell_quoted(alloc, page, out)?;
+                push_quoted(page, out)
             }
             Reply::No(refusal) => {
                 out.push(b"no ")?;
-                out.push(refusal.word().as_bytes())?;
+                out.push(refusal.word().as_bytes())
             }
         }
-        Ok(())
     }
-}
 
-ghost use Rattle.std.specs.Str.{encode_utf8_all};
-ghost use Rattle.json.specs.Print.{quoted};
-
-/// Appends a text as a JSON string, as `serde_json` writes it.
-fn spell_quoted(alloc: Global, text: &Text, out: &mut Bytes) -> Result<(), Memory>
-    ensures { OnOk result (out.new ≡ out.old ++ quoted (encode_utf8_all text.now)) }
-{
-    let value = Value::String(String::from_str(alloc, text.as_str())?);
-    let json = value.to_string(alloc)?;
-    out.push(json.as_bytes())
+    /// Appends its words and a newline. After an `Err` some of them may stand after what stood there.
+    fn spell_line(&self, alloc: Global, out: &mut Bytes) -> Result<(), Memory>
+        ensures ok { OnOk result (out.new ≡ out.old ++ spelled self.now ++ 10 ∷ []) }
+        ensures err { OnErr result (Keeps out.old out.new) }
+    {
+        self.spell(alloc, out)?;
+        out.push_byte(b'\n')
+    }
 }
 
 /// Appends the reply and a newline. An `Err` changes nothing.
@@ -82,8 +79,10 @@ pub fn reply_text(alloc: Global, reply: &Reply, out: &mut Bytes) -> Result<(), M
     ensures ok { OnOk result (out.new ≡ out.old ++ spelled reply.now ++ 10 ∷ []) }
     ensures err { OnErr result (out.new ≡ out.old) }
 {
-    let mut line = Bytes::new(alloc);
-    reply.spell(alloc, &mut line)?;
-    line.push_byte(b'\n')?;
-    out.push(line.as_slice())
+    let length_before = out.as_slice().len();
+    let spelled = reply.spell_line(alloc, out);
+    if spelled.is_err() {
+        out.truncate(length_before);
+    }
+    spelled
 }

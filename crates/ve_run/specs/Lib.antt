@@ -1,4 +1,4 @@
-pub mod Lines
-pub mod Output
 pub mod Run
 pub mod Status
+pub use Rattle.model_script.specs.Lines
+pub use Rattle.model_script.specs.Output

@@ -2,9 +2,8 @@
 ghost use Rattle.std.specs.Prelude.{◌≡◌, ◌≤◌, ◌++◌, ◌∷◌, [], ◌⊎◌, OnOk, IsErrOf, MatchOption};
 ghost use Rattle.std.specs.Io.KnownBytes.{Appends};
 ghost use Rattle.ve_base.specs.Outside.{Rose};
-ghost use Rattle.ve_run.specs.Lines.{IsLine, newline};
-ghost use Rattle.ve_run.specs.Output.{meaning, reply_line};
-ghost use Rattle.ve_run.specs.Run.{scene, AppendsPrefix, Stepped, Answered, BrokeOff, GaveUp};
+ghost use Rattle.model_script.specs.Lines.{IsLine, newline};
+ghost use Rattle.ve_run.specs.Run.{reply_line, scene, AppendsPrefix, Stepped, Answered, BrokeOff, GaveUp};
 
 use crate::Machine;
 use crate::answer::answer;
@@ -34,17 +33,18 @@ fn end_line<K: Sink, M: Machine, L: Ledger>(
     alloc: Global,
     kept: &mut Bytes,
     end: &[u8],
+    reply: &mut Bytes,
     sink: &mut K,
     world: &mut M,
     steps: &mut Steps<L>,
 ) -> Result<(), Stop>
-    ensures stepped { OnOk result (Stepped (meaning M.reply M.next M.cost)
+    ensures stepped { OnOk result (Stepped M.meaning
         (scene world.old steps.old (K.held sink.old)) (scene world.new steps.new (K.held sink.new)) (kept.old ++ end.now)) }
-    ensures written { OnOk result (Appends (K.held sink.old) (K.held sink.new) (reply_line (M.reply world.old (kept.old ++ end.now)))) }
+    ensures written { OnOk result (Appends (K.held sink.old) (K.held sink.new) (reply_line (M.meaning.reply world.old (kept.old ++ end.now)))) }
     ensures nothing { OnOk result (kept.new ≡ []) }
-    ensures stepped_at_fault { IsErrOf result Stop.WriteFault → Stepped (meaning M.reply M.next M.cost)
+    ensures stepped_at_fault { IsErrOf result Stop.WriteFault → Stepped M.meaning
         (scene world.old steps.old (K.held sink.old)) (scene world.new steps.new (K.held sink.new)) (kept.old ++ end.now) }
-    ensures prefix { IsErrOf result Stop.WriteFault → AppendsPrefix (K.held sink.old) (K.held sink.new) (reply_line (M.reply world.old (kept.old ++ end.now))) }
+    ensures prefix { IsErrOf result Stop.WriteFault → AppendsPrefix (K.held sink.old) (K.held sink.new) (reply_line (M.meaning.reply world.old (kept.old ++ end.now))) }
     ensures rose { IsErrOf result Stop.WriteFault → Rose (K.faults sink.old) (K.faults sink.new) }
     ensures starved { IsErrOf result Stop.Memory → K.held sink.new ≡ K.held sink.old }
     ensures sink_alone { IsErrOf result Stop.ReadFault ⊎ IsErrOf result Stop.InputTooLong → ⊥ }
@@ -52,10 +52,10 @@ fn end_line<K: Sink, M: Machine, L: Ledger>(
     ensures counted { steps.old ≤ steps.new }
 {
     if kept.as_slice().is_empty() {
-        return answer(alloc, end, sink, world, steps);
+        return answer(alloc, end, reply, sink, world, steps);
     }
     kept.push(end)?;
-    answer(alloc, kept.as_slice(), sink, world, steps)?;
+    answer(alloc, kept.as_slice(), reply, sink, world, steps)?;
     kept.clear();
     Ok(())
 }
@@ -65,17 +65,18 @@ pub fn feed<K: Sink, M: Machine, L: Ledger>(
     alloc: Global,
     piece: &[u8],
     kept: &mut Bytes,
+    reply: &mut Bytes,
     sink: &mut K,
     world: &mut M,
     steps: &mut Steps<L>,
 ) -> Result<(), Stop>
     requires { IsLine kept.old }
-    ensures ok { OnOk result (Answered (meaning M.reply M.next M.cost)
+    ensures ok { OnOk result (Answered M.meaning
         (scene world.old steps.old (K.held sink.old)) (scene world.new steps.new (K.held sink.new)) (kept.old ++ piece.now) kept.new) }
-    ensures broke_off { IsErrOf result Stop.WriteFault → BrokeOff (meaning M.reply M.next M.cost)
+    ensures broke_off { IsErrOf result Stop.WriteFault → BrokeOff M.meaning
         (scene world.old steps.old (K.held sink.old)) (scene world.new steps.new (K.held sink.new)) (kept.old ++ piece.now) ⊥ }
     ensures rose { IsErrOf result Stop.WriteFault → Rose (K.faults sink.old) (K.faults sink.new) }
-    ensures starved { IsErrOf result Stop.Memory → GaveUp (meaning M.reply M.next M.cost)
+    ensures starved { IsErrOf result Stop.Memory → GaveUp M.meaning
         (scene world.old steps.old (K.held sink.old)) (scene world.new steps.new (K.held sink.new)) (kept.old ++ piece.now) }
     ensures sink_alone { IsErrOf result Stop.ReadFault ⊎ IsErrOf result Stop.InputTooLong → ⊥ }
     ensures later { K.faults sink.old ≤ K.faults sink.new }
@@ -83,7 +84,7 @@ pub fn feed<K: Sink, M: Machine, L: Ledger>(
 {
     let mut left = piece;
     'lines: while let Some((end, more)) = split_line(left) {
-        end_line(alloc, kept, end, sink, world, steps)?;
+        end_line(alloc, kept, end, reply, sink, world, steps)?;
         left = more;
     }
     kept.push(left)?;

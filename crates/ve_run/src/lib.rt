@@ -6,7 +6,6 @@
 
 mod answer;
 mod feed;
-mod laws;
 mod machine;
 mod script;
 mod status;
@@ -15,7 +14,6 @@ mod stop;
 mod tests;
 mod top;
 
-pub use laws::script_is_its_lines;
 pub use machine::Machine;
 pub use status::Status;
 pub use top::run;

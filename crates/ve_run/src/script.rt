@@ -2,7 +2,6 @@
 ghost use Rattle.std.specs.Prelude.{◌≡◌, ◌≤◌, ◌<◌, [], ◌∷◌, ℕ, List, length, OnOk, IfOk, IsErrOf};
 ghost use Rattle.std.specs.Io.KnownBytes.{ReadConsumes, IsAtEnd};
 ghost use Rattle.ve_base.specs.Outside.{Rose, HasCause};
-ghost use Rattle.ve_run.specs.Output.{meaning};
 ghost use Rattle.ve_run.specs.Run.{scene, Answered, Took, Ran, Stopped, Broke, Starved};
 
 use crate::Machine;
@@ -11,10 +10,7 @@ use crate::feed::feed;
 use crate::stop::Stop;
 use std::alloc::Global;
 use std::sync::ledger::Ledger;
-use ve_base::{Bytes, Failed, Sink, Source, Steps};
-
-/// The most bytes that a script may have.
-const MAX_SCRIPT: usize = 67_108_864;
+use ve_base::{Bytes, Failed, MAX_SCRIPT, Sink, Source, Steps};
 
 /// How many bytes are asked for at once.
 const ROOM: usize = 4096;
@@ -39,24 +35,25 @@ fn read_lines<S: Source, K: Sink, M: Machine, L: Ledger>(
     alloc: Global,
     source: &mut S,
     kept: &mut Bytes,
+    reply: &mut Bytes,
     sink: &mut K,
     world: &mut M,
     steps: &mut Steps<L>,
 ) -> Result<(), Stop>
     requires { kept.old ≡ [] }
     ensures answered { OnOk result ((script : List ℕ) × Took (S.left source.old) (S.left source.new) script []
-        × Answered (meaning M.reply M.next M.cost)
+        × Answered M.meaning
         (scene world.old steps.old (K.held sink.old)) (scene world.new steps.new (K.held sink.new)) script kept.new) }
     ensures end { OnOk result (IsAtEnd (S.left source.new)) }
-    ensures read_fault { IsErrOf result Stop.ReadFault → Stopped (meaning M.reply M.next M.cost) (S.left source.old) (S.left source.new)
+    ensures read_fault { IsErrOf result Stop.ReadFault → Stopped M.meaning (S.left source.old) (S.left source.new)
         (scene world.old steps.old (K.held sink.old)) (scene world.new steps.new (K.held sink.new)) [] }
     ensures read_cause { IsErrOf result Stop.ReadFault → Rose (S.faults source.old) (S.faults source.new) }
-    ensures too_long { IsErrOf result Stop.InputTooLong → (extra : ℕ) × Stopped (meaning M.reply M.next M.cost) (S.left source.old) (S.left source.new)
+    ensures too_long { IsErrOf result Stop.InputTooLong → (extra : ℕ) × Stopped M.meaning (S.left source.old) (S.left source.new)
         (scene world.old steps.old (K.held sink.old)) (scene world.new steps.new (K.held sink.new)) (extra ∷ []) }
-    ensures write_fault { IsErrOf result Stop.WriteFault → Broke (meaning M.reply M.next M.cost) (S.left source.old) (S.left source.new)
+    ensures write_fault { IsErrOf result Stop.WriteFault → Broke M.meaning (S.left source.old) (S.left source.new)
         (scene world.old steps.old (K.held sink.old)) (scene world.new steps.new (K.held sink.new)) }
     ensures write_cause { IsErrOf result Stop.WriteFault → Rose (K.faults sink.old) (K.faults sink.new) }
-    ensures starved { IsErrOf result Stop.Memory → Starved (meaning M.reply M.next M.cost) (S.left source.old) (S.left source.new)
+    ensures starved { IsErrOf result Stop.Memory → Starved M.meaning (S.left source.old) (S.left source.new)
         (scene world.old steps.old (K.held sink.old)) (scene world.new steps.new (K.held sink.new)) }
     ensures source_later { S.faults source.old ≤ S.faults source.new }
     ensures sink_later { K.faults sink.old ≤ K.faults sink.new }
@@ -73,10 +70,10 @@ fn read_lines<S: Source, K: Sink, M: Machine, L: Ledger>(
             break;
         }
         if given > space {
-            feed(alloc, &buffer[..space], kept, sink, world, steps)?;
+            feed(alloc, &buffer[..space], kept, reply, sink, world, steps)?;
             return Err(Stop::InputTooLong);
         }
-        feed(alloc, &buffer[..given], kept, sink, world, steps)?;
+        feed(alloc, &buffer[..given], kept, reply, sink, world, steps)?;
         taken += given;
     }
     Ok(())
@@ -90,27 +87,28 @@ pub fn run_script<S: Source, K: Sink, M: Machine, L: Ledger>(
     world: &mut M,
     steps: &mut Steps<L>,
 ) -> Result<(), Stop>
-    ensures ok { OnOk result (Ran (meaning M.reply M.next M.cost) (S.left source.old) (S.left source.new)
+    ensures ok { OnOk result (Ran M.meaning (S.left source.old) (S.left source.new)
         (scene world.old steps.old (K.held sink.old)) (scene world.new steps.new (K.held sink.new))) }
-    ensures read_fault { IsErrOf result Stop.ReadFault → Stopped (meaning M.reply M.next M.cost) (S.left source.old) (S.left source.new)
+    ensures read_fault { IsErrOf result Stop.ReadFault → Stopped M.meaning (S.left source.old) (S.left source.new)
         (scene world.old steps.old (K.held sink.old)) (scene world.new steps.new (K.held sink.new)) [] }
     ensures read_cause { IsErrOf result Stop.ReadFault → Rose (S.faults source.old) (S.faults source.new) }
-    ensures too_long { IsErrOf result Stop.InputTooLong → (extra : ℕ) × Stopped (meaning M.reply M.next M.cost) (S.left source.old) (S.left source.new)
+    ensures too_long { IsErrOf result Stop.InputTooLong → (extra : ℕ) × Stopped M.meaning (S.left source.old) (S.left source.new)
         (scene world.old steps.old (K.held sink.old)) (scene world.new steps.new (K.held sink.new)) (extra ∷ []) }
-    ensures write_fault { IsErrOf result Stop.WriteFault → Broke (meaning M.reply M.next M.cost) (S.left source.old) (S.left source.new)
+    ensures write_fault { IsErrOf result Stop.WriteFault → Broke M.meaning (S.left source.old) (S.left source.new)
         (scene world.old steps.old (K.held sink.old)) (scene world.new steps.new (K.held sink.new)) }
     ensures write_cause { IsErrOf result Stop.WriteFault → Rose (K.faults sink.old) (K.faults sink.new) }
-    ensures starved { IsErrOf result Stop.Memory → Starved (meaning M.reply M.next M.cost) (S.left source.old) (S.left source.new)
+    ensures starved { IsErrOf result Stop.Memory → Starved M.meaning (S.left source.old) (S.left source.new)
         (scene world.old steps.old (K.held sink.old)) (scene world.new steps.new (K.held sink.new)) }
     ensures source_later { S.faults source.old ≤ S.faults source.new }
     ensures sink_later { K.faults sink.old ≤ K.faults sink.new }
     ensures counted { steps.old ≤ steps.new }
 {
     let mut kept = Bytes::new(alloc);
-    read_lines(alloc, source, &mut kept, sink, world, steps)?;
+    let mut reply = Bytes::new(alloc);
+    read_lines(alloc, source, &mut kept, &mut reply, sink, world, steps)?;
     let line = kept.as_slice();
     if !line.is_empty() {
-        answer(alloc, line, sink, world, steps)?;
+        answer(alloc, line, &mut reply, sink, world, steps)?;
     }
     Ok(())
 }

@@ -21,11 +21,11 @@ impl Machine for Counter {
     ghost use Rattle.std.specs.Prelude.{◌+◌};
     ghost use Rattle.ve_json.specs.declared.reply.Reply.TheVariants.{Length};
 
-    ghost reply = { λ counter _. Length (counter.answered + 1) };
-
-    ghost next = { λ counter _. record counter { answered = counter.answered + 1 } };
-
-    ghost cost = { λ _ _. 0 };
+    ghost meaning = { record {
+      reply = λ counter _. Length (counter.answered + 1);
+      next = λ counter _. record counter { answered = counter.answered + 1 };
+      cost = λ _ _. 0;
+    } };
 
     fn step<L: Ledger>(&mut self, _line: &[u8], _steps: &mut Steps<L>) -> Result<Reply, Memory> {
         if self.answered >= self.most {

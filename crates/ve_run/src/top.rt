@@ -1,10 +1,12 @@
 // The top call.
 ghost use Rattle.std.specs.Prelude.{◌≡◌, ◌≤◌, ◌<◌, ◌⊎◌, ◌↔◌, ◌∷◌, [], Some, ℕ, length, IsTrue, IfSome, IsSomeAnd};
 ghost use Rattle.std.specs.Io.KnownBytes.{Appends};
+ghost use Rattle.ve_base.specs.Limits.{max_script};
 ghost use Rattle.ve_base.specs.Outside.{Rose};
-ghost use Rattle.ve_run.specs.Lines.{lines_of};
-ghost use Rattle.ve_run.specs.Output.{meaning, output, state_after};
-ghost use Rattle.ve_run.specs.Run.{scene, max_script, AppendsPrefix, Ran, Stopped, Broke, Starved, WrotePrefix};
+ghost use Rattle.model_script.specs.Lines.{lines_of};
+ghost use Rattle.model_script.specs.Output.{output, state_after};
+ghost use Rattle.ve_json.specs.Spelled.{spelled};
+ghost use Rattle.ve_run.specs.Run.{scene, AppendsPrefix, Ran, Stopped, Broke, Starved, WrotePrefix};
 ghost use Rattle.ve_run.specs.Status.{IsRun, usage_line};
 
 use crate::answer::write_all;
@@ -37,32 +39,32 @@ pub fn run<S: Source, K: Sink, M: Machine, L: Ledger>(
 ) -> Status
     // Whatever bytes the source has left, the machine's replies to their lines are written, and nothing else.
     ensures headline { result ≡ Status.Done → IfSome (S.left source.old) (λ script.
-        Appends (K.held sink.old) (K.held sink.new) (output (meaning M.reply M.next M.cost) world.old script)
+        Appends (K.held sink.old) (K.held sink.new) (output spelled M.meaning world.old script)
         × (S.left source.new ≡ Some [])
-        × (world.new ≡ state_after (meaning M.reply M.next M.cost) world.old (lines_of script))) }
+        × (world.new ≡ state_after M.meaning world.old (lines_of script))) }
     // The same where the source doesn't tell its bytes: some bytes were taken, and it is at its end.
     ensures done { result ≡ Status.Done → IsRun words.now
-        × Ran (meaning M.reply M.next M.cost) (S.left source.old) (S.left source.new)
+        × Ran M.meaning (S.left source.old) (S.left source.new)
         (scene world.old steps.old (K.held sink.old)) (scene world.new steps.new (K.held sink.new)) }
 
     // The machine stands after the lines that were answered: all that had ended when the source failed.
     ensures read_fault { result ≡ Status.ReadFault → IsRun words.now
         × Rose (S.faults source.old) (S.faults source.new)
-        × Stopped (meaning M.reply M.next M.cost) (S.left source.old) (S.left source.new)
+        × Stopped M.meaning (S.left source.old) (S.left source.new)
         (scene world.old steps.old (K.held sink.old)) (scene world.new steps.new (K.held sink.new)) [] }
     // The same, where 2^26 bytes and one more were taken: all lines that end within the first 2^26.
     ensures too_long { result ≡ Status.InputTooLong → IsRun words.now
-        × ((extra : ℕ) × Stopped (meaning M.reply M.next M.cost) (S.left source.old) (S.left source.new)
+        × ((extra : ℕ) × Stopped M.meaning (S.left source.old) (S.left source.new)
         (scene world.old steps.old (K.held sink.old)) (scene world.new steps.new (K.held sink.new)) (extra ∷ [])) }
     // The machine stands after the lines whose replies were written and the one whose reply was not, or not whole.
     ensures write_fault { result ≡ Status.WriteFault → Rose (K.faults sink.old) (K.faults sink.new)
-        × (IsRun words.now → Broke (meaning M.reply M.next M.cost) (S.left source.old) (S.left source.new)
+        × (IsRun words.now → Broke M.meaning (S.left source.old) (S.left source.new)
         (scene world.old steps.old (K.held sink.old)) (scene world.new steps.new (K.held sink.new))) }
     ensures memory { result ≡ Status.Memory → IsRun words.now
-        × Starved (meaning M.reply M.next M.cost) (S.left source.old) (S.left source.new)
+        × Starved M.meaning (S.left source.old) (S.left source.new)
         (scene world.old steps.old (K.held sink.old)) (scene world.new steps.new (K.held sink.new)) }
     // At every status what was written is a prefix of the output of the bytes taken.
-    ensures prefix { IsRun words.now → WrotePrefix (meaning M.reply M.next M.cost) (S.left source.old) (S.left source.new)
+    ensures prefix { IsRun words.now → WrotePrefix M.meaning (S.left source.old) (S.left source.new)
         (scene world.old steps.old (K.held sink.old)) (scene world.new steps.new (K.held sink.new)) }
 
     ensures usage { result ≡ Status.Usage → (IsRun words.now → ⊥) × Appends (K.held sink.old) (K.held sink.new) usage_line }

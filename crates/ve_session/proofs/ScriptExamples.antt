@@ -3,11 +3,12 @@ use Rattle.std.proofs.Common.{◌≡◌, ℕ, List, codes, refl}
 use Rattle.std.specs.Fmt.{digits}
 use Rattle.std.specs.Str.{chars, is_utf8}
 use Rattle.serde_json.proofs.OnLiterals.{serde_json_on_literals}
-use Rattle.ve_run.specs.Output.{meaning, output}
-use Rattle.ve_session.specs.World.{reply, next, cost, begun}
+use Rattle.model_script.specs.Output.{output}
+use Rattle.ve_json.specs.Spelled.{spelled}
+use Rattle.ve_session.specs.World.{meaning, begun}
 
 abbrev written : List ℕ → List ℕ
-written script = output (meaning reply next cost) begun script
+written script = output spelled meaning begun script
 
 first_run : written (codes "{\"do\":\"open\",\"page\":\"<p>ab</p>\"}\n{\"do\":\"text\",\"at\":2,\"text\":\"X\"}\n{\"do\":\"html\"}\n") ≡ codes "ok 6\nok 7\nok \"<p>aXb</p>\"\n"
 unfolding serde_json_on_literals chars is_utf8 digits

@@ -1,5 +1,6 @@
 -- What a world answers to a line, and the world after it.
 use Rattle.std.specs.Prelude.{ℕ, ◌+◌, ◌&&◌, List, length, take, reverse, find, Bool, true, false, nat_le, if◌then◌else◌, Option, Some, None, Result, Ok, Err}
+use Rattle.model_script.specs.Output.{Meaning}
 use Rattle.ve_kinds.specs.Table.{is_content_branch}
 use Rattle.model_items.specs.declared.item.Item.{Item}
 use Rattle.model_items.specs.declared.item.Item.TheVariants.{Char, Opening, Closing}
@@ -94,6 +95,6 @@ reply state line = (stepped state.page (command line)).0
 abbrev pub next : State → List ℕ → State
 next state line = record state { page = (stepped state.page (command line)).1 }
 
--- the greatest number of steps that it takes
-abbrev pub cost : State → List ℕ → ℕ
-cost state line = 0
+-- what a world means as a machine; it takes no steps
+abbrev pub meaning : Meaning State Reply
+meaning = record { reply = reply; next = next; cost = λ state line. 0 }

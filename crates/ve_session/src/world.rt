@@ -153,13 +153,9 @@ impl World {
 }
 
 impl Machine for World {
-    ghost use Rattle.ve_session.specs.World.{reply, next, cost};
+    ghost use Rattle.ve_session.specs.World.{meaning};
 
-    ghost reply = { reply };
-
-    ghost next = { next };
-
-    ghost cost = { cost };
+    ghost meaning = { meaning };
 
     fn step<L: Ledger>(&mut self, line: &[u8], steps: &mut Steps<L>) -> Result<Reply, Memory> {
         World::step(self, line, steps)

@@ -1,7 +1,6 @@
 use Rattle.std.proofs.Common.{◌≡◌, ◌++◌, ◌∷◌, [], ℕ, List, arith, refl, sym, ap, ◌∙◌, subst, append_assoc, append-nil}
 use Rattle.std.proofs.lemmas.Result.{err_from_is_err_and}
-use Rattle.ve_run.specs.Lines.{newline}
-use Rattle.ve_run.specs.Output.{meaning}
+use Rattle.model_script.specs.Lines.{newline}
 use Rattle.ve_run.specs.Run.{scene, Answered}
 use Rattle.ve_run.proofs.Runs.{Answered-nothing, Answered-line, Answered-bytes, BrokeOff-line, GaveUp-now}
 use Rattle.ve_run.proofs.feed.feed.Goals as goal
@@ -19,7 +18,7 @@ pub lines-init : goal.lines-init
 lines-init g c = record {
   fed = [];
   parts = refl;
-  answered = subst (λ s. Answered (meaning g.M.Machine.reply g.M.Machine.next g.M.Machine.cost) (scene c.args.world.now c.args.steps.now (g.K.Sink.held c.args.sink.now)) (scene c.args.world.now c.args.steps.now (g.K.Sink.held c.args.sink.now)) s c.args.kept.now)
+  answered = subst (λ s. Answered g.M.Machine.meaning (scene c.args.world.now c.args.steps.now (g.K.Sink.held c.args.sink.now)) (scene c.args.world.now c.args.steps.now (g.K.Sink.held c.args.sink.now)) s c.args.kept.now)
       (sym (append-nil c.args.kept.now)) (Answered-nothing _ _ c.args.kept.now c.requires);
   later = omega arith;
   counted = omega arith;
@@ -34,7 +33,7 @@ lines-preserved g c =
     record {
       fed = inv.fed ++ (end ++ newline ∷ []);
       parts = parts_after c.args.piece.now inv.fed end c.in-Some.more.now (inv.parts ∙ ap (λ s. inv.fed ++ s) split);
-      answered = rw c.in_ok-end_line.ensures.nothing (subst (λ s. Answered (meaning g.M.Machine.reply g.M.Machine.next g.M.Machine.cost) (scene c.args.world.now c.args.steps.now (g.K.Sink.held c.args.sink.now)) (scene c.end_line.new.world c.end_line.new.steps (g.K.Sink.held c.end_line.new.sink)) s [])
+      answered = rw c.in_ok-end_line.ensures.nothing (subst (λ s. Answered g.M.Machine.meaning (scene c.args.world.now c.args.steps.now (g.K.Sink.held c.args.sink.now)) (scene c.end_line.new.world c.end_line.new.steps (g.K.Sink.held c.end_line.new.sink)) s [])
           (append_assoc kept inv.fed (end ++ newline ∷ []))
           (Answered-line _ _ _ _ (kept ++ inv.fed) c.lines.kept end inv.answered is_line c.in_ok-end_line.ensures.stepped c.in_ok-end_line.ensures.written));
       later = omega (arith, inv.later, c.end_line.ensures.later);
@@ -63,6 +62,6 @@ returns-in_err-end_line-clause-starved g c want =
 pub returns-clause-ok : goal.returns-clause-ok
 returns-clause-ok g c =
     let inv = c.lines.invariant in
-    rw c.in_ok-push.ensures.ok (subst (λ s. Answered (meaning g.M.Machine.reply g.M.Machine.next g.M.Machine.cost) (scene c.args.world.now c.args.steps.now (g.K.Sink.held c.args.sink.now)) (scene c.lines.world c.lines.steps (g.K.Sink.held c.lines.sink)) s (c.lines.kept ++ c.lines.left.now))
+    rw c.in_ok-push.ensures.ok (subst (λ s. Answered g.M.Machine.meaning (scene c.args.world.now c.args.steps.now (g.K.Sink.held c.args.sink.now)) (scene c.lines.world c.lines.steps (g.K.Sink.held c.lines.sink)) s (c.lines.kept ++ c.lines.left.now))
     (sym (all_of c.args.kept.now c.args.piece.now inv.fed c.lines.left.now inv.parts))
     (Answered-bytes _ _ _ (c.args.kept.now ++ inv.fed) c.lines.kept c.lines.left.now inv.answered c.in_default.ensures))

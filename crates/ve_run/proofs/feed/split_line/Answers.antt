@@ -1,7 +1,7 @@
 use Rattle.std.proofs.Common.{◌≢◌, ◌+◌, ◌<◌, ◌∷◌, [], ℕ, List, length, take, get_or, sym, subst}
 use Rattle.std.proofs.lemmas.List.{take_more}
-use Rattle.ve_run.specs.Lines.{IsLine}
-use Rattle.ve_run.proofs.Lines.{IsLine-append}
+use Rattle.model_script.specs.Lines.{IsLine}
+use Rattle.model_script.proofs.Cuts.{IsLine-append}
 use Rattle.ve_run.proofs.feed.split_line.Goals as goal
 
 one_more : (piece : List ℕ) (i : ℕ) → i < length piece → IsLine (take i piece) → get_or piece i 0 ≢ 10 → IsLine (take (i + 1) piece)

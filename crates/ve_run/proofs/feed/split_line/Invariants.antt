@@ -1,5 +1,5 @@
 use Rattle.std.proofs.Common.{take}
-use Rattle.ve_run.specs.Lines.{IsLine}
+use Rattle.model_script.specs.Lines.{IsLine}
 use Rattle.ve_run.proofs.feed.split_line.Given as goal
 
 abbrev pub invariant-loop-at : goal.invariant-loop-at

@@ -3,7 +3,8 @@ use Rattle.std.proofs.lemmas.List.{take_more}
 use Rattle.std.proofs.lemmas.Result.{err_from_is_err_and}
 use Rattle.std.proofs.KnownBytes.{Consumes-nil, Consumes-trans}
 use Rattle.std.specs.Io.KnownBytes.{Consumes}
-use Rattle.ve_run.specs.Run.{Took, max_script}
+use Rattle.ve_base.specs.Limits.{max_script}
+use Rattle.ve_run.specs.Run.{Took}
 use Rattle.ve_run.proofs.Runs.{Answered-nothing, Answered-more, BrokeOff-more, GaveUp-more}
 use Rattle.ve_run.proofs.script.read_lines.Goals as goal
 

@@ -1,7 +1,7 @@
 use Rattle.std.proofs.Common.{◌≡◌, ◌≤◌, ◌-◌, ℕ, List, length}
 use Rattle.std.specs.Io.KnownBytes.{Consumes}
-use Rattle.ve_run.specs.Output.{meaning}
-use Rattle.ve_run.specs.Run.{scene, max_script, Answered}
+use Rattle.ve_base.specs.Limits.{max_script}
+use Rattle.ve_run.specs.Run.{scene, Answered}
 use Rattle.ve_run.proofs.script.read_lines.Given as goal
 
 -- the lines that have come are answered
@@ -11,7 +11,7 @@ invariant-script g l = record {
   count : length script ≡ l.taken;
   short : l.taken ≤ max_script;
   consumed : Consumes (g.S.Source.left l.initial.source) (g.S.Source.left l.source) script;
-  answered : Answered (meaning g.M.Machine.reply g.M.Machine.next g.M.Machine.cost)
+  answered : Answered g.M.Machine.meaning
       (scene l.initial.world l.initial.steps (g.K.Sink.held l.initial.sink)) (scene l.world l.steps (g.K.Sink.held l.sink)) script l.kept;
   source_later : g.S.Source.faults l.initial.source ≤ g.S.Source.faults l.source;
   sink_later : g.K.Sink.faults l.initial.sink ≤ g.K.Sink.faults l.sink;

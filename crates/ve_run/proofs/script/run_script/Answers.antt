@@ -1,7 +1,6 @@
 use Rattle.std.proofs.Common.{◌≡◌, ◌<◌, [], rules, length, sym, ◌∙◌, subst}
 use Rattle.std.proofs.lemmas.List.{nil_from_length}
 use Rattle.std.proofs.lemmas.Result.{err_from_is_err_and}
-use Rattle.ve_run.specs.Output.{meaning}
 use Rattle.ve_run.specs.Run.{scene, Answered}
 use Rattle.ve_run.proofs.Runs.{BrokeOff-last, Answers-last, Answers-whole}
 use Rattle.ve_run.proofs.script.run_script.Goals as goal
@@ -17,7 +16,7 @@ returns-in_err-answer-clause-write_fault g c fault =
       extra = [];
       took = took;
       broke_off = BrokeOff-last _ _ _ _ script c.as_slice-line.result.now _
-          (subst (λ rest. Answered (meaning g.M.Machine.reply g.M.Machine.next g.M.Machine.cost) (scene c.args.world.now c.args.steps.now (g.K.Sink.held c.args.sink.now)) (scene c.read_lines.new.world c.read_lines.new.steps (g.K.Sink.held c.read_lines.new.sink)) script rest) (sym c.as_slice-line.ensures) answered)
+          (subst (λ rest. Answered g.M.Machine.meaning (scene c.args.world.now c.args.steps.now (g.K.Sink.held c.args.sink.now)) (scene c.read_lines.new.world c.read_lines.new.steps (g.K.Sink.held c.read_lines.new.sink)) script rest) (sym c.as_slice-line.ensures) answered)
           line_some c.in_ok-read_lines.ensures.end
           (c.answer.ensures.stepped_at_fault (cc (p.1, p.2, c.in_err-answer.was, fault)))
           (c.answer.ensures.prefix (cc (p.1, p.2, c.in_err-answer.was, fault)));
@@ -25,7 +24,7 @@ returns-in_err-answer-clause-write_fault g c fault =
 
 pub returns-clause-ok : goal.returns-clause-ok
 returns-clause-ok g c =
-    let m = meaning g.M.Machine.reply g.M.Machine.next g.M.Machine.cost in
+    let m = g.M.Machine.meaning in
     let (script, took, answered) = c.in_ok-read_lines.ensures.answered in
     let kept = c.as_slice-line.ensures in
     elim c.if-not-is_empty.branch [

@@ -2,8 +2,10 @@ use Rattle.std.proofs.Common.{◌≡◌, ◌≤◌, inl, inr, ◌++◌, ◌∷�
 use Rattle.std.specs.Option.{IsSomeAnd}
 use Rattle.ve_run.specs.declared.stop.Stop.{Stop}
 use Rattle.ve_run.specs.declared.stop.Stop.TheVariants.{Memory, ReadFault, WriteFault, InputTooLong}
-use Rattle.ve_run.specs.Output.{Meaning}
-use Rattle.ve_run.specs.Run.{Scene, max_script, Took, Stopped, Broke, Starved, WrotePrefix}
+use Rattle.model_script.specs.Output.{Meaning}
+use Rattle.ve_json.specs.declared.reply.Reply.{Reply}
+use Rattle.ve_base.specs.Limits.{max_script}
+use Rattle.ve_run.specs.Run.{Scene, Took, Stopped, Broke, Starved, WrotePrefix}
 use Rattle.ve_run.specs.Status.{status_of}
 use Rattle.ve_run.proofs.Runs.{AppendsPrefix-answered, AppendsPrefix-broke_off, AppendsPrefix-gave_up}
 use Rattle.ve_run.proofs.top.run.Goals as goal
@@ -15,13 +17,13 @@ by_cause P ReadFault m r w l = r refl
 by_cause P WriteFault m r w l = w refl
 by_cause P InputTooLong m r w l = l refl
 
-prefix_at_stop : {W : Type 0} (m : Meaning W) (left_before left : Option (List ℕ)) (a b : Scene W) (extra : List ℕ) → Stopped m left_before left a b extra → WrotePrefix m left_before left a b
+prefix_at_stop : {W : Type 0} (m : Meaning W Reply) (left_before left : Option (List ℕ)) (a b : Scene W) (extra : List ℕ) → Stopped m left_before left a b extra → WrotePrefix m left_before left a b
 prefix_at_stop m left_before left a b extra h = record { script = h.script; extra = extra; took = h.took; written = AppendsPrefix-answered m a b h.script h.rest h.answered }
 
-prefix_at_fault : {W : Type 0} (m : Meaning W) (left_before left : Option (List ℕ)) (a b : Scene W) → Broke m left_before left a b → WrotePrefix m left_before left a b
+prefix_at_fault : {W : Type 0} (m : Meaning W Reply) (left_before left : Option (List ℕ)) (a b : Scene W) → Broke m left_before left a b → WrotePrefix m left_before left a b
 prefix_at_fault m left_before left a b h = record { script = h.script; extra = h.extra; took = h.took; written = AppendsPrefix-broke_off m a b h.script _ h.broke_off }
 
-prefix_at_want : {W : Type 0} (m : Meaning W) (left_before left : Option (List ℕ)) (a b : Scene W) → Starved m left_before left a b → WrotePrefix m left_before left a b
+prefix_at_want : {W : Type 0} (m : Meaning W Reply) (left_before left : Option (List ℕ)) (a b : Scene W) → Starved m left_before left a b → WrotePrefix m left_before left a b
 prefix_at_want m left_before left a b h = record { script = h.script; extra = h.extra; took = h.took; written = AppendsPrefix-gave_up m a b h.script h.gave_up }
 
 pub returns-in-Err-run_script-clause-prefix : goal.returns-in-Err-run_script-clause-prefix

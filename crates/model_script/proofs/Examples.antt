@@ -1,9 +1,7 @@
 -- The definitions at examples, which compute.
-use Rattle.std.proofs.Common.{◌≡◌, ◌==◌, ◌+◌, ℕ, [], ◌∷◌, if◌then◌else◌, codes, length, refl}
-use Rattle.ve_json.specs.declared.reply.Reply.TheVariants.{No}
-use Rattle.ve_json.specs.declared.reply.Refusal.TheVariants.{NotOpen, NotYet}
-use Rattle.ve_run.specs.Lines.{lines_of}
-use Rattle.ve_run.specs.Output.{Meaning, output, state_after, cost_of}
+use Rattle.std.proofs.Common.{◌≡◌, ◌==◌, ◌+◌, ℕ, List, [], ◌∷◌, if◌then◌else◌, codes, length, refl}
+use Rattle.model_script.specs.Lines.{lines_of}
+use Rattle.model_script.specs.Output.{Meaning, output, state_after, cost_of}
 
 -- a last line needs no newline
 last_line_ends : lines_of (codes "ab\nc") ≡ codes "ab" ∷ codes "c" ∷ []
@@ -20,11 +18,14 @@ empty_line = refl
 no_lines : lines_of [] ≡ []
 no_lines = refl
 
--- counts the bytes of the lines, and answers by whether there were any before
-abbrev counter : Meaning ℕ
-counter = record { reply = λ n line. if n == 0 then No NotOpen else No NotYet; next = λ n line. n + length line; cost = λ n line. 1 }
+-- counts the bytes of the lines, and replies how many there were before, spelled `none` or `some`
+abbrev counter : Meaning ℕ ℕ
+counter = record { reply = λ n line. n; next = λ n line. n + length line; cost = λ n line. 1 }
 
-counted : output counter 0 (codes "\nabc\nd") ≡ codes "no not_open\nno not_open\nno not_yet\n"
+abbrev spelled : ℕ → List ℕ
+spelled n = if n == 0 then codes "none" else codes "some"
+
+counted : output spelled counter 0 (codes "\nabc\nd") ≡ codes "none\nnone\nsome\n"
 counted = refl
 
 counted_state : state_after counter 0 (lines_of (codes "\nabc\nd")) ≡ 4
