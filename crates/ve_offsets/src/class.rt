@@ -2,7 +2,8 @@
 ghost use Rattle.std.specs.Prelude.{◌≡◌, ◌≤◌, ◌↔◌, IsTrue, length};
 ghost use Rattle.model_items.specs.Tree as model;
 ghost use Rattle.ve_offsets.specs.Classes.{IsContent, IsInsideLeaf, IsStructural, ItemDecidesClass};
-ghost use Rattle.ve_tree.specs.IsTree.{IsTree, unvalued};
+ghost use Rattle.ve_tree.specs.IsTree.{unvalued};
+ghost use Rattle.ve_offsets.specs.Docs.{IsDoc};
 
 use crate::Doc;
 use model_items::OffsetClass;
@@ -25,7 +26,7 @@ fn class_in(kind: Kind) -> OffsetClass
 /// The class of an offset. The item before it decides it: after a closing the offset lies in what holds the closed node, which is a content branch
 /// for an inline leaf alone.
 fn class_at(doc: Doc<'_>, o: usize) -> OffsetClass
-    requires tree { IsTree doc.tree.now.arena doc.tree.now.root (unvalued doc.list.now.items) }
+    requires doc { IsDoc doc }
     requires within { o ≤ length doc.list.now.items }
     ensures { result ≡ model.class_at (unvalued doc.entry.list.now.items) o }
 {
@@ -47,7 +48,7 @@ fn class_at(doc: Doc<'_>, o: usize) -> OffsetClass
 
 /// Whether characters may stand at an offset: the innermost node round it is a content branch.
 pub fn is_content(doc: Doc<'_>, o: usize) -> bool
-    requires tree { IsTree doc.tree.now.arena doc.tree.now.root (unvalued doc.list.now.items) }
+    requires doc { IsDoc doc }
     requires within { o ≤ length doc.list.now.items }
     ensures { IsTrue result ↔ IsContent doc.entry.list.now.items o }
 {
@@ -56,7 +57,7 @@ pub fn is_content(doc: Doc<'_>, o: usize) -> bool
 
 /// Whether an offset is inside a leaf, where nothing may stand.
 pub fn is_inside_leaf(doc: Doc<'_>, o: usize) -> bool
-    requires tree { IsTree doc.tree.now.arena doc.tree.now.root (unvalued doc.list.now.items) }
+    requires doc { IsDoc doc }
     requires within { o ≤ length doc.list.now.items }
     ensures { IsTrue result ↔ IsInsideLeaf doc.entry.list.now.items o }
 {
@@ -65,7 +66,7 @@ pub fn is_inside_leaf(doc: Doc<'_>, o: usize) -> bool
 
 /// Whether nodes alone may stand at an offset: it is neither content nor inside a leaf.
 pub fn is_structural(doc: Doc<'_>, o: usize) -> bool
-    requires tree { IsTree doc.tree.now.arena doc.tree.now.root (unvalued doc.list.now.items) }
+    requires doc { IsDoc doc }
     requires within { o ≤ length doc.list.now.items }
     ensures { IsTrue result ↔ IsStructural doc.entry.list.now.items o }
 {

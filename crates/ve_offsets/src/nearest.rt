@@ -1,6 +1,6 @@
 // The nearest content offset.
 ghost use Rattle.std.specs.Prelude.{◌≡◌, ◌≤◌, ◌↔◌, IsTrue, IfSome, IfNone, length};
-ghost use Rattle.ve_tree.specs.IsTree.{IsTree, unvalued};
+ghost use Rattle.ve_offsets.specs.Docs.{IsDoc};
 ghost use Rattle.ve_offsets.specs.Nearest.{IsNearestContent, HasNoContent, IsContentBefore, IsContentAfter};
 
 use crate::Doc;
@@ -8,7 +8,7 @@ use crate::class::is_content;
 
 /// Whether the offset `away` items before this one is content.
 fn is_content_before(doc: Doc<'_>, o: usize, away: usize) -> bool
-    requires tree { IsTree doc.tree.now.arena doc.tree.now.root (unvalued doc.list.now.items) }
+    requires doc { IsDoc doc }
     requires within { o ≤ length doc.list.now.items }
     ensures { IsTrue result ↔ IsContentBefore doc.entry.list.now.items o away }
 {
@@ -20,7 +20,7 @@ fn is_content_before(doc: Doc<'_>, o: usize, away: usize) -> bool
 
 /// Whether the offset `away` items after this one is content.
 fn is_content_after(doc: Doc<'_>, o: usize, away: usize) -> bool
-    requires tree { IsTree doc.tree.now.arena doc.tree.now.root (unvalued doc.list.now.items) }
+    requires doc { IsDoc doc }
     requires within { o ≤ length doc.list.now.items }
     ensures { IsTrue result ↔ IsContentAfter doc.entry.list.now.items o away }
 {
@@ -32,7 +32,7 @@ fn is_content_after(doc: Doc<'_>, o: usize, away: usize) -> bool
 
 /// The content offset nearest to an offset, the lower one of two at the same distance, and none where the list has none.
 pub fn nearest_content(doc: Doc<'_>, o: usize) -> Option<usize>
-    requires tree { IsTree doc.tree.now.arena doc.tree.now.root (unvalued doc.list.now.items) }
+    requires doc { IsDoc doc }
     requires within { o ≤ length doc.list.now.items }
     ensures nearest { IfSome result (λ p. IsNearestContent doc.entry.list.now.items o p) }
     ensures none { IfNone result (HasNoContent doc.entry.list.now.items) }

@@ -1,6 +1,6 @@
 // The brackets of a range whose partners are not in it, counted by the tree's links.
 ghost use Rattle.std.specs.Prelude.{◌≡◌, ◌≤◌, length};
-ghost use Rattle.ve_tree.specs.IsTree.{IsTree, unvalued};
+ghost use Rattle.ve_offsets.specs.Docs.{IsDoc};
 ghost use Rattle.ve_tree.specs.Named.{Named, bare};
 ghost use Rattle.ve_offsets.specs.Levels.{levels_in, IsRow, IsInRow, IsParting};
 ghost use Rattle.ve_offsets.specs.Unmatched.{unmatched_in, UnmatchedAreOpen};
@@ -46,7 +46,7 @@ fn levels(arena: &Arena, place: InRow) -> usize
 
 /// Where the ends of a range part: the place of its start in the innermost row in which both lie.
 fn parting(doc: Doc<'_>, from: usize, to: usize) -> InRow
-    requires tree { IsTree doc.tree.now.arena doc.tree.now.root (unvalued doc.list.now.items) }
+    requires doc { IsDoc doc }
     requires order { from ≤ to }
     requires within { to ≤ length doc.list.now.items }
     ensures { IsParting doc.entry.tree.now.arena doc.entry.list.now.items from to result.next result.left }
@@ -79,7 +79,7 @@ fn parting(doc: Doc<'_>, from: usize, to: usize) -> InRow
 
 /// How many closings and openings of a range are unmatched: their partners are not in it. It follows links from the root, and reads no item.
 pub fn unmatched(doc: Doc<'_>, from: usize, to: usize) -> (usize, usize)
-    requires tree { IsTree doc.tree.now.arena doc.tree.now.root (unvalued doc.list.now.items) }
+    requires doc { IsDoc doc }
     requires order { from ≤ to }
     requires within { to ≤ length doc.list.now.items }
     ensures { result ≡ unmatched_in doc.entry.list.now.items from to }

@@ -1,7 +1,7 @@
 // The open kinds at an offset, found by the tree's links.
 ghost use Rattle.std.specs.Prelude.{◌≡◌, ◌≤◌, ◌<◌, IsOk, Ok, length};
 ghost use Rattle.model_items.specs.Law as law;
-ghost use Rattle.ve_tree.specs.IsTree.{IsTree, unvalued};
+ghost use Rattle.ve_offsets.specs.Docs.{IsDoc};
 ghost use Rattle.ve_offsets.specs.States.{IsStateAt};
 
 use crate::Doc;
@@ -47,7 +47,7 @@ fn finished() -> State
 
 /// The state before the list's end: the kinds of the nodes round the offset, entered from the root down.
 fn state_within(doc: Doc<'_>, o: usize) -> State
-    requires tree { IsTree doc.tree.now.arena doc.tree.now.root (unvalued doc.list.now.items) }
+    requires doc { IsDoc doc }
     requires within { o < length doc.list.now.items }
     ensures { IsStateAt doc.entry.list.now.items o result }
 {
@@ -80,7 +80,7 @@ fn state_within(doc: Doc<'_>, o: usize) -> State
 /// The open kinds at an offset, and whether the internal list was opened before it: the law's state after the items before the offset. It follows
 /// links from the root, and reads no item.
 pub fn state_at(doc: Doc<'_>, o: usize) -> State
-    requires tree { IsTree doc.tree.now.arena doc.tree.now.root (unvalued doc.list.now.items) }
+    requires doc { IsDoc doc }
     requires within { o ≤ length doc.list.now.items }
     ensures { IsStateAt doc.entry.list.now.items o result }
 {

@@ -1,6 +1,6 @@
 // The classes of all offsets of a page that has every kind, and all else that is asked of the offsets of a small one.
 ghost use Rattle.std.specs.Prelude.{◌≡◌, ◌≤◌, length};
-ghost use Rattle.ve_tree.specs.IsTree.{IsTree, unvalued};
+ghost use Rattle.ve_offsets.specs.Docs.{IsDoc};
 
 use crate::{Doc, is_content, is_inside_leaf, is_structural, nearest_content, state_at, unmatched};
 use model_items::OffsetClass;
@@ -36,7 +36,7 @@ fn letter(ch: char) -> Item {
 
 /// The class of an offset by the three tests, and none where not exactly one of them holds.
 fn class_of(doc: Doc<'_>, o: usize) -> Option<OffsetClass>
-    requires tree { IsTree doc.tree.now.arena doc.tree.now.root (unvalued doc.list.now.items) }
+    requires doc { IsDoc doc }
     requires within { o ≤ length doc.list.now.items }
 {
     match (

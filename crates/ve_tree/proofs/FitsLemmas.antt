@@ -24,7 +24,7 @@ part (n ∷ ls) rs q a =
       | inr other ↦ elim (part ls rs q a.1) [ inl none ↦ inl (other, none) | inr none ↦ inr none ]
     ]
 
-disjoint_of : (ls rs : List ℕ) → AllApart (ls ++ rs) → Disjoint ls rs
+pub disjoint_of : (ls rs : List ℕ) → AllApart (ls ++ rs) → Disjoint ls rs
 disjoint_of [] rs a = tt
 disjoint_of (n ∷ ls) rs a = (apart-rs n ls rs a.0, disjoint_of ls rs a.1)
 

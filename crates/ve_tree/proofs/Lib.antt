@@ -12,3 +12,7 @@ pub mod FitsLemmas
 pub mod DistinctLemmas
 pub mod NodesLemmas
 pub mod PageLemmas
+pub mod NearLemmas
+pub mod LandmarkLemmas
+pub mod LeftMarkLemmas
+pub mod PlaceLemmas

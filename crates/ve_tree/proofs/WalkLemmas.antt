@@ -62,17 +62,17 @@ tree-runs {items = items} tree = subst NoEmptyRun (sym tree.is_tree) (reading-ru
 
 -- The walk is in the node `inner`, and the siblings of a forest are still to be passed, `left` items before the offset.
 pub record WalkOn {slots : Slots} {root : NodeId} {items : List PlainItem} (tree : IsTree slots root items) (o inner : ℕ) (next : Option NodeId) (left : ℕ) (f : Named) : Type 0 where
-  at : ℕ
-  place : Place
-  parent : Option ℕ
-  start : Option ℕ
-  listed : Contains (tree_places tree) (record { number = inner; parent = parent; sort = what.Node place.kind; from = place.from; to = place.to })
-  next_is : option_map number_of next ≡ first_or (heads f) None
-  row : Row (links_of slots).parent (links_of slots).before (links_of slots).after inner start (heads f) None
-  shown : Shows slots f
-  all_listed : (x : NodePlace) → Contains (places inner at f) x → Contains (tree_places tree) x
-  runs : NoEmptyRun (bare f)
-  answer : seek (record { kind = Root; from = 0; to = length items }) 0 o (tree_of items) ≡ seek place at left (bare f)
+  pub at : ℕ
+  pub place : Place
+  pub parent : Option ℕ
+  pub start : Option ℕ
+  pub listed : Contains (tree_places tree) (record { number = inner; parent = parent; sort = what.Node place.kind; from = place.from; to = place.to })
+  pub next_is : option_map number_of next ≡ first_or (heads f) None
+  pub row : Row (links_of slots).parent (links_of slots).before (links_of slots).after inner start (heads f) None
+  pub shown : Shows slots f
+  pub all_listed : (x : NodePlace) → Contains (places inner at f) x → Contains (tree_places tree) x
+  pub runs : NoEmptyRun (bare f)
+  pub answer : seek (record { kind = Root; from = 0; to = length items }) 0 o (tree_of items) ≡ seek place at left (bare f)
 
 pub record Walk {slots : Slots} {root : NodeId} {items : List PlainItem} (tree : IsTree slots root items) (o inner : ℕ) (next : Option NodeId) (left : ℕ) : Type 0 where
   pub forest : Named

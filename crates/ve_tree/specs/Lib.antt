@@ -7,3 +7,6 @@ pub mod Places
 pub mod Fits
 pub mod Reads
 pub mod Nodes
+pub mod Landmarks
+pub mod Way
+pub mod TreeOf

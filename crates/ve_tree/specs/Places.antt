@@ -1,5 +1,5 @@
 -- Where the nodes of a tree stand in its list.
-use Rattle.std.specs.Prelude.{◌≡◌, ◌≤◌, ℕ, suc, ◌+◌, Option, Some, None, List, [], ◌∷◌, ◌++◌, length, Contains, option_map}
+use Rattle.std.specs.Prelude.{◌≡◌, ℕ, suc, ◌+◌, Option, Some, None, List, [], ◌∷◌, ◌++◌, length, Contains, option_map}
 use Rattle.ve_kinds.specs.declared.kind.Kind.{Kind}
 use Rattle.ve_kinds.specs.declared.kind.Kind.TheVariants.{Root}
 use Rattle.model_items.specs.declared.plain_item.PlainItem.{PlainItem}
@@ -37,12 +37,6 @@ tree_places {root = root} {items = items} tree =
 pub record IsNodeAt {slots : List (Option ArenaNode)} {root : NodeId} {items : List PlainItem} (tree : IsTree slots root items) (n : NodeId) (place : Place) : Type 0 where
   pub parent : Option ℕ
   pub listed : Contains (tree_places tree) (record { number = n.0; parent = parent; sort = what.Node place.kind; from = place.from; to = place.to })
-
--- the arena has the tree of some list, and the offset is one of that list
-pub record HoldsOffset (slots : List (Option ArenaNode)) (root : NodeId) (o : ℕ) : Type 0 where
-  pub items : List PlainItem
-  pub tree : IsTree slots root items
-  pub within : o ≤ length items
 
 -- what stands under a number
 abbrev pub sort_of : List (Option ArenaNode) → NodeId → Option NodeWhat

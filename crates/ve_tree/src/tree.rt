@@ -7,9 +7,13 @@ ghost use Rattle.model_items.specs.Tree as model;
 ghost use Rattle.ve_arena.specs.Arena.{IsLive};
 ghost use Rattle.ve_tree.specs.Links.{number_of};
 ghost use Rattle.ve_tree.specs.IsTree.{IsTree, unvalued};
-ghost use Rattle.ve_tree.specs.Places.{NodePlace, tree_places, IsNodeAt, HoldsOffset, IsInTree, sort_of, IsBranch};
+ghost use Rattle.ve_tree.specs.Places.{NodePlace, tree_places, IsNodeAt, sort_of, IsBranch};
+ghost use Rattle.ve_tree.specs.TreeOf.{IsTreeOf, HoldsOffset, HoldsNode};
 
 use crate::build::read_children;
+use crate::landmarks::Landmarks;
+use crate::lookup::node_near;
+use crate::mark::landmarks_of;
 use crate::unread::Unread;
 use crate::{Arena, NodeId, NodeWhat};
 use std::alloc::Global;
@@ -18,11 +22,13 @@ use ve_base::{Memory, Steps};
 use ve_items::Linear;
 use ve_kinds::Kind;
 
-/// Linked nodes and the number of their root. That they are the tree of a list is a condition or a promise of each call.
+/// Linked nodes and the number of their root, with some nodes whose places are known. That they are the tree of a list is a condition or a promise of each
+/// call.
 #[derive(Drop)]
 pub struct Tree {
     pub arena: Arena,
     pub root: NodeId,
+    landmarks: Landmarks,
 }
 
 impl Tree {
@@ -34,45 +40,36 @@ impl Tree {
         steps: &mut Steps<L>,
     ) -> Result<Tree, Memory>
         requires { Lawful (unvalued list.now.items) }
-        ensures tree { IfOk result (λ tree. IsTree tree.arena tree.root (unvalued list.now.items)) }
+        ensures tree { IfOk result (λ tree. IsTreeOf tree (unvalued list.now.items)) }
         ensures steps { steps.new ≤ steps.old + 8 * (node_count (tree_of (unvalued list.now.items)) + 2) }
     {
         let mut arena = Arena::new(alloc);
         let root = arena.make(NodeWhat::Node(Kind::Root), steps)?;
         arena.set_len(root, list.len(), steps);
         read_children(&mut arena, &mut Unread::new(list), root, steps)?;
-        Ok(Tree { arena, root })
+        let landmarks = landmarks_of(alloc, &arena, root);
+        Ok(Tree {
+            arena,
+            root,
+            landmarks,
+        })
     }
 
     /// The innermost node round an offset, text nodes aside: its opening stands before the offset, and its closing at it or after. The root is round
-    /// every offset. It follows links from the root, and reads no item.
+    /// every offset. It follows links from the landmark before the offset, and reads no item.
     pub fn node_at(&self, o: usize) -> NodeId
-        requires { HoldsOffset self.now.arena self.now.root o }
+        requires { HoldsOffset self.now o }
         ensures { (items : List PlainItem) (tree : IsTree self.now.arena self.now.root items) → IsNodeAt tree result (model.node_at items o) }
     {
-        let mut inner = self.root;
-        let mut next = self.arena.node(self.root).first;
-        // how many items there are from where `next` begins to the offset
-        let mut left = o;
-        while let Some(child) = next {
-            let node = self.arena.node(child);
-            if node.len <= left {
-                left -= node.len;
-                next = node.after;
-            } else if left == 0 {
-                return inner;
-            } else {
-                match node.what {
-                    NodeWhat::Run => return inner,
-                    NodeWhat::Node(_) => {
-                        inner = child;
-                        left -= 1;
-                        next = node.first;
-                    }
-                }
-            }
+        if let Some((near, from)) = self.landmarks.before(o)
+            && near.0 != self.root.0
+        {
+            return node_near(self, near, o - from, o);
         }
-        inner
+        match self.arena.node(self.root).first {
+            Some(first) => node_near(self, first, o, o),
+            None => self.root,
+        }
     }
 
     /// What a node is. A text node has no kind.
@@ -96,9 +93,9 @@ impl Tree {
     }
 
     /// The places of the list where a node begins and ends, its brackets included; for the root 0 and the length. It follows links to the left and up,
-    /// and reads no item.
+    /// to the next landmark, and reads no item.
     pub fn range_of(&self, n: NodeId) -> (usize, usize)
-        requires { IsInTree self.now.arena self.now.root n }
+        requires { HoldsNode self.now n }
         ensures { (items : List PlainItem) (tree : IsTree self.now.arena self.now.root items) (place : NodePlace) → Contains (tree_places tree) place → place.number ≡ n.0 → result ≡ (place.from, place.to) }
     {
         let all = self.arena.node(self.root).len;
@@ -107,6 +104,10 @@ impl Tree {
         let mut left = all;
         let mut at = n;
         loop {
+            if let Some(start) = self.landmarks.start_of(at) {
+                let from = start + (all - left);
+                return (from, from + len);
+            }
             let node = self.arena.node(at);
             if let Some(before) = node.before {
                 left -= self.arena.node(before).len;

@@ -16,21 +16,21 @@ suffix items o x y lawful some found is =
 pub returns-in-Char : goal.returns-in-Char
 returns-in-Char c =
     let some : 0 < c.args.o = search rules in
-    suffix c.args.doc.list.now.items c.args.o c.get.result _ c.requires.tree.lawful some c.get.ensures c.in-Char.is
+    suffix c.args.doc.list.now.items c.args.o c.get.result _ c.requires.doc.links.lawful some c.get.ensures c.in-Char.is
 
 pub returns-in-Opening : goal.returns-in-Opening
 returns-in-Opening c =
     let some : 0 < c.args.o = search rules in
-    c.class_in.ensures ∙ suffix c.args.doc.list.now.items c.args.o c.get.result _ c.requires.tree.lawful some c.get.ensures c.in-Opening.is
+    c.class_in.ensures ∙ suffix c.args.doc.list.now.items c.args.o c.get.result _ c.requires.doc.links.lawful some c.get.ensures c.in-Opening.is
 
 pub returns-then-is_inline_leaf : goal.returns-then-is_inline_leaf
 returns-then-is_inline_leaf c =
     let some : 0 < c.args.o = search rules in
     ap (λ t. if t then Content else Structural) (sym c.if-is_inline_leaf.true ∙ c.is_inline_leaf.ensures)
-    ∙ suffix c.args.doc.list.now.items c.args.o c.get.result _ c.requires.tree.lawful some c.get.ensures c.in-Closing.is
+    ∙ suffix c.args.doc.list.now.items c.args.o c.get.result _ c.requires.doc.links.lawful some c.get.ensures c.in-Closing.is
 
 pub returns-else-is_inline_leaf : goal.returns-else-is_inline_leaf
 returns-else-is_inline_leaf c =
     let some : 0 < c.args.o = search rules in
     ap (λ t. if t then Content else Structural) (sym c.if-is_inline_leaf.false ∙ c.is_inline_leaf.ensures)
-    ∙ suffix c.args.doc.list.now.items c.args.o c.get.result _ c.requires.tree.lawful some c.get.ensures c.in-Closing.is
+    ∙ suffix c.args.doc.list.now.items c.args.o c.get.result _ c.requires.doc.links.lawful some c.get.ensures c.in-Closing.is

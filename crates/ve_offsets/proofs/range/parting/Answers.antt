@@ -6,7 +6,7 @@ use Rattle.ve_offsets.proofs.range.parting.Goals as goal
 
 pub loop-next-init : goal.loop-next-init
 loop-next-init c =
-    parting_start c.args.doc.list.now.items c.requires.tree c.args.from (c.args.to - c.args.from) c.node.result.now c.node.ensures (omega (arith, c.requires.order, c.requires.within))
+    parting_start c.args.doc.list.now.items c.requires.doc.links c.args.from (c.args.to - c.args.from) c.node.result.now c.node.ensures (omega (arith, c.requires.order, c.requires.within))
 
 pub node-node-requires : goal.node-node-requires
 node-node-requires c =

@@ -8,4 +8,4 @@ pub returns-then-o-len : goal.returns-then-o-len
 returns-then-o-len c =
     let items = c.args.doc.list.now.items in
     subst (IsStateAt items c.args.o) (sym c.finished.ensures)
-    (subst (λ o. IsStateAt items o finish) (sym (c.if-o-len.true ∙ c.len.ensures)) (state_at_end items c.requires.tree.lawful))
+    (subst (λ o. IsStateAt items o finish) (sym (c.if-o-len.true ∙ c.len.ensures)) (state_at_end items c.requires.doc.links.lawful))

@@ -1,6 +1,7 @@
 use Rattle.std.proofs.Common.{◌≡◌, Option, Some, None, Fits, w64, rules, refl, sym, ap, ◌∙◌, arith}
 use Rattle.ve_arena.specs.declared.node.NodeId.{NodeId}
 use Rattle.ve_tree.proofs.ClimbLemmas.{left_before, left_parent, left_top, listed_live, root_whole, step_before}
+use Rattle.ve_tree.proofs.LeftMarkLemmas.{left_mark, mark_of}
 use Rattle.ve_tree.proofs.tree.Tree.range_of.Goals as goal
 
 no_link : (o : Option NodeId) → ((n : NodeId) → o ≡ Some n → ⊥) → o ≡ None
@@ -15,100 +16,127 @@ one_parent : (o : Option NodeId) (root q : NodeId) → o ≡ Some q → q.0 ≡ 
 one_parent o root q is_q same parent e = let both : ◌≡◌ {A = Option NodeId} (Some parent) (Some q) = sym e ∙ is_q in let e' : parent ≡ q = cc in ap (λ (n : NodeId). n.0) e' ∙ same
 
 pub node-requires-2 : goal.node-requires-2
-node-requires-2 c = listed_live c.requires.tree c.requires.place c.args.n c.requires.listed c.requires.number_is
+node-requires-2 c = listed_live c.requires.node.tree c.requires.node.place c.args.n c.requires.node.listed c.requires.node.number_is
 
 pub node-node-requires : goal.node-node-requires
 node-node-requires c =
-    let climb = (c.loop-before.invariant c.requires.items c.requires.tree c.requires.place c.requires.listed c.requires.number_is).climb in
-    listed_live c.requires.tree climb.place c.loop-before.at climb.listed climb.number
+    let climb = (c.loop-start.invariant c.requires.node.items c.requires.node.tree c.requires.node.place c.requires.node.listed c.requires.node.number_is).climb in
+    listed_live c.requires.node.tree climb.place c.loop-start.at climb.listed climb.number
 
-pub node-requires-in-Some : goal.node-requires-in-Some
-node-requires-in-Some c =
-    let climb = (c.loop-before.invariant c.requires.items c.requires.tree c.requires.place c.requires.listed c.requires.number_is).climb in
-    (step_before c.requires.tree c.requires.place c.loop-before.at.0 _ c.node-node.result.now c.in-Some.before climb c.node-node.ensures c.in-Some.is).live
+pub node-requires-in-Some-before : goal.node-requires-in-Some-before
+node-requires-in-Some-before c =
+    let climb = (c.loop-start.invariant c.requires.node.items c.requires.node.tree c.requires.node.place c.requires.node.listed c.requires.node.number_is).climb in
+    (step_before c.requires.node.tree c.requires.node.place c.loop-start.at.0 _ c.node-node.result.now c.in-Some-before.before climb c.node-node.ensures c.in-Some-before.is).live
 
 pub overflow_sub-left : goal.overflow_sub-left
 overflow_sub-left c =
-    (left_before c.requires.tree c.requires.place c.loop-before.at.0 c.node.result.now.len c.loop-before.left c.node-node.result.now c.node-in-Some.result.now c.in-Some.before c.requires.listed
-    (root_whole c.requires.tree c.node.result.now c.node.ensures)
-    (c.loop-before.invariant c.requires.items c.requires.tree c.requires.place c.requires.listed c.requires.number_is)
-    c.node-node.ensures c.in-Some.is c.node-in-Some.ensures).enough
+    (left_before c.requires.node.tree c.requires.node.place c.loop-start.at.0 c.node.result.now.len c.loop-start.left c.node-node.result.now c.node-in-Some-before.result.now c.in-Some-before.before c.requires.node.listed
+    (root_whole c.requires.node.tree c.node.result.now c.node.ensures)
+    (c.loop-start.invariant c.requires.node.items c.requires.node.tree c.requires.node.place c.requires.node.listed c.requires.node.number_is)
+    c.node-node.ensures c.in-Some-before.is c.node-in-Some-before.ensures).enough
 
-pub loop-before-smaller-in-Some : goal.loop-before-smaller-in-Some
-loop-before-smaller-in-Some c =
-    let step = left_before c.requires.tree c.requires.place c.loop-before.at.0 c.node.result.now.len c.loop-before.left c.node-node.result.now c.node-in-Some.result.now c.in-Some.before c.requires.listed
-    (root_whole c.requires.tree c.node.result.now c.node.ensures)
-    (c.loop-before.invariant c.requires.items c.requires.tree c.requires.place c.requires.listed c.requires.number_is)
-    c.node-node.ensures c.in-Some.is c.node-in-Some.ensures in
+pub loop-start-smaller-in-Some-before : goal.loop-start-smaller-in-Some-before
+loop-start-smaller-in-Some-before c =
+    let step = left_before c.requires.node.tree c.requires.node.place c.loop-start.at.0 c.node.result.now.len c.loop-start.left c.node-node.result.now c.node-in-Some-before.result.now c.in-Some-before.before c.requires.node.listed
+    (root_whole c.requires.node.tree c.node.result.now c.node.ensures)
+    (c.loop-start.invariant c.requires.node.items c.requires.node.tree c.requires.node.place c.requires.node.listed c.requires.node.number_is)
+    c.node-node.ensures c.in-Some-before.is c.node-in-Some-before.ensures in
     omega (arith, step.some, step.enough)
 
-pub loop-before-preserved-in-Some : goal.loop-before-preserved-in-Some
-loop-before-preserved-in-Some c = λ items tree place listed number.
-    (left_before tree place c.loop-before.at.0 c.node.result.now.len c.loop-before.left c.node-node.result.now c.node-in-Some.result.now c.in-Some.before listed
-    (root_whole tree c.node.result.now c.node.ensures) (c.loop-before.invariant items tree place listed number)
-    c.node-node.ensures c.in-Some.is c.node-in-Some.ensures).next
+pub loop-start-preserved-in-Some-before : goal.loop-start-preserved-in-Some-before
+loop-start-preserved-in-Some-before c = λ items tree place listed number.
+    (left_before tree place c.loop-start.at.0 c.node.result.now.len c.loop-start.left c.node-node.result.now c.node-in-Some-before.result.now c.in-Some-before.before listed
+    (root_whole tree c.node.result.now c.node.ensures) (c.loop-start.invariant items tree place listed number)
+    c.node-node.ensures c.in-Some-before.is c.node-in-Some-before.ensures).next
 
 pub overflow_sub-result : goal.overflow_sub-result
-overflow_sub-result c = (c.loop-before.invariant c.requires.items c.requires.tree c.requires.place c.requires.listed c.requires.number_is).within
+overflow_sub-result c = (c.loop-start.invariant c.requires.node.items c.requires.node.tree c.requires.node.place c.requires.node.listed c.requires.node.number_is).within
 
 pub overflow_sub-result-in_default-parent : goal.overflow_sub-result-in_default-parent
-overflow_sub-result-in_default-parent c = (c.loop-before.invariant c.requires.items c.requires.tree c.requires.place c.requires.listed c.requires.number_is).within
+overflow_sub-result-in_default-parent c = (c.loop-start.invariant c.requires.node.items c.requires.node.tree c.requires.node.place c.requires.node.listed c.requires.node.number_is).within
 
-pub overflow_add-result : goal.overflow_add-result
-overflow_add-result c =
+pub overflow_add-result-in_default-parent : goal.overflow_add-result-in_default-parent
+overflow_add-result-in_default-parent c =
     let all : Fits w64 c.node.result.now.len = search rules in
-    let top = left_top c.requires.tree c.requires.place c.loop-before.at.0 c.node.result.now.len c.loop-before.left c.node-node.result.now c.node-2.result.now c.args.n c.requires.listed c.requires.number_is
-    c.node-2.ensures (root_whole c.requires.tree c.node.result.now c.node.ensures)
-    (c.loop-before.invariant c.requires.items c.requires.tree c.requires.place c.requires.listed c.requires.number_is)
-    c.node-node.ensures (no_link c.node-node.result.now.before c.in_default.not-Some) (no_parent c.node-node.result.now.parent c.args.self.now.root c.in_default-parent.not-Some) in
+    let top = left_top c.requires.node.tree c.requires.node.place c.loop-start.at.0 c.node.result.now.len c.loop-start.left c.node-node.result.now c.node-2.result.now c.args.n c.requires.node.listed c.requires.node.number_is
+    c.node-2.ensures (root_whole c.requires.node.tree c.node.result.now c.node.ensures)
+    (c.loop-start.invariant c.requires.node.items c.requires.node.tree c.requires.node.place c.requires.node.listed c.requires.node.number_is)
+    c.node-node.ensures (no_link c.node-node.result.now.before c.in_default-before.not-Some) (no_parent c.node-node.result.now.parent c.args.self.now.root c.in_default-parent.not-Some) in
     omega (arith, all, top.within)
 
 pub returns-in_default-parent : goal.returns-in_default-parent
 returns-in_default-parent c = λ items tree place listed number.
-    (left_top tree place c.loop-before.at.0 c.node.result.now.len c.loop-before.left c.node-node.result.now c.node-2.result.now c.args.n listed number
-    c.node-2.ensures (root_whole tree c.node.result.now c.node.ensures) (c.loop-before.invariant items tree place listed number)
-    c.node-node.ensures (no_link c.node-node.result.now.before c.in_default.not-Some) (no_parent c.node-node.result.now.parent c.args.self.now.root c.in_default-parent.not-Some)).range
+    (left_top tree place c.loop-start.at.0 c.node.result.now.len c.loop-start.left c.node-node.result.now c.node-2.result.now c.args.n listed number
+    c.node-2.ensures (root_whole tree c.node.result.now c.node.ensures) (c.loop-start.invariant items tree place listed number)
+    c.node-node.ensures (no_link c.node-node.result.now.before c.in_default-before.not-Some) (no_parent c.node-node.result.now.parent c.args.self.now.root c.in_default-parent.not-Some)).range
 
 pub overflow_sub-result-then-parent-self : goal.overflow_sub-result-then-parent-self
-overflow_sub-result-then-parent-self c = (c.loop-before.invariant c.requires.items c.requires.tree c.requires.place c.requires.listed c.requires.number_is).within
+overflow_sub-result-then-parent-self c = (c.loop-start.invariant c.requires.node.items c.requires.node.tree c.requires.node.place c.requires.node.listed c.requires.node.number_is).within
 
 pub overflow_sub-result-then-parent-self-2 : goal.overflow_sub-result-then-parent-self-2
-overflow_sub-result-then-parent-self-2 c = (c.loop-before.invariant c.requires.items c.requires.tree c.requires.place c.requires.listed c.requires.number_is).within
+overflow_sub-result-then-parent-self-2 c = (c.loop-start.invariant c.requires.node.items c.requires.node.tree c.requires.node.place c.requires.node.listed c.requires.node.number_is).within
 
 pub overflow_add-result-then-parent-self : goal.overflow_add-result-then-parent-self
 overflow_add-result-then-parent-self c =
     let all : Fits w64 c.node.result.now.len = search rules in
-    let top = left_top c.requires.tree c.requires.place c.loop-before.at.0 c.node.result.now.len c.loop-before.left c.node-node.result.now c.node-2.result.now c.args.n c.requires.listed c.requires.number_is
-    c.node-2.ensures (root_whole c.requires.tree c.node.result.now c.node.ensures)
-    (c.loop-before.invariant c.requires.items c.requires.tree c.requires.place c.requires.listed c.requires.number_is)
-    c.node-node.ensures (no_link c.node-node.result.now.before c.in_default.not-Some)
+    let top = left_top c.requires.node.tree c.requires.node.place c.loop-start.at.0 c.node.result.now.len c.loop-start.left c.node-node.result.now c.node-2.result.now c.args.n c.requires.node.listed c.requires.node.number_is
+    c.node-2.ensures (root_whole c.requires.node.tree c.node.result.now c.node.ensures)
+    (c.loop-start.invariant c.requires.node.items c.requires.node.tree c.requires.node.place c.requires.node.listed c.requires.node.number_is)
+    c.node-node.ensures (no_link c.node-node.result.now.before c.in_default-before.not-Some)
     (one_parent c.node-node.result.now.parent c.args.self.now.root c.in-Some-parent.parent c.in-Some-parent.is c.if-parent-self.true) in
     omega (arith, all, top.within)
 
 pub returns-then-parent-self : goal.returns-then-parent-self
 returns-then-parent-self c = λ items tree place listed number.
-    (left_top tree place c.loop-before.at.0 c.node.result.now.len c.loop-before.left c.node-node.result.now c.node-2.result.now c.args.n listed number
-    c.node-2.ensures (root_whole tree c.node.result.now c.node.ensures) (c.loop-before.invariant items tree place listed number)
-    c.node-node.ensures (no_link c.node-node.result.now.before c.in_default.not-Some)
+    (left_top tree place c.loop-start.at.0 c.node.result.now.len c.loop-start.left c.node-node.result.now c.node-2.result.now c.args.n listed number
+    c.node-2.ensures (root_whole tree c.node.result.now c.node.ensures) (c.loop-start.invariant items tree place listed number)
+    c.node-node.ensures (no_link c.node-node.result.now.before c.in_default-before.not-Some)
     (one_parent c.node-node.result.now.parent c.args.self.now.root c.in-Some-parent.parent c.in-Some-parent.is c.if-parent-self.true)).range
 
-pub overflow_sub-left-in-loop-before : goal.overflow_sub-left-in-loop-before
-overflow_sub-left-in-loop-before c =
-    (left_parent c.requires.tree c.requires.place c.loop-before.at.0 c.node.result.now.len c.loop-before.left c.node-node.result.now c.in-Some-parent.parent c.requires.listed
-    (root_whole c.requires.tree c.node.result.now c.node.ensures)
-    (c.loop-before.invariant c.requires.items c.requires.tree c.requires.place c.requires.listed c.requires.number_is)
-    c.node-node.ensures (no_link c.node-node.result.now.before c.in_default.not-Some) c.in-Some-parent.is c.if-parent-self.false).enough
+pub overflow_sub-left-in-loop-start : goal.overflow_sub-left-in-loop-start
+overflow_sub-left-in-loop-start c =
+    (left_parent c.requires.node.tree c.requires.node.place c.loop-start.at.0 c.node.result.now.len c.loop-start.left c.node-node.result.now c.in-Some-parent.parent c.requires.node.listed
+    (root_whole c.requires.node.tree c.node.result.now c.node.ensures)
+    (c.loop-start.invariant c.requires.node.items c.requires.node.tree c.requires.node.place c.requires.node.listed c.requires.node.number_is)
+    c.node-node.ensures (no_link c.node-node.result.now.before c.in_default-before.not-Some) c.in-Some-parent.is c.if-parent-self.false).enough
 
-pub loop-before-smaller : goal.loop-before-smaller
-loop-before-smaller c =
-    let step = left_parent c.requires.tree c.requires.place c.loop-before.at.0 c.node.result.now.len c.loop-before.left c.node-node.result.now c.in-Some-parent.parent c.requires.listed
-    (root_whole c.requires.tree c.node.result.now c.node.ensures)
-    (c.loop-before.invariant c.requires.items c.requires.tree c.requires.place c.requires.listed c.requires.number_is)
-    c.node-node.ensures (no_link c.node-node.result.now.before c.in_default.not-Some) c.in-Some-parent.is c.if-parent-self.false in
+pub loop-start-smaller : goal.loop-start-smaller
+loop-start-smaller c =
+    let step = left_parent c.requires.node.tree c.requires.node.place c.loop-start.at.0 c.node.result.now.len c.loop-start.left c.node-node.result.now c.in-Some-parent.parent c.requires.node.listed
+    (root_whole c.requires.node.tree c.node.result.now c.node.ensures)
+    (c.loop-start.invariant c.requires.node.items c.requires.node.tree c.requires.node.place c.requires.node.listed c.requires.node.number_is)
+    c.node-node.ensures (no_link c.node-node.result.now.before c.in_default-before.not-Some) c.in-Some-parent.is c.if-parent-self.false in
     omega (arith, step.enough)
 
-pub loop-before-preserved : goal.loop-before-preserved
-loop-before-preserved c = λ items tree place listed number.
-    (left_parent tree place c.loop-before.at.0 c.node.result.now.len c.loop-before.left c.node-node.result.now c.in-Some-parent.parent listed
-    (root_whole tree c.node.result.now c.node.ensures) (c.loop-before.invariant items tree place listed number)
-    c.node-node.ensures (no_link c.node-node.result.now.before c.in_default.not-Some) c.in-Some-parent.is c.if-parent-self.false).next
+pub loop-start-preserved : goal.loop-start-preserved
+loop-start-preserved c = λ items tree place listed number.
+    (left_parent tree place c.loop-start.at.0 c.node.result.now.len c.loop-start.left c.node-node.result.now c.in-Some-parent.parent listed
+    (root_whole tree c.node.result.now c.node.ensures) (c.loop-start.invariant items tree place listed number)
+    c.node-node.ensures (no_link c.node-node.result.now.before c.in_default-before.not-Some) c.in-Some-parent.is c.if-parent-self.false).next
+
+pub overflow_sub-from : goal.overflow_sub-from
+overflow_sub-from c = (c.loop-start.invariant c.requires.node.items c.requires.node.tree c.requires.node.place c.requires.node.listed c.requires.node.number_is).within
+
+pub overflow_add-from : goal.overflow_add-from
+overflow_add-from c =
+    let all : Fits w64 c.node.result.now.len = search rules in
+    let m = left_mark c.requires.node.tree c.requires.node.place c.loop-start.at c.node.result.now.len c.loop-start.left c.in-Some.start c.node-2.result.now c.args.n c.requires.node.listed c.requires.node.number_is
+    c.node-2.ensures (root_whole c.requires.node.tree c.node.result.now c.node.ensures)
+    (c.loop-start.invariant c.requires.node.items c.requires.node.tree c.requires.node.place c.requires.node.listed c.requires.node.number_is)
+    (c.requires.landmarks c.loop-start.at c.in-Some.start (mark_of c.start_of.ensures c.in-Some.is) c.requires.node.items c.requires.node.tree) in
+    omega (arith, all, m.within)
+
+pub returns-in-Some : goal.returns-in-Some
+returns-in-Some c = λ items tree place listed number.
+    (left_mark tree place c.loop-start.at c.node.result.now.len c.loop-start.left c.in-Some.start c.node-2.result.now c.args.n listed number
+    c.node-2.ensures (root_whole tree c.node.result.now c.node.ensures) (c.loop-start.invariant items tree place listed number)
+    (c.requires.landmarks c.loop-start.at c.in-Some.start (mark_of c.start_of.ensures c.in-Some.is) items tree)).range
+
+pub overflow_add-result : goal.overflow_add-result
+overflow_add-result c =
+    let all : Fits w64 c.node.result.now.len = search rules in
+    let m = left_mark c.requires.node.tree c.requires.node.place c.loop-start.at c.node.result.now.len c.loop-start.left c.in-Some.start c.node-2.result.now c.args.n c.requires.node.listed c.requires.node.number_is
+    c.node-2.ensures (root_whole c.requires.node.tree c.node.result.now c.node.ensures)
+    (c.loop-start.invariant c.requires.node.items c.requires.node.tree c.requires.node.place c.requires.node.listed c.requires.node.number_is)
+    (c.requires.landmarks c.loop-start.at c.in-Some.start (mark_of c.start_of.ensures c.in-Some.is) c.requires.node.items c.requires.node.tree) in
+    omega (arith, all, m.within)

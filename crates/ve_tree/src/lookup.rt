@@ -1,0 +1,107 @@
+// From a node whose place is known to the innermost node round an offset, and to the node that begins next.
+ghost use Rattle.std.specs.Prelude.{◌≡◌, ◌≤◌, ◌<◌, List, IfSome};
+ghost use Rattle.model_items.specs.declared.plain_item.PlainItem.{PlainItem};
+ghost use Rattle.model_items.specs.Tree as model;
+ghost use Rattle.ve_tree.specs.IsTree.{IsTree};
+ghost use Rattle.ve_tree.specs.Places.{IsNodeAt};
+ghost use Rattle.ve_tree.specs.Way.{IsBefore, IsBeforeEnd, EndsBeforeEnd, IsSomeTree, IsInside};
+ghost use Rattle.ve_tree.specs.TreeOf.{HoldsOffset};
+
+use crate::{Arena, NodeId, NodeWhat, Tree};
+
+/// The innermost node round an offset that lies in a node, or at its start: the node's parent, the node, or one inside it.
+fn node_inside(tree: &Tree, near: NodeId, left: usize, o: usize) -> NodeId
+    requires offset { HoldsOffset tree.now o }
+    requires near { IsBefore tree.now.arena tree.now.root o near left }
+    requires inside { IsInside tree.now.arena near left }
+    ensures { (items : List PlainItem) (is_tree : IsTree tree.now.arena tree.now.root items) → IsNodeAt is_tree result (model.node_at items o) }
+{
+    let Some(parent) = tree.arena.node(near).parent else {
+        unreachable!()
+    };
+    let mut inner = parent;
+    let mut next = Some(near);
+    // how many items there are from where `next` begins to the offset
+    let mut left = left;
+    while let Some(child) = next {
+        let node = tree.arena.node(child);
+        if node.len <= left {
+            left -= node.len;
+            next = node.after;
+        } else if left == 0 {
+            return inner;
+        } else {
+            match node.what {
+                NodeWhat::Run => return inner,
+                NodeWhat::Node(_) => {
+                    inner = child;
+                    left -= 1;
+                    next = node.first;
+                }
+            }
+        }
+    }
+    inner
+}
+
+/// The innermost node round an offset, text nodes aside, found from a node that begins so many items before it: along its siblings, up where there are no
+/// more, and down into the one that holds the offset. Each step passes an item at least, so there are no more than lie between the two places.
+pub fn node_near(tree: &Tree, near: NodeId, left: usize, o: usize) -> NodeId
+    requires offset { HoldsOffset tree.now o }
+    requires near { IsBefore tree.now.arena tree.now.root o near left }
+    ensures { (items : List PlainItem) (is_tree : IsTree tree.now.arena tree.now.root items) → IsNodeAt is_tree result (model.node_at items o) }
+{
+    let len = tree.arena.node(near).len;
+    if left < len {
+        return node_inside(tree, near, left, o);
+    }
+    // how many items there are from the end of the node `at` to the offset
+    let mut left = left - len;
+    let mut at = near;
+    loop {
+        let node = tree.arena.node(at);
+        if let Some(after) = node.after {
+            let len = tree.arena.node(after).len;
+            if left < len {
+                return node_inside(tree, after, left, o);
+            }
+            left -= len;
+            at = after;
+        } else {
+            let Some(parent) = node.parent else {
+                unreachable!()
+            };
+            if left == 0 {
+                return parent;
+            }
+            left -= 1; // the closing of the parent round the node
+            at = parent;
+        }
+    }
+}
+
+/// The node that begins next after the end of a node, which ends so many items before the list's end: the next sibling of the innermost node round it
+/// that has one. And how many items lie from its start to the list's end.
+pub fn following(arena: &Arena, root: NodeId, n: NodeId, left: usize) -> Option<(NodeId, usize)>
+    requires tree { IsSomeTree arena.now root }
+    requires ends { EndsBeforeEnd arena.now root n left }
+    ensures begins { IfSome result (λ next. IsBeforeEnd arena.now root next.0 next.1) }
+    ensures farther { IfSome result (λ next. next.1 ≤ left) }
+{
+    let mut left = left;
+    let mut at = n;
+    loop {
+        let node = arena.node(at);
+        if let Some(after) = node.after {
+            return Some((after, left));
+        }
+        if left == 0 {
+            return None;
+        }
+        let Some(parent) = node.parent else {
+            unreachable!()
+        };
+        left -= 1; // the parent's closing
+        at = parent;
+    }
+}
