@@ -106,7 +106,7 @@ names_without name (a ∷ attrs) h within =
     let parts = absent_parts name a attrs h in
     elim (Contains-append_cases (a.name ∷ []) (names attrs) name within) [
       | inl first ↦ absurd (let e = only_name a.name first in let f : text_same a.name name ≡ true = rw e (text_itself name) in cc)
-      | inr suffix ↦ names_without name attrs parts.1 suffix
+      | inr second ↦ names_without name attrs parts.1 second
     ]
   where
     only_name : (x : List ℕ) → Contains (x ∷ []) name → x ≡ name

@@ -29,7 +29,7 @@ cited_from [] v h = absurd (contains_none v h)
 cited_from (x ∷ xs) v h =
     elim (Contains-append_cases (cited_by x) (cited xs) v h) [
       | inl here ↦ (x, first_item x xs, here)
-      | inr suffix ↦ let (item, within, by) = cited_from xs v suffix in (item, Contains-append_right (x ∷ []) xs item within, by)
+      | inr second ↦ let (item, within, by) = cited_from xs v second in (item, Contains-append_right (x ∷ []) xs item within, by)
     ]
 
 cited_all : (xs : List PlainItem) (item : PlainItem) (v : Value) → Contains xs item → Contains (cited_by item) v → Contains (cited xs) v
@@ -37,7 +37,7 @@ cited_all [] item v within by = absurd (no_item item within)
 cited_all (x ∷ xs) item v within by =
     elim (Contains-append_cases (x ∷ []) xs item within) [
       | inl first ↦ Contains-append_left (cited_by x) (cited xs) v (subst (λ y. Contains (cited_by y) v) (sym (only_item x item first)) by)
-      | inr suffix ↦ Contains-append_right (cited_by x) (cited xs) v (cited_all xs item v suffix by)
+      | inr second ↦ Contains-append_right (cited_by x) (cited xs) v (cited_all xs item v second by)
     ]
 
 -- ---- the first item
@@ -108,8 +108,8 @@ heads_are [] changed items v red le on h = inl (first_head changed items v h)
 heads_are (Retain count ∷ ops) changed items v red le on h =
     elim (Contains-append_cases (head_if changed items) (heads_from false ops (drop count items)) v h) [
       | inl first ↦ inl (first_on changed count items (edited ops (drop count items)) v (retains_some count ops red) (omega arith) (first_head changed items v first))
-      | inr suffix ↦
-          elim (heads_are ops false (drop count items) v (later_reduced (Retain count) ops red) (omega (arith, length-drop count items)) tt suffix) [
+      | inr second ↦
+          elim (heads_are ops false (drop count items) v (later_reduced (Retain count) ops red) (omega (arith, length-drop count items)) tt second) [
             | inl none ↦ absurd none
             | inr c ↦ inr (record {
               before = Retain count ∷ c.before;
@@ -126,8 +126,8 @@ heads_are (Replace removed inserted ∷ ops) true items v red le on h = absurd o
 heads_are (Replace removed inserted ∷ ops) false items v red le on h =
     elim (Contains-append_cases (head_if false items) (heads_from false ops (drop (length removed) items)) v h) [
       | inl first ↦ absurd (contains_none v first)
-      | inr suffix ↦
-          elim (heads_are ops false (drop (length removed) items) v (later_reduced (Replace removed inserted) ops red) (omega (arith, length-drop (length removed) items)) tt suffix) [
+      | inr second ↦
+          elim (heads_are ops false (drop (length removed) items) v (later_reduced (Replace removed inserted) ops red) (omega (arith, length-drop (length removed) items)) tt second) [
             | inl none ↦ absurd none
             | inr c ↦ inr (record {
               before = Replace removed inserted ∷ c.before;

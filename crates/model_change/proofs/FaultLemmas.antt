@@ -1,4 +1,6 @@
 -- The cause that is given is the first, in words of places in the old list.
+use Rattle.std.specs.Option.{option_or}
+use Rattle.std.specs.Prelude.{option_map}
 use Rattle.std.proofs.Common.{◌≡◌, ℕ, zero, suc, ◌+◌, Bool, true, false, not, ◌==◌, if◌then◌else◌, eqb-true, eq-eqb, List, [], ◌∷◌, ◌++◌, length, drop, All, slice_get, Option, Some, None, refl, sym, ap, ◌∙◌, subst, append_assoc}
 use Rattle.std.proofs.lemmas.Bool.{and_parts, not-true}
 use Rattle.std.proofs.lemmas.List.{drop-drop}
@@ -10,8 +12,7 @@ use Rattle.model_change.specs.declared.tx_fault.TxFault.{TxFault}
 use Rattle.model_change.specs.declared.tx_fault.TxFault.TheVariants.{BadLength, Mismatch, BadAttr, Memory}
 use Rattle.model_change.specs.Attributes.{AttrChange, item_changed, allows}
 use Rattle.model_change.specs.Transaction.{Retain, Replace, Attribute, Transaction, old_length, on_first, may_precede, is_reduced}
-use Rattle.model_change.specs.Fault.{differs_at, mismatch_at, first_allows, bad_attribute_at, fault_by, fault, placed_removed, removals, placed_changes, Stands, MayChange, FirstAt, IsFault, FaultIsFirst, FaultIsOnly}
-use Rattle.std.specs.Option.{option_or}
+use Rattle.model_change.specs.Fault.{differs_at, mismatch_at, first_allows, bad_attribute_at, fault, placed_removed, removals, placed_changes, StandsAt, MayChange, FirstAt, IsFault, FaultIsFirst, FaultIsOnly}
 use Rattle.model_change.proofs.InverseLemmas.{reduced_parts}
 use Rattle.model_change.proofs.AttributeJoin.{allows-other}
 
@@ -24,18 +25,18 @@ module _ {A : Type 0} (Holds : ℕ × A → Type 0) where
   outcome-append : (xs ys : List (ℕ × A)) (o p : Option ℕ) → Outcome Holds xs o → Outcome Holds ys p → Outcome Holds (xs ++ ys) (option_or o p)
   outcome-append xs ys None None h k = All-append Holds xs ys h k
   outcome-append xs ys None (Some at) h k = record {
-    before = xs ++ k.before;
+    prefix = xs ++ k.prefix;
     one = k.one;
     suffix = k.suffix;
-    parts = ap (λ l. xs ++ l) k.parts ∙ sym (append_assoc xs k.before ((at, k.one) ∷ k.suffix));
-    fine = All-append Holds xs k.before h k.fine;
+    parts = ap (λ l. xs ++ l) k.parts ∙ sym (append_assoc xs k.prefix ((at, k.one) ∷ k.suffix));
+    fine = All-append Holds xs k.prefix h k.fine;
     fails = k.fails;
   }
   outcome-append xs ys (Some at) p h k = record {
-    before = h.before;
+    prefix = h.prefix;
     one = h.one;
     suffix = h.suffix ++ ys;
-    parts = ap (λ l. l ++ ys) h.parts ∙ append_assoc h.before ((at, h.one) ∷ h.suffix) ys;
+    parts = ap (λ l. l ++ ys) h.parts ∙ append_assoc h.prefix ((at, h.one) ∷ h.suffix) ys;
     fine = h.fine;
     fails = h.fails;
   }
@@ -44,15 +45,15 @@ module _ {A : Type 0} (Holds : ℕ × A → Type 0) where
   outcome-cons x xs o h k = outcome-append (x ∷ []) xs None o (All-cons Holds x [] h (All-nil Holds)) k
 
   outcome-first : (at : ℕ) (a : A) (xs : List (ℕ × A)) → ¬ Holds (at, a) → Outcome Holds ((at, a) ∷ xs) (Some at)
-  outcome-first at a xs h = record { before = []; one = a; suffix = xs; parts = refl; fine = All-nil Holds; fails = h }
+  outcome-first at a xs h = record { prefix = []; one = a; suffix = xs; parts = refl; fine = All-nil Holds; fails = h }
 
   -- one that fails is there
-  not_all : (before : List (ℕ × A)) (x : ℕ × A) (suffix : List (ℕ × A)) → All Holds (before ++ (x ∷ suffix)) → Holds x
+  not_all : (prefix : List (ℕ × A)) (x : ℕ × A) (suffix : List (ℕ × A)) → All Holds (prefix ++ (x ∷ suffix)) → Holds x
   not_all [] x suffix h = All-head Holds x suffix h
-  not_all (y ∷ before) x suffix h = not_all before x suffix (All-tail Holds y (before ++ (x ∷ suffix)) h)
+  not_all (y ∷ prefix) x suffix h = not_all prefix x suffix (All-tail Holds y (prefix ++ (x ∷ suffix)) h)
 
   all_or_first : (xs : List (ℕ × A)) (at : ℕ) → All Holds xs → FirstAt Holds xs at → ⊥
-  all_or_first xs at h k = k.fails (not_all k.before (at, k.one) k.suffix (subst (All Holds) k.parts h))
+  all_or_first xs at h k = k.fails (not_all k.prefix (at, k.one) k.suffix (subst (All Holds) k.parts h))
 
   one_first : (xs ys : List (ℕ × A)) (p q : ℕ × A) (more others : List (ℕ × A)) → xs ++ (p ∷ more) ≡ ys ++ (q ∷ others) → All Holds xs → All Holds ys → ¬ Holds p → ¬ Holds q → p ≡ q
   one_first [] [] p q more others e h k f g = cc
@@ -64,7 +65,7 @@ module _ {A : Type 0} (Holds : ℕ × A → Type 0) where
 
   first_is_one : (xs : List (ℕ × A)) (at there : ℕ) → FirstAt Holds xs at → FirstAt Holds xs there → at ≡ there
   first_is_one xs at there h k =
-      ap (λ (p : ℕ × A). p.0) (one_first h.before k.before (at, h.one) (there, k.one) h.suffix k.suffix (sym h.parts ∙ k.parts) h.fine k.fine h.fails k.fails)
+      ap (λ (p : ℕ × A). p.0) (one_first h.prefix k.prefix (at, h.one) (there, k.one) h.suffix k.suffix (sym h.parts ∙ k.parts) h.fine k.fine h.fails k.fails)
 
 -- the list from a place on
 
@@ -126,37 +127,37 @@ bad_attribute-on_first c (Attribute d ∷ ops) at items h k =
     λ i. if allowed i then rest i else Some at
 
 module _ (L : List PlainItem) where
-  differs_outcome : (removed : List PlainItem) (at : ℕ) (items : List PlainItem) → drop at L ≡ items → Outcome (Stands L) (placed_removed at removed) (differs_at at removed items)
-  differs_outcome [] at items e = All-nil (Stands L)
+  differs_outcome : (removed : List PlainItem) (at : ℕ) (items : List PlainItem) → drop at L ≡ items → Outcome (StandsAt L) (placed_removed at removed) (differs_at at removed items)
+  differs_outcome [] at items e = All-nil (StandsAt L)
   differs_outcome (one ∷ removed) at [] e =
-      outcome-first (Stands L) at one (placed_removed (suc at) removed) (λ stands. let none = drop_end L at e in cc)
+      outcome-first (StandsAt L) at one (placed_removed (suc at) removed) (λ stands. let none = drop_end L at e in cc)
   differs_outcome (one ∷ removed) at (item ∷ items) e = by_test (item_same one item) refl
       (differs_outcome removed (suc at) items (drop_next L at item items e))
     where
-      by_test : (b : Bool) → item_same one item ≡ b → Outcome (Stands L) (placed_removed (suc at) removed) (differs_at (suc at) removed items) →
-          Outcome (Stands L) ((at, one) ∷ placed_removed (suc at) removed) (if b then differs_at (suc at) removed items else Some at)
+      by_test : (b : Bool) → item_same one item ≡ b → Outcome (StandsAt L) (placed_removed (suc at) removed) (differs_at (suc at) removed items) →
+          Outcome (StandsAt L) ((at, one) ∷ placed_removed (suc at) removed) (if b then differs_at (suc at) removed items else Some at)
       by_test true same rest =
-          outcome-cons (Stands L) (at, one) (placed_removed (suc at) removed) (differs_at (suc at) removed items)
+          outcome-cons (StandsAt L) (at, one) (placed_removed (suc at) removed) (differs_at (suc at) removed items)
           (drop_item L at item items e ∙ ap Some (sym (Means-item_same.equal one item same))) rest
       by_test false other rest =
-          outcome-first (Stands L) at one (placed_removed (suc at) removed) (λ stands.
+          outcome-first (StandsAt L) at one (placed_removed (suc at) removed) (λ stands.
           let there = drop_item L at item items e in
           let same : one ≡ item = cc in
           let itself : item_same one item ≡ true = subst (λ x. item_same one x ≡ true) same (Means-item_same.itself one) in
           cc)
 
   mismatch_outcome : (ops : Transaction) (at : ℕ) (items : List PlainItem) → is_reduced ops ≡ true → drop at L ≡ items →
-      Outcome (Stands L) (removals at ops) (mismatch_at at ops items)
-  mismatch_outcome [] at items h e = All-nil (Stands L)
+      Outcome (StandsAt L) (removals at ops) (mismatch_at at ops items)
+  mismatch_outcome [] at items h e = All-nil (StandsAt L)
   mismatch_outcome (Retain count ∷ ops) at items h e =
       mismatch_outcome ops (at + count) (drop count items) (reduced_parts (Retain count) ops h).2 (drop_more L at count items e)
   mismatch_outcome (Replace removed inserted ∷ ops) at items h e =
-      outcome-append (Stands L) (placed_removed at removed) (removals (at + length removed) ops) (differs_at at removed items)
+      outcome-append (StandsAt L) (placed_removed at removed) (removals (at + length removed) ops) (differs_at at removed items)
       (mismatch_at (at + length removed) ops (drop (length removed) items)) (differs_outcome removed at items e)
       (mismatch_outcome ops (at + length removed) (drop (length removed) items) (reduced_parts (Replace removed inserted) ops h).2 (drop_more L at (length removed) items e))
   mismatch_outcome (Attribute c ∷ ops) at items h e =
       let p = reduced_parts (Attribute c) ops h in
-      subst (Outcome (Stands L) (removals at ops)) (sym (mismatch-on_first c ops at (item_changed c) items p.2 p.1)) (mismatch_outcome ops at items p.2 e)
+      subst (Outcome (StandsAt L) (removals at ops)) (sym (mismatch-on_first c ops at (item_changed c) items p.2 p.1)) (mismatch_outcome ops at items p.2 e)
 
   bad_attribute_outcome : (ops : Transaction) (at : ℕ) (items : List PlainItem) → is_reduced ops ≡ true → drop at L ≡ items →
       Outcome (MayChange L) (placed_changes at ops) (bad_attribute_at at ops items)
@@ -191,14 +192,14 @@ pub fault_is_first : FaultIsFirst
 fault_is_first t items h =
     by_length (old_length t == length items) refl
   where
-    by_causes : (m b : Option ℕ) → old_length t ≡ length items → Outcome (Stands items) (removals 0 t) m → Outcome (MayChange items) (placed_changes 0 t) b →
-        IsFault t items (option_or (fault_by (λ at. Mismatch at) m) (fault_by (λ at. BadAttr at) b))
+    by_causes : (m b : Option ℕ) → old_length t ≡ length items → Outcome (StandsAt items) (removals 0 t) m → Outcome (MayChange items) (placed_changes 0 t) b →
+        IsFault t items (option_or (option_map (λ at. Mismatch at) m) (option_map (λ at. BadAttr at) b))
     by_causes None None e stand may = (e, stand, may)
     by_causes None (Some at) e stand bad = (e, stand, bad)
     by_causes (Some at) b e differs bad = (e, differs)
 
     by_length : (b : Bool) → (old_length t == length items) ≡ b →
-        IsFault t items (if b then option_or (fault_by (λ at. Mismatch at) (mismatch_at 0 t items)) (fault_by (λ at. BadAttr at) (bad_attribute_at 0 t items)) else Some (BadLength (length items) (old_length t)))
+        IsFault t items (if b then option_or (option_map (λ at. Mismatch at) (mismatch_at 0 t items)) (option_map (λ at. BadAttr at) (bad_attribute_at 0 t items)) else Some (BadLength (length items) (old_length t)))
     by_length true e =
         by_causes (mismatch_at 0 t items) (bad_attribute_at 0 t items) (eqb-true (old_length t) (length items) e)
         (mismatch_outcome items t 0 items h refl) (bad_attribute_outcome items t 0 items h refl)
@@ -209,7 +210,7 @@ fault_is_first t items h =
 one_cause : (t : Transaction) (items : List PlainItem) (why other : Option TxFault) → IsFault t items why → IsFault t items other → why ≡ other
 one_cause t items None None h k = refl
 one_cause t items None (Some (BadLength has needs)) h k = absurd (k.2 (k.0 ∙ sym h.0 ∙ sym k.1))
-one_cause t items None (Some (Mismatch at)) h k = absurd (all_or_first (Stands items) (removals 0 t) at h.1 k.1)
+one_cause t items None (Some (Mismatch at)) h k = absurd (all_or_first (StandsAt items) (removals 0 t) at h.1 k.1)
 one_cause t items None (Some (BadAttr at)) h k = absurd (all_or_first (MayChange items) (placed_changes 0 t) at h.2 k.2)
 one_cause t items (Some (BadLength has needs)) None h k = absurd (h.2 (h.0 ∙ sym k.0 ∙ sym h.1))
 one_cause t items (Some (BadLength has needs)) (Some (BadLength has' needs')) h k =
@@ -218,13 +219,13 @@ one_cause t items (Some (BadLength has needs)) (Some (BadLength has' needs')) h 
     λ i. Some (BadLength (same i) (need i))
 one_cause t items (Some (BadLength has needs)) (Some (Mismatch at)) h k = absurd (h.2 (h.0 ∙ sym k.0 ∙ sym h.1))
 one_cause t items (Some (BadLength has needs)) (Some (BadAttr at)) h k = absurd (h.2 (h.0 ∙ sym k.0 ∙ sym h.1))
-one_cause t items (Some (Mismatch at)) None h k = absurd (all_or_first (Stands items) (removals 0 t) at k.1 h.1)
+one_cause t items (Some (Mismatch at)) None h k = absurd (all_or_first (StandsAt items) (removals 0 t) at k.1 h.1)
 one_cause t items (Some (Mismatch at)) (Some (BadLength has needs)) h k = absurd (k.2 (k.0 ∙ sym h.0 ∙ sym k.1))
-one_cause t items (Some (Mismatch at)) (Some (Mismatch there)) h k = ap (λ p. Some (Mismatch p)) (first_is_one (Stands items) (removals 0 t) at there h.1 k.1)
-one_cause t items (Some (Mismatch at)) (Some (BadAttr there)) h k = absurd (all_or_first (Stands items) (removals 0 t) at k.1 h.1)
+one_cause t items (Some (Mismatch at)) (Some (Mismatch there)) h k = ap (λ p. Some (Mismatch p)) (first_is_one (StandsAt items) (removals 0 t) at there h.1 k.1)
+one_cause t items (Some (Mismatch at)) (Some (BadAttr there)) h k = absurd (all_or_first (StandsAt items) (removals 0 t) at k.1 h.1)
 one_cause t items (Some (BadAttr at)) None h k = absurd (all_or_first (MayChange items) (placed_changes 0 t) at k.2 h.2)
 one_cause t items (Some (BadAttr at)) (Some (BadLength has needs)) h k = absurd (k.2 (k.0 ∙ sym h.0 ∙ sym k.1))
-one_cause t items (Some (BadAttr at)) (Some (Mismatch there)) h k = absurd (all_or_first (Stands items) (removals 0 t) there h.1 k.1)
+one_cause t items (Some (BadAttr at)) (Some (Mismatch there)) h k = absurd (all_or_first (StandsAt items) (removals 0 t) there h.1 k.1)
 one_cause t items (Some (BadAttr at)) (Some (BadAttr there)) h k = ap (λ p. Some (BadAttr p)) (first_is_one (MayChange items) (placed_changes 0 t) at there h.2 k.2)
 one_cause t items (Some Memory) other h k = absurd h
 one_cause t items None (Some Memory) h k = absurd k

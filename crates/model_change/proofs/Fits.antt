@@ -1,4 +1,6 @@
 -- What it means that a transaction applies, by cases on its operations; and the length of what it gives.
+use Rattle.std.specs.Option.{option_or}
+use Rattle.std.specs.Prelude.{option_map}
 use Rattle.std.proofs.Common.{◌≡◌, ℕ, suc, ◌+◌, ◌-◌, ◌≤◌, Bool, true, false, ◌==◌, if◌then◌else◌, eqb-true, eq-eqb, List, [], ◌∷◌, ◌++◌, length, take, drop, Option, Some, None, refl, sym, ap, ◌∙◌, arith}
 use Rattle.std.proofs.lemmas.List.{length-append, length-take, length-drop}
 use Rattle.model_items.specs.declared.plain_item.PlainItem.{PlainItem}
@@ -8,8 +10,7 @@ use Rattle.model_change.specs.declared.tx_fault.TxFault.{TxFault}
 use Rattle.model_change.specs.declared.tx_fault.TxFault.TheVariants.{BadLength, Mismatch, BadAttr}
 use Rattle.model_change.specs.Attributes.{item_changed}
 use Rattle.model_change.specs.Transaction.{Retain, Replace, Attribute, Transaction, old_length, new_length, on_first, edited}
-use Rattle.model_change.specs.Fault.{differs_at, mismatch_at, first_allows, bad_attribute_at, fault_by, Applies, GivesNewLength}
-use Rattle.std.specs.Option.{option_or}
+use Rattle.model_change.specs.Fault.{differs_at, mismatch_at, first_allows, bad_attribute_at, Applies, GivesNewLength}
 
 -- each removed item is there, and each attribute operation is allowed
 abbrev pub Fits : Transaction → List PlainItem → Type 0
@@ -18,12 +19,12 @@ Fits (Retain count ∷ ops) items = Fits ops (drop count items)
 Fits (Replace removed inserted ∷ ops) items = (items ≡ removed ++ drop (length removed) items) × Fits ops (drop (length removed) items)
 Fits (Attribute change ∷ ops) items = (first_allows change items ≡ true) × Fits ops (on_first (item_changed change) items)
 
-option_or-none : {A : Type 0} (o p : Option A) → option_or o p ≡ None → (o ≡ None) × (p ≡ None)
-option_or-none None p h = (refl, h)
-option_or-none (Some x) p h = cc
+or_else-none : {A : Type 0} (o p : Option A) → option_or o p ≡ None → (o ≡ None) × (p ≡ None)
+or_else-none None p h = (refl, h)
+or_else-none (Some x) p h = cc
 
-option_or-none_from : {A : Type 0} (o p : Option A) → o ≡ None → p ≡ None → option_or o p ≡ None
-option_or-none_from o p e f = rw e f
+or_else-none_from : {A : Type 0} (o p : Option A) → o ≡ None → p ≡ None → option_or o p ≡ None
+or_else-none_from o p e f = rw e f
 
 -- the choice that ended in `None` took the first way
 if_none : {A : Type 0} (b : Bool) (o : Option A) (x : A) → (if b then o else Some x) ≡ None → (b ≡ true) × (o ≡ None)
@@ -47,7 +48,7 @@ Fits_from : (ops : Transaction) (at : ℕ) (items : List PlainItem) → mismatch
 Fits_from [] at items p q = tt
 Fits_from (Retain count ∷ ops) at items p q = Fits_from ops (at + count) (drop count items) p q
 Fits_from (Replace removed inserted ∷ ops) at items p q =
-    let both = option_or-none (differs_at at removed items) _ p in
+    let both = or_else-none (differs_at at removed items) _ p in
     (begins_from at removed items both.0, Fits_from ops (at + length removed) (drop (length removed) items) both.1 q)
 Fits_from (Attribute change ∷ ops) at items p q =
     let both = if_none (first_allows change items) _ at q in
@@ -57,7 +58,7 @@ mismatch_from : (ops : Transaction) (at : ℕ) (items : List PlainItem) → Fits
 mismatch_from [] at items fits = refl
 mismatch_from (Retain count ∷ ops) at items fits = mismatch_from ops (at + count) (drop count items) fits
 mismatch_from (Replace removed inserted ∷ ops) at items fits =
-    option_or-none_from (differs_at at removed items) _
+    or_else-none_from (differs_at at removed items) _
     (ap (differs_at at removed) fits.0 ∙ begins_to at removed (drop (length removed) items))
     (mismatch_from ops (at + length removed) (drop (length removed) items) fits.1)
 mismatch_from (Attribute change ∷ ops) at items fits = mismatch_from ops at (on_first (item_changed change) items) fits.1
@@ -74,12 +75,12 @@ bad_attribute_from (Attribute change ∷ ops) at items fits =
 pub parts_of_Applies : (t : Transaction) (items : List PlainItem) → Applies t items → (old_length t ≡ length items) × Fits t items
 parts_of_Applies t items h =
     let p = if_none (old_length t == length items) _ (BadLength (length items) (old_length t)) h in
-    let q = option_or-none (fault_by (λ at. Mismatch at) (mismatch_at 0 t items)) _ p.1 in (
+    let q = or_else-none (option_map (λ at. Mismatch at) (mismatch_at 0 t items)) _ p.1 in (
       eqb-true (old_length t) (length items) p.0,
       Fits_from t 0 items (fault_by-none (λ at. Mismatch at) (mismatch_at 0 t items) q.0) (fault_by-none (λ at. BadAttr at) (bad_attribute_at 0 t items) q.1),
     )
   where
-    fault_by-none : (named : ℕ → TxFault) (o : Option ℕ) → fault_by named o ≡ None → o ≡ None
+    fault_by-none : (named : ℕ → TxFault) (o : Option ℕ) → option_map named o ≡ None → o ≡ None
     fault_by-none named None h = refl
     fault_by-none named (Some at) h = cc
 

@@ -143,12 +143,12 @@ restored_after (Replace removed inserted ∷ ops) [] items ready allowed asked =
 restored_after (Attribute c ∷ ops) changes [] ready allowed asked = absurd (let e = asked.fits.0 in cc)
 restored_after (Attribute c ∷ ops) changes (item ∷ items) ready allowed asked =
     let parts = reduced_parts (Attribute c) ops asked.reduced in
-    let suffix = item_undone c item asked.fits.0 asked.full.0 asked.apart.0 in
+    let done = item_undone c item asked.fits.0 asked.full.0 asked.apart.0 in
     let rest = restored_after ops (change_back c ∷ changes) (item_changed c item ∷ items) (Ready_after c (change_back c ∷ changes) ops parts.1)
-    (suffix.allowed, suffix.put_back, subst (λ x. AllAllowed changes x) (sym suffix.undone) allowed)
-    (record { reduced = parts.2; room = asked.room; fits = asked.fits.1; full = asked.full.1; apart = (suffix.apart, asked.apart.1) }) in
+    (done.allowed, done.put_back, subst (λ x. AllAllowed changes x) (sym done.undone) allowed)
+    (record { reduced = parts.2; room = asked.room; fits = asked.fits.1; full = asked.full.1; apart = (done.apart, asked.apart.1) }) in
     record {
-      restored = rest.restored ∙ ap (λ x. changed_all changes x ∷ items) suffix.undone;
+      restored = rest.restored ∙ ap (λ x. changed_all changes x ∷ items) done.undone;
       fits = rest.fits;
       full = rest.full;
     }
@@ -168,11 +168,11 @@ old_length-inverse_after (Attribute c ∷ ops) changes = old_length-inverse_afte
 pub inverse_undoes : InverseUndoes
 inverse_undoes t items reduced apart applies full =
     let p = parts_of_Applies t items applies in
-    let suffix = restored_after t [] items (Ready_none t) (FirstAllowed_none items) (record { reduced = reduced; room = omega arith; fits = p.1; full = full; apart = apart }) in
+    let done = restored_after t [] items (Ready_none t) (FirstAllowed_none items) (record { reduced = reduced; room = omega arith; fits = p.1; full = full; apart = apart }) in
     let new = length-edited t items p.1 (omega arith) in
     let old = old_length-inverse_after t [] in
     record {
-      applies = Applies_from (inverse t) (edited t items) (omega arith) suffix.fits;
-      undone = suffix.restored ∙ on_first-none items;
-      restorable = suffix.full;
+      applies = Applies_from (inverse t) (edited t items) (omega arith) done.fits;
+      undone = done.restored ∙ on_first-none items;
+      restorable = done.full;
     }

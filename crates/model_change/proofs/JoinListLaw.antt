@@ -3,7 +3,7 @@ use Rattle.std.proofs.Common.{◌≡◌, ℕ, ◌+◌, ◌≤◌, Bool, true, fa
 use Rattle.model_items.specs.declared.plain_item.PlainItem.{PlainItem}
 use Rattle.model_items.specs.Law.{Lawful}
 use Rattle.model_change.specs.Transaction.{Transaction, all_inserted, edited}
-use Rattle.model_change.specs.Join.{conflict, MayJoin, join, Clash, ranges, row_with, list_with, join_row, after_row, join_list}
+use Rattle.model_change.specs.Join.{conflict, MayJoin, join, RangeConflict, range_conflict, row_with, list_with, join_row, after_row, join_list}
 use Rattle.model_change.specs.Replay.{replay, Runs, AllRun, ListsAgree, JoinListsAgree, inserted_by, AllWithin, JoinListsWithin}
 use Rattle.model_change.proofs.Fits.{gives_new_length}
 use Rattle.model_change.proofs.JoinLaw.{joins_agree}
@@ -12,17 +12,17 @@ use Rattle.model_change.proofs.JoinNormal.{joins_reduced}
 use Rattle.model_change.proofs.JoinLengths.{joins_insert, new_length_within, total_within}
 use Rattle.model_change.proofs.JoinRestorable.{joins_restorable, joins_apart}
 
-row_with-ok : (one : Transaction) (r : Result (List Transaction × Transaction) Clash) (row : List Transaction × Transaction) → row_with one r ≡ Ok row →
+row_with-ok : (one : Transaction) (r : Result (List Transaction × Transaction) RangeConflict) (row : List Transaction × Transaction) → row_with one r ≡ Ok row →
     (rest : List Transaction × Transaction) × (r ≡ Ok rest) × ((one ∷ rest.0, rest.1) ≡ row)
 row_with-ok one (Err clash) row h = cc
 row_with-ok one (Ok rest) row h = let e : ◌≡◌ {A = List Transaction × Transaction} (one ∷ rest.0, rest.1) row = cc in (rest, refl, e)
 
-list_with-ok : (one : Transaction) (r : Result (List Transaction × List Transaction) Clash) (joined : List Transaction × List Transaction) → list_with one r ≡ Ok joined →
+list_with-ok : (one : Transaction) (r : Result (List Transaction × List Transaction) RangeConflict) (joined : List Transaction × List Transaction) → list_with one r ≡ Ok joined →
     (rest : List Transaction × List Transaction) × (r ≡ Ok rest) × ((rest.0, one ∷ rest.1) ≡ joined)
 list_with-ok one (Err clash) joined h = cc
 list_with-ok one (Ok rest) joined h = let e : ◌≡◌ {A = List Transaction × List Transaction} (rest.0, one ∷ rest.1) joined = cc in (rest, refl, e)
 
-after_row-ok : (r : Result (List Transaction × Transaction) Clash) (f : List Transaction → Result (List Transaction × List Transaction) Clash)
+after_row-ok : (r : Result (List Transaction × Transaction) RangeConflict) (f : List Transaction → Result (List Transaction × List Transaction) RangeConflict)
     (joined : List Transaction × List Transaction) → after_row r f ≡ Ok joined →
     (row : List Transaction × Transaction) × (r ≡ Ok row) × (list_with row.1 (f row.0) ≡ Ok joined)
 after_row-ok (Err clash) f joined h = cc
@@ -51,7 +51,7 @@ row_agrees [] mine row items lawful runs run h =
     let e : ◌≡◌ {A = List Transaction × Transaction} ([], mine) row = cc in
     subst (λ r. RowAgrees [] mine r items) e (record { mine_after = run; committed_after = tt; one_list = refl; mine_inserts = refl; committed_insert = refl })
 row_agrees (one ∷ committed) mine row items lawful runs run h =
-    let p = if_ok (conflict one mine) (ranges one mine) _ row h in
+    let p = if_ok (conflict one mine) (range_conflict one mine) _ row h in
     let a2 = (join one mine).0 in
     let b2 = (join one mine).1 in
     let q = row_with-ok a2 (join_row committed b2) row p.1 in

@@ -5,7 +5,7 @@ use Rattle.model_items.specs.Law.{Lawful}
 use Rattle.model_change.specs.Attributes.{AllNamesApart}
 use Rattle.model_change.specs.Transaction.{Transaction, all_inserted, all_removed, edited}
 use Rattle.model_change.specs.Inverse.{inverse}
-use Rattle.model_change.specs.Join.{Clash, list_with, join_list}
+use Rattle.model_change.specs.Join.{RangeConflict, list_with, join_list}
 use Rattle.model_change.specs.Replay.{replay, Runs, AllRun, reversal, ReversalUndoes, flattened, mine_of, entry_at, made_before, made_after, RevokeTakesBack, RevokeOfLast, inserted_by, removed_by, RevokeIsWithin}
 use Rattle.model_change.proofs.InverseLemmas.{inverse_undoes}
 use Rattle.model_change.proofs.InverseNormal.{inverse_is_reduced, inverse_inserts}
@@ -66,7 +66,7 @@ replay_apart : (ts : List Transaction) (items : List PlainItem) → AllNamesApar
 replay_apart [] items apart runs = apart
 replay_apart (t ∷ ts) items apart runs = replay_apart ts (edited t items) (names_stay_apart t items runs.0.applies runs.0.apart apart) runs.1
 
-mine_of-ok : (r : Result (List Transaction × List Transaction) Clash) (back : List Transaction) → mine_of r ≡ Ok back →
+mine_of-ok : (r : Result (List Transaction × List Transaction) RangeConflict) (back : List Transaction) → mine_of r ≡ Ok back →
     (without : List Transaction) × (r ≡ Ok (without, back))
 mine_of-ok (Err clash) back h = cc
 mine_of-ok (Ok joined) back h = let e : joined.1 ≡ back = cc in (joined.0, λ i. Ok (joined.0, e i))

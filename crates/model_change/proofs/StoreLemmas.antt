@@ -35,7 +35,7 @@ not_held (w ∷ vs) v h within =
     let p = or_parts (value_same v w) (holds vs v) h in
     elim (Contains-append_cases (w ∷ []) vs v within) [
       | inl first ↦ let e = contains_one w v first in let same : value_same v w ≡ true = subst (λ x. value_same v x ≡ true) (sym e) (Means-value_same.itself v) in cc
-      | inr suffix ↦ not_held vs v p.1 suffix
+      | inr second ↦ not_held vs v p.1 second
     ]
 
 -- no value stands among those after it: distinct, by recursion
@@ -77,7 +77,7 @@ held_before values v vs filled there rest = record {
   new = λ w within. Contains-append_right (v ∷ []) vs w (rest.new w within);
   all = λ w within. elim (Contains-append_cases (v ∷ []) vs w within) [
     | inl first ↦ subst (Contains filled) (contains_one v w first) (let P : List Value → Type 0 = λ l. Contains l v in subst P (sym rest.parts) (Contains-append_left values rest.appended v there))
-    | inr suffix ↦ rest.all w suffix
+    | inr second ↦ rest.all w second
   ];
   distinct = rest.distinct;
 }
@@ -90,11 +90,11 @@ new_to_it values v vs filled new rest =
       parts = parts;
       new = λ w within. elim (Contains-append_cases (v ∷ []) rest.appended w within) [
         | inl first ↦ subst (Contains (v ∷ vs)) (contains_one v w first) (contains_first v vs)
-        | inr suffix ↦ Contains-append_right (v ∷ []) vs w (rest.new w suffix)
+        | inr second ↦ Contains-append_right (v ∷ []) vs w (rest.new w second)
       ];
       all = λ w within. elim (Contains-append_cases (v ∷ []) vs w within) [
         | inl first ↦ subst (Contains filled) (contains_one v w first) (let P : List Value → Type 0 = λ l. Contains l v in subst P (sym parts) (Contains-append_right values (v ∷ rest.appended) v (contains_first v rest.appended)))
-        | inr suffix ↦ rest.all w suffix
+        | inr second ↦ rest.all w second
       ];
       distinct = λ h. rest.distinct (distinct_from (values ++ v ∷ []) (none_twice-push values v (none_twice_from values h) new));
     }

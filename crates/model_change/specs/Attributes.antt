@@ -7,7 +7,8 @@ use Rattle.model_items.specs.declared.plain_item.PlainItem.{PlainItem}
 use Rattle.model_items.specs.declared.plain_item.PlainItem.TheVariants.{Char, Opening, Closing}
 use Rattle.model_items.specs.Same.{text_same, option_same, bool_same}
 
--- `from` is the value before and `to` the value after, `None` where the attribute is absent. An attribute that is added is put at the place `kept`, or at the end.
+-- `from` is the value before and `to` the value after, `None` where the attribute is absent. An attribute that is added is put at the
+-- place `kept`, or at the end.
 pub record AttrChange : Type 0 where
   pub name : List ℕ
   pub from : Option (List ℕ)

@@ -1,6 +1,6 @@
 -- Where a transaction applies to a list, and the first cause where it does not.
-use Rattle.std.specs.Prelude.{◌≡◌, ◌≢◌, ℕ, suc, ◌+◌, Bool, true, false, ◌==◌, if◌then◌else◌, List, [], ◌∷◌, ◌++◌, length, drop, All, slice_get, Option, Some, None, Result, Ok, Err}
 use Rattle.std.specs.Option.{option_or}
+use Rattle.std.specs.Prelude.{◌≡◌, ◌≢◌, ℕ, suc, ◌+◌, Bool, true, false, ◌==◌, if◌then◌else◌, List, [], ◌∷◌, ◌++◌, length, drop, All, slice_get, Option, Some, None, Result, Ok, Err, option_map}
 use Rattle.model_items.specs.declared.plain_item.PlainItem.{PlainItem}
 use Rattle.model_items.specs.Same.{item_same}
 use Rattle.model_change.specs.declared.tx_fault.TxFault.{TxFault}
@@ -34,16 +34,16 @@ bad_attribute_at at (Replace removed inserted ∷ ops) items = bad_attribute_at 
 bad_attribute_at at (Attribute change ∷ ops) items =
     if first_allows change items then bad_attribute_at at ops (on_first (item_changed change) items) else Some at
 
-abbrev pub fault_by : (ℕ → TxFault) → Option ℕ → Option TxFault
-fault_by named None = None
-fault_by named (Some at) = Some (named at)
-
--- why the transaction does not apply, if it does not: lengths come first, then what differs, then attributes
-abbrev pub fault : Transaction → List PlainItem → Option TxFault
-fault t items =
+-- why the transaction does not apply, if it does not, each cause by the name it is given: lengths come first, then what differs, then
+-- attributes
+abbrev pub fault_as : {F : Type 0} → (bad_length : ℕ → ℕ → F) (mismatch bad_attribute : ℕ → F) → Transaction → List PlainItem → Option F
+fault_as bad_length mismatch bad_attribute t items =
     if old_length t == length items
-    then option_or (fault_by (λ at. Mismatch at) (mismatch_at 0 t items)) (fault_by (λ at. BadAttr at) (bad_attribute_at 0 t items))
-    else Some (BadLength (length items) (old_length t))
+    then option_or (option_map mismatch (mismatch_at 0 t items)) (option_map bad_attribute (bad_attribute_at 0 t items))
+    else Some (bad_length (length items) (old_length t))
+
+abbrev pub fault : Transaction → List PlainItem → Option TxFault
+fault t items = fault_as (λ has needs. BadLength has needs) (λ at. Mismatch at) (λ at. BadAttr at) t items
 
 abbrev pub apply_unless : Option TxFault → List PlainItem → Result (List PlainItem) TxFault
 apply_unless None new = Ok new
@@ -74,8 +74,8 @@ placed_changes at (Replace removed inserted ∷ ops) = placed_changes (at + leng
 placed_changes at (Attribute change ∷ ops) = (at, change) ∷ placed_changes at ops
 
 -- the item is the list's at its place
-abbrev pub Stands : List PlainItem → ℕ × PlainItem → Type 0
-Stands items (at, item) = slice_get items at ≡ Some item
+abbrev pub StandsAt : List PlainItem → ℕ × PlainItem → Type 0
+StandsAt items (at, item) = slice_get items at ≡ Some item
 
 -- the list has an item at the place that allows the change
 abbrev pub MayChange : List PlainItem → ℕ × AttrChange → Type 0
@@ -83,29 +83,31 @@ MayChange items (at, change) = (item : PlainItem) × (slice_get items at ≡ Som
 
 -- the first of the placed that fails, with its place
 pub record FirstAt {A : Type 0} (Holds : ℕ × A → Type 0) (placed : List (ℕ × A)) (at : ℕ) : Type 0 where
-  pub before : List (ℕ × A)
+  pub prefix : List (ℕ × A)
   pub one : A
   pub suffix : List (ℕ × A)
-  pub parts : placed ≡ before ++ ((at, one) ∷ suffix)
-  pub fine : All Holds before
+  pub parts : placed ≡ prefix ++ ((at, one) ∷ suffix)
+  pub fine : All Holds prefix
   pub fails : ¬ Holds (at, one)
 
 -- A cause, in words of places in the old list alone.
 abbrev pub IsFault : Transaction → List PlainItem → Option TxFault → Type 0
 IsFault t items (Some (BadLength has needs)) = (has ≡ length items) × (needs ≡ old_length t) × (has ≢ needs)
-IsFault t items (Some (Mismatch at)) = (old_length t ≡ length items) × FirstAt (Stands items) (removals 0 t) at
+IsFault t items (Some (Mismatch at)) = (old_length t ≡ length items) × FirstAt (StandsAt items) (removals 0 t) at
 IsFault t items (Some (BadAttr at)) =
-    (old_length t ≡ length items) × All (Stands items) (removals 0 t) × FirstAt (MayChange items) (placed_changes 0 t) at
+    (old_length t ≡ length items) × All (StandsAt items) (removals 0 t) × FirstAt (MayChange items) (placed_changes 0 t) at
 IsFault t items (Some Memory) = ⊥
-IsFault t items None = (old_length t ≡ length items) × All (Stands items) (removals 0 t) × All (MayChange items) (placed_changes 0 t)
+IsFault t items None = (old_length t ≡ length items) × All (StandsAt items) (removals 0 t) × All (MayChange items) (placed_changes 0 t)
 
--- The cause that is given is this one: for `Mismatch`, every removed item before it is the list's, and at its place the list's item differs; for `BadAttr`, every removed item is the list's, and it is the first attribute operation that is not allowed.
+-- The cause that is given is this one: for `Mismatch`, every removed item before it is the list's, and at its place the list's item
+-- differs; for `BadAttr`, every removed item is the list's, and it is the first attribute operation that is not allowed.
 abbrev pub FaultIsFirst : Type 0
 FaultIsFirst = (t : Transaction) (items : List PlainItem) → is_reduced t ≡ true → IsFault t items (fault t items)
 
 -- And no other cause is.
 abbrev pub FaultIsOnly : Type 0
-FaultIsOnly = (t : Transaction) (items : List PlainItem) (why : Option TxFault) → is_reduced t ≡ true → IsFault t items why → fault t items ≡ why
+FaultIsOnly = (t : Transaction) (items : List PlainItem) (why : Option TxFault) → is_reduced t ≡ true → IsFault t items why →
+    fault t items ≡ why
 
 -- What a transaction gives has its new length.
 abbrev pub GivesNewLength : Type 0
@@ -113,4 +115,5 @@ GivesNewLength = (t : Transaction) (items : List PlainItem) → Applies t items 
 
 -- Names stay apart.
 abbrev pub NamesStayApart : Type 0
-NamesStayApart = (t : Transaction) (items : List PlainItem) → Applies t items → InsertedApart t → AllNamesApart items → AllNamesApart (edited t items)
+NamesStayApart = (t : Transaction) (items : List PlainItem) → Applies t items → InsertedApart t → AllNamesApart items →
+    AllNamesApart (edited t items)

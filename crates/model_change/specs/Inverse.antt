@@ -9,7 +9,8 @@ abbrev pub attribute_ops : List AttrChange → Transaction
 attribute_ops [] = []
 attribute_ops (change ∷ changes) = Attribute change ∷ attribute_ops changes
 
--- What undoes the operations, after the changes that undo the attribute operations just before them: those of one place come in reverse order.
+-- What undoes the operations, after the changes that undo the attribute operations just before them: those of one place come in
+-- reverse order.
 abbrev pub inverse_after : List AttrChange → Transaction → Transaction
 inverse_after changes [] = attribute_ops changes
 inverse_after changes (Retain count ∷ ops) = attribute_ops changes ++ Retain count ∷ inverse_after [] ops
@@ -50,8 +51,8 @@ pub record IsUndoneBy (t back : Transaction) (items : List PlainItem) : Type 0 w
 
 -- Where names are apart, the inverse of a transaction that applies and can put back what it removes gives the old list back.
 abbrev pub InverseUndoes : Type 0
-InverseUndoes = (t : Transaction) (items : List PlainItem) → is_reduced t ≡ true → AllNamesApart items → Applies t items → IsRestorable t items →
-    IsUndoneBy t (inverse t) items
+InverseUndoes = (t : Transaction) (items : List PlainItem) → is_reduced t ≡ true → AllNamesApart items → Applies t items →
+    IsRestorable t items → IsUndoneBy t (inverse t) items
 
 abbrev pub InverseIsReduced : Type 0
 InverseIsReduced = (t : Transaction) → is_reduced t ≡ true → is_reduced (inverse t) ≡ true

@@ -1,5 +1,7 @@
--- When two transactions on one list conflict, and otherwise how each is changed to apply after the other. After VisualEditor's `ve.dm.Change` in outline; the exact rule is this project's own.
-use Rattle.std.specs.Prelude.{◌≡◌, ℕ, zero, suc, ◌+◌, ◌-◌, ◌^◌, ◌≤◌, max, Bool, true, false, not, ◌&&◌, ◌||◌, ◌==◌, nat_le, if◌then◌else◌, List, [], ◌∷◌, ◌++◌, length, take, drop, Option, Some, None, Result, Ok, Err}
+-- When two transactions on one list conflict, and otherwise how each is changed to apply after the other. After VisualEditor's
+-- `ve.dm.Change` in outline; the exact rule is this project's own.
+use Rattle.std.specs.Prelude.{◌≡◌, ℕ, zero, suc, ◌+◌, ◌-◌, ◌≤◌, max, Bool, true, false, not, ◌&&◌, ◌||◌, ◌==◌, nat_le, if◌then◌else◌, List, [], ◌∷◌, ◌++◌, length, take, drop, Option, Some, None, Result, Ok, Err}
+use Rattle.ve_base.specs.Limits.{max_total_length}
 use Rattle.model_items.specs.declared.plain_item.PlainItem.{PlainItem}
 use Rattle.model_items.specs.Law.{Lawful}
 use Rattle.model_change.specs.Attributes.{AttrChange, clash}
@@ -109,7 +111,7 @@ retained (suc n) = Retain (suc n) ∷ []
 
 -- operations between a first and a last retain
 abbrev pub with_ends : ℕ → Transaction → ℕ → Transaction
-with_ends before ops suffix = retained before ++ (ops ++ retained suffix)
+with_ends m ops n = retained m ++ (ops ++ retained n)
 
 -- t after another that lies wholly before it: its first retain changes by the other one's change of length
 abbrev pub moved_on : Transaction → Transaction → Transaction
@@ -119,7 +121,8 @@ moved_on t other = with_ends ((first t + new_length other) - old_length other) (
 abbrev pub with_new_end : Transaction → Transaction → Transaction
 with_new_end t other = with_ends (first t) (core t) ((last t + new_length other) - old_length other)
 
--- The first over the second, and the second over the first, where they don't conflict. The first is left where it ends at the other's start or before.
+-- The first over the second, and the second over the first, where they don't conflict. The first is left where it ends at the other's
+-- start or before.
 abbrev pub join : Transaction → Transaction → Transaction × Transaction
 join a b =
     if both_attributes a b then (a, b)
@@ -136,35 +139,40 @@ pub record Agree (a b a2 b2 : Transaction) (items : List PlainItem) : Type 0 whe
   pub one_list : edited b2 (edited a items) ≡ edited a2 (edited b items)
 
 -- two active ranges that conflict: a committed transaction's, and one's of mine
-pub record Clash : Type 0 where
+pub record RangeConflict : Type 0 where
   pub committed : ℕ × ℕ
   pub mine : ℕ × ℕ
 
-abbrev pub ranges : Transaction → Transaction → Clash
-ranges committed mine = record { committed = (start_of committed, end_of committed); mine = (start_of mine, end_of mine) }
+abbrev pub range_conflict : Transaction → Transaction → RangeConflict
+range_conflict committed mine = record { committed = (start_of committed, end_of committed); mine = (start_of mine, end_of mine) }
 
 -- one more committed transaction before a row, and one more of mine before a list
-abbrev pub row_with : Transaction → Result (List Transaction × Transaction) Clash → Result (List Transaction × Transaction) Clash
+abbrev pub row_with : Transaction → Result (List Transaction × Transaction) RangeConflict →
+    Result (List Transaction × Transaction) RangeConflict
 row_with committed (Ok row) = Ok (committed ∷ row.0, row.1)
 row_with committed (Err clash) = Err clash
 
-abbrev pub list_with : Transaction → Result (List Transaction × List Transaction) Clash → Result (List Transaction × List Transaction) Clash
+abbrev pub list_with : Transaction → Result (List Transaction × List Transaction) RangeConflict →
+    Result (List Transaction × List Transaction) RangeConflict
 list_with mine (Ok joined) = Ok (joined.0, mine ∷ joined.1)
 list_with mine (Err clash) = Err clash
 
--- The committed ones, each the first argument, in turn over one of mine: they over it, and it over them; or the first two ranges in conflict.
-abbrev pub join_row : List Transaction → Transaction → Result (List Transaction × Transaction) Clash
+-- The committed ones, each the first argument, in turn over one of mine: they over it, and it over them; or the first two ranges in
+-- conflict.
+abbrev pub join_row : List Transaction → Transaction → Result (List Transaction × Transaction) RangeConflict
 join_row [] mine = Ok ([], mine)
 join_row (one ∷ committed) mine =
-    if conflict one mine then Err (ranges one mine) else row_with (join one mine).0 (join_row committed (join one mine).1)
+    if conflict one mine then Err (range_conflict one mine) else row_with (join one mine).0 (join_row committed (join one mine).1)
 
-abbrev pub after_row : Result (List Transaction × Transaction) Clash → (List Transaction → Result (List Transaction × List Transaction) Clash) →
-    Result (List Transaction × List Transaction) Clash
+abbrev pub after_row : Result (List Transaction × Transaction) RangeConflict →
+    (List Transaction → Result (List Transaction × List Transaction) RangeConflict) →
+    Result (List Transaction × List Transaction) RangeConflict
 after_row (Ok row) rest = list_with row.1 (rest row.0)
 after_row (Err clash) rest = Err clash
 
--- The committed ones over mine, and mine over the committed ones, row by row; or the first two ranges in conflict, in the order of mine and then of the committed ones.
-abbrev pub join_list : List Transaction → List Transaction → Result (List Transaction × List Transaction) Clash
+-- The committed ones over mine, and mine over the committed ones, row by row; or the first two ranges in conflict, in the order of
+-- mine and then of the committed ones.
+abbrev pub join_list : List Transaction → List Transaction → Result (List Transaction × List Transaction) RangeConflict
 join_list committed [] = Ok (committed, [])
 join_list committed (one ∷ mine) = after_row (join_row committed one) (λ over. join_list over mine)
 
@@ -190,8 +198,8 @@ JoinsAgree = (a b : Transaction) (items : List PlainItem) → MayJoin a b items 
 
 -- The joined list is lawful where the list is and either change alone leaves it lawful.
 abbrev pub JoinsLawful : Type 0
-JoinsLawful = (a b : Transaction) (items : List PlainItem) → MayJoin a b items → Lawful items → Lawful (edited a items) → Lawful (edited b items) →
-    Lawful (edited (join a b).1 (edited a items))
+JoinsLawful = (a b : Transaction) (items : List PlainItem) → MayJoin a b items → Lawful items → Lawful (edited a items) →
+    Lawful (edited b items) → Lawful (edited (join a b).1 (edited a items))
 
 -- What is joined is again reduced.
 abbrev pub JoinsReduced : Type 0
@@ -201,12 +209,14 @@ JoinsReduced = (a b : Transaction) (items : List PlainItem) → MayJoin a b item
 -- What each one inserts stays, so its lengths add up to the other's new length and what it inserts.
 abbrev pub JoinsLengths : Type 0
 JoinsLengths = (a b : Transaction) (items : List PlainItem) → MayJoin a b items →
-    (total_length (join a b).0 ≡ new_length b + length (all_inserted a)) × (total_length (join a b).1 ≡ new_length a + length (all_inserted b))
+    (total_length (join a b).0 ≡ new_length b + length (all_inserted a))
+    × (total_length (join a b).1 ≡ new_length a + length (all_inserted b))
 
--- So the bound of the normal form is kept where the list with all that both insert is within it. (It is not kept without that: on the empty list let a insert 2^60 items and b one. Both are in normal form, and a over b is not.)
+-- So the bound of the normal form is kept where the list with all that both insert is within it. (It is not kept without that: on the
+-- empty list let a insert 2^60 items and b one. Both are in normal form, and a over b is not.)
 abbrev pub JoinsNormal : Type 0
 JoinsNormal = (a b : Transaction) (items : List PlainItem) → MayJoin a b items →
-    length items + (length (all_inserted a) + length (all_inserted b)) ≤ 2 ^ 60 →
+    length items + (length (all_inserted a) + length (all_inserted b)) ≤ max_total_length →
     (is_normal (join a b).0 ≡ true) × (is_normal (join a b).1 ≡ true)
 
 -- What is joined can put back what it removes, where a and b can.

@@ -6,14 +6,15 @@ use Rattle.model_change.specs.Attributes.{AllNamesApart}
 use Rattle.model_change.specs.Transaction.{Transaction, all_inserted, all_removed, total_length, edited, is_reduced, InsertedApart}
 use Rattle.model_change.specs.Fault.{Applies}
 use Rattle.model_change.specs.Inverse.{inverse, IsRestorable}
-use Rattle.model_change.specs.Join.{Clash, join_list}
+use Rattle.model_change.specs.Join.{RangeConflict, join_list}
 
 -- the list that transactions give, one after the other
 abbrev pub replay : List Transaction → List PlainItem → List PlainItem
 replay [] items = items
 replay (t ∷ ts) items = replay ts (edited t items)
 
--- A reduced transaction that applies to the list, leaves a lawful one, can put back what it removes, and inserts no opening with two attributes of one name. Every entry of a history is of such ones: joining and reversing keep this.
+-- A reduced transaction that applies to the list, leaves a lawful one, can put back what it removes, and inserts no opening with two
+-- attributes of one name. Every entry of a history is of such ones: joining and reversing keep this.
 pub record Runs (t : Transaction) (items : List PlainItem) : Type 0 where
   pub reduced : is_reduced t ≡ true
   pub applies : Applies t items
@@ -27,7 +28,8 @@ AllRun [] items = Unit {0}
 AllRun (t ∷ ts) items = Runs t items × AllRun ts (edited t items)
 
 -- Two lists of transactions from one lawful list, joined: each side's run after the other's, and one list comes of both.
-pub record ListsAgree (committed mine : List Transaction) (joined : List Transaction × List Transaction) (items : List PlainItem) : Type 0 where
+pub record ListsAgree (committed mine : List Transaction) (joined : List Transaction × List Transaction)
+    (items : List PlainItem) : Type 0 where
   pub mine_after : AllRun joined.1 (replay committed items)
   pub committed_after : AllRun joined.0 (replay mine items)
   pub one_list : replay joined.1 (replay committed items) ≡ replay joined.0 (replay mine items)
@@ -65,7 +67,8 @@ pub record IsReversed (ts : List Transaction) (items : List PlainItem) : Type 0 
   pub back : replay (reversal ts) (replay ts items) ≡ items
 
 abbrev pub ReversalUndoes : Type 0
-ReversalUndoes = (ts : List Transaction) (items : List PlainItem) → Lawful items → AllNamesApart items → AllRun ts items → IsReversed ts items
+ReversalUndoes = (ts : List Transaction) (items : List PlainItem) → Lawful items → AllNamesApart items → AllRun ts items →
+    IsReversed ts items
 
 -- the transactions of entries, in order
 abbrev pub flattened : List (List Transaction) → List Transaction
@@ -73,7 +76,7 @@ flattened [] = []
 flattened (entry ∷ entries) = entry ++ flattened entries
 
 -- of two lists that were joined, the second one
-abbrev pub mine_of : Result (List Transaction × List Transaction) Clash → Result (List Transaction) Clash
+abbrev pub mine_of : Result (List Transaction × List Transaction) RangeConflict → Result (List Transaction) RangeConflict
 mine_of (Ok joined) = Ok joined.1
 mine_of (Err clash) = Err clash
 
@@ -88,10 +91,11 @@ abbrev pub made_after : List (List Transaction) → ℕ → List Transaction
 made_after entries i = flattened (drop (suc i) entries)
 
 -- What takes entry i back under the entries after it: its reversal, joined over them; or the first two ranges in conflict.
-abbrev pub revoke : List (List Transaction) → ℕ → Result (List Transaction) Clash
+abbrev pub revoke : List (List Transaction) → ℕ → Result (List Transaction) RangeConflict
 revoke entries i = mine_of (join_list (made_after entries i) (reversal (entry_at entries i)))
 
--- What takes it back runs on the list with all entries. The list is then as it would be had the entry never been made, and the later ones been joined over its absence.
+-- What takes it back runs on the list with all entries. The list is then as it would be had the entry never been made, and the later
+-- ones been joined over its absence.
 pub record IsTakenBack (entries : List (List Transaction)) (i : ℕ) (back : List Transaction) (base : List PlainItem) : Type 0 where
   pub without : List Transaction
   pub joined : join_list (made_after entries i) (reversal (entry_at entries i)) ≡ Ok (without, back)
@@ -101,12 +105,12 @@ pub record IsTakenBack (entries : List (List Transaction)) (i : ℕ) (back : Lis
 
 abbrev pub RevokeTakesBack : Type 0
 RevokeTakesBack = (entries : List (List Transaction)) (i : ℕ) (back : List Transaction) (base : List PlainItem) → i < length entries →
-    Lawful base → AllNamesApart base → AllRun (flattened entries) base → revoke entries i ≡ Ok back →
-    IsTakenBack entries i back base
+    Lawful base → AllNamesApart base → AllRun (flattened entries) base → revoke entries i ≡ Ok back → IsTakenBack entries i back base
 
 -- Where no entry is later, its reversal takes it back, which gives the list before the entry.
 abbrev pub RevokeOfLast : Type 0
-RevokeOfLast = (entries : List (List Transaction)) (i : ℕ) → made_after entries i ≡ [] → revoke entries i ≡ Ok (reversal (entry_at entries i))
+RevokeOfLast = (entries : List (List Transaction)) (i : ℕ) → made_after entries i ≡ [] →
+    revoke entries i ≡ Ok (reversal (entry_at entries i))
 
 -- how many items the transactions remove
 abbrev pub removed_by : List Transaction → ℕ

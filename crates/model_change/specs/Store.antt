@@ -52,7 +52,8 @@ abbrev pub head_if : Bool → List PlainItem → List Value
 head_if true (Opening kind head marks pre origin generated ∷ items) = head_cited head
 head_if _ _ = []
 
--- the final heads of the openings that attribute operations change, in the order of the list; the flag says that the first item is such a one
+-- the final heads of the openings that attribute operations change, in the order of the list; the flag says that the first item is
+-- such a one
 abbrev pub heads_from : Bool → Transaction → List PlainItem → List Value
 heads_from changed [] items = head_if changed items
 heads_from changed (Retain count ∷ ops) items = head_if changed items ++ heads_from false ops (drop count items)
@@ -76,7 +77,8 @@ cited_head (Opening kind head marks pre origin generated) = head_cited head
 cited_head (Char c marks) = []
 cited_head (Closing kind pre) = []
 
--- The value is the head that an opening has in the new list, of which an attribute operation speaks. It stands after what the operations before that one give.
+-- The value is the head that an opening has in the new list, of which an attribute operation speaks. It stands after what the
+-- operations before that one give.
 pub record IsChangedHead (t : Transaction) (items : List PlainItem) (v : Value) : Type 0 where
   pub before : Transaction
   pub change : AttrChange
@@ -88,11 +90,13 @@ pub record IsChangedHead (t : Transaction) (items : List PlainItem) (v : Value) 
 
 -- The changed heads are the heads in the new list of the openings whose attributes it changes, and no others.
 abbrev pub HeadsAreChanged : Type 0
-HeadsAreChanged = (t : Transaction) (items : List PlainItem) (v : Value) → is_reduced t ≡ true → old_length t ≤ length items → Contains (changed_heads t items) v ↔ IsChangedHead t items v
+HeadsAreChanged = (t : Transaction) (items : List PlainItem) (v : Value) → is_reduced t ≡ true → old_length t ≤ length items →
+    Contains (changed_heads t items) v ↔ IsChangedHead t items v
 
 -- What a transaction brings is what its inserted items cite, and these heads, and nothing else.
 abbrev pub BroughtIsNew : Type 0
-BroughtIsNew = (t : Transaction) (items : List PlainItem) (v : Value) → is_reduced t ≡ true → old_length t ≤ length items → Contains (brought t items) v ↔ (IsInserted t v ⊎ IsChangedHead t items v)
+BroughtIsNew = (t : Transaction) (items : List PlainItem) (v : Value) → is_reduced t ≡ true → old_length t ≤ length items →
+    Contains (brought t items) v ↔ (IsInserted t v ⊎ IsChangedHead t items v)
 
 -- Filling appends values, each one of those that were to be put in, and then all of these are there; distinct values stay distinct.
 pub record IsFilled (values vs filled : List Value) : Type 0 where

@@ -1,4 +1,5 @@
--- How many nodes of the tree a transaction touches: those that go, those that come, and those that stay under another parent or with another length.
+-- How many nodes of the tree a transaction touches: those that go, those that come, and those that stay under another parent or with
+-- another length.
 use Rattle.std.specs.Prelude.{◌≡◌, ℕ, zero, suc, ◌+◌, ◌-◌, Bool, true, false, not, ◌&&◌, ◌==◌, nat_lt, nat_le, if◌then◌else◌, List, [], ◌∷◌, ◌++◌, length, map, count_by, sum_by, slice_get, Option, Some, None, option_map}
 use Rattle.std.specs.List.{list_any}
 use Rattle.model_items.specs.declared.plain_item.PlainItem.{PlainItem}
@@ -66,7 +67,8 @@ abbrev pub lies_in : Option ℕ → ℕ → ℕ → Bool
 lies_in None from count = false
 lies_in (Some p) from count = nat_le from p && nat_lt p (from + count)
 
--- The roots match; two bracket nodes where the new opening is the old one, retained; two texts where the first retained character of each lies in the other.
+-- The roots match; two bracket nodes where the new opening is the old one, retained; two texts where the first retained character of
+-- each lies in the other.
 abbrev pub match_by : NodeName → Option ℕ → ℕ → NodeName → Option ℕ → ℕ → Bool
 match_by TheRoot there count TheRoot there' count' = true
 match_by (Opened at) there count (Opened at') there' count' = lies_in there at' 1
@@ -88,7 +90,8 @@ touch_count old new =
     + count_by (λ n. not (list_any (λ o. matches o n) old)) new
     + sum_by (λ o. count_by (λ n. matches o n && not (is_alike o n)) new) old
 
--- For a transaction that applies to a lawful list and gives a lawful one: the old nodes without a match, the new ones without a match, and the pairs that match under other parents or with other lengths.
+-- For a transaction that applies to a lawful list and gives a lawful one: the old nodes without a match, the new ones without a match,
+-- and the pairs that match under other parents or with other lengths.
 abbrev pub touch : Transaction → List PlainItem → ℕ
 touch t items = touch_count (map (seen_by t) (nodes_of items)) (map (seen_by (inverse t)) (nodes_of (edited t items)))
 
@@ -104,5 +107,5 @@ pub record IsRetained (t : Transaction) (items : List PlainItem) (at to : ℕ) (
   pub back : new_place (inverse t) to ≡ Some at
 
 abbrev pub RetainedStays : Type 0
-RetainedStays = (t : Transaction) (items : List PlainItem) (at to : ℕ) (old : PlainItem) → new_place t at ≡ Some to → slice_get items at ≡ Some old →
-    IsRetained t items at to old
+RetainedStays = (t : Transaction) (items : List PlainItem) (at to : ℕ) (old : PlainItem) → new_place t at ≡ Some to →
+    slice_get items at ≡ Some old → IsRetained t items at to old

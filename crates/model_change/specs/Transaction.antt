@@ -1,5 +1,6 @@
 -- Transactions: lists of operations along a list of items, and the list that one gives.
-use Rattle.std.specs.Prelude.{ℕ, ◌+◌, ◌^◌, Bool, true, false, not, ◌&&◌, nat_lt, nat_le, List, [], ◌∷◌, ◌++◌, length, take, drop}
+use Rattle.std.specs.Prelude.{ℕ, ◌+◌, Bool, true, false, not, ◌&&◌, nat_lt, nat_le, List, [], ◌∷◌, ◌++◌, length, take, drop}
+use Rattle.ve_base.specs.Limits.{max_total_length}
 use Rattle.model_items.specs.declared.plain_item.PlainItem.{PlainItem}
 use Rattle.model_items.specs.Same.{text_same}
 use Rattle.model_change.specs.Attributes.{AttrChange, item_changed, AllNamesApart}
@@ -52,14 +53,16 @@ abbrev pub on_first : (PlainItem → PlainItem) → List PlainItem → List Plai
 on_first f [] = []
 on_first f (item ∷ items) = f item ∷ items
 
--- The new list: the old one cut at the operations' places, with the inserted items for the removed ones, and with the attributes set. What stands past all operations is kept.
+-- The new list: the old one cut at the operations' places, with the inserted items for the removed ones, and with the attributes set.
+-- What stands past all operations is kept.
 abbrev pub edited : Transaction → List PlainItem → List PlainItem
 edited [] items = items
 edited (Retain count ∷ ops) items = take count items ++ edited ops (drop count items)
 edited (Replace removed inserted ∷ ops) items = inserted ++ edited ops (drop (length removed) items)
 edited (Attribute change ∷ ops) items = edited ops (on_first (item_changed change) items)
 
--- The operation may stand before those that follow: no two retains or replaces are neighbours, and the attribute operations of one place have different names and are followed by a retain.
+-- The operation may stand before those that follow: no two retains or replaces are neighbours, and the attribute operations of one
+-- place have different names and are followed by a retain.
 abbrev pub may_precede : Op → Transaction → Bool
 may_precede (Retain count) (Retain other ∷ ops) = false
 may_precede (Retain count) _ = true
@@ -82,7 +85,7 @@ is_reduced (op ∷ ops) = is_something op && (may_precede op ops && is_reduced o
 
 -- the normal form, in which a transaction is written in one way; its lengths add up to a number that a machine can count with
 abbrev pub is_normal : Transaction → Bool
-is_normal t = is_reduced t && nat_le (total_length t) (2 ^ 60)
+is_normal t = is_reduced t && nat_le (total_length t) max_total_length
 
 -- no inserted opening has two attributes of one name
 abbrev pub InsertedApart : Transaction → Type 0

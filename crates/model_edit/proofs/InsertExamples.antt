@@ -6,7 +6,7 @@ use Rattle.model_items.specs.declared.plain_item.PlainItem.{PlainItem}
 use Rattle.model_change.specs.Transaction.{Retain, Replace}
 use Rattle.model_items.specs.Law.{verdict}
 use Rattle.model_items.specs.declared.law_fault.LawFault.TheVariants.{TooDeep}
-use Rattle.model_edit.specs.declared.build_fault.BuildFault.TheVariants.{BadOffset, NoPlace, NotContent, BadDepth}
+use Rattle.model_edit.specs.Causes.{BadOffset, NoPlace, NotContent, BadDepth}
 use Rattle.model_edit.specs.Insert.{insertion, text_insertion, plain_text_insertion, split}
 use Rattle.model_items.proofs.ExampleItems.{o, c, text, marked, plain_mark, node, internal}
 use Rattle.model_edit.proofs.ExampleItems.{list_after}

@@ -3,7 +3,7 @@ use Rattle.std.proofs.Common.{◌≡◌, ℕ, List, ◌++◌, Some, refl}
 use Rattle.std.specs.Prelude.{codes, Err}
 use Rattle.ve_kinds.specs.declared.kind.Kind.TheVariants.{P, Ul, Ol, Li}
 use Rattle.model_items.specs.declared.plain_item.PlainItem.{PlainItem}
-use Rattle.model_edit.specs.declared.list_fault.ListFault.TheVariants.{NotListItem, NoSibling, NotNested}
+use Rattle.model_edit.specs.Causes.{NotListItem, NoSibling, NotNested}
 use Rattle.model_edit.specs.Lists.{indent, outdent}
 use Rattle.model_items.proofs.ExampleItems.{text, node, internal}
 use Rattle.model_edit.proofs.ExampleItems.{list_after}

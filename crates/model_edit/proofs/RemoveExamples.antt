@@ -4,7 +4,7 @@ use Rattle.std.specs.Prelude.{codes, Ok, Err}
 use Rattle.ve_kinds.specs.declared.kind.Kind.TheVariants.{P, H2, Ul, Li, Ref, InternalList, InternalItem}
 use Rattle.model_items.specs.declared.plain_item.PlainItem.{PlainItem}
 use Rattle.model_change.specs.Transaction.{Retain, Replace}
-use Rattle.model_edit.specs.declared.build_fault.BuildFault.TheVariants.{BadRange}
+use Rattle.model_edit.specs.Causes.{BadRange}
 use Rattle.model_edit.specs.Remove.{removal}
 use Rattle.model_items.proofs.ExampleItems.{o, c, text, node, internal}
 use Rattle.model_edit.proofs.ExampleItems.{list_after}

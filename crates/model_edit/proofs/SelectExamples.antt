@@ -8,7 +8,7 @@ use Rattle.unicode_segmentation.proofs.Computing.{unicode_segmentation}
 use Rattle.model_edit.specs.declared.selection.Bias.TheVariants.{Left, Right}
 use Rattle.model_edit.specs.declared.selection.By.TheVariants.{Cluster, Word}
 use Rattle.model_edit.specs.declared.selection.Dir.TheVariants.{Back, Ahead}
-use Rattle.model_edit.specs.Translate.{translate, translate_range, moved, between}
+use Rattle.model_edit.specs.Translate.{translate, translate_range, moved_selection, between}
 use Rattle.model_edit.specs.Next.{next}
 use Rattle.model_items.proofs.ExampleItems.{o, text, node, internal}
 
@@ -60,5 +60,5 @@ leaf_replaced = Retain 1 ∷ Replace (o Br ∷ []) (o Br ∷ []) ∷ Retain 5 �
 abbrev leaf_first : List PlainItem
 leaf_first = node P (node Br [] ++ text (codes "a")) ++ internal
 
-past : moved leaf_replaced leaf_first (between 1 4) ≡ between 3 4
+past : moved_selection leaf_replaced leaf_first (between 1 4) ≡ between 3 4
 past = refl

@@ -9,7 +9,7 @@ use Rattle.model_items.specs.declared.plain_item.PlainItem.TheVariants.{Opening}
 use Rattle.model_items.specs.Law.{verdict}
 use Rattle.model_items.specs.declared.law_fault.LawFault.TheVariants.{TooDeep}
 use Rattle.model_change.specs.Transaction.{Retain, Replace, Attribute}
-use Rattle.model_edit.specs.declared.build_fault.BuildFault.TheVariants.{BadRange, BadMark, TooManyMarks, NotWrapped, NotBranch, NotOpening, BadAttr}
+use Rattle.model_edit.specs.Causes.{BadRange, BadMark, TooManyMarks, NotWrapped, NotBranch, NotOpening, BadAttr}
 use Rattle.model_edit.specs.declared.wrap_plan.Shape.{Shape}
 use Rattle.model_edit.specs.declared.wrap_plan.WrapPlan.{WrapPlan}
 use Rattle.model_edit.specs.Marking.{marking, unmarking}

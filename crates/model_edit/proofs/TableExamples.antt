@@ -6,8 +6,7 @@ use Rattle.ve_kinds.specs.declared.kind.Kind.TheVariants.{P, Table, Thead, Tbody
 use Rattle.model_items.specs.declared.plain_item.PlainItem.{PlainItem}
 use Rattle.model_change.specs.Transaction.{Transaction}
 use Rattle.model_edit.specs.declared.grid_cell.GridCell.{GridCell}
-use Rattle.model_edit.specs.declared.table_fault.TableFault.{TableFault}
-use Rattle.model_edit.specs.declared.table_fault.TableFault.TheVariants.{NotTable, Crooked, BadRow, Spanned}
+use Rattle.model_edit.specs.Causes.{TableCause, NotTable, Crooked, BadRow, Spanned}
 use Rattle.model_edit.specs.Grid.{Grid, grid}
 use Rattle.model_edit.specs.Layout.{Layout, layout_of, row_in_layout, col_in_layout, row_out_layout, col_out_layout}
 use Rattle.model_edit.specs.Tables.{row_in, col_in, row_out, col_out}
@@ -79,7 +78,7 @@ crooked : grid (table (node Tr (tall (codes "2") (codes "a")))) 0 ≡ Err (Crook
 crooked = refl
 
 -- the grids after the changes are the layouts that are to come
-abbrev layout : Result Grid TableFault → Option Layout
+abbrev layout : Result Grid TableCause → Option Layout
 layout (Ok g) = Some (layout_of g)
 layout (Err fault) = None
 
@@ -87,7 +86,7 @@ abbrev layout_with : (Layout → ℕ → Layout) → ℕ → Option Layout → O
 layout_with f n (Some g) = Some (f g n)
 layout_with f n None = None
 
-abbrev grid_after : List PlainItem → Result Transaction TableFault → Option Layout
+abbrev grid_after : List PlainItem → Result Transaction TableCause → Option Layout
 grid_after items t = read (list_after items t)
   where
     read : Option (List PlainItem) → Option Layout

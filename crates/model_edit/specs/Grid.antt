@@ -1,6 +1,7 @@
 -- The grid of a table: its rows, and the rectangle of each cell.
 use Rattle.std.specs.Prelude.{ℕ, zero, suc, ◌+◌, ◌-◌, ◌*◌, max, Bool, ◌&&◌, ◌||◌, ◌==◌, nat_le, nat_lt, if◌then◌else◌, List, [], ◌∷◌, ◌++◌, length, filter, flat_map, fold, sum_by, codes, slice_get, Option, Some, None, Result, Ok, Err}
 use Rattle.std.specs.List.{list_any}
+use Rattle.ve_base.specs.Limits.{max_row_span, max_column_span}
 use Rattle.ve_kinds.specs.declared.kind.Kind.{Kind}
 use Rattle.ve_kinds.specs.declared.kind.Kind.TheVariants.{Table, Thead, Tbody, Tfoot, Tr, Td, Th}
 use Rattle.model_items.specs.declared.plain_item.PlainItem.{PlainItem}
@@ -11,23 +12,22 @@ use Rattle.model_change.specs.Attributes.{value_of}
 use Rattle.model_edit.specs.Brackets.{is_opening_of}
 use Rattle.model_items.specs.Offsets.{children, passes}
 use Rattle.model_edit.specs.declared.grid_cell.GridCell.{GridCell}
-use Rattle.model_edit.specs.declared.table_fault.TableFault.{TableFault}
-use Rattle.model_edit.specs.declared.table_fault.TableFault.TheVariants.{NotTable, Crooked}
+use Rattle.model_edit.specs.Causes.{TableCause, NotTable, Crooked}
 
 abbrev pub children_of : List Kind → List PlainItem → ℕ → List Open
 children_of kinds items at = filter (λ (node : Open). is_among kinds node.kind) (children items at)
 
 -- a tr's place, and how many rows its section has from it on
-pub record Row : Type 0 where
+pub record TableRow : Type 0 where
   pub at : ℕ
   pub left : ℕ
 
-abbrev pub section_rows : List Open → List Row
+abbrev pub section_rows : List Open → List TableRow
 section_rows [] = []
 section_rows (tr ∷ later) = record { at = tr.from; left = suc (length later) } ∷ section_rows later
 
 -- the rows of a table's sections, in order
-abbrev pub table_rows : List PlainItem → ℕ → List Row
+abbrev pub table_rows : List PlainItem → ℕ → List TableRow
 table_rows items at =
     flat_map (λ (section : Open). section_rows (children_of (Tr ∷ []) items section.from))
     (children_of (Thead ∷ Tbody ∷ Tfoot ∷ []) items at)
@@ -42,9 +42,9 @@ number_after n (digit ∷ digits) =
     if nat_le 48 digit && nat_le digit 57 then number_after (n * 10 + (digit - 48)) digits else None
 
 -- without a leading zero
-abbrev pub number_of : List ℕ → Option ℕ
-number_of [] = None
-number_of (digit ∷ digits) = if digit == 48 then None else number_after 0 (digit ∷ digits)
+abbrev pub decimal_number : List ℕ → Option ℕ
+decimal_number [] = None
+decimal_number (digit ∷ digits) = if digit == 48 then None else number_after 0 (digit ∷ digits)
 
 abbrev pub span_by : ℕ → Option ℕ → ℕ
 span_by most None = 1
@@ -52,18 +52,12 @@ span_by most (Some n) = if nat_le n most then n else 1
 
 abbrev pub span_in : ℕ → Option (List ℕ) → ℕ
 span_in most None = 1
-span_in most (Some text) = span_by most (number_of text)
+span_in most (Some text) = span_by most (decimal_number text)
 
 -- the span that an attribute of a cell spells, up to `most`, and else 1
-abbrev pub span_of : List ℕ → ℕ → Option PlainItem → ℕ
-span_of name most (Some (Opening kind head marks pre origin generated)) = span_in most (value_of name head.attrs)
-span_of name most _ = 1
-
-abbrev pub most_rows : ℕ
-most_rows = 65534
-
-abbrev pub most_columns : ℕ
-most_columns = 1000
+abbrev pub cell_span : List ℕ → ℕ → Option PlainItem → ℕ
+cell_span name most (Some (Opening kind head marks pre origin generated)) = span_in most (value_of name head.attrs)
+cell_span name most _ = 1
 
 -- the rectangle reaches over a row, and over a column
 abbrev pub covers_row : GridCell → ℕ → Bool
@@ -80,8 +74,8 @@ abbrev pub first_free : List GridCell → (row column fuel : ℕ) → ℕ
 first_free cells row column zero = column
 first_free cells row column (suc fuel) = if is_covered cells row column then first_free cells row (suc column) fuel else column
 
-abbrev pub meets : GridCell → GridCell → Bool
-meets a b =
+abbrev pub cells_meet : GridCell → GridCell → Bool
+cells_meet a b =
     (nat_lt a.row (b.row + b.rows) && nat_lt b.row (a.row + a.rows))
     && (nat_lt a.column (b.column + b.columns) && nat_lt b.column (a.column + a.columns))
 
@@ -92,23 +86,23 @@ placed items before row end cell =
       at = cell.from;
       row = row;
       column = first_free before row end (sum_by (λ (c : GridCell). c.columns) before);
-      rows = span_of (codes "rowspan") most_rows (slice_get items cell.from);
-      columns = span_of (codes "colspan") most_columns (slice_get items cell.from);
+      rows = cell_span (codes "rowspan") max_row_span (slice_get items cell.from);
+      columns = cell_span (codes "colspan") max_column_span (slice_get items cell.from);
     }
 
 -- it covers a place that an earlier one covers, or passes the last row of its section
 abbrev pub is_crooked : (left : ℕ) → List GridCell → GridCell → Bool
-is_crooked left before cell = nat_lt left cell.rows || list_any (meets cell) before
+is_crooked left before cell = nat_lt left cell.rows || list_any (cells_meet cell) before
 
 -- the cells before, and those of a row, each not left of the end of the one before it
-abbrev pub with_row : List PlainItem → (row left end : ℕ) → List Open → List GridCell → Result (List GridCell) TableFault
+abbrev pub with_row : List PlainItem → (row left end : ℕ) → List Open → List GridCell → Result (List GridCell) TableCause
 with_row items row left end [] before = Ok before
 with_row items row left end (cell ∷ cells) before =
     let one = placed items before row end cell in
     if is_crooked left before one then Err (Crooked one.at)
     else with_row items row left (one.column + one.columns) cells (before ++ one ∷ [])
 
-abbrev pub with_rows : List PlainItem → ℕ → List Row → Result (List GridCell) TableFault → Result (List GridCell) TableFault
+abbrev pub with_rows : List PlainItem → ℕ → List TableRow → Result (List GridCell) TableCause → Result (List GridCell) TableCause
 with_rows items row rows (Err fault) = Err fault
 with_rows items row [] (Ok before) = Ok before
 with_rows items row (one ∷ rows) (Ok before) =
@@ -123,11 +117,11 @@ pub record Grid : Type 0 where
 abbrev pub right_end : List GridCell → ℕ
 right_end cells = fold (λ end (cell : GridCell). max end (cell.column + cell.columns)) 0 cells
 
-abbrev pub grid_with : ℕ → Result (List GridCell) TableFault → Result Grid TableFault
+abbrev pub grid_with : ℕ → Result (List GridCell) TableCause → Result Grid TableCause
 grid_with rows (Err fault) = Err fault
 grid_with rows (Ok cells) = Ok (record { rows = rows; columns = right_end cells; cells = cells })
 
-abbrev pub grid : List PlainItem → ℕ → Result Grid TableFault
+abbrev pub grid : List PlainItem → ℕ → Result Grid TableCause
 grid items at =
     if passes (is_opening_of Table) (slice_get items at)
     then (let rows = table_rows items at in grid_with (length rows) (with_rows items 0 rows (Ok [])))

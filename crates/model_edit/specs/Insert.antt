@@ -8,8 +8,7 @@ use Rattle.model_items.specs.declared.plain_item.PlainItem.{PlainItem}
 use Rattle.model_items.specs.declared.plain_item.PlainItem.TheVariants.{Char, Opening, Closing}
 use Rattle.ve_kinds.specs.Table.{may_hold, is_content_branch, is_inline_leaf}
 use Rattle.model_change.specs.Transaction.{Transaction}
-use Rattle.model_edit.specs.declared.build_fault.BuildFault.{BuildFault}
-use Rattle.model_edit.specs.declared.build_fault.BuildFault.TheVariants.{BadOffset, NoPlace, NotContent, BadDepth}
+use Rattle.model_edit.specs.Causes.{BuildCause, BadOffset, NoPlace, NotContent, BadDepth}
 use Rattle.model_edit.specs.Brackets.{opening_of, closing_of, closing_for, copy_of, is_internal}
 use Rattle.model_items.specs.Offsets.{openings_at, stack_at, kind_at, is_content, is_inside_leaf, partner}
 use Rattle.model_edit.specs.Edits.{Change, transaction_of}
@@ -66,16 +65,16 @@ levels_up pieces (inner ∷ outer) =
 abbrev pub reopened : List PlainItem → List PlainItem → List PlainItem
 reopened openings pieces = map closing_for openings ++ (pieces ++ reverse (map copy_of openings))
 
-abbrev pub put_at : List PlainItem → ℕ → List PlainItem → Option ℕ → Result Transaction BuildFault
-put_at items at pieces None = Err (NoPlace at)
-put_at items at pieces (Some j) = Ok (transaction_of items (Change at 0 (reopened (take j (openings_at items at)) pieces) ∷ []))
+abbrev pub put_into : List PlainItem → ℕ → List PlainItem → Option ℕ → Result Transaction BuildCause
+put_into items at pieces None = Err (NoPlace at)
+put_into items at pieces (Some j) = Ok (transaction_of items (Change at 0 (reopened (take j (openings_at items at)) pieces) ∷ []))
 
-abbrev pub insertion : List PlainItem → ℕ → List PlainItem → Result Transaction BuildFault
+abbrev pub insertion : List PlainItem → ℕ → List PlainItem → Result Transaction BuildCause
 insertion items at pieces =
     if is_bad_offset items at then Err (BadOffset at)
     else (if is_mixed pieces then Err (NoPlace at)
     else (let placed = in_paragraph (kind_at items at) pieces in
-    put_at items at placed (levels_up placed (stack_at items at))))
+    put_into items at placed (levels_up placed (stack_at items at))))
 
 abbrev pub marks_of : Option PlainItem → List Mark
 marks_of (Some (Char c marks)) = marks
@@ -97,16 +96,16 @@ abbrev pub text_pieces : List Mark → List ℕ → List PlainItem
 text_pieces marks text = map (λ c. Char c marks) text
 
 -- typing, with the marks of what stands to the left
-abbrev pub text_insertion : List PlainItem → ℕ → List ℕ → Result Transaction BuildFault
+abbrev pub text_insertion : List PlainItem → ℕ → List ℕ → Result Transaction BuildCause
 text_insertion items at text = insertion items at (text_pieces (marks_before items at) text)
 
-abbrev pub plain_text_insertion : List PlainItem → ℕ → List ℕ → Result Transaction BuildFault
+abbrev pub plain_text_insertion : List PlainItem → ℕ → List ℕ → Result Transaction BuildCause
 plain_text_insertion items at text = insertion items at (text_pieces [] text)
 
 abbrev pub is_bad_depth : List Kind → ℕ → Bool
 is_bad_depth stack depth = (depth == 0) || (nat_lt (length stack) depth || list_any is_internal (take depth stack))
 
-abbrev pub split : List PlainItem → ℕ → ℕ → Result Transaction BuildFault
+abbrev pub split : List PlainItem → ℕ → ℕ → Result Transaction BuildCause
 split items at depth =
     if is_bad_offset items at then Err (BadOffset at)
     else (if not (is_content items at) then Err (NotContent at)

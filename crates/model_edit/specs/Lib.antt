@@ -1,3 +1,4 @@
+pub mod Causes
 pub mod Brackets
 pub mod Edits
 pub mod Insert

@@ -9,8 +9,7 @@ use Rattle.model_change.specs.Transaction.{Transaction}
 use Rattle.model_edit.specs.Brackets.{opening_of, closing_of, copy_of, is_opening_of, is_closing_of}
 use Rattle.model_items.specs.Offsets.{opens_at, kind_at, partner, end_of_node, passes}
 use Rattle.model_edit.specs.Edits.{Edit, Change, transaction_of}
-use Rattle.model_edit.specs.declared.list_fault.ListFault.{ListFault}
-use Rattle.model_edit.specs.declared.list_fault.ListFault.TheVariants.{NotListItem, NoSibling, NotNested}
+use Rattle.model_edit.specs.Causes.{ListCause, NotListItem, NoSibling, NotNested}
 
 abbrev pub is_list_item : List PlainItem → ℕ → Bool
 is_list_item items at = passes (is_opening_of Li) (slice_get items at)
@@ -33,7 +32,7 @@ indent_edits items at kind =
     ∷ Change (end_of_node items at) 0 (list_ends kind)
     ∷ []
 
-abbrev pub indent : List PlainItem → ℕ → Result Transaction ListFault
+abbrev pub indent : List PlainItem → ℕ → Result Transaction ListCause
 indent items at =
     if is_list_item items at
     then (if passes_before (is_closing_of Li) items at
@@ -59,12 +58,12 @@ begin_after items closing list =
     if partner items list.from == suc closing then Change closing 2 [] else Change closing 1 (copy_at items list.from)
 
 -- the open nodes are the item's list, and what that stands in
-abbrev pub outdent_from : List PlainItem → ℕ → List Open → Result Transaction ListFault
+abbrev pub outdent_from : List PlainItem → ℕ → List Open → Result Transaction ListCause
 outdent_from items at (list ∷ outer ∷ others) =
     if kind_same outer.kind Li
     then Ok (transaction_of items (end_before at list ∷ begin_after items (partner items at) list ∷ []))
     else Err (NotNested at)
 outdent_from items at _ = Err (NotNested at)
 
-abbrev pub outdent : List PlainItem → ℕ → Result Transaction ListFault
+abbrev pub outdent : List PlainItem → ℕ → Result Transaction ListCause
 outdent items at = if is_list_item items at then outdent_from items at (opens_at items at) else Err (NotListItem at)

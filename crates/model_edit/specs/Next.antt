@@ -44,15 +44,15 @@ first_above bound places = find (λ n. nat_lt bound n) places
 
 -- the boundary of the run round the offset that comes next; the run begins at `start`
 abbrev pub next_boundary : Dir → Cutting → List ℕ → List ℕ → (start : ℕ) → Option ℕ
-next_boundary Ahead cut before suffix start =
-    option_map (λ n. start + n) (first_above (length before) (boundaries cut (before ++ suffix)))
-next_boundary Back cut before suffix start =
-    option_map (λ n. start + n) (last_below (length before) (boundaries cut (before ++ suffix)))
+next_boundary Ahead cut prefix suffix start =
+    option_map (λ n. start + n) (first_above (length prefix) (boundaries cut (prefix ++ suffix)))
+next_boundary Back cut prefix suffix start =
+    option_map (λ n. start + n) (last_below (length prefix) (boundaries cut (prefix ++ suffix)))
 
 abbrev pub boundary_at : Dir → Cutting → List PlainItem → ℕ → Option ℕ
 boundary_at dir cut items at =
-    let before = run_before items at in
-    next_boundary dir cut before (run_from items at) (at - length before)
+    let prefix = run_before items at in
+    next_boundary dir cut prefix (run_from items at) (at - length prefix)
 
 -- ahead of a leaf its end comes next, and nothing at the end of the branch
 abbrev pub next_ahead : Option PlainItem → Cutting → List PlainItem → ℕ → Option ℕ

@@ -5,10 +5,9 @@ use Rattle.model_items.specs.declared.plain_item.PlainItem.{PlainItem}
 use Rattle.model_items.specs.declared.plain_item.PlainItem.TheVariants.{Opening, Closing}
 use Rattle.ve_kinds.specs.Table.{kind_same, is_content_branch}
 use Rattle.model_change.specs.Transaction.{Transaction}
-use Rattle.model_edit.specs.declared.build_fault.BuildFault.{BuildFault}
-use Rattle.model_edit.specs.declared.build_fault.BuildFault.TheVariants.{BadRange}
+use Rattle.model_edit.specs.Causes.{BuildCause, BadRange}
 use Rattle.model_edit.specs.Brackets.{closing_of, is_internal_bracket}
-use Rattle.model_items.specs.Offsets.{is_bad_span, is_unmatched, partner, places, unmatched_places, some_in_range}
+use Rattle.model_items.specs.Offsets.{is_bad_span, is_unmatched, partner, places_in, unmatched_places, some_in_range}
 use Rattle.model_edit.specs.Edits.{Edit, Change, transaction_of}
 
 abbrev pub is_bad_removal : List PlainItem → ℕ → ℕ → Bool
@@ -41,9 +40,9 @@ abbrev pub removal_edits : List PlainItem → ℕ → ℕ → Option Join → Li
 removal_edits items from to (Some join) = Change from (to - from) [] ∷ closed_alike join
 -- each matched item goes, and the unmatched brackets stay
 removal_edits items from to None =
-    map (λ at. Change at 1 []) (filter (λ at. not (is_unmatched items from to at)) (places from to))
+    map (λ at. Change at 1 []) (filter (λ at. not (is_unmatched items from to at)) (places_in from to))
 
-abbrev pub removal : List PlainItem → ℕ → ℕ → Result Transaction BuildFault
+abbrev pub removal : List PlainItem → ℕ → ℕ → Result Transaction BuildCause
 removal items from to =
     if is_bad_removal items from to then Err (BadRange from to)
     else Ok (transaction_of items (removal_edits items from to (join_at items (unmatched_places items from to))))

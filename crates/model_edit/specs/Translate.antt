@@ -38,5 +38,5 @@ abbrev pub past_leaf : List PlainItem → ℕ → ℕ
 past_leaf items at = if is_inside_leaf items at then suc at else at
 
 -- a site's selection in the new list
-abbrev pub moved : Transaction → List PlainItem → Selection → Selection
-moved t new s = let r = translate_range t s in between (past_leaf new r.anchor) (past_leaf new r.focus)
+abbrev pub moved_selection : Transaction → List PlainItem → Selection → Selection
+moved_selection t new s = let r = translate_range t s in between (past_leaf new r.anchor) (past_leaf new r.focus)

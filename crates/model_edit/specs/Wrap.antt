@@ -6,10 +6,9 @@ use Rattle.model_items.specs.declared.plain_item.PlainItem.{PlainItem}
 use Rattle.ve_kinds.specs.Table.{is_content_branch}
 use Rattle.model_items.specs.Tree.{Open}
 use Rattle.model_change.specs.Transaction.{Transaction}
-use Rattle.model_edit.specs.declared.build_fault.BuildFault.{BuildFault}
-use Rattle.model_edit.specs.declared.build_fault.BuildFault.TheVariants.{BadRange, NotWrapped}
+use Rattle.model_edit.specs.Causes.{BuildCause, BadRange, NotWrapped}
 use Rattle.model_edit.specs.Brackets.{opening_of, closing_of, is_opening_of, is_internal_bracket}
-use Rattle.model_items.specs.Offsets.{kind_at, partner, end_of_node, siblings, is_unmatched, places, some_in_range, passes}
+use Rattle.model_items.specs.Offsets.{kind_at, partner, end_of_node, siblings, is_unmatched, places_in, some_in_range, passes}
 use Rattle.model_edit.specs.Edits.{Edit, Change, transaction_of}
 use Rattle.model_edit.specs.declared.wrap_plan.Shape.{Shape}
 use Rattle.model_edit.specs.declared.wrap_plan.WrapPlan.{WrapPlan}
@@ -18,7 +17,7 @@ use Rattle.model_edit.specs.declared.wrap_plan.WrapPlan.{WrapPlan}
 abbrev pub is_whole_nodes : List PlainItem → ℕ → ℕ → Bool
 is_whole_nodes items from to =
     nat_lt from to && (nat_le to (length items)
-    && (not (is_content_branch (kind_at items from)) && not (list_any (is_unmatched items from to) (places from to))))
+    && (not (is_content_branch (kind_at items from)) && not (list_any (is_unmatched items from to) (places_in from to))))
 
 abbrev pub is_bad_wrap : List PlainItem → ℕ → ℕ → Bool
 is_bad_wrap items from to = not (is_whole_nodes items from to) || some_in_range is_internal_bracket items from to
@@ -74,14 +73,18 @@ abbrev pub wrap_edits : List PlainItem → ℕ → ℕ → WrapPlan → List Edi
 wrap_edits items from to plan =
     let outer = length plan.unwrap_outer in
     Change (from - outer) outer (openings_of plan.wrap_outer)
-    ∷ flat_map (λ (node : Open). node_edits node.from (end_of_node items node.from) (length plan.unwrap_each) plan.wrap_each) (nodes_in items from to)
+    ∷ flat_map
+    (λ (node : Open). node_edits node.from (end_of_node items node.from) (length plan.unwrap_each) plan.wrap_each)
+    (nodes_in items from to)
     ++ Change to outer (closings_of plan.wrap_outer) ∷ []
 
-abbrev pub wrapped_unless : Option ℕ → Transaction → Result Transaction BuildFault
+abbrev pub wrapped_unless : Option ℕ → Transaction → Result Transaction BuildCause
 wrapped_unless (Some at) t = Err (NotWrapped at)
 wrapped_unless None t = Ok t
 
-abbrev pub wrap : List PlainItem → ℕ → ℕ → WrapPlan → Result Transaction BuildFault
+abbrev pub wrap : List PlainItem → ℕ → ℕ → WrapPlan → Result Transaction BuildCause
 wrap items from to plan =
     if is_bad_wrap items from to then Err (BadRange from to)
-    else wrapped_unless (wrong_place items from to plan.unwrap_outer plan.unwrap_each) (transaction_of items (wrap_edits items from to plan))
+    else wrapped_unless
+    (wrong_place items from to plan.unwrap_outer plan.unwrap_each)
+    (transaction_of items (wrap_edits items from to plan))

@@ -7,10 +7,10 @@ use Rattle.model_change.specs.Transaction.{Transaction, all_inserted}
 use Rattle.model_edit.specs.Edits.{Change, Set}
 use Rattle.model_edit.specs.Insert.{split}
 use Rattle.model_items.proofs.ExampleItems.{c, text, attr, with_attrs, internal}
-use Rattle.model_edit_law.specs.ApartLaws.{pieces_of}
+use Rattle.model_edit_law.specs.ApartLaws.{inserted_pieces}
 
 -- in the order of the edits, whichever they are
-three_edits : pieces_of (Change 1 2 (text (codes "ab")) ∷ Set 5 (codes "class") None ∷ Change 7 0 (c P ∷ []) ∷ []) ≡ text (codes "ab") ++ c P ∷ []
+three_edits : inserted_pieces (Change 1 2 (text (codes "ab")) ∷ Set 5 (codes "class") None ∷ Change 7 0 (c P ∷ []) ∷ []) ≡ text (codes "ab") ++ c P ∷ []
 three_edits = refl
 
 abbrev inserted_by : {E : Type 0} → Result Transaction E → Option (List PlainItem)

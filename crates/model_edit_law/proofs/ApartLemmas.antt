@@ -15,7 +15,7 @@ use Rattle.model_change.proofs.FilledLemmas.{names_stay_apart}
 use Rattle.model_edit.specs.Brackets.{copy_of, closing_for}
 use Rattle.model_items.specs.Offsets.{openings_after, openings_at}
 use Rattle.model_edit.specs.Edits.{Edit, Change, Set, retaining, merged, replacing, setting, transaction_from, transaction_of}
-use Rattle.model_edit_law.specs.ApartLaws.{pieces_of, EditsInsertPieces, EditsAreApart, EditsStayApart, FineStaysApart}
+use Rattle.model_edit_law.specs.ApartLaws.{inserted_pieces, EditsInsertPieces, EditsAreApart, EditsStayApart, FineStaysApart}
 use Rattle.model_edit_law.proofs.FineLemmas.{edits_are_fine, edits_substitute}
 
 -- parts of lists
@@ -124,7 +124,7 @@ inserted-replacing [] [] t = refl
 inserted-replacing [] (one ∷ inserted) t = inserted-merged [] (one ∷ inserted) t
 inserted-replacing (one ∷ removed) inserted t = inserted-merged (one ∷ removed) inserted t
 
-inserted-transaction_from : (at : ℕ) (items : List PlainItem) (edits : List Edit) → all_inserted (transaction_from at items edits) ≡ pieces_of edits
+inserted-transaction_from : (at : ℕ) (items : List PlainItem) (edits : List Edit) → all_inserted (transaction_from at items edits) ≡ inserted_pieces edits
 inserted-transaction_from at items [] = inserted-retaining (length items) []
 inserted-transaction_from at items (Change place count inserted ∷ edits) =
     let rest = drop (place - at) items in
@@ -160,18 +160,18 @@ edits_stay_apart items edits order may apart pieces =
 
 -- lists of edits
 
-pub pieces_apart-append : (xs ys : List Edit) → AllNamesApart (pieces_of xs) → AllNamesApart (pieces_of ys) → AllNamesApart (pieces_of (xs ++ ys))
+pub pieces_apart-append : (xs ys : List Edit) → AllNamesApart (inserted_pieces xs) → AllNamesApart (inserted_pieces ys) → AllNamesApart (inserted_pieces (xs ++ ys))
 pieces_apart-append [] ys p q = q
 pieces_apart-append (Change place count inserted ∷ xs) ys p q =
-    AllNamesApart-append inserted (pieces_of (xs ++ ys)) (AllNamesApart-prefix inserted (pieces_of xs) p)
-    (pieces_apart-append xs ys (AllNamesApart-suffix inserted (pieces_of xs) p) q)
+    AllNamesApart-append inserted (inserted_pieces (xs ++ ys)) (AllNamesApart-prefix inserted (inserted_pieces xs) p)
+    (pieces_apart-append xs ys (AllNamesApart-suffix inserted (inserted_pieces xs) p) q)
 pieces_apart-append (Set place name to ∷ xs) ys p q = pieces_apart-append xs ys p q
 
-pub pieces_apart-each : {A : Type 0} (f : A → List Edit) → ((x : A) → AllNamesApart (pieces_of (f x))) → (xs : List A) →
-    AllNamesApart (pieces_of (flat_map f xs))
+pub pieces_apart-each : {A : Type 0} (f : A → List Edit) → ((x : A) → AllNamesApart (inserted_pieces (f x))) → (xs : List A) →
+    AllNamesApart (inserted_pieces (flat_map f xs))
 pieces_apart-each f h [] = tt
 pieces_apart-each f h (x ∷ xs) = pieces_apart-append (f x) (flat_map f xs) (h x) (pieces_apart-each f h xs)
 
-pub pieces_apart-map : {A : Type 0} (f : A → Edit) → ((x : A) → AllNamesApart (pieces_of (f x ∷ []))) → (xs : List A) → AllNamesApart (pieces_of (map f xs))
+pub pieces_apart-map : {A : Type 0} (f : A → Edit) → ((x : A) → AllNamesApart (inserted_pieces (f x ∷ []))) → (xs : List A) → AllNamesApart (inserted_pieces (map f xs))
 pieces_apart-map f h [] = tt
 pieces_apart-map f h (x ∷ xs) = pieces_apart-append (f x ∷ []) (map f xs) (h x) (pieces_apart-map f h xs)

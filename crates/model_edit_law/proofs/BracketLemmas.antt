@@ -10,7 +10,7 @@ use Rattle.ve_kinds.specs.Table.{kind_same, may_hold, is_content_branch}
 use Rattle.model_items.proofs.SameLemmas.{Means-kind_same}
 use Rattle.model_items.specs.declared.law_fault.LawFault.{LawFault}
 use Rattle.model_items.specs.declared.law_fault.LawFault.TheVariants.{Unlawful, TooDeep}
-use Rattle.model_items.specs.Law.{State, start, finish, top, is_empty, is_over, may_open, opened, closed, step, joined, outcome_moved, after, Lawful}
+use Rattle.model_items.specs.Law.{State, start, finish, top, is_empty, is_over, may_open, opened, closed, step, followed, outcome_moved, after, Lawful}
 use Rattle.model_items.proofs.LawLemmas.{after-append, after_whole, if_ok, Ok-same, joined-ok, after_parts, opened_before, closed_before, after_from_Lawful}
 use Rattle.std.proofs.lemmas.List.{append_assoc, length-append}
 use Rattle.model_items.specs.Tree.{Open, opens_after, opens_with, length_to_close}
@@ -246,10 +246,10 @@ pub leads_cons : (s t u : State) (x : PlainItem) (items : List PlainItem) → Le
 leads_cons s t u x items h g =
     elim h [
       | inl a ↦ elim g [
-        | inl b ↦ inl (ap (λ v. joined 1 v (λ next. after next items)) a ∙ ap (outcome_moved 1) b)
-        | inr b ↦ inr (1 + b.0, ap (λ v. joined 1 v (λ next. after next items)) a ∙ ap (outcome_moved 1) b.1)
+        | inl b ↦ inl (ap (λ v. followed 1 v (λ next. after next items)) a ∙ ap (outcome_moved 1) b)
+        | inr b ↦ inr (1 + b.0, ap (λ v. followed 1 v (λ next. after next items)) a ∙ ap (outcome_moved 1) b.1)
       ]
-      | inr a ↦ inr (a.0, ap (λ v. joined 1 v (λ next. after next items)) a.1)
+      | inr a ↦ inr (a.0, ap (λ v. followed 1 v (λ next. after next items)) a.1)
     ]
 
 pub leads_append : (s t u : State) (xs ys : List PlainItem) → Leads (after s xs) t → Leads (after t ys) u → Leads (after s (xs ++ ys)) u
@@ -257,9 +257,9 @@ leads_append s t u xs ys h g =
     elim h [
       | inl a ↦ elim g [
         | inl b ↦ inl (after_whole xs ys s t u a b)
-        | inr b ↦ inr (length xs + b.0, after-append s xs ys ∙ ap (λ r. joined (length xs) r (λ v. after v ys)) a ∙ ap (outcome_moved (length xs)) b.1)
+        | inr b ↦ inr (length xs + b.0, after-append s xs ys ∙ ap (λ r. followed (length xs) r (λ v. after v ys)) a ∙ ap (outcome_moved (length xs)) b.1)
       ]
-      | inr a ↦ inr (a.0, after-append s xs ys ∙ ap (λ r. joined (length xs) r (λ v. after v ys)) a.1)
+      | inr a ↦ inr (a.0, after-append s xs ys ∙ ap (λ r. followed (length xs) r (λ v. after v ys)) a.1)
     ]
 
 -- an opening that is allowed where it stands
@@ -365,7 +365,7 @@ closes_more x inner inner' outer k items step_ steps keeps leads_ r = record {
   ends = λ other. step_ (r.inside ++ Closing k r.pre ∷ other) ∙ ap suc (r.ends other);
   through = λ depth other. steps depth (r.inside ++ Closing k r.pre ∷ other) ∙ ap suc (r.through depth other) ∙ omega arith;
   kept = λ k' outer' seen same low.
-      ap (λ v. joined 1 v (λ next. after next r.inside)) (keeps k' outer' seen same low) ∙ ap (λ v. outcome_moved 1 v) (r.kept k' outer' seen same low);
+      ap (λ v. followed 1 v (λ next. after next r.inside)) (keeps k' outer' seen same low) ∙ ap (λ v. outcome_moved 1 v) (r.kept k' outer' seen same low);
   leads = λ k' outer' seen same.
       leads_cons (state_of (inner ++ k' ∷ outer') seen) (state_of (inner' ++ k' ∷ outer') seen) (state_of (k' ∷ outer') seen) x r.inside
       (leads_ k' outer' seen same) (r.leads k' outer' seen same);

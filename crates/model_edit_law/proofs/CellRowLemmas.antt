@@ -10,9 +10,9 @@ use Rattle.model_items.specs.Law.{Lawful}
 use Rattle.model_items.specs.Tree.{Open}
 use Rattle.model_items.specs.Offsets.{partner, end_of_node}
 use Rattle.model_edit.specs.declared.grid_cell.GridCell.{GridCell}
-use Rattle.model_edit.specs.declared.table_fault.TableFault.{TableFault}
-use Rattle.model_edit.specs.Grid.{Row, children_of, section_rows, row_cells, placed, is_crooked, with_row, with_rows}
-use Rattle.model_edit_law.specs.Spans.{rectangle_of, of_row, span_at}
+use Rattle.model_edit.specs.Causes.{TableCause}
+use Rattle.model_edit.specs.Grid.{TableRow, children_of, section_rows, row_cells, placed, is_crooked, with_row, with_rows}
+use Rattle.model_edit_law.specs.Spans.{rectangle_of, of_row, cell_span_at}
 use Rattle.model_edit_law.proofs.TablePlaceLemmas.{Chain, from_of, row_at, Home, Homes, children_of_stand, section_stands, sections_stand, if_ok_else}
 use Rattle.model_edit_law.proofs.TableFineLemmas.{row_within, rows_apart, row_ahead}
 use Rattle.model_edit_law.proofs.TableSetLemmas.{Among}
@@ -20,7 +20,7 @@ use Rattle.model_edit_law.proofs.TableSetLemmas.{Among}
 -- cells and the nodes that they are
 abbrev pub Pairs : List PlainItem → List GridCell → List Open → Type 0
 Pairs items [] [] = Unit {0}
-Pairs items (c ∷ cells) (n ∷ nodes) = (c.at ≡ n.from) × (c.rows ≡ (span_at items n).rows) × (c.columns ≡ (span_at items n).columns) × Pairs items cells nodes
+Pairs items (c ∷ cells) (n ∷ nodes) = (c.at ≡ n.from) × (c.rows ≡ (cell_span_at items n).rows) × (c.columns ≡ (cell_span_at items n).columns) × Pairs items cells nodes
 Pairs items [] (n ∷ nodes) = ⊥
 Pairs items (c ∷ cells) [] = ⊥
 
@@ -72,29 +72,29 @@ row_adds items row left end (n ∷ nodes) before cells h =
     let r = row_adds items row left (one.column + one.columns) nodes (before ++ one ∷ []) cells p.1 in
     (one ∷ r.0, r.1 ∙ append_assoc before (one ∷ []) r.0, (refl, r.2), (refl, refl, refl, r.3))
 
-pub rows_add : (items : List PlainItem) (rows : List Row) (index : ℕ) (before cells : List GridCell) → Under index before → with_rows items index rows (Ok before) ≡ Ok cells →
-    (later : List GridCell) × (cells ≡ before ++ later) × From index later × ((k : ℕ) (r : Row) → slice_get rows k ≡ Some r → Pairs items (cells_in (index + k) cells) (row_cells items r.at))
+pub rows_add : (items : List PlainItem) (rows : List TableRow) (index : ℕ) (before cells : List GridCell) → Under index before → with_rows items index rows (Ok before) ≡ Ok cells →
+    (later : List GridCell) × (cells ≡ before ++ later) × From index later × ((k : ℕ) (r : TableRow) → slice_get rows k ≡ Some r → Pairs items (cells_in (index + k) cells) (row_cells items r.at))
 rows_add items [] index before cells u h = let e : before ≡ cells = cc in ([], sym e ∙ sym (append-nil before), tt, λ k r g. cc)
 rows_add items (row ∷ rows) index before cells u h =
     by (λ some u' g. rows_add items rows (suc index) some cells u' g) (with_row items index row.left 0 (row_cells items row.at) before) refl h
   where
     each : (more later : List GridCell) → cells ≡ before ++ (more ++ later) → AllIn index more → From (suc index) later → Pairs items more (row_cells items row.at) →
-        ((k : ℕ) (r : Row) → slice_get rows k ≡ Some r → Pairs items (cells_in (suc index + k) cells) (row_cells items r.at)) →
-        (k : ℕ) (r : Row) → slice_get (row ∷ rows) k ≡ Some r → Pairs items (cells_in (index + k) cells) (row_cells items r.at)
+        ((k : ℕ) (r : TableRow) → slice_get rows k ≡ Some r → Pairs items (cells_in (suc index + k) cells) (row_cells items r.at)) →
+        (k : ℕ) (r : TableRow) → slice_get (row ∷ rows) k ≡ Some r → Pairs items (cells_in (index + k) cells) (row_cells items r.at)
     each more later whole here from pairs next zero r g =
         let e : row ≡ r = cc in
         let z : index ≡ index + 0 = omega arith in
         let own : cells_in index cells ≡ more = ap (cells_in index) whole ∙ in-under index before (more ++ later) u ∙ in-here index more later here from in
-        subst (λ (v : Row). Pairs items (cells_in (index + 0) cells) (row_cells items v.at)) e
+        subst (λ (v : TableRow). Pairs items (cells_in (index + 0) cells) (row_cells items v.at)) e
         (subst (λ m. Pairs items (cells_in m cells) (row_cells items row.at)) z (subst (λ v. Pairs items v (row_cells items row.at)) (sym own) pairs))
     each more later whole here from pairs next (suc k) r g =
         let z : suc index + k ≡ index + suc k = omega arith in
         subst (λ m. Pairs items (cells_in m cells) (row_cells items r.at)) z (next k r g)
 
     by : ((some : List GridCell) → Under (suc index) some → with_rows items (suc index) rows (Ok some) ≡ Ok cells →
-        (later : List GridCell) × (cells ≡ some ++ later) × From (suc index) later × ((k : ℕ) (r : Row) → slice_get rows k ≡ Some r → Pairs items (cells_in (suc index + k) cells) (row_cells items r.at))) →
-        (o : Result (List GridCell) TableFault) → with_row items index row.left 0 (row_cells items row.at) before ≡ o → with_rows items (suc index) rows o ≡ Ok cells →
-        (later : List GridCell) × (cells ≡ before ++ later) × From index later × ((k : ℕ) (r : Row) → slice_get (row ∷ rows) k ≡ Some r → Pairs items (cells_in (index + k) cells) (row_cells items r.at))
+        (later : List GridCell) × (cells ≡ some ++ later) × From (suc index) later × ((k : ℕ) (r : TableRow) → slice_get rows k ≡ Some r → Pairs items (cells_in (suc index + k) cells) (row_cells items r.at))) →
+        (o : Result (List GridCell) TableCause) → with_row items index row.left 0 (row_cells items row.at) before ≡ o → with_rows items (suc index) rows o ≡ Ok cells →
+        (later : List GridCell) × (cells ≡ before ++ later) × From index later × ((k : ℕ) (r : TableRow) → slice_get (row ∷ rows) k ≡ Some r → Pairs items (cells_in (index + k) cells) (row_cells items r.at))
     by next (Err e) g h = cc
     by next (Ok some) g h =
         let a = row_adds items index row.left 0 (row_cells items row.at) before some g in
@@ -120,13 +120,13 @@ Among-filter test c (x ∷ cells) a = by (test x) a (λ a'. Among-filter test c 
     by true (inr a') next = inr (next a')
     by false a' next = inr (next a')
 
-pub homes_among : (items : List PlainItem) (rows : List Row) (cells : List GridCell) (c : GridCell) → Homes items rows cells → Among c cells → Home items rows c
+pub homes_among : (items : List PlainItem) (rows : List TableRow) (cells : List GridCell) (c : GridCell) → Homes items rows cells → Among c cells → Home items rows c
 homes_among items rows [] c h a = absurd a
 homes_among items rows (x ∷ cells) c h (inl e) = subst (Home items rows) e h.0
 homes_among items rows (x ∷ cells) c h (inr a) = homes_among items rows cells c h.1 a
 
 -- a row begins before a cell, or after its end
-pub row_clear : (items : List PlainItem) (low high : ℕ) (rows : List Row) (k : ℕ) (r : Row) (c : GridCell) → Chain row_at items (Tr ∷ []) low high rows → slice_get rows k ≡ Some r → Home items rows c →
+pub row_clear : (items : List PlainItem) (low high : ℕ) (rows : List TableRow) (k : ℕ) (r : TableRow) (c : GridCell) → Chain row_at items (Tr ∷ []) low high rows → slice_get rows k ≡ Some r → Home items rows c →
     (r.at < c.at) ⊎ (end_of_node items c.at ≤ r.at)
 row_clear items low high rows k r c chain e home = by (nat_lt k c.row) (nat_lt c.row k) refl refl
   where
@@ -142,15 +142,15 @@ row_clear items low high rows k r c chain e home = by (nat_lt k c.row) (nat_lt c
         let l = ltb-false k c.row f in
         let m = ltb-false c.row k g in
         let z : k ≡ c.row = omega arith in
-        let same : ◌≡◌ {A = Option Row} (Some r) (Some home.row) = sym e ∙ ap (slice_get rows) z ∙ home.named in
+        let same : ◌≡◌ {A = Option TableRow} (Some r) (Some home.row) = sym e ∙ ap (slice_get rows) z ∙ home.named in
         let own : r ≡ home.row = cc in
-        let u : suc r.at ≤ c.at = subst (λ (v : Row). suc v.at ≤ c.at) (sym own) home.low in inl u
+        let u : suc r.at ≤ c.at = subst (λ (v : TableRow). suc v.at ≤ c.at) (sym own) home.low in inl u
 
 abbrev pub AmongNodes : Open → List Open → Type 0
 AmongNodes o [] = ⊥
 AmongNodes o (x ∷ nodes) = (x ≡ o) ⊎ AmongNodes o nodes
 
-split_get : (xs ys : List Row) (k : ℕ) (r : Row) → slice_get (xs ++ ys) k ≡ Some r → (slice_get xs k ≡ Some r) ⊎ ((j : ℕ) × (slice_get ys j ≡ Some r))
+split_get : (xs ys : List TableRow) (k : ℕ) (r : TableRow) → slice_get (xs ++ ys) k ≡ Some r → (slice_get xs k ≡ Some r) ⊎ ((j : ℕ) × (slice_get ys j ≡ Some r))
 split_get [] ys k r h = inr (k, h)
 split_get (x ∷ xs) ys zero r h = inl h
 split_get (x ∷ xs) ys (suc k) r h = split_get xs ys k r h
@@ -162,17 +162,17 @@ node_after items kinds (x ∷ nodes) low high o c (inr a) =
     let l = node_after items kinds nodes (end_of_node items x.from) high o c.2 a in let p = c.0 in let q = (c.1.2).ahead in omega arith
 
 -- a section begins before a row, or after its end
-pub section_clear : (items : List PlainItem) (kinds : List Kind) (sections : List Open) (low high : ℕ) (o : Open) (k : ℕ) (r : Row) → Lawful items → Chain from_of items kinds low high sections →
+pub section_clear : (items : List PlainItem) (kinds : List Kind) (sections : List Open) (low high : ℕ) (o : Open) (k : ℕ) (r : TableRow) → Lawful items → Chain from_of items kinds low high sections →
     AmongNodes o sections → slice_get (flat_map (λ (section : Open). section_rows (children_of (Tr ∷ []) items section.from)) sections) k ≡ Some r →
     (o.from < r.at) ⊎ (suc (partner items r.at) ≤ o.from)
 section_clear items kinds [] low high o k r lawful c a h = absurd a
 section_clear items kinds (x ∷ sections) low high o k r lawful c a h =
     by (split_get rows later k r h) a (λ a' j h'. section_clear items kinds sections (end_of_node items x.from) high o j r lawful c.2 a' h')
   where
-    rows : List Row
+    rows : List TableRow
     rows = section_rows (children_of (Tr ∷ []) items x.from)
 
-    later : List Row
+    later : List TableRow
     later = flat_map (λ (section : Open). section_rows (children_of (Tr ∷ []) items section.from)) sections
 
     by : (slice_get rows k ≡ Some r) ⊎ ((j : ℕ) × (slice_get later j ≡ Some r)) → (x ≡ o) ⊎ AmongNodes o sections →

@@ -14,9 +14,10 @@ use Rattle.model_edit.specs.Brackets.{is_opening_of}
 use Rattle.model_items.specs.Offsets.{partner, end_of_node, siblings, children, passes}
 use Rattle.model_edit.specs.Edits.{substituted_from}
 use Rattle.model_edit.specs.declared.grid_cell.GridCell.{GridCell}
-use Rattle.model_edit.specs.Grid.{Row, Grid, children_of, section_rows, table_rows, row_cells, covers_column, most_columns}
+use Rattle.ve_base.specs.Limits.{max_column_span}
+use Rattle.model_edit.specs.Grid.{TableRow, Grid, children_of, section_rows, table_rows, row_cells, covers_column}
 use Rattle.model_edit.specs.Layout.{Rectangle, without_column}
-use Rattle.model_edit_law.specs.Spans.{Line, rectangle_of, size_of, of_row, lines_left, span_at, line_at, lines_of}
+use Rattle.model_edit_law.specs.Spans.{Line, rectangle_of, size_of, of_row, lines_left, cell_span_at, line_at, table_lines}
 use Rattle.model_edit_law.proofs.TablePlaceLemmas.{Chain, Chain-ends, Chain-filter, from_of, cell_kinds, cell_at, children_of_stand, Standing}
 use Rattle.model_edit_law.proofs.TableFineLemmas.{row_within, row_ahead}
 use Rattle.model_edit_law.proofs.TableSetLemmas.{map-append, length_map, Among, set_in, set_at, set_before, set_among, among_after}
@@ -90,7 +91,7 @@ lines_left-append column all i next (line ∷ xs) ys e =
     ap (λ v. record { left = line.left; spans = map size_of (filter_map (without_column column) (of_row all i)) } ∷ v) (lines_left-append column all (suc i) next xs ys (omega arith))
 
 module _ (items : List PlainItem) (at column : ℕ) (g : Grid) (lawful : Lawful items) (s : Standing items at g)
-    (pairs : (k : ℕ) (r : Row) → slice_get (table_rows items at) k ≡ Some r → Pairs items (cells_in k g.cells) (row_cells items r.at)) where
+    (pairs : (k : ℕ) (r : TableRow) → slice_get (table_rows items at) k ≡ Some r → Pairs items (cells_in k g.cells) (row_cells items r.at)) where
   abbrev covers : GridCell → Bool
   covers c = covers_column c column
 
@@ -148,9 +149,9 @@ module _ (items : List PlainItem) (at column : ℕ) (g : Grid) (lawful : Lawful 
   abbrev Left : GridCell → Open → Type 0
   Left c n =
       ((without_column column (rectangle_of c) ≡ None) × (stays n.from ≡ None))
-      ⊎ ((r : Rectangle) × (b : ℕ) × (without_column column (rectangle_of c) ≡ Some r) × (stays n.from ≡ Some b) × (span_at without (record { kind = n.kind; from = b }) ≡ size_of r))
+      ⊎ ((r : Rectangle) × (b : ℕ) × (without_column column (rectangle_of c) ≡ Some r) × (stays n.from ≡ Some b) × (cell_span_at without (record { kind = n.kind; from = b }) ≡ size_of r))
 
-  cell_left : (c : GridCell) (n : Open) → Among c g.cells → c.at ≡ n.from → c.rows ≡ (span_at items n).rows → c.columns ≡ (span_at items n).columns → Left c n
+  cell_left : (c : GridCell) (n : Open) → Among c g.cells → c.at ≡ n.from → c.rows ≡ (cell_span_at items n).rows → c.columns ≡ (cell_span_at items n).columns → Left c n
   cell_left c n m place rows columns =
       let o = among_opens items g.cells (suc at) (partner items at) c (s.cells).chain m in
       let x = Opening o.0 (o.1).head (o.1).marks (o.1).pre (o.1).origin (o.1).generated in
@@ -161,19 +162,19 @@ module _ (items : List PlainItem) (at column : ℕ) (g : Grid) (lawful : Lawful 
       let its_rows : c.rows ≡ (span_read (Some x)).rows = rows ∙ ap (λ v. (span_read v).rows) there in
       let its_columns : c.columns ≡ (span_read (Some x)).columns = columns ∙ ap (λ v. (span_read v).columns) there in
       let whole : span_read (Some x) ≡ size_of (rectangle_of c) = (λ i. record { rows = sym its_rows i; columns = sym its_columns i }) in
-      let most : c.columns ≤ most_columns =
-      subst (λ k. k ≤ most_columns) (sym its_columns) (columns_most o.0 (o.1).head (o.1).marks (o.1).pre (o.1).origin (o.1).generated) in
+      let most : c.columns ≤ max_column_span =
+      subst (λ k. k ≤ max_column_span) (sym its_columns) (columns_most o.0 (o.1).head (o.1).marks (o.1).pre (o.1).origin (o.1).generated) in
       let read_here : (b : ℕ) → stays c.at ≡ Some b → slice_get without b ≡ (if (if covers c then is_wide c else false) then set_in (codes "colspan") (one_narrower c) (Some x) else Some x) =
       (λ b e. read c b (Some x) m (o.1).here room e) in
-      let written : (k : ℕ) → 1 ≤ k → k ≤ most_columns → span_read (set_in (codes "colspan") (Some (decimal k)) (Some x)) ≡ record (span_read (Some x)) { columns = k } =
+      let written : (k : ℕ) → 1 ≤ k → k ≤ max_column_span → span_read (set_in (codes "colspan") (Some (decimal k)) (Some x)) ≡ record (span_read (Some x)) { columns = k } =
       columns_written o.0 (o.1).head (o.1).marks (o.1).pre (o.1).origin (o.1).generated in
       by (Some x) (covers c) (c.columns == 1) refl refl f.0 f.1 whole its_rows most read_here written
     where
       by : (x : Option PlainItem) (u v : Bool) → covers c ≡ u → (c.columns == 1) ≡ v →
           (covers c ≡ true → (c.columns == 1) ≡ true → stays c.at ≡ None) → ((covers c ≡ false) ⊎ ((c.columns == 1) ≡ false) → (b : ℕ) × (stays c.at ≡ Some b)) →
-          span_read x ≡ size_of (rectangle_of c) → c.rows ≡ (span_read x).rows → c.columns ≤ most_columns →
+          span_read x ≡ size_of (rectangle_of c) → c.rows ≡ (span_read x).rows → c.columns ≤ max_column_span →
           ((b : ℕ) → stays c.at ≡ Some b → slice_get without b ≡ (if (if covers c then is_wide c else false) then set_in (codes "colspan") (one_narrower c) x else x)) →
-          ((k : ℕ) → 1 ≤ k → k ≤ most_columns → span_read (set_in (codes "colspan") (Some (decimal k)) x) ≡ record (span_read x) { columns = k }) → Left c n
+          ((k : ℕ) → 1 ≤ k → k ≤ max_column_span → span_read (set_in (codes "colspan") (Some (decimal k)) x) ≡ record (span_read x) { columns = k }) → Left c n
       by x true true e f gone some whole its_rows most read_here written = inl (left_none column c e f, ap stays (sym place) ∙ gone e f)
       by x true false e f gone some whole its_rows most read_here written =
           let b = some (inr f) in
@@ -206,43 +207,43 @@ module _ (items : List PlainItem) (at column : ℕ) (g : Grid) (lawful : Lawful 
           )
 
   cells_left : (cells : List GridCell) (nodes : List Open) → Pairs items cells nodes → ((c : GridCell) → Among c cells → Among c g.cells) →
-      map (span_at without) (left nodes) ≡ map size_of (filter_map (without_column column) (map rectangle_of cells))
+      map (cell_span_at without) (left nodes) ≡ map size_of (filter_map (without_column column) (map rectangle_of cells))
   cells_left [] [] p h = refl
   cells_left [] (n ∷ nodes) p h = absurd p
   cells_left (c ∷ cells) [] p h = absurd p
   cells_left (c ∷ cells) (n ∷ nodes) p h = by (cell_left c n (h c (inl refl)) p.0 p.1 p.2) (cells_left cells nodes p.3 (λ c' m. h c' (inr m)))
     where
-      by : Left c n → map (span_at without) (left nodes) ≡ map size_of (filter_map (without_column column) (map rectangle_of cells)) →
-          map (span_at without) (cons_option (node_fate items 0 covering n) (left nodes)) ≡ map size_of (cons_option (without_column column (rectangle_of c)) (filter_map (without_column column) (map rectangle_of cells)))
+      by : Left c n → map (cell_span_at without) (left nodes) ≡ map size_of (filter_map (without_column column) (map rectangle_of cells)) →
+          map (cell_span_at without) (cons_option (node_fate items 0 covering n) (left nodes)) ≡ map size_of (cons_option (without_column column (rectangle_of c)) (filter_map (without_column column) (map rectangle_of cells)))
       by (inl f) rest =
-          ap (λ o. map (span_at without) (cons_option (node_to n.kind o) (left nodes))) f.1 ∙ rest
+          ap (λ o. map (cell_span_at without) (cons_option (node_to n.kind o) (left nodes))) f.1 ∙ rest
           ∙ ap (λ o. map size_of (cons_option o (filter_map (without_column column) (map rectangle_of cells)))) (sym f.0)
       by (inr f) rest =
-          ap (λ o. map (span_at without) (cons_option (node_to n.kind o) (left nodes))) f.3
+          ap (λ o. map (cell_span_at without) (cons_option (node_to n.kind o) (left nodes))) f.3
           ∙ (λ i. f.4 i ∷ rest i)
           ∙ ap (λ o. map size_of (cons_option o (filter_map (without_column column) (map rectangle_of cells)))) (sym f.2)
 
   -- a row that stays has what is left of its cells
-  record Stays (i : ℕ) (r : Row) : Type 0 where
+  record Stays (i : ℕ) (r : TableRow) : Type 0 where
     pub to : ℕ
     pub there : stays r.at ≡ Some to
-    pub spans : map (span_at without) (row_cells without to) ≡ map size_of (filter_map (without_column column) (of_row rectangles i))
+    pub spans : map (cell_span_at without) (row_cells without to) ≡ map size_of (filter_map (without_column column) (of_row rectangles i))
 
-  abbrev AllStay : ℕ → List Row → Type 0
+  abbrev AllStay : ℕ → List TableRow → Type 0
   AllStay i [] = Unit {0}
   AllStay i (r ∷ rows) = Stays i r × AllStay (suc i) rows
 
-  stay_parts : (i next : ℕ) (xs ys : List Row) → next ≡ i + length xs → AllStay i (xs ++ ys) → AllStay i xs × AllStay next ys
+  stay_parts : (i next : ℕ) (xs ys : List TableRow) → next ≡ i + length xs → AllStay i (xs ++ ys) → AllStay i xs × AllStay next ys
   stay_parts i next [] ys e h = (tt, (let z : i ≡ next = omega arith in subst (λ k. AllStay k ys) z h))
   stay_parts i next (x ∷ xs) ys e h = let r = stay_parts (suc i) next xs ys (omega arith) h.1 in ((h.0, r.0), r.1)
 
-  all_stay : (rows : List Row) (i : ℕ) → ((k : ℕ) (r : Row) → slice_get rows k ≡ Some r → Stays (i + k) r) → AllStay i rows
+  all_stay : (rows : List TableRow) (i : ℕ) → ((k : ℕ) (r : TableRow) → slice_get rows k ≡ Some r → Stays (i + k) r) → AllStay i rows
   all_stay [] i h = tt
   all_stay (r ∷ rows) i h =
       let z : i + 0 ≡ i = omega arith in
       (subst (λ m. Stays m r) z (h 0 r refl), all_stay rows (suc i) (λ k r' e. let y : i + suc k ≡ suc i + k = omega arith in subst (λ m. Stays m r') y (h (suc k) r' e)))
 
-  row_stays : (k : ℕ) (r : Row) → slice_get (table_rows items at) k ≡ Some r → Stays k r
+  row_stays : (k : ℕ) (r : TableRow) → slice_get (table_rows items at) k ≡ Some r → Stays k r
   row_stays k r e =
       let rows = table_rows items at in
       let clear = clear_all r.at covering (λ c m. row_clear items (suc at) (partner items at) rows k r c s.rows e (homes_among items rows g.cells c (s.cells).homes (Among-filter covers c g.cells m))) in
@@ -254,7 +255,7 @@ module _ (items : List PlainItem) (at column : ℕ) (g : Grid) (lawful : Lawful 
       record {
         to = f.0;
         there = f.1;
-        spans = ap (map (span_at without)) (kids cell_kinds r.at f.0 (omega arith) clear f.1)
+        spans = ap (map (cell_span_at without)) (kids cell_kinds r.at f.0 (omega arith) clear f.1)
             ∙ cells_left (cells_in k g.cells) (row_cells items r.at) (pairs k r e) (λ c m. Among-filter (λ (d : GridCell). d.row == k) c g.cells m)
             ∙ ap (λ v. map size_of (filter_map (without_column column) v)) (sym (of_row-cells k g.cells));
       }
@@ -269,7 +270,7 @@ module _ (items : List PlainItem) (at column : ℕ) (g : Grid) (lawful : Lawful 
       ap (λ r. map (line_at without) (section_rows (cons_option (node_to o.kind r) (left nodes)))) (h.0).there
       ∙ (λ j. record { left = suc (rows_length nodes (suc i) h.1 j); spans = (h.0).spans j } ∷ rows_left nodes (suc i) h.1 j)
 
-  abbrev rows_in : List PlainItem → Open → List Row
+  abbrev rows_in : List PlainItem → Open → List TableRow
   rows_in list section = section_rows (children_of (Tr ∷ []) list section.from)
 
   sections_left : (sections : List Open) (i : ℕ) → ((o : Open) → AmongNodes o sections → (b : ℕ) × (stays o.from ≡ Some b) × (children_of (Tr ∷ []) without b ≡ left (children_of (Tr ∷ []) items o.from))) →
@@ -290,7 +291,7 @@ module _ (items : List PlainItem) (at column : ℕ) (g : Grid) (lawful : Lawful 
       ∙ sym (lines_left-append column rectangles i (i + length rows) (map (line_at items) rows) (map (line_at items) later) (omega arith))
       ∙ ap (lines_left column rectangles i) (sym (map-append (line_at items) rows later))
 
-  pub lines_narrow : lines_of without at ≡ lines_left column rectangles 0 (lines_of items at)
+  pub lines_narrow : table_lines without at ≡ lines_left column rectangles 0 (table_lines items at)
   lines_narrow =
       let kinds = Thead ∷ Tbody ∷ Tfoot ∷ [] in
       let sections = children_of kinds items at in

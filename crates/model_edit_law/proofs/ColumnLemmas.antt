@@ -5,7 +5,7 @@ use Rattle.std.proofs.Common.{◌≡◌, ◌⊎◌, inl, inr, ℕ, zero, suc, �
 use Rattle.std.proofs.lemmas.Bool.{eqb-true, eqb-false, eq-eqb, ne_eqb, and_parts, and_from, or_parts, or_from, ltb-true, ltb-false, le-leb, lt-ltb, false_from_ne_true, true≢false}
 use Rattle.std.proofs.lemmas.List.{append_assoc}
 use Rattle.model_edit.specs.Layout.{Rectangle, has_row, has_column, without_column}
-use Rattle.model_edit_law.specs.Spans.{Span, Line, covered, free_from, width, meet, laid, bent, lay_row, lay, size_of, of_row, AllSome, EachSome, lines_left}
+use Rattle.model_edit_law.specs.Spans.{CellSpan, Line, covered, free_from, width, meet, laid, bent, lay_row, lay, size_of, of_row, AllSome, EachSome, lines_left}
 use Rattle.model_edit_law.specs.TableLaws.{ColOutLays}
 use Rattle.model_edit_law.proofs.LeastLemmas.{Least, placed_least, least_one, covers_in, same_has, has_parts}
 use Rattle.model_edit_law.proofs.LayLemmas.{filter_map-append, meet_numbers, next_row, not_bent}
@@ -227,7 +227,7 @@ module _ (gone : ℕ) where
   past_end a h a' h' k c (inr (inr x)) (inr y) l m = let x0 = x.0 in let x1 = x.1 in let x2 = x.2 in let y0 = y.0 in let y1 = y.1 in omega arith
 
   -- a cell that stays is placed where it was, but for the column
-  next_column : (B : List Rectangle) (row end end' : ℕ) (s : Span) (r' : Rectangle) → 1 ≤ s.rows → 1 ≤ s.columns → Seam row end end' B → Narrowed (laid B row end s) r' →
+  next_column : (B : List Rectangle) (row end end' : ℕ) (s : CellSpan) (r' : Rectangle) → 1 ≤ s.rows → 1 ≤ s.columns → Seam row end end' B → Narrowed (laid B row end s) r' →
       list_any (meet (laid B row end s)) B ≡ false → free_from (fmc B) row end' (width (fmc B)) ≡ r'.column
   next_column B row end end' s r' tall wide seam n apart =
       let one = laid B row end s in
@@ -251,7 +251,7 @@ module _ (gone : ℕ) where
     filled = λ k c b l m. absurd (past_end one.column one.columns r'.column r'.columns k c n.its_columns b l m);
   }
 
-  seam_gone : (B : List Rectangle) (row end end' : ℕ) (s : Span) → Seam row end end' B → (laid B row end s).column ≡ gone → s.columns ≡ 1 →
+  seam_gone : (B : List Rectangle) (row end end' : ℕ) (s : CellSpan) → Seam row end end' B → (laid B row end s).column ≡ gone → s.columns ≡ 1 →
       Seam row ((laid B row end s).column + s.columns) end' (B ++ laid B row end s ∷ [])
   seam_gone B row end end' s seam at one_wide =
       let one = laid B row end s in
@@ -282,7 +282,7 @@ module _ (gone : ℕ) where
     pub here : AllIn row more
     pub narrow : lay_row row left end' (map size_of (fmc more)) (fmc B) ≡ Some (fmc C)
 
-  row_narrowed : (spans : List Span) (row left end end' : ℕ) (B C : List Rectangle) → AllSome spans → Seam row end end' B → lay_row row left end spans B ≡ Some C → Row row left end' B C
+  row_narrowed : (spans : List CellSpan) (row left end end' : ℕ) (B C : List Rectangle) → AllSome spans → Seam row end end' B → lay_row row left end spans B ≡ Some C → Row row left end' B C
   row_narrowed [] row left end end' B C some seam h =
       let e : B ≡ C = cc in
       record { more = []; whole = sym e ∙ sym (append-nil B); here = tt; narrow = ap (λ v. Some (fmc v)) e }

@@ -1,4 +1,5 @@
 -- The transaction of edits is in normal form, applies, and gives the substituted list.
+use Rattle.std.specs.Option.{option_or}
 use Rattle.std.specs.Prelude.{filter}
 use Rattle.std.proofs.Common.{cond, subst, Ok, eq-eqb, if◌then◌else◌, not, ◌≡◌, ℕ, zero, suc, ◌+◌, ◌-◌, ◌<◌, ◌≤◌, Bool, true, false, List, [], ◌∷◌, ◌++◌, length, take, drop, Option, Some, None, refl, sym, ap, ◌∙◌, arith, length-append, length-drop, zero-add, add-zero}
 use Rattle.std.proofs.lemmas.Bool.{and_parts, and_from, lt-ltb}
@@ -12,7 +13,6 @@ use Rattle.model_items.proofs.SameLemmas.{Means-item_same, Means-text_same, Mean
 use Rattle.model_change.specs.Attributes.{AttrChange, value_of, is_reserved, item_changed}
 use Rattle.model_change.specs.Transaction.{Retain, Replace, Attribute, Transaction, is_reduced, may_precede, old_length, edited, on_first}
 use Rattle.model_change.specs.Fault.{differs_at, mismatch_at, first_allows, bad_attribute_at, apply}
-use Rattle.std.specs.Option.{option_or}
 use Rattle.model_edit.specs.Edits.{Edit, Change, Set, retaining, merged, replacing, setting, transaction_from, transaction_of, substituted_from, substituted, InOrder, MaySet, may_set}
 
 pub order_ends : (at end : ℕ) (edits : List Edit) → InOrder at end edits → at ≤ end

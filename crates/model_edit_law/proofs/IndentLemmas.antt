@@ -13,7 +13,7 @@ use Rattle.ve_kinds.specs.Table.{kind_same, may_hold, is_leaf}
 use Rattle.model_items.proofs.SameLemmas.{Means-kind_same}
 use Rattle.model_items.specs.declared.law_fault.LawFault.{LawFault}
 use Rattle.model_items.specs.declared.law_fault.LawFault.TheVariants.{Unlawful, TooDeep}
-use Rattle.model_items.specs.Law.{State, start, top, may_open, step, joined, outcome_moved, after, verdict, Lawful}
+use Rattle.model_items.specs.Law.{State, start, top, may_open, step, followed, outcome_moved, after, verdict, Lawful}
 use Rattle.model_items.proofs.LawLemmas.{Ok-same, joined-ok, after_parts, closed_before, piece_fits, piece_fails}
 use Rattle.model_change.specs.Transaction.{Transaction, edited}
 use Rattle.model_edit.specs.Brackets.{opening_of, closing_of, is_closing_of}
@@ -22,10 +22,9 @@ use Rattle.model_edit.specs.Edits.{Change, transaction_of, InOrder, MaySet}
 use Rattle.model_edit_law.proofs.EditLemmas.{edited-two, filter-append}
 use Rattle.model_edit_law.proofs.BracketLemmas.{state_of, stack_at-after, slice_get-split, HoldsSame-itself, Leads, leads_cons, leads_append, opened_leads, NodeParts, node_parts}
 use Rattle.model_edit_law.proofs.NodeLemmas.{whole_node, opened_state}
-use Rattle.model_edit.specs.declared.list_fault.ListFault.{ListFault}
-use Rattle.model_edit.specs.declared.list_fault.ListFault.TheVariants.{NoSibling}
+use Rattle.model_edit.specs.Causes.{ListCause, NoSibling}
 use Rattle.model_edit.specs.Lists.{is_list_item, passes_before, list_ends, indent_edits, indent}
-use Rattle.model_edit_law.specs.ListLaws.{joins_list, is_text, IndentIsFine, IndentKeepsText, IndentStaysLawful}
+use Rattle.model_edit_law.specs.ListLaws.{joins_list, is_character_or_leaf, IndentIsFine, IndentKeepsText, IndentStaysLawful}
 use Rattle.model_edit_law.specs.Fine.{Fine}
 use Rattle.model_edit_law.proofs.OrderLemmas.{Fine-edits}
 use Rattle.model_edit_law.proofs.ListLemmas.{if_ok_then, opening_shape, closing_shape}
@@ -177,7 +176,7 @@ module _ (items : List PlainItem) (a : ℕ) (lawful : Lawful items) (r : Sibling
 
   sibling_kept : after (state_of (Li ∷ u.stack) u.seen) (c1 ∷ (x ∷ (inside ++ cx ∷ []))) ≡ Ok u
   sibling_kept =
-      ap (λ b. joined 1 (if b then Ok (state_of u.stack u.seen) else Err (Unlawful 0)) (λ next. after next (x ∷ (inside ++ cx ∷ [])))) (Means-kind_same.itself Li)
+      ap (λ b. followed 1 (if b then Ok (state_of u.stack u.seen) else Err (Unlawful 0)) (λ next. after next (x ∷ (inside ++ cx ∷ [])))) (Means-kind_same.itself Li)
       ∙ ap (outcome_moved 1) item_kept
 
   alone_stays : Stays (take a items ++ ((opening_of k [] ∷ moved) ++ rest))
@@ -227,38 +226,38 @@ module _ (items : List PlainItem) (a : ℕ) (lawful : Lawful items) (r : Sibling
         let same = Ok-same {E = LawFault} q.0 (state_of (Li ∷ u.stack) u.seen) q.2 in
         let before : p.0 ≡ state_of (k ∷ Li ∷ u.stack) u.seen = λ i. state_of ((c.0 ∙ ap (λ (v : State). k ∷ v.stack) same) i) ((c.1 ∙ ap (λ (v : State). v.seen) same) i) in
         let kept : after (state_of (k ∷ Li ∷ u.stack) u.seen) (ck ∷ c1 ∷ (x ∷ (inside ++ cx ∷ []))) ≡ Ok u =
-        ap (λ v. joined 1 (if v then Ok (state_of (Li ∷ u.stack) u.seen) else Err (Unlawful 0)) (λ next. after next (c1 ∷ (x ∷ (inside ++ cx ∷ []))))) (Means-kind_same.itself k)
+        ap (λ v. followed 1 (if v then Ok (state_of (Li ∷ u.stack) u.seen) else Err (Unlawful 0)) (λ next. after next (c1 ∷ (x ∷ (inside ++ cx ∷ []))))) (Means-kind_same.itself k)
         ∙ ap (outcome_moved 1) sibling_kept in
         leads_verdict (take b items) (ck ∷ c1 ∷ (x ∷ (inside ++ cx ∷ []))) rest moved (state_of (k ∷ Li ∷ u.stack) u.seen) u
         (subst Lawful whole_more lawful) (p.1 ∙ ap Ok before) kept item_deeper
 
   -- the characters and leaves in the parts
   abbrev only : List PlainItem → List PlainItem
-  only = filter is_text
+  only = filter is_character_or_leaf
 
   only_moved : only (moved ++ rest) ≡ only inside ++ only rest
   only_moved =
       ap only (append_assoc (x ∷ inside) (cx ∷ list_ends k) rest)
-      ∙ filter-append is_text inside (cx ∷ (list_ends k ++ rest))
+      ∙ filter-append is_character_or_leaf inside (cx ∷ (list_ends k ++ rest))
       ∙ ap (λ v. only inside ++ cond v (closing_of k ∷ only rest) (only rest)) list_facts.2
 
   only_old : only ((x ∷ (inside ++ cx ∷ [])) ++ rest) ≡ only inside ++ only rest
-  only_old = ap only (regrouped rest) ∙ filter-append is_text inside (cx ∷ rest)
+  only_old = ap only (regrouped rest) ∙ filter-append is_character_or_leaf inside (cx ∷ rest)
 
   alone_text : only (take a items ++ ((opening_of k [] ∷ moved) ++ rest)) ≡ only items
   alone_text =
-      filter-append is_text (take a items) (opening_of k [] ∷ (moved ++ rest))
+      filter-append is_character_or_leaf (take a items) (opening_of k [] ∷ (moved ++ rest))
       ∙ ap (λ v. only (take a items) ++ cond v (opening_of k [] ∷ only (moved ++ rest)) (only (moved ++ rest))) list_facts.2
       ∙ ap (λ v. only (take a items) ++ v) (only_moved ∙ sym only_old)
-      ∙ sym (filter-append is_text (take a items) (c1 ∷ ((x ∷ (inside ++ cx ∷ [])) ++ rest)))
+      ∙ sym (filter-append is_character_or_leaf (take a items) (c1 ∷ ((x ∷ (inside ++ cx ∷ [])) ++ rest)))
       ∙ ap only (sym old_parts)
 
   joined_text : (b : ℕ) (white : List ℕ) (e : a ≡ suc b) (list : slice_get items b ≡ Some (Closing k white)) → only (take b items ++ (moved ++ rest)) ≡ only items
   joined_text b white e list =
-      filter-append is_text (take b items) (moved ++ rest)
+      filter-append is_character_or_leaf (take b items) (moved ++ rest)
       ∙ ap (λ v. only (take b items) ++ v) (only_moved ∙ sym only_old)
       ∙ ap (λ v. only (take b items) ++ cond v (Closing k white ∷ only ((x ∷ (inside ++ cx ∷ [])) ++ rest)) (only ((x ∷ (inside ++ cx ∷ [])) ++ rest))) (sym list_facts.2)
-      ∙ sym (filter-append is_text (take b items) (Closing k white ∷ c1 ∷ ((x ∷ (inside ++ cx ∷ [])) ++ rest)))
+      ∙ sym (filter-append is_character_or_leaf (take b items) (Closing k white ∷ c1 ∷ ((x ∷ (inside ++ cx ∷ [])) ++ rest)))
       ∙ ap only (sym (whole_more b white e list))
 
   -- what `indent` gives, in either case
@@ -302,7 +301,7 @@ sibling_of : (items : List PlainItem) (at : ℕ) (t : Transaction) → Lawful it
     (a : ℕ) × (at ≡ suc a) × Sibling items a × (transaction_of items (indent_edits items at (kind_at items at)) ≡ t)
 sibling_of items zero t lawful h =
     let a = if_ok_then (is_list_item items 0) _ _ t h in
-    let b : ◌≡◌ {A = Result Transaction ListFault} (Err (NoSibling 0)) (Ok t) = a.1 in cc
+    let b : ◌≡◌ {A = Result Transaction ListCause} (Err (NoSibling 0)) (Ok t) = a.1 in cc
 sibling_of items (suc a) t lawful h =
     let p = if_ok_then (is_list_item items (suc a)) _ _ t h in
     let q = if_ok_then (passes_before (is_closing_of Li) items (suc a)) _ _ t p.1 in
@@ -321,14 +320,14 @@ sibling_of items (suc a) t lawful h =
         before = c.1;
         its_own = o.5;
       },
-      Ok-same {E = ListFault} _ t q.1,
+      Ok-same {E = ListCause} _ t q.1,
     )
 
 indent_keeps : (items : List PlainItem) (at : ℕ) (t : Transaction) → Lawful items → indent items at ≡ Ok t →
-    (((verdict (edited t items) ≡ None) ⊎ ((n : ℕ) × (verdict (edited t items) ≡ Some (TooDeep n)))) × (filter is_text (edited t items) ≡ filter is_text items)) × Fine items t
+    (((verdict (edited t items) ≡ None) ⊎ ((n : ℕ) × (verdict (edited t items) ≡ Some (TooDeep n)))) × (filter is_character_or_leaf (edited t items) ≡ filter is_character_or_leaf items)) × Fine items t
 indent_keeps items at t lawful h =
     let s = sibling_of items at t lawful h in
-    let P : List PlainItem → Type 0 = λ new. ((verdict new ≡ None) ⊎ ((n : ℕ) × (verdict new ≡ Some (TooDeep n)))) × (filter is_text new ≡ filter is_text items) in
+    let P : List PlainItem → Type 0 = λ new. ((verdict new ≡ None) ⊎ ((n : ℕ) × (verdict new ≡ Some (TooDeep n)))) × (filter is_character_or_leaf new ≡ filter is_character_or_leaf items) in
     let k : P (edited (transaction_of items (indent_edits items at (kind_at items at))) items) × InOrder 0 (length items) (indent_edits items at (kind_at items at)) =
     subst (λ n. P (edited (transaction_of items (indent_edits items n (kind_at items n))) items) × InOrder 0 (length items) (indent_edits items n (kind_at items n))) (sym s.1) (kept items s.0 lawful s.2) in
     let fine : Fine items (transaction_of items (indent_edits items at (kind_at items at))) = Fine-edits items (indent_edits items at (kind_at items at)) k.1 (indent_sets_none items at (kind_at items at)) in

@@ -11,10 +11,10 @@ use Rattle.model_items.specs.declared.plain_item.PlainItem.TheVariants.{Char, Op
 use Rattle.ve_kinds.specs.Table.{kind_same}
 use Rattle.model_items.proofs.SameLemmas.{Means-kind_same}
 use Rattle.model_items.specs.declared.law_fault.LawFault.TheVariants.{Unlawful}
-use Rattle.model_items.specs.Law.{State, start, finish, may_open, opened, joined, outcome_moved, after, Lawful}
+use Rattle.model_items.specs.Law.{State, start, finish, may_open, opened, followed, outcome_moved, after, Lawful}
 use Rattle.model_items.proofs.LawLemmas.{Ok-same, after_whole, after_parts, after_from_Lawful, piece_fits}
 use Rattle.model_change.specs.Transaction.{Transaction, edited}
-use Rattle.model_edit.specs.declared.build_fault.BuildFault.{BuildFault}
+use Rattle.model_edit.specs.Causes.{BuildCause}
 use Rattle.model_edit.specs.Brackets.{closing_for, copy_of, is_internal}
 use Rattle.model_items.specs.Offsets.{openings_after, openings_at, stack_at, kind_at, is_content}
 use Rattle.model_edit_law.specs.Fine.{Fine}
@@ -22,7 +22,7 @@ use Rattle.model_edit.specs.Edits.{Change, transaction_of}
 use Rattle.model_edit_law.proofs.EditLemmas.{edited-transaction_from}
 use Rattle.model_edit_law.proofs.BracketLemmas.{fits_parts, state_of, fits, fits-after, Openings, Openings-after, stack_at-after}
 use Rattle.model_edit_law.proofs.OrderLemmas.{Fine-Rising}
-use Rattle.model_edit.specs.Insert.{reopened, split, is_bad_depth, is_bad_offset, is_mixed, in_paragraph, levels_up, put_at, insertion}
+use Rattle.model_edit.specs.Insert.{reopened, split, is_bad_depth, is_bad_offset, is_mixed, in_paragraph, levels_up, put_into, insertion}
 
 pub Openings-take : (n : ℕ) (openings : List PlainItem) (kinds : List Kind) → Openings openings kinds → Openings (take n openings) (take n kinds)
 Openings-take zero openings kinds o = tt
@@ -39,7 +39,7 @@ pub closings_fit : (openings : List PlainItem) (inner outer : List Kind) (seen :
 closings_fit [] [] outer seen o = refl
 closings_fit (Opening kind head marks pre origin generated ∷ openings) (k ∷ inner) outer seen o =
     let same : kind_same k kind ≡ true = ap (λ v. kind_same v kind) (sym o.0) ∙ Means-kind_same.itself kind in
-    ap (λ b. joined 1 (if b then Ok (state_of (inner ++ outer) seen) else Err (Unlawful 0)) (λ next. after next (map closing_for openings))) same
+    ap (λ b. followed 1 (if b then Ok (state_of (inner ++ outer) seen) else Err (Unlawful 0)) (λ next. after next (map closing_for openings))) same
     ∙ ap (outcome_moved 1) (closings_fit openings inner outer seen o.1)
 closings_fit [] (k ∷ inner) outer seen o = absurd o
 closings_fit (Opening kind head marks pre origin generated ∷ openings) [] outer seen o = absurd o
@@ -72,7 +72,7 @@ copies_fit (Opening kind head marks pre origin generated ∷ openings) (k ∷ in
     ap (after (state_of outer seen)) (reverse_onto (map copy_of openings) copy [])
     ∙ after_whole (reverse (map copy_of openings)) (copy ∷ []) (state_of outer seen) (state_of (inner ++ outer) seen) (state_of (k ∷ (inner ++ outer)) seen)
     (copies_fit openings inner outer seen o.1 p.1 q.2)
-    (ap (λ r. joined 1 r (λ next. Ok next)) (open_fits kind k (inner ++ outer) seen o.0 other q.0 q.1))
+    (ap (λ r. followed 1 r (λ next. Ok next)) (open_fits kind k (inner ++ outer) seen o.0 other q.0 q.1))
 copies_fit [] (k ∷ inner) outer seen o none f = absurd o
 copies_fit (Opening kind head marks pre origin generated ∷ openings) [] outer seen o none f = absurd o
 copies_fit (Char c marks ∷ openings) inner outer seen o none f = absurd o
@@ -128,7 +128,7 @@ split_lawful items at depth t lawful h =
     let r = if_ok_else (is_bad_depth (stack_at items at) depth) _ _ t q.1 in
     let within = leb-false (length items) at (or_parts (nat_le (length items) at) _ p.0).0 in
     let none = (or_parts (nat_lt (length (stack_at items at)) depth) _ (or_parts (Rattle.std.specs.Prelude.nat_eq depth 0) _ r.0).1).1 in
-    let e : transaction_of items (Change at 0 (reopened (take depth (openings_at items at)) []) ∷ []) ≡ t = Ok-same {E = BuildFault} _ t r.1 in
+    let e : transaction_of items (Change at 0 (reopened (take depth (openings_at items at)) []) ∷ []) ≡ t = Ok-same {E = BuildCause} _ t r.1 in
     subst (λ v. Lawful (edited v items)) e
     (put_lawful items at (reopened (take depth (openings_at items at)) []) (omega arith) lawful (λ s g. reopened_fits items at depth s g none))
 
@@ -142,7 +142,7 @@ split_fine items at depth t h =
     let r = if_ok_else (is_bad_depth (stack_at items at) depth) _ _ t q.1 in
     let within = leb-false (length items) at (or_parts (nat_le (length items) at) _ p.0).0 in
     let new = reopened (take depth (openings_at items at)) [] in
-    subst (Fine items) (Ok-same {E = BuildFault} (transaction_of items (Change at 0 new ∷ [])) t r.1) (put_fine items at new (omega arith))
+    subst (Fine items) (Ok-same {E = BuildCause} (transaction_of items (Change at 0 new ∷ [])) t r.1) (put_fine items at new (omega arith))
 
 pub insertion_fine : (items : List PlainItem) (at : ℕ) (pieces : List PlainItem) (t : Transaction) → insertion items at pieces ≡ Ok t → Fine items t
 insertion_fine items at pieces t h =
@@ -152,8 +152,8 @@ insertion_fine items at pieces t h =
     let placed = in_paragraph (kind_at items at) pieces in
     put_at_fine placed (levels_up placed (stack_at items at)) (omega arith) q.1
   where
-    put_at_fine : (placed : List PlainItem) (o : Option ℕ) → at ≤ length items → put_at items at placed o ≡ Ok t → Fine items t
+    put_at_fine : (placed : List PlainItem) (o : Option ℕ) → at ≤ length items → put_into items at placed o ≡ Ok t → Fine items t
     put_at_fine placed None within h = cc
     put_at_fine placed (Some j) within h =
         let new = reopened (take j (openings_at items at)) placed in
-        subst (Fine items) (Ok-same {E = BuildFault} (transaction_of items (Change at 0 new ∷ [])) t h) (put_fine items at new within)
+        subst (Fine items) (Ok-same {E = BuildCause} (transaction_of items (Change at 0 new ∷ [])) t h) (put_fine items at new within)

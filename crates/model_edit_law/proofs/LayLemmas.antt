@@ -4,7 +4,7 @@ use Rattle.std.specs.List.{list_any, cons_option}
 use Rattle.std.proofs.Common.{◌≡◌, ◌⊎◌, inl, inr, ℕ, zero, suc, ◌+◌, ◌-◌, ◌<◌, ◌≤◌, ◌==◌, Bool, true, false, not, ◌&&◌, ◌||◌, if◌then◌else◌, nat_lt, nat_le, List, [], ◌∷◌, ◌++◌, length, map, Option, Some, None, refl, sym, ap, ◌∙◌, subst, arith}
 use Rattle.std.proofs.lemmas.Bool.{cases_Bool, eqb-true, eqb-false, eq-eqb, ne_eqb, and_parts, and_from, or_parts, or_from, leb-true, ltb-true, leb-false, ltb-false, le-leb, lt-ltb, false_from_ne_true, true≢false}
 use Rattle.model_edit.specs.Layout.{Rectangle, has_row, without_row}
-use Rattle.model_edit_law.specs.Spans.{free_from, width, LowIn, Span, Line, meet, laid, bent, lay_row, lay, span_after, line_after, lines_after}
+use Rattle.model_edit_law.specs.Spans.{free_from, width, LowIn, CellSpan, Line, meet, laid, bent, lay_row, lay, span_after, line_after, lines_after}
 use Rattle.model_edit_law.specs.TableLaws.{RowOutLays}
 use Rattle.model_edit_law.proofs.LeastLemmas.{covered_kept, placed_same}
 
@@ -111,13 +111,13 @@ LowIn-prefix : (gone : ℕ) (xs ys : List Rectangle) → LowIn gone (xs ++ ys) �
 LowIn-prefix gone [] ys h = (tt, h)
 LowIn-prefix gone (x ∷ xs) ys h = let r = LowIn-prefix gone xs ys h.1 in ((h.0, r.0), r.1)
 
-abbrev rect : (row column : ℕ) → Span → Rectangle
+abbrev rect : (row column : ℕ) → CellSpan → Rectangle
 rect row column s = record { row = row; column = column; rows = s.rows; columns = s.columns }
 
-abbrev pub next_row : (row left : ℕ) → List Span → List Rectangle → Rectangle → Option (List Rectangle)
+abbrev pub next_row : (row left : ℕ) → List CellSpan → List Rectangle → Rectangle → Option (List Rectangle)
 next_row row left spans before one = if bent left before one then None else lay_row row left (one.column + one.columns) spans (before ++ one ∷ [])
 
-pub not_bent : (row left : ℕ) (spans : List Span) (before : List Rectangle) (one : Rectangle) (all : List Rectangle) → next_row row left spans before one ≡ Some all →
+pub not_bent : (row left : ℕ) (spans : List CellSpan) (before : List Rectangle) (one : Rectangle) (all : List Rectangle) → next_row row left spans before one ≡ Some all →
     (bent left before one ≡ false) × (lay_row row left (one.column + one.columns) spans (before ++ one ∷ []) ≡ Some all)
 not_bent row left spans before one all h = by (bent left before one) refl h
   where
@@ -126,10 +126,10 @@ not_bent row left spans before one all h = by (bent left before one) refl h
     by true e h = cc
     by false e h = (e, h)
 
-module _ (gone row row' left left' : ℕ) (f : Span → Span) (before_ : row < gone → row' ≡ row) (after_ : gone < row → suc row' ≡ row) (other : row ≡ gone → ⊥)
-    (without : (column : ℕ) (s : Span) → without_row gone (rect row column s) ≡ Some (rect row' column (f s))) (wide : (s : Span) → (f s).columns ≡ s.columns)
-    (short : (s : Span) → nat_lt left s.rows ≡ false → nat_lt left' (f s).rows ≡ false) where
-  row_kept : (spans : List Span) (end : ℕ) (B C : List Rectangle) → LowIn gone B → lay_row row left end spans B ≡ Some C → lay_row row' left' end (map f spans) (fm gone B) ≡ Some (fm gone C)
+module _ (gone row row' left left' : ℕ) (f : CellSpan → CellSpan) (before_ : row < gone → row' ≡ row) (after_ : gone < row → suc row' ≡ row) (other : row ≡ gone → ⊥)
+    (without : (column : ℕ) (s : CellSpan) → without_row gone (rect row column s) ≡ Some (rect row' column (f s))) (wide : (s : CellSpan) → (f s).columns ≡ s.columns)
+    (short : (s : CellSpan) → nat_lt left s.rows ≡ false → nat_lt left' (f s).rows ≡ false) where
+  row_kept : (spans : List CellSpan) (end : ℕ) (B C : List Rectangle) → LowIn gone B → lay_row row left end spans B ≡ Some C → lay_row row' left' end (map f spans) (fm gone B) ≡ Some (fm gone C)
   row_kept [] end B C low h = let e : B ≡ C = cc in ap (λ v. Some (fm gone v)) e
   row_kept (s ∷ spans) end B C low h =
       let one = laid B row end s in
@@ -152,7 +152,7 @@ module _ (gone row row' left left' : ℕ) (f : Span → Span) (before_ : row < g
       ∙ rest
 
 -- what is placed before stays before
-row_prefix : (spans : List Span) (row left end : ℕ) (B C : List Rectangle) → lay_row row left end spans B ≡ Some C → (more : List Rectangle) × (C ≡ B ++ more)
+row_prefix : (spans : List CellSpan) (row left end : ℕ) (B C : List Rectangle) → lay_row row left end spans B ≡ Some C → (more : List Rectangle) × (C ≡ B ++ more)
 row_prefix [] row left end B C h = let e : B ≡ C = cc in ([], sym e ∙ sym (Rattle.std.proofs.Common.append-nil B))
 row_prefix (s ∷ spans) row left end B C h =
     let one = laid B row end s in
@@ -179,12 +179,12 @@ low_before : (gone : ℕ) (lines : List Line) (row : ℕ) (B R : List Rectangle)
 low_before gone lines row B R low h = let f = all_prefix lines row B R h in (LowIn-prefix gone B f.0 (subst (LowIn gone) f.1 low)).0
 
 -- after the row that goes each is one further up
-after_one : (gone row column : ℕ) (s : Span) → gone < row → without_row gone (rect row column s) ≡ Some (rect (row - 1) column s)
+after_one : (gone row column : ℕ) (s : CellSpan) → gone < row → without_row gone (rect row column s) ≡ Some (rect (row - 1) column s)
 after_one gone row column s h =
     ap (λ b. if b then Some (rect (row - 1) column s) else (if has_row (rect row column s) gone then (if s.rows == 1 then None else Some (record (rect row column s) { rows = s.rows - 1 })) else Some (rect row column s)))
     (lt-ltb gone row h)
 
-map_same : (spans : List Span) → map (λ s. s) spans ≡ spans
+map_same : (spans : List CellSpan) → map (λ s. s) spans ≡ spans
 map_same [] = refl
 map_same (s ∷ spans) = ap (λ v. s ∷ v) (map_same spans)
 
@@ -206,7 +206,7 @@ after_kept gone (line ∷ lines) row B R less low h =
         ap (lay (suc (row - 1)) lines) kept' ∙ ap (λ n. lay n lines (Some (fm gone C))) z ∙ rest C h
 
 -- a cell of the row itself goes
-single_one : (gone column : ℕ) (s : Span) → s.rows ≡ 1 → without_row gone (rect gone column s) ≡ None
+single_one : (gone column : ℕ) (s : CellSpan) → s.rows ≡ 1 → without_row gone (rect gone column s) ≡ None
 single_one gone column s e =
     let r = rect gone column s in
     let a : nat_lt gone gone ≡ false = false_from_ne_true (nat_lt gone gone) (λ t. let l = ltb-true gone gone t in omega arith) in
@@ -215,7 +215,7 @@ single_one gone column s e =
     ∙ ap (λ v. if v then (if s.rows == 1 then None else Some (record r { rows = s.rows - 1 })) else Some r) b
     ∙ ap (λ v. if v then None else Some (record r { rows = s.rows - 1 })) (eq-eqb s.rows 1 e)
 
-row_gone : (gone : ℕ) (spans : List Span) (left end : ℕ) (B C : List Rectangle) → LowIn gone C → lay_row gone left end spans B ≡ Some C → fm gone C ≡ fm gone B
+row_gone : (gone : ℕ) (spans : List CellSpan) (left end : ℕ) (B C : List Rectangle) → LowIn gone C → lay_row gone left end spans B ≡ Some C → fm gone C ≡ fm gone B
 row_gone gone [] left end B C low h = let e : B ≡ C = cc in ap (fm gone) (sym e)
 row_gone gone (s ∷ spans) left end B C low h =
     let one = laid B gone end s in
@@ -228,13 +228,13 @@ row_gone gone (s ∷ spans) left end B C low h =
     ∙ Rattle.std.proofs.Common.append-nil (fm gone B)
 
 -- above it a cell keeps its rows, or has one less
-above_one : (gone row column : ℕ) (s : Span) → row < gone → without_row gone (rect row column s) ≡ Some (rect row column (span_after gone row s))
+above_one : (gone row column : ℕ) (s : CellSpan) → row < gone → without_row gone (rect row column s) ≡ Some (rect row column (span_after gone row s))
 above_one gone row column s h =
     let r = rect row column s in
     let a : nat_lt gone row ≡ false = false_from_ne_true (nat_lt gone row) (λ t. let l = ltb-true gone row t in omega arith) in
     let b : nat_le row gone ≡ true = le-leb row gone (omega arith) in
     let E : Bool → Option Rectangle = λ v. if v then (if s.rows == 1 then None else Some (record r { rows = s.rows - 1 })) else Some r in
-    let S : Bool → Span = λ v. if v then record s { rows = s.rows - 1 } else s in
+    let S : Bool → CellSpan = λ v. if v then record s { rows = s.rows - 1 } else s in
     ap (λ v. if v then Some (record r { row = row - 1 }) else E (nat_le row gone && nat_lt gone (row + s.rows))) a
     ∙ ap (λ v. E (v && nat_lt gone (row + s.rows))) b
     ∙ elim (cases_Bool (nat_lt gone (row + s.rows))) [
@@ -243,10 +243,10 @@ above_one gone row column s h =
       | inr no_ ↦ subst (λ v. E v ≡ Some (rect row column (S v))) (sym no_) refl
     ]
 
-span_wide : (gone row : ℕ) (s : Span) → (span_after gone row s).columns ≡ s.columns
+span_wide : (gone row : ℕ) (s : CellSpan) → (span_after gone row s).columns ≡ s.columns
 span_wide gone row s = elim (nat_lt gone (row + s.rows)) as (λ b. (if b then record s { rows = s.rows - 1 } else s).columns ≡ s.columns) [ true ↦ refl | false ↦ refl ]
 
-span_short : (gone row left : ℕ) (s : Span) → row < gone → nat_lt left s.rows ≡ false →
+span_short : (gone row left : ℕ) (s : CellSpan) → row < gone → nat_lt left s.rows ≡ false →
     nat_lt (if nat_lt gone (row + left) then left - 1 else left) (span_after gone row s).rows ≡ false
 span_short gone row left s h e =
     by (nat_lt gone (row + left)) (nat_lt gone (row + s.rows)) refl refl (ltb-false left s.rows e)

@@ -170,7 +170,7 @@ same_has low low' row row' high high' f g =
 -- without the row a rectangle covers in each other row what it did
 one_kept : (gone row row' column : ℕ) (r : Rectangle) → (r.row ≡ gone → r.rows ≡ 1) → (row < gone → row' ≡ row) → (gone < row → suc row' ≡ row) → (row ≡ gone → ⊥) →
     covers_in (without_row gone r) row' column ≡ (has_row r row && has_column r column)
-one_kept gone row row' column r low before suffix other =
+one_kept gone row row' column r low before past other =
     elim (cases_Bool (nat_lt gone r.row)) [
       | inl later ↦ subst (λ b. covers_in (if b then Some (record r { row = r.row - 1 }) else (if has_row r gone then (if r.rows == 1 then None else Some (record r { rows = r.rows - 1 })) else Some r)) row' column ≡ (has_row r row && has_column r column)) (sym later)
           (let l = ltb-true gone r.row later in moved l)
@@ -202,7 +202,7 @@ one_kept gone row row' column r low before suffix other =
     moved : gone < r.row → (has_row (record r { row = r.row - 1 }) row' && has_column r column) ≡ (has_row r row && has_column r column)
     moved l = elim in_order [
       | inl less ↦ (let e = before less in ap (λ b. b && has_column r column) (same_has (r.row - 1) r.row row' row ((r.row - 1) + r.rows) (r.row + r.rows) (λ x y. (omega arith, omega arith)) (λ x y. (omega arith, omega arith))))
-      | inr more ↦ (let e = suffix more in ap (λ b. b && has_column r column) (same_has (r.row - 1) r.row row' row ((r.row - 1) + r.rows) (r.row + r.rows) (λ x y. (omega arith, omega arith)) (λ x y. (omega arith, omega arith))))
+      | inr more ↦ (let e = past more in ap (λ b. b && has_column r column) (same_has (r.row - 1) r.row row' row ((r.row - 1) + r.rows) (r.row + r.rows) (λ x y. (omega arith, omega arith)) (λ x y. (omega arith, omega arith))))
     ]
 
     gone_whole : r.rows ≡ 1 → r.row ≤ gone → gone < r.row + r.rows → false ≡ (has_row r row && has_column r column)
@@ -215,7 +215,7 @@ one_kept gone row row' column r low before suffix other =
         starts (inl e) = absurd (many (low e))
         starts (inr n) = elim in_order [
           | inl less ↦ (let e = before less in ap (λ b. b && has_column r column) (same_has r.row r.row row' row (r.row + (r.rows - 1)) (r.row + r.rows) (λ x y. (omega arith, omega arith)) (λ x y. (omega arith, omega arith))))
-          | inr more ↦ (let e = suffix more in
+          | inr more ↦ (let e = past more in
               let strictly : r.row < gone = omega arith in
               ap (λ b. b && has_column r column) (same_has r.row r.row row' row (r.row + (r.rows - 1)) (r.row + r.rows) (λ x y. (omega arith, omega arith)) (λ x y. (omega arith, omega arith))))
         ]
@@ -229,15 +229,15 @@ one_kept gone row row' column r low before suffix other =
             let far = ltb-false gone (r.row + r.rows) f in
             elim in_order [
               | inl less ↦ (let e = before less in ap (λ b. b && has_column r column) (same_has r.row r.row row' row (r.row + r.rows) (r.row + r.rows) (λ x y. (omega arith, omega arith)) (λ x y. (omega arith, omega arith))))
-              | inr more ↦ (let e = suffix more in ap (λ b. b && has_column r column) (same_has r.row r.row row' row (r.row + r.rows) (r.row + r.rows) (λ x y. (omega arith, omega arith)) (λ x y. (omega arith, omega arith))))
+              | inr more ↦ (let e = past more in ap (λ b. b && has_column r column) (same_has r.row r.row row' row (r.row + r.rows) (r.row + r.rows) (λ x y. (omega arith, omega arith)) (λ x y. (omega arith, omega arith))))
             ]
 
 -- Taking a row out keeps what is covered in each other row.
 pub covered_kept : (gone row row' column : ℕ) (all : List Rectangle) → LowIn gone all → (row < gone → row' ≡ row) → (gone < row → suc row' ≡ row) → (row ≡ gone → ⊥) →
     covered (filter_map (without_row gone) all) row' column ≡ covered all row column
-covered_kept gone row row' column [] low before suffix other = refl
-covered_kept gone row row' column (r ∷ all) low before suffix other =
-    by (without_row gone r) (one_kept gone row row' column r low.0 before suffix other) (covered_kept gone row row' column all low.1 before suffix other)
+covered_kept gone row row' column [] low before past other = refl
+covered_kept gone row row' column (r ∷ all) low before past other =
+    by (without_row gone r) (one_kept gone row row' column r low.0 before past other) (covered_kept gone row row' column all low.1 before past other)
   where
     by : (o : Option Rectangle) → covers_in o row' column ≡ (has_row r row && has_column r column) → covered (filter_map (without_row gone) all) row' column ≡ covered all row column →
         covered (cons_option o (filter_map (without_row gone) all)) row' column ≡ covered (r ∷ all) row column

@@ -21,10 +21,9 @@ use Rattle.model_items.specs.Offsets.{kind_at, stack_at, opens_at, partner, end_
 use Rattle.model_edit.specs.Edits.{Change, transaction_of}
 use Rattle.model_edit_law.proofs.EditLemmas.{edited-two}
 use Rattle.model_edit_law.proofs.BracketLemmas.{slice_get-at, slice_get-split, partner-opening, Ends, Ends-after, kinds_after, stack_at-after, Closes, closes}
-use Rattle.model_edit.specs.declared.list_fault.ListFault.{ListFault}
-use Rattle.model_edit.specs.declared.list_fault.ListFault.TheVariants.{NotListItem, NotNested, NoSibling}
+use Rattle.model_edit.specs.Causes.{ListCause, NotListItem, NotNested, NoSibling}
 use Rattle.model_edit.specs.Lists.{is_list_item, passes_before, list_ends, indent_edits, indent, end_before, begin_after, outdent_from, outdent}
-use Rattle.model_edit_law.specs.ListLaws.{joins_list, new_place, Plain, GivesBack, IndentIsUndone}
+use Rattle.model_edit_law.specs.ListLaws.{joins_list, indented_place, Plain, GivesBack, IndentIsUndone}
 
 pub if_ok_then : {A E : Type 0} (b : Bool) (e : E) (r : Result A E) (t : A) → (if b then r else Err e) ≡ Ok t → (b ≡ true) × (r ≡ Ok t)
 if_ok_then true e r t h = (refl, h)
@@ -91,8 +90,8 @@ module _ (head : Head) (marks : List Mark) (pre : List ℕ) (origin : Option ℕ
     open_there : opens_at inner_list (length done) ≡ list ∷ outer ∷ others
     open_there = opens_at-whole done (body ++ tail) (length done) refl ∙ opens
 
-    suffix : begin_after inner_list (partner inner_list (length done)) list ≡ Change (length done + suc (length inside)) 2 []
-    suffix =
+    list_begins : begin_after inner_list (partner inner_list (length done)) list ≡ Change (length done + suc (length inside)) 2 []
+    list_begins =
         ap (λ n. begin_after inner_list n list) its_closing
         ∙ ap (λ b. if b then Change (length done + suc (length inside)) 2 [] else Change (length done + suc (length inside)) 1 (Rattle.model_edit.specs.Lists.copy_at inner_list list.from))
         (eq-eqb _ _ list_closing)
@@ -104,7 +103,7 @@ module _ (head : Head) (marks : List Mark) (pre : List ℕ) (origin : Option ℕ
         (slice_get-at done (Opening Li head marks pre origin generated) (inside ++ tail))
         ∙ ap (outdent_from inner_list (length done)) open_there
         ∙ ap (λ k. if kind_same k Li then Ok (transaction_of inner_list (end_before (length done) list ∷ begin_after inner_list (partner inner_list (length done)) list ∷ [])) else Err (NotNested (length done))) nested
-        ∙ ap (λ e. Ok (transaction_of inner_list (end_before (length done) list ∷ e ∷ []))) suffix
+        ∙ ap (λ e. Ok (transaction_of inner_list (end_before (length done) list ∷ e ∷ []))) list_begins
 
   regroup : (x : PlainItem) (others : List PlainItem) → (body ++ x ∷ []) ++ others ≡ body ++ x ∷ others
   regroup x others = append_assoc body (x ∷ []) others
@@ -142,10 +141,10 @@ module _ (head : Head) (marks : List Mark) (pre : List ℕ) (origin : Option ℕ
         ∙ ap (λ v. done ++ v) (regroup (Closing Li []) (Closing list.kind [] ∷ Closing Li [] ∷ rest))
 
     undone_joined : (at : ℕ) → at ≡ suc (suc (length done)) → joins_list old_joined at ≡ true → kind_at old_joined at ≡ list.kind → (suc list.from ≡ length done → ⊥) →
-        GivesBack old_joined (edited (transaction_of old_joined (indent_edits old_joined at (kind_at old_joined at))) old_joined) (new_place old_joined at)
+        GivesBack old_joined (edited (transaction_of old_joined (indent_edits old_joined at (kind_at old_joined at))) old_joined) (indented_place old_joined at)
     undone_joined at e joins k apart =
         let new = inner_list done rest list outer others opens nested in
-        let place : new_place old_joined at ≡ length done = ap (λ b. if b then at - 2 else at) joins ∙ omega arith in
+        let place : indented_place old_joined at ≡ length done = ap (λ b. if b then at - 2 else at) joins ∙ omega arith in
         let other : (suc list.from == length done) ≡ false = different (suc list.from) (length done) apart in
         let first : end_before (length done) list ≡ Change (length done) 0 (list_ends list.kind) =
         ap (λ b. if b then Change list.from 1 (closing_of Li ∷ []) else Change (length done) 0 (list_ends list.kind)) other in
@@ -154,7 +153,7 @@ module _ (head : Head) (marks : List Mark) (pre : List ℕ) (origin : Option ℕ
         new (length done) 0 (length done + suc (length inside)) 2 refl refl refl (omega arith) refl in
         let same : edited back new ≡ old_joined = ap (λ v. edited (transaction_of new (v ∷ Change (length done + suc (length inside)) 2 [] ∷ [])) new) first ∙ two.0 in
         let all : GivesBack old_joined new (length done) = record { back = back; outdented = outdented done rest list outer others opens nested; same = same } in
-        subst (λ v. GivesBack old_joined v (new_place old_joined at)) (sym (joined at e joins k)) (subst (GivesBack old_joined new) (sym place) all)
+        subst (λ v. GivesBack old_joined v (indented_place old_joined at)) (sym (joined at e joins k)) (subst (GivesBack old_joined new) (sym place) all)
       where
         different : (m n : ℕ) → (m ≡ n → ⊥) → (m == n) ≡ false
         different m n h = elim (cases_Bool (m == n)) [ inl same ↦ absurd (h (eqb-true m n same)) | inr other ↦ other ]
@@ -210,10 +209,10 @@ module _ (head : Head) (marks : List Mark) (pre : List ℕ) (origin : Option ℕ
         ∙ sym (append_assoc prefix (opening_of k [] ∷ []) _)
 
     undone_alone : (at : ℕ) → at ≡ suc (length prefix) → joins_list old_alone at ≡ false → kind_at old_alone at ≡ k →
-        GivesBack old_alone (edited (transaction_of old_alone (indent_edits old_alone at (kind_at old_alone at))) old_alone) (new_place old_alone at)
+        GivesBack old_alone (edited (transaction_of old_alone (indent_edits old_alone at (kind_at old_alone at))) old_alone) (indented_place old_alone at)
     undone_alone at e joins same_kind =
         let new = inner_list with_list rest list_made outer others opens_made nested in
-        let place : new_place old_alone at ≡ length with_list = ap (λ b. if b then at - 2 else at) joins ∙ e ∙ sym made_length in
+        let place : indented_place old_alone at ≡ length with_list = ap (λ b. if b then at - 2 else at) joins ∙ e ∙ sym made_length in
         let first : end_before (length with_list) list_made ≡ Change (length prefix) 1 (closing_of Li ∷ []) =
         ap (λ b. if b then Change (length prefix) 1 (closing_of Li ∷ []) else Change (length with_list) 0 (list_ends k)) (eq-eqb _ _ (sym made_length)) in
         let back = transaction_of new (end_before (length with_list) list_made ∷ Change (length with_list + suc (length inside)) 2 [] ∷ []) in
@@ -222,7 +221,7 @@ module _ (head : Head) (marks : List Mark) (pre : List ℕ) (origin : Option ℕ
         new (length prefix) 1 (length with_list + suc (length inside)) 2 (append_assoc prefix (opening_of k [] ∷ []) _) refl refl (omega arith) refl in
         let same : edited back new ≡ old_alone = ap (λ v. edited (transaction_of new (v ∷ Change (length with_list + suc (length inside)) 2 [] ∷ [])) new) first ∙ two.0 in
         let all : GivesBack old_alone new (length with_list) = record { back = back; outdented = outdented with_list rest list_made outer others opens_made nested; same = same } in
-        subst (λ v. GivesBack old_alone v (new_place old_alone at)) (sym (alone at e joins same_kind)) (subst (GivesBack old_alone new) (sym place) all)
+        subst (λ v. GivesBack old_alone v (indented_place old_alone at)) (sym (alone at e joins same_kind)) (subst (GivesBack old_alone new) (sym place) all)
 
 -- the innermost open node, by its kind
 one_node : (nodes : List Open) (k : Kind) (outer : List Kind) → map (λ (n : Open). n.kind) nodes ≡ k ∷ outer →
@@ -320,10 +319,10 @@ last_item xs n x e h =
     empty (y ∷ ys) h = cc
 
 GivesBack-along : (items items' : List PlainItem) (at at' : ℕ) → items' ≡ items → at' ≡ at →
-    GivesBack items' (edited (transaction_of items' (indent_edits items' at' (kind_at items' at'))) items') (new_place items' at') →
-    GivesBack items (edited (transaction_of items (indent_edits items at (kind_at items at))) items) (new_place items at)
+    GivesBack items' (edited (transaction_of items' (indent_edits items' at' (kind_at items' at'))) items') (indented_place items' at') →
+    GivesBack items (edited (transaction_of items (indent_edits items at (kind_at items at))) items) (indented_place items at)
 GivesBack-along items items' at at' e f g =
-    let P : List PlainItem → ℕ → Type 0 = λ v n. GivesBack v (edited (transaction_of v (indent_edits v n (kind_at v n))) v) (new_place v n) in
+    let P : List PlainItem → ℕ → Type 0 = λ v n. GivesBack v (edited (transaction_of v (indent_edits v n (kind_at v n))) v) (indented_place v n) in
     subst (λ n. P items n) f (subst (λ v. P v at') e g)
 
 module _ (items : List PlainItem) (a : ℕ) (r : Round items a) (p : Parts r.prefix r.suffix) (plain : Plain items (suc a)) where
@@ -386,7 +385,7 @@ module _ (items : List PlainItem) (a : ℕ) (r : Round items a) (p : Parts r.pre
   whole_list = r.whole ∙ ap (λ v. r.prefix ++ (Closing Li [] ∷ (x ∷ v))) (p.closed.whole ∙ ap (λ w. inside ++ (Closing Li w ∷ rest)) no_white)
 
   abbrev Goal : Type 0
-  Goal = GivesBack items (edited (transaction_of items (indent_edits items (suc a) (kind_at items (suc a)))) items) (new_place items (suc a))
+  Goal = GivesBack items (edited (transaction_of items (indent_edits items (suc a) (kind_at items (suc a)))) items) (indented_place items (suc a))
 
   by_itself : joins_list items (suc a) ≡ false → Goal
   by_itself joins =
@@ -448,12 +447,12 @@ module _ (items : List PlainItem) (a : ℕ) (r : Round items a) (p : Parts r.pre
 pub indent_is_undone : IndentIsUndone
 indent_is_undone items zero t lawful h plain =
     let a = if_ok_then (is_list_item items 0) _ _ t h in
-    let b : ◌≡◌ {A = Result Transaction ListFault} (Err (NoSibling 0)) (Ok t) = a.1 in cc
+    let b : ◌≡◌ {A = Result Transaction ListCause} (Err (NoSibling 0)) (Ok t) = a.1 in cc
 indent_is_undone items (suc a) t lawful h plain =
     let p = if_ok_then (is_list_item items (suc a)) _ _ t h in
     let q = if_ok_then (passes_before (is_closing_of Li) items (suc a)) _ _ t p.1 in
     let at_before : slice_get items a ≡ Some (closing_of Li) = ap (slice_get items) (omega arith) ∙ plain.before in
     let r = round items a at_before p.0 in
     let parts_ = parts r.prefix r.suffix r.head r.marks r.pre r.origin r.generated (subst Lawful r.whole lawful) in
-    let same : transaction_of items (indent_edits items (suc a) (kind_at items (suc a))) ≡ t = Ok-same {E = ListFault} _ t q.1 in
-    subst (λ v. GivesBack items (edited v items) (new_place items (suc a))) same (undone items a r parts_ plain)
+    let same : transaction_of items (indent_edits items (suc a) (kind_at items (suc a))) ≡ t = Ok-same {E = ListCause} _ t q.1 in
+    subst (λ v. GivesBack items (edited v items) (indented_place items (suc a))) same (undone items a r parts_ plain)

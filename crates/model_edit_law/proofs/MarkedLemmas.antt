@@ -6,16 +6,17 @@ use Rattle.ve_base.specs.declared.marks.Mark.{Mark}
 use Rattle.model_items.specs.declared.plain_item.PlainItem.{PlainItem}
 use Rattle.model_items.specs.declared.plain_item.PlainItem.TheVariants.{Char, Opening, Closing}
 use Rattle.model_items.specs.Same.{marks_same}
-use Rattle.model_items.specs.Law.{State, step, joined, after, Lawful}
+use Rattle.model_items.specs.Law.{State, step, followed, after, Lawful}
 use Rattle.model_items.proofs.LawLemmas.{Ok-same}
 use Rattle.ve_kinds.specs.Table.{is_element}
 use Rattle.model_change.specs.Attributes.{is_reserved}
 use Rattle.model_change.specs.Transaction.{edited}
-use Rattle.model_edit.specs.declared.build_fault.BuildFault.{BuildFault}
-use Rattle.model_items.specs.Offsets.{is_bad_span, places, passes}
+use Rattle.model_edit.specs.Causes.{BuildCause}
+use Rattle.model_items.specs.Offsets.{is_bad_span, places_in, passes}
 use Rattle.model_edit.specs.Edits.{Edit, Change, Set, transaction_of}
 use Rattle.model_edit.specs.Convert.{opens_kind}
-use Rattle.model_edit.specs.Marking.{remark, remark_edit, remarked, marks_in, with_mark, without_mark, is_bad_mark}
+use Rattle.model_items.specs.Marks.{with_mark, without_mark}
+use Rattle.model_edit.specs.Marking.{remark, remark_edit, remarked, item_marks, is_bad_mark}
 use Rattle.model_edit_law.specs.ShapeLaws.{MarkingStaysLawful, UnmarkingStaysLawful, AttributeStaysLawful}
 use Rattle.model_edit_law.proofs.BracketLemmas.{slice_get-within}
 use Rattle.model_edit_law.proofs.OrderLemmas.{InOrder-Rising, Rising-within, Rising-each}
@@ -30,11 +31,11 @@ step_remarked f s (Closing kind pre) = refl
 
 remark_neutral : (f : List Mark → List Mark) (items : List PlainItem) (n : ℕ) (o : Option PlainItem) → slice_get items n ≡ o → EachNeutral items (remark_edit f n o)
 remark_neutral f items n None h = tt
-remark_neutral f items n (Some item) h = by (marks_same (marks_in (remarked f item)) (marks_in item))
+remark_neutral f items n (Some item) h = by (marks_same (item_marks (remarked f item)) (item_marks item))
   where
     leads : (s v : State) → after s (take 1 (drop n items)) ≡ Ok v → after s (remarked f item ∷ []) ≡ Ok v
     leads s v p =
-        ap (λ r. joined 1 r (λ next. after next [])) (step_remarked f s item)
+        ap (λ r. followed 1 r (λ next. after next [])) (step_remarked f s item)
         ∙ ap (after s) (ap (take 1) (sym (from_place items n item h))) ∙ p
 
     by : (same : Bool) → EachNeutral items (if same then [] else Change n 1 (remarked f item ∷ []) ∷ [])
@@ -58,7 +59,7 @@ remark_lawful f items from to lawful h =
     let s = span_fits items from to h in
     let low = s.0 in
     let high = s.1 in
-    let edits = flat_map (λ at. remark_edit f at (slice_get items at)) (places from to) in
+    let edits = flat_map (λ at. remark_edit f at (slice_get items at)) (places_in from to) in
     neutral_lawful items edits lawful
     (InOrder-Rising 0 (length items) edits
     (Rising-within from 0 (from + (to - from)) (length items) edits (omega arith) (omega arith)
@@ -75,7 +76,7 @@ pub unmarking_lawful : UnmarkingStaysLawful
 unmarking_lawful items from to m t lawful h =
     let p = if_ok_else (is_bad_span items from to) _ _ t h in
     let q = if_ok_else (is_bad_mark m) _ _ t p.1 in
-    subst (λ v. Lawful (edited v items)) (Ok-same {E = BuildFault} _ t q.1) (remark_lawful (without_mark m) items from to lawful p.0)
+    subst (λ v. Lawful (edited v items)) (Ok-same {E = BuildCause} _ t q.1) (remark_lawful (without_mark m) items from to lawful p.0)
 
 pub attribute_lawful : AttributeStaysLawful
 attribute_lawful items at name to t lawful h =
@@ -84,5 +85,5 @@ attribute_lawful items at name to t lawful h =
     let x = opening_there is_element (slice_get items at) p.0 in
     let within = slice_get-within items at _ x.6 in
     let edits = Set at name to ∷ [] in
-    subst (λ v. Lawful (edited v items)) (Ok-same {E = BuildFault} (transaction_of items edits) t q.1)
+    subst (λ v. Lawful (edited v items)) (Ok-same {E = BuildCause} (transaction_of items edits) t q.1)
     (neutral_lawful items edits lawful (omega arith, omega arith) tt)

@@ -11,7 +11,7 @@ use Rattle.ve_kinds.proofs.LawLemmas.{leaves_are_empty}
 use Rattle.model_items.specs.declared.plain_item.PlainItem.{PlainItem}
 use Rattle.model_items.specs.declared.plain_item.PlainItem.TheVariants.{Char, Opening, Closing}
 use Rattle.model_items.specs.declared.law_fault.LawFault.{LawFault}
-use Rattle.model_items.specs.Law.{State, start, finish, top, may_open, step, joined, after, Lawful}
+use Rattle.model_items.specs.Law.{State, start, finish, top, may_open, step, followed, after, Lawful}
 use Rattle.model_items.specs.Tree.{Open, opens_with, opens_after}
 use Rattle.model_items.proofs.LawLemmas.{if_ok, Ok-same, opened_before, closed_before, joined-ok, after_parts, after_whole, after_from_Lawful}
 use Rattle.model_edit.specs.declared.selection.By.{By}
@@ -19,7 +19,7 @@ use Rattle.model_edit.specs.declared.selection.Dir.{Dir}
 use Rattle.model_edit.specs.declared.selection.Dir.TheVariants.{Back, Ahead}
 use Rattle.model_items.specs.Offsets.{opens_at, is_content, is_opening, is_closing, passes}
 use Rattle.model_edit.specs.Next.{first_run, run_before, run_from, boundaries, last_below, first_above, boundary_at, next_ahead, next_back, cutting, next}
-use Rattle.model_edit_law.specs.NextLaws.{IsFarther, IsEnd, Goes, CaretStaysInBranch, CaretStopsAtEnds}
+use Rattle.model_edit_law.specs.NextLaws.{IsFarther, IsEnd, CaretGoes, CaretStaysInBranch, CaretStopsAtEnds}
 use Rattle.model_edit_law.proofs.BracketLemmas.{fits, fits-after, stack_at-after, slice_get-within}
 use Rattle.model_edit_law.proofs.NodeLemmas.{content_list}
 use Rattle.model_edit_law.proofs.ShapeLemmas.{from_place}
@@ -129,7 +129,7 @@ next_state : (items : List PlainItem) (n : ℕ) (x : PlainItem) → slice_get it
 next_state items n x h a =
     let here = from_place items n x h in
     let p = joined-ok 1 (step a.state x) (λ next. after next (drop (suc n) items)) finish (ap (after a.state) (sym here) ∙ a.rest) in
-    let one : after a.state (x ∷ []) ≡ Ok p.0 = ap (λ r. joined 1 r (λ next. Ok next)) p.1 in
+    let one : after a.state (x ∷ []) ≡ Ok p.0 = ap (λ r. followed 1 r (λ next. Ok next)) p.1 in
     let one_past : suc n ≡ n + 1 = omega arith in
     let prefix : take (suc n) items ≡ take n items ++ x ∷ [] =
     ap (λ k. take k items) one_past ∙ take-add n 1 items ∙ ap (λ v. take n items ++ take 1 v) here in
@@ -250,10 +250,10 @@ mapped_none start (Some n) h = cc
 still_content : (items : List PlainItem) (at to : ℕ) → opens_at items to ≡ opens_at items at → is_content items at ≡ true → is_content items to ≡ true
 still_content items at to e content = ap (λ nodes. is_content_branch (top (map (λ (n : Open). n.kind) nodes))) e ∙ content
 
-goes : (dir : Dir) (items : List PlainItem) (at to : ℕ) → is_content items at ≡ true → IsFarther dir at to → to ≤ length items → opens_at items to ≡ opens_at items at → Goes dir items at to
+goes : (dir : Dir) (items : List PlainItem) (at to : ℕ) → is_content items at ≡ true → IsFarther dir at to → to ≤ length items → opens_at items to ≡ opens_at items at → CaretGoes dir items at to
 goes dir items at to content far within branch = record { farther = far; within = within; branch = branch; content = still_content items at to branch content }
 
-char_ahead : (items : List PlainItem) (at to : ℕ) (by : By) → at ≤ length items → is_content items at ≡ true → boundary_at Ahead (cutting by) items at ≡ Some to → Goes Ahead items at to
+char_ahead : (items : List PlainItem) (at to : ℕ) (by : By) → at ≤ length items → is_content items at ≡ true → boundary_at Ahead (cutting by) items at ≡ Some to → CaretGoes Ahead items at to
 char_ahead items at to by within content h =
     let before = run_before items at in
     let suffix = run_from items at in
@@ -271,7 +271,7 @@ char_ahead items at to by within content h =
     opens_at-on items at count ∙ opens_after-chars (take count (drop at items)) (opens_at items at) (0 + length (take at items)) (run_is_chars count (drop at items) room) in
     goes Ahead items at to content (omega arith) (omega (arith, length-drop at items)) (subst (λ n. opens_at items n ≡ opens_at items at) e same)
 
-char_back : (items : List PlainItem) (at to : ℕ) (by : By) → at ≤ length items → is_content items at ≡ true → boundary_at Back (cutting by) items at ≡ Some to → Goes Back items at to
+char_back : (items : List PlainItem) (at to : ℕ) (by : By) → at ≤ length items → is_content items at ≡ true → boundary_at Back (cutting by) items at ≡ Some to → CaretGoes Back items at to
 char_back items at to by within content h =
     let before = run_before items at in
     let suffix = run_from items at in
@@ -286,7 +286,7 @@ char_back items at to by within content h =
     goes Back items at to content (omega arith) (omega arith) (subst (λ n. opens_at items to ≡ opens_at items n) e same)
 
 leaf_ahead : (items : List PlainItem) (at to : ℕ) (kind : Kind) (x : PlainItem) → Lawful items → is_content items at ≡ true → slice_get items at ≡ Some x → is_opening x ≡ true →
-    ((s t : State) → step s x ≡ Ok t → (may_hold (top s.stack) kind ≡ true) × (kind ∷ s.stack ≡ t.stack)) → at + 2 ≡ to → Goes Ahead items at to
+    ((s t : State) → step s x ≡ Ok t → (may_hold (top s.stack) kind ≡ true) × (kind ∷ s.stack ≡ t.stack)) → at + 2 ≡ to → CaretGoes Ahead items at to
 leaf_ahead items at to kind x lawful content here opens steps e =
     let a = state_at items at lawful in
     let next = next_state items at x here a in
@@ -296,7 +296,7 @@ leaf_ahead items at to kind x lawful content here opens steps e =
     let inside = slice_get-within items (suc at) closing.0 closing.1 in
     goes Ahead items at to content (omega arith) (omega arith) (subst (λ n. opens_at items n ≡ opens_at items at) e (leaf_passed items at (x, here, opens) closing))
 
-leaf_back : (items : List PlainItem) (m to : ℕ) (kind : Kind) (pre : List ℕ) → Lawful items → is_content items (suc m) ≡ true → slice_get items m ≡ Some (Closing kind pre) → suc m - 2 ≡ to → Goes Back items (suc m) to
+leaf_back : (items : List PlainItem) (m to : ℕ) (kind : Kind) (pre : List ℕ) → Lawful items → is_content items (suc m) ≡ true → slice_get items m ≡ Some (Closing kind pre) → suc m - 2 ≡ to → CaretGoes Back items (suc m) to
 leaf_back items m to kind pre lawful content here e =
     let a = state_at items m lawful in
     let next = next_state items m (Closing kind pre) here a in
@@ -313,10 +313,10 @@ leaf_back items m to kind pre lawful content here e =
     let same : opens_at items l ≡ opens_at items (suc m) = subst (λ n. opens_at items l ≡ opens_at items n) past (sym (leaf_passed items l opening.2 closing)) in
     goes Back items (suc m) to content (omega arith) (omega arith) (subst (λ n. opens_at items n ≡ opens_at items (suc m)) there same)
 
-ahead_stays : (items : List PlainItem) (at to : ℕ) (by : By) → Lawful items → is_content items at ≡ true → next items at Ahead by ≡ Some to → Goes Ahead items at to
+ahead_stays : (items : List PlainItem) (at to : ℕ) (by : By) → Lawful items → is_content items at ≡ true → next items at Ahead by ≡ Some to → CaretGoes Ahead items at to
 ahead_stays items at to by lawful content h = by_item (slice_get items at) refl h
   where
-    by_item : (o : Option PlainItem) → slice_get items at ≡ o → next_ahead o (cutting by) items at ≡ Some to → Goes Ahead items at to
+    by_item : (o : Option PlainItem) → slice_get items at ≡ o → next_ahead o (cutting by) items at ≡ Some to → CaretGoes Ahead items at to
     by_item None e h = cc
     by_item (Some (Char c marks)) e h = let within = slice_get-within items at (Char c marks) e in char_ahead items at to by (omega arith) content h
     by_item (Some (Opening kind head marks pre origin generated)) e h =
@@ -325,13 +325,13 @@ ahead_stays items at to by lawful content h = by_item (slice_get items at) refl 
         (let same : at + 2 ≡ to = cc in same)
     by_item (Some (Closing kind pre)) e h = cc
 
-back_stays : (items : List PlainItem) (at to : ℕ) (by : By) → Lawful items → is_content items at ≡ true → next items at Back by ≡ Some to → Goes Back items at to
+back_stays : (items : List PlainItem) (at to : ℕ) (by : By) → Lawful items → is_content items at ≡ true → next items at Back by ≡ Some to → CaretGoes Back items at to
 back_stays items zero to by lawful content h = absurd (let no : false ≡ true = content in cc)
 back_stays items (suc m) to by lawful content h =
     let here : suc m - 1 ≡ m = omega arith in
     by_item (slice_get items m) refl (ap (λ n. next_back (slice_get items n) (cutting by) items (suc m)) (sym here) ∙ h)
   where
-    by_item : (o : Option PlainItem) → slice_get items m ≡ o → next_back o (cutting by) items (suc m) ≡ Some to → Goes Back items (suc m) to
+    by_item : (o : Option PlainItem) → slice_get items m ≡ o → next_back o (cutting by) items (suc m) ≡ Some to → CaretGoes Back items (suc m) to
     by_item None e h = cc
     by_item (Some (Char c marks)) e h = let within = slice_get-within items m (Char c marks) e in char_back items (suc m) to by (omega arith) content h
     by_item (Some (Opening kind head marks pre origin generated)) e h = cc

@@ -13,7 +13,7 @@ use Rattle.ve_kinds.specs.Table.{kind_same, may_hold, held_by, is_content_branch
 use Rattle.model_items.proofs.SameLemmas.{Means-kind_same}
 use Rattle.model_items.specs.declared.law_fault.LawFault.{LawFault}
 use Rattle.model_items.specs.declared.law_fault.LawFault.TheVariants.{Unlawful}
-use Rattle.model_items.specs.Law.{State, top, is_empty, is_over, may_open, opened, step, joined, outcome_moved, after, Lawful}
+use Rattle.model_items.specs.Law.{State, top, is_empty, is_over, may_open, opened, step, followed, outcome_moved, after, Lawful}
 use Rattle.model_items.proofs.LawLemmas.{if_ok, Ok-same, after_whole, piece_fits}
 use Rattle.model_edit_law.proofs.BracketLemmas.{state_of, or_false, HoldsSame, HoldsSame-itself, Closes, NodeParts, slice_get-split}
 
@@ -107,8 +107,8 @@ pub whole_node : (s : State) (k k' : Kind) (x : PlainItem) (pre' : List ℕ) (it
 whole_node s k k' x pre' items c same h =
     let inner = c.kept k' s.stack s.seen same (omega arith) in
     let closed : after (state_of (k' ∷ s.stack) s.seen) (Closing k' pre' ∷ []) ≡ Ok s =
-    ap (λ b. joined 1 (if b then Ok (state_of s.stack s.seen) else Err (Unlawful 0)) (λ next. Ok next)) (Means-kind_same.itself k') in
-    ap (λ v. joined 1 v (λ next. after next (c.inside ++ Closing k' pre' ∷ []))) h
+    ap (λ b. followed 1 (if b then Ok (state_of s.stack s.seen) else Err (Unlawful 0)) (λ next. Ok next)) (Means-kind_same.itself k') in
+    ap (λ v. followed 1 v (λ next. after next (c.inside ++ Closing k' pre' ∷ []))) h
     ∙ ap (λ v. outcome_moved 1 v) (after_whole c.inside (Closing k' pre' ∷ []) (state_of (k' ∷ s.stack) s.seen) (state_of (k' ∷ s.stack) s.seen) s inner closed)
 
 -- A node with another opening and closing.

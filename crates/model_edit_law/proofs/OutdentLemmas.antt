@@ -13,7 +13,7 @@ use Rattle.ve_kinds.specs.Table.{kind_same, may_hold, is_leaf}
 use Rattle.model_items.proofs.SameLemmas.{Means-kind_same}
 use Rattle.model_items.specs.declared.law_fault.LawFault.{LawFault}
 use Rattle.model_items.specs.declared.law_fault.LawFault.TheVariants.{Unlawful}
-use Rattle.model_items.specs.Law.{State, start, finish, top, opened, step, joined, outcome_moved, after, Lawful}
+use Rattle.model_items.specs.Law.{State, start, finish, top, opened, step, followed, outcome_moved, after, Lawful}
 use Rattle.model_items.proofs.LawLemmas.{Ok-same, joined-ok, after_whole, after_parts, after_from_Lawful, opened_before, piece_fits}
 use Rattle.model_items.specs.Tree.{Open, length_to_close}
 use Rattle.model_change.specs.Transaction.{Transaction, edited}
@@ -23,21 +23,21 @@ use Rattle.model_edit.specs.Edits.{Edit, Change, transaction_of}
 use Rattle.model_edit_law.proofs.EditLemmas.{edited-two, filter-append}
 use Rattle.model_edit_law.proofs.BracketLemmas.{state_of, fits, fits-after, fits_parts, opened_fits, kinds_after, slice_get-split, HoldsSame-itself, Ends, Ends-after, Opened, Opened-after, Closes, closes, NodeParts, node_parts}
 use Rattle.model_edit_law.proofs.NodeLemmas.{whole_node, opened_state}
-use Rattle.model_edit.specs.declared.list_fault.ListFault.{ListFault}
+use Rattle.model_edit.specs.Causes.{ListCause}
 use Rattle.model_edit.specs.Lists.{list_ends, end_before, begin_after, copy_at, is_list_item, outdent_from, outdent}
-use Rattle.model_edit_law.specs.ListLaws.{OutdentIsFine, is_text, OutdentKeepsText, OutdentStaysLawful}
+use Rattle.model_edit_law.specs.ListLaws.{OutdentIsFine, is_character_or_leaf, OutdentKeepsText, OutdentStaysLawful}
 use Rattle.model_edit_law.specs.Fine.{Fine}
 use Rattle.model_edit_law.proofs.OrderLemmas.{Fine-edits}
 use Rattle.model_edit_law.proofs.ListLemmas.{last_item, if_ok_then, opening_shape}
 use Rattle.model_edit_law.proofs.IndentLemmas.{holds_item}
 
 abbrev only : List PlainItem → List PlainItem
-only = filter is_text
+only = filter is_character_or_leaf
 
 close_step : (k : Kind) (pre : List ℕ) (outer : List Kind) (seen : Bool) (items : List PlainItem) (r : State) → after (state_of outer seen) items ≡ Ok r →
     after (state_of (k ∷ outer) seen) (Closing k pre ∷ items) ≡ Ok r
 close_step k pre outer seen items r h =
-    ap (λ b. joined 1 (if b then Ok (state_of outer seen) else Err (Unlawful 0)) (λ next. after next items)) (Means-kind_same.itself k) ∙ ap (outcome_moved 1) h
+    ap (λ b. followed 1 (if b then Ok (state_of outer seen) else Err (Unlawful 0)) (λ next. after next items)) (Means-kind_same.itself k) ∙ ap (outcome_moved 1) h
 
 module _ (items : List PlainItem) (at : ℕ) (lawful : Lawful items) (head : Head) (marks : List Mark) (pre : List ℕ) (origin : Option ℕ) (generated : Bool)
     (item : slice_get items at ≡ Some (Opening Li head marks pre origin generated)) (n : NodeParts items at Li)
@@ -210,7 +210,7 @@ module _ (items : List PlainItem) (at : ℕ) (lawful : Lawful items) (head : Hea
     parts = refl;
     edit = after_edit false other ∙ ap (λ v. Change (at + suc (length inside)) 1 v) copied;
     old_way = close_step Li n.closed.pre u.stack u.seen [] u refl;
-    new_way = ap (λ r. joined 1 r (λ next. Ok next)) (opened_fits k (Li ∷ g) u.seen facts.1 fitting) ∙ ap Ok (sym same_state);
+    new_way = ap (λ r. followed 1 r (λ next. Ok next)) (opened_fits k (Li ∷ g) u.seen facts.1 fitting) ∙ ap Ok (sym same_state);
     no_text = (refl, ap (λ b. cond b (copy_of list_opening ∷ []) []) facts.2);
   }
 
@@ -286,14 +286,14 @@ module _ (items : List PlainItem) (at : ℕ) (lawful : Lawful items) (head : Hea
         let o = opened_state u n.allowed.0 Li refl n.allowed.1 in
         let opens_old : opened u Li ≡ Ok (state_of (Li ∷ u.stack) u.seen) = n.allowed.1 ∙ ap Ok o.2 in
         let in_old : after u ((x ∷ inside) ++ b.gone) ≡ Ok b.state =
-        ap (λ r. joined 1 r (λ next. after next (inside ++ b.gone))) opens_old
+        ap (λ r. followed 1 r (λ next. after next (inside ++ b.gone))) opens_old
         ∙ ap (outcome_moved 1)
         (after_whole inside b.gone (state_of (Li ∷ u.stack) u.seen) (state_of (Li ∷ u.stack) u.seen) b.state
         (n.closed.kept Li u.stack u.seen (HoldsSame-itself Li) (omega arith)) b.old_way) in
         let deeper : length u.stack ≡ suc (suc (length g)) = ap length stacks in
         let opens_new : opened (state_of g u.seen) Li ≡ Ok (state_of (Li ∷ g) u.seen) = opened_fits Li g u.seen refl fits_li in
         let in_new : after (state_of g u.seen) ((x ∷ inside) ++ b.new) ≡ Ok b.state =
-        ap (λ r. joined 1 r (λ next. after next (inside ++ b.new))) opens_new
+        ap (λ r. followed 1 r (λ next. after next (inside ++ b.new))) opens_new
         ∙ ap (outcome_moved 1)
         (after_whole inside b.new (state_of (Li ∷ g) u.seen) (state_of (Li ∷ g) u.seen) b.state
         (n.closed.kept Li g u.seen (HoldsSame-itself Li) (omega arith)) b.new_way) in
@@ -306,12 +306,12 @@ module _ (items : List PlainItem) (at : ℕ) (lawful : Lawful items) (head : Hea
     only_five : (prefix after_ : List PlainItem) → only prefix ≡ [] → only after_ ≡ [] →
         only (f.kept ++ (prefix ++ ((x ∷ inside) ++ (after_ ++ b.kept)))) ≡ only f.kept ++ (only (x ∷ inside) ++ only b.kept)
     only_five prefix after_ p q =
-        filter-append is_text f.kept (prefix ++ ((x ∷ inside) ++ (after_ ++ b.kept)))
+        filter-append is_character_or_leaf f.kept (prefix ++ ((x ∷ inside) ++ (after_ ++ b.kept)))
         ∙ ap (λ v. only f.kept ++ v)
-        (filter-append is_text prefix ((x ∷ inside) ++ (after_ ++ b.kept))
+        (filter-append is_character_or_leaf prefix ((x ∷ inside) ++ (after_ ++ b.kept))
         ∙ ap (λ v. v ++ only ((x ∷ inside) ++ (after_ ++ b.kept))) p
-        ∙ filter-append is_text (x ∷ inside) (after_ ++ b.kept)
-        ∙ ap (λ v. only (x ∷ inside) ++ v) (filter-append is_text after_ b.kept ∙ ap (λ v. v ++ only b.kept) q))
+        ∙ filter-append is_character_or_leaf (x ∷ inside) (after_ ++ b.kept)
+        ∙ ap (λ v. only (x ∷ inside) ++ v) (filter-append is_character_or_leaf after_ b.kept ∙ ap (λ v. v ++ only b.kept) q))
 
     keeps_text : only new_list ≡ only items
     keeps_text = only_five f.new b.new f.no_text.1 b.no_text.1 ∙ sym (only_five f.gone b.gone f.no_text.0 b.no_text.0) ∙ ap only (sym five)
@@ -330,10 +330,10 @@ nested_in items at [] t h = cc
 nested_in items at (list ∷ []) t h = cc
 nested_in items at (list ∷ outer ∷ others) t h =
     let p = if_ok_then (kind_same outer.kind Li) _ _ t h in
-    record { list = list; outer = outer; others = others; opens = refl; nested = Means-kind_same.equal outer.kind Li p.0; made = Ok-same {E = ListFault} _ t p.1 }
+    record { list = list; outer = outer; others = others; opens = refl; nested = Means-kind_same.equal outer.kind Li p.0; made = Ok-same {E = ListCause} _ t p.1 }
 
 outdent_keeps : (items : List PlainItem) (at : ℕ) (t : Transaction) → Lawful items → outdent items at ≡ Ok t →
-    (Lawful (edited t items) × (filter is_text (edited t items) ≡ filter is_text items)) × Fine items t
+    (Lawful (edited t items) × (filter is_character_or_leaf (edited t items) ≡ filter is_character_or_leaf items)) × Fine items t
 outdent_keeps items at t lawful h =
     let p = if_ok_then (is_list_item items at) _ _ t h in
     let o = opening_shape Li (slice_get items at) p.0 in
@@ -345,7 +345,7 @@ outdent_keeps items at t lawful h =
     let e = ap (λ v. edited v items) (sym m.made) ∙ g.0 in (
       (
         subst Lawful (sym e) (stays_lawful items at lawful o.0 o.1 o.2 o.3 o.4 o.5 n m.list m.outer m.others m.opens m.nested f b),
-        ap (filter is_text) e ∙ keeps_text items at lawful o.0 o.1 o.2 o.3 o.4 o.5 n m.list m.outer m.others m.opens m.nested f b,
+        ap (filter is_character_or_leaf) e ∙ keeps_text items at lawful o.0 o.1 o.2 o.3 o.4 o.5 n m.list m.outer m.others m.opens m.nested f b,
       ),
       subst (Fine items) m.made g.1,
     )

@@ -13,11 +13,11 @@ use Rattle.ve_kinds.specs.Table.{kind_same, is_content_branch}
 use Rattle.model_items.proofs.SameLemmas.{Means-kind_same}
 use Rattle.model_items.specs.declared.law_fault.LawFault.{LawFault}
 use Rattle.model_items.specs.declared.law_fault.LawFault.TheVariants.{Unlawful}
-use Rattle.model_items.specs.Law.{State, start, finish, step, joined, after, Lawful}
+use Rattle.model_items.specs.Law.{State, start, finish, step, followed, after, Lawful}
 use Rattle.model_items.proofs.LawLemmas.{Ok-same, joined-ok, after_parts, after_whole, after_from_Lawful, piece_fits, closed_before}
 use Rattle.model_items.specs.Tree.{Open, opens_after, length_to_close}
 use Rattle.model_change.specs.Transaction.{Transaction, edited}
-use Rattle.model_edit.specs.declared.build_fault.BuildFault.{BuildFault}
+use Rattle.model_edit.specs.Causes.{BuildCause}
 use Rattle.model_edit.specs.Brackets.{closing_of, is_internal_bracket}
 use Rattle.model_items.specs.Offsets.{is_bad_span, partner, is_unmatched, unmatched_places}
 use Rattle.model_edit.specs.Edits.{Edit, Change, Set, transaction_of, substituted_from}
@@ -347,7 +347,7 @@ joined_changed items from to p j lawful m =
     let b = state_of (j.second ∷ m.base) seen in
     let u = state_of m.base seen in
     let closes_with : (k : Kind) (pre : List ℕ) → after (state_of (k ∷ m.base) seen) (Closing k pre ∷ []) ≡ Ok u =
-    λ k pre. ap (λ b. joined 1 (if b then Ok u else Err (Unlawful 0)) (λ next. Ok next)) (Means-kind_same.itself k) in
+    λ k pre. ap (λ b. followed 1 (if b then Ok u else Err (Unlawful 0)) (λ next. Ok next)) (Means-kind_same.itself k) in
     let old_inside : after p.later c.inside ≡ Ok b = ap (λ v. after v c.inside) m.later ∙ c.kept j.second m.base seen (HoldsSame-itself j.second) (omega arith) in
     let new_inside : after p.before c.inside ≡ Ok a = ap (λ v. after v c.inside) m.before ∙ c.kept j.first m.base seen (HoldsSame-content j.second j.first m.content' m.content) (omega arith) in
     let old_end : after p.later (c.inside ++ old ∷ []) ≡ Ok u = after_whole c.inside (old ∷ []) p.later b u old_inside (closes_with j.second c.pre) in
@@ -383,7 +383,7 @@ removal_lawful items from to t lawful h =
     let u = is_unmatched items from to in
     let ns : map place_of (stays 0 from p.range) ≡ unmatched_places items from to =
     sym (range_walk items from to p).0 ∙ ap (λ n. filter u (range_with_len from n)) count in
-    let made = Ok-same {E = BuildFault} (transaction_of items (removal_edits items from to (join_at items (unmatched_places items from to)))) t q.1 in
+    let made = Ok-same {E = BuildCause} (transaction_of items (removal_edits items from to (join_at items (unmatched_places items from to)))) t q.1 in
     subst (λ v. Lawful (edited v items)) made (by p (join_at items (unmatched_places items from to)) (ap (join_at items) ns))
   where
     by : (p : Parts items from to) (o : Option Join) → join_at items (map place_of (stays 0 from p.range)) ≡ o → Lawful (edited (transaction_of items (removal_edits items from to o)) items)

@@ -11,7 +11,7 @@ use Rattle.ve_kinds.specs.Table.{kind_same, is_content_branch}
 use Rattle.model_items.specs.Law.{Lawful}
 use Rattle.model_items.proofs.LawLemmas.{Ok-same}
 use Rattle.model_change.specs.Transaction.{Transaction}
-use Rattle.model_edit.specs.declared.build_fault.BuildFault.{BuildFault}
+use Rattle.model_edit.specs.Causes.{BuildCause}
 use Rattle.model_edit.specs.Brackets.{closing_of}
 use Rattle.model_items.specs.Offsets.{is_bad_span, partner, is_unmatched, unmatched_places}
 use Rattle.model_edit_law.specs.Fine.{Fine}
@@ -131,4 +131,4 @@ removal_fine items from to t lawful h =
     let all : AllIn (is_unmatched items from to) from to ns =
     subst (λ e. AllIn (is_unmatched items from to) from e ns) (omega arith) (AllIn-filter (is_unmatched items from to) from (to - from)) in
     let rise = edits_rise items from to (join_at items ns) (omega arith) high (λ j g. join_fits items from to lawful ns j all g) in
-    subst (Fine items) (Ok-same {E = BuildFault} (transaction_of items edits) t p.1) (Fine-Rising items edits rise)
+    subst (Fine items) (Ok-same {E = BuildCause} (transaction_of items edits) t p.1) (Fine-Rising items edits rise)

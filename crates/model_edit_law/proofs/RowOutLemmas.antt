@@ -18,9 +18,9 @@ use Rattle.model_edit.specs.Brackets.{is_opening_of}
 use Rattle.model_items.specs.Offsets.{partner, end_of_node, children, passes}
 use Rattle.model_edit.specs.Edits.{substituted_from}
 use Rattle.model_edit.specs.declared.grid_cell.GridCell.{GridCell}
-use Rattle.model_edit.specs.Grid.{Row, Grid, children_of, section_rows, table_rows, row_cells}
+use Rattle.model_edit.specs.Grid.{TableRow, Grid, children_of, section_rows, table_rows, row_cells}
 use Rattle.model_edit.specs.Tables.{spans_row, whole_node}
-use Rattle.model_edit_law.specs.Spans.{span_after, lines_after, span_at, line_at, lines_of}
+use Rattle.model_edit_law.specs.Spans.{span_after, lines_after, cell_span_at, line_at, table_lines}
 use Rattle.model_edit_law.proofs.BracketLemmas.{node_parts, slice_get-split}
 use Rattle.model_edit_law.proofs.TablePlaceLemmas.{Opens, Chain, Chain-ends, Chain-filter, from_of, cell_kinds, cell_at, children_of_stand, Standing}
 use Rattle.model_edit_law.proofs.TableFineLemmas.{drop_twice, sets, row_within, rows_apart, row_ahead, row_out_order}
@@ -41,8 +41,8 @@ take_shapes (suc n) [] = refl
 take_shapes (suc n) (x ∷ items) = ap (λ v. shape_of x ∷ v) (take_shapes n items)
 
 -- each row but one stays
-all_kept : (items new : List PlainItem) (p n gone : ℕ) (rows : List Row) (i : ℕ) → ((k : ℕ) (r : Row) → slice_get rows k ≡ Some r → (i + k ≡ gone → ⊥) → Kept items new p n gone (i + k) r) →
-    ((k : ℕ) (r : Row) → slice_get rows k ≡ Some r → i + k ≡ gone → r.at ≡ p) → AllKept items new p n gone i rows
+all_kept : (items new : List PlainItem) (p n gone : ℕ) (rows : List TableRow) (i : ℕ) → ((k : ℕ) (r : TableRow) → slice_get rows k ≡ Some r → (i + k ≡ gone → ⊥) → Kept items new p n gone (i + k) r) →
+    ((k : ℕ) (r : TableRow) → slice_get rows k ≡ Some r → i + k ≡ gone → r.at ≡ p) → AllKept items new p n gone i rows
 all_kept items new p n gone [] i h g = tt
 all_kept items new p n gone (r ∷ rows) i h g =
     let z : i + 0 ≡ i = omega arith in (
@@ -53,8 +53,8 @@ all_kept items new p n gone (r ∷ rows) i h g =
           (λ k r' e w. g (suc k) r' e (omega arith)),
     )
 
-module _ (items : List PlainItem) (at row : ℕ) (g : Grid) (lawful : Lawful items) (s : Standing items at g) (gone : Row) (here : slice_get (table_rows items at) row ≡ Some gone)
-    (placed : (k : ℕ) (r : Row) → slice_get (table_rows items at) k ≡ Some r → AllPlaced items g.cells k (row_cells items r.at)) where
+module _ (items : List PlainItem) (at row : ℕ) (g : Grid) (lawful : Lawful items) (s : Standing items at g) (gone : TableRow) (here : slice_get (table_rows items at) row ≡ Some gone)
+    (placed : (k : ℕ) (r : TableRow) → slice_get (table_rows items at) k ≡ Some r → AllPlaced items g.cells k (row_cells items r.at)) where
   abbrev p : ℕ
   p = gone.at
 
@@ -142,7 +142,7 @@ module _ (items : List PlainItem) (at row : ℕ) (g : Grid) (lawful : Lawful ite
       ap (slice_get without) z ∙ get_past (take p set_list) (drop (n + p) items) j ∙ get_drop (n + p) j items ∙ ap (slice_get items) y
 
   -- a cell above the row
-  cell_above : (k : ℕ) (c : Open) → k < row → c.from < p → Placed items g.cells k c → span_at without (record { kind = c.kind; from = place_without p n c.from }) ≡ span_after row k (span_at items c)
+  cell_above : (k : ℕ) (c : Open) → k < row → c.from < p → Placed items g.cells k c → cell_span_at without (record { kind = c.kind; from = place_without p n c.from }) ≡ span_after row k (cell_span_at items c)
   cell_above k c less_ l it =
       let cell = it.cell in
       let chain = (s.cells).chain in
@@ -168,25 +168,25 @@ module _ (items : List PlainItem) (at row : ℕ) (g : Grid) (lawful : Lawful ite
       ∙ ap (λ v. span_after row k (span_read v)) (sym there)
 
   cells_above : (k : ℕ) (cells : List Open) (low high : ℕ) → k < row → high ≤ p → Chain from_of items cell_kinds low high cells → AllPlaced items g.cells k cells →
-      map (span_at without) (fm cells) ≡ map (span_after row k) (map (span_at items) cells)
+      map (cell_span_at without) (fm cells) ≡ map (span_after row k) (map (cell_span_at items) cells)
   cells_above k [] low high less_ l c it = refl
   cells_above k (o ∷ cells) low high less_ l c it =
       let a = (c.1.2).ahead in
       let b = Chain-ends from_of items cell_kinds (end_of_node items o.from) high cells c.2 in
       let near : o.from < p = omega arith in
-      ap (λ r. map (span_at without) (cons_option r (fm cells))) (node_outside p n o (inl near))
+      ap (λ r. map (cell_span_at without) (cons_option r (fm cells))) (node_outside p n o (inl near))
       ∙ (λ i. cell_above k o less_ near it.0 i ∷ cells_above k cells (end_of_node items o.from) high less_ l c.2 it.1 i)
 
-  cells_below : (cells : List Open) (low high : ℕ) → p + n ≤ low → Chain from_of items cell_kinds low high cells → map (span_at without) (fm cells) ≡ map (span_at items) cells
+  cells_below : (cells : List Open) (low high : ℕ) → p + n ≤ low → Chain from_of items cell_kinds low high cells → map (cell_span_at without) (fm cells) ≡ map (cell_span_at items) cells
   cells_below [] low high l c = refl
   cells_below (o ∷ cells) low high l c =
       let a = (c.1.2).ahead in
       let b = c.0 in
       let far : p + n ≤ o.from = omega arith in
-      ap (λ r. map (span_at without) (cons_option r (fm cells))) (node_outside p n o (inr far))
+      ap (λ r. map (cell_span_at without) (cons_option r (fm cells))) (node_outside p n o (inr far))
       ∙ (λ i. span_read ((ap (slice_get without) (place_moved p n o.from far) ∙ get_after o.from far) i) ∷ cells_below cells (end_of_node items o.from) high (omega arith) c.2 i)
 
-  row_kept : (k : ℕ) (r : Row) → slice_get (table_rows items at) k ≡ Some r → (k ≡ row → ⊥) → Kept items without p n row k r
+  row_kept : (k : ℕ) (r : TableRow) → slice_get (table_rows items at) k ≡ Some r → (k ≡ row → ⊥) → Kept items without p n row k r
   row_kept k r e other =
       let rows = table_rows items at in
       let o = row_opens items (suc at) (partner items at) rows k r s.rows e in
@@ -194,9 +194,9 @@ module _ (items : List PlainItem) (at row : ℕ) (g : Grid) (lawful : Lawful ite
       let out : Outside p n r.at = outside (cases k row) in
       record {
         outside = out;
-        above = λ l. ap (map (span_at without)) (kids_of cell_kinds r.at out)
+        above = λ l. ap (map (cell_span_at without)) (kids_of cell_kinds r.at out)
             ∙ cells_above k (row_cells items r.at) (suc r.at) (partner items r.at) l (let w = rows_apart items (Tr ∷ []) (suc at) (partner items at) rows k row r gone s.rows e here l in omega arith) chain (placed k r e);
-        below = λ l. ap (map (span_at without)) (kids_of cell_kinds r.at out)
+        below = λ l. ap (map (cell_span_at without)) (kids_of cell_kinds r.at out)
             ∙ cells_below (row_cells items r.at) (suc r.at) (partner items r.at) (let w = rows_apart items (Tr ∷ []) (suc at) (partner items at) rows row k gone r s.rows here e l in let v = ends in omega arith) chain;
       }
     where
@@ -217,7 +217,7 @@ module _ (items : List PlainItem) (at row : ℕ) (g : Grid) (lawful : Lawful ite
       outside (inr (inr l)) =
           let w = rows_apart items (Tr ∷ []) (suc at) (partner items at) (table_rows items at) row k gone r s.rows here e l in let v = ends in inr (omega arith)
 
-  pub lines_without : lines_of without at ≡ lines_after row row 0 (lines_of items at)
+  pub lines_without : table_lines without at ≡ lines_after row row 0 (table_lines items at)
   lines_without =
       let kinds = Thead ∷ Tbody ∷ Tfoot ∷ [] in
       let a = within.0 in
@@ -226,7 +226,7 @@ module _ (items : List PlainItem) (at row : ℕ) (g : Grid) (lawful : Lawful ite
       let new_sections : children_of kinds without at ≡ fm sections = ap (children_of kinds without) (sym (place_kept p n at near)) ∙ kids_of kinds at (inl near) in
       let all = all_kept items without p n row (table_rows items at) 0
       (λ k r e other. let z : k ≡ 0 + k = omega arith in subst (λ m. Kept items without p n row m r) z (row_kept k r e (λ w. other (omega arith))))
-      (λ k r e w. let z : row ≡ k = omega arith in let q : ◌≡◌ {A = Option Row} (Some r) (Some gone) = sym e ∙ ap (slice_get (table_rows items at)) (sym z) ∙ here in let y : r ≡ gone = cc in ap (λ (v : Row). v.at) y) in
+      (λ k r e w. let z : row ≡ k = omega arith in let q : ◌≡◌ {A = Option TableRow} (Some r) (Some gone) = sym e ∙ ap (slice_get (table_rows items at)) (sym z) ∙ here in let y : r ≡ gone = cc in ap (λ (v : TableRow). v.at) y) in
       let many = slice_get_within (table_rows items at) row gone here in
       ap (λ v. map (line_at without) (flat_map (λ (section : Open). section_rows (children_of (Tr ∷ []) without section.from)) v)) new_sections
       ∙ sym (sections_round items without p n row some lawful kinds ends (kids_of (Tr ∷ [])) sections 0 row (suc at) (partner items at) (omega arith) many

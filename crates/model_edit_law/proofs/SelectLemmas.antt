@@ -208,7 +208,7 @@ before_by bias (Attribute change ∷ ops) offset h none = let z = none (Attribut
 pub offsets_outside_stay : OffsetsOutsideStay
 offsets_outside_stay t offset = record {
   before = before;
-  suffix = λ h inside bias. after_by bias offset t (λ place p. counted bias place (omega arith)) (omega arith) inside;
+  past = λ h inside bias. after_by bias offset t (λ place p. counted bias place (omega arith)) (omega arith) inside;
   at_start = λ h. before_by Left t offset (omega arith) (λ ops. none_left offset (start_of t) ops (omega arith));
   at_end = λ h inside. after_by Right offset t (λ place p. le-leb place offset (omega arith)) (omega arith) inside;
 }

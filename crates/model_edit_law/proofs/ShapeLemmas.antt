@@ -7,8 +7,8 @@ use Rattle.model_items.specs.declared.plain_item.PlainItem.{PlainItem}
 use Rattle.model_items.specs.Same.{marks_same}
 use Rattle.model_items.proofs.LawLemmas.{Ok-same}
 use Rattle.model_change.specs.Transaction.{Transaction, edited}
-use Rattle.model_edit.specs.declared.build_fault.BuildFault.{BuildFault}
-use Rattle.model_items.specs.Offsets.{is_bad_span, places, partner, passes}
+use Rattle.model_edit.specs.Causes.{BuildCause}
+use Rattle.model_items.specs.Offsets.{is_bad_span, places_in, partner, passes}
 use Rattle.model_edit_law.specs.Fine.{Fine}
 use Rattle.model_edit.specs.Edits.{Change, transaction_of, Set, may_set}
 use Rattle.model_edit_law.proofs.OrderLemmas.{Rising, Fine-Rising, Rising-within, Rising-each, Fine-edits}
@@ -22,7 +22,8 @@ use Rattle.model_edit_law.proofs.EditLemmas.{edited-two}
 use Rattle.model_edit_law.proofs.NodeLemmas.{HoldsSame-content, content_held, content_not_first, other_node_lawful}
 use Rattle.model_edit_law.proofs.BracketLemmas.{node_parts, slice_get-split, slice_get-within}
 use Rattle.model_edit.specs.Convert.{opens_kind, converted, convert, attribute}
-use Rattle.model_edit.specs.Marking.{remark, remark_edit, remarked, marks_in, with_mark, without_mark, marking, unmarking, marked_unless, is_bad_mark}
+use Rattle.model_items.specs.Marks.{with_mark, without_mark}
+use Rattle.model_edit.specs.Marking.{remark, remark_edit, remarked, item_marks, marking, unmarking, marked_unless, is_bad_mark}
 
 pub if_ok_else : {A E : Type 0} (b : Bool) (e : E) (r : Result A E) (t : A) → (if b then Err e else r) ≡ Ok t → (b ≡ false) × (r ≡ Ok t)
 if_ok_else true e r t h = cc
@@ -31,7 +32,7 @@ if_ok_else false e r t h = (refl, h)
 pub remark_rises : (f : List Mark → List Mark) (n : ℕ) (o : Option PlainItem) → Rising n (suc n) (remark_edit f n o)
 remark_rises f n None = omega arith
 remark_rises f n (Some item) =
-    elim (marks_same (marks_in (remarked f item)) (marks_in item)) as (λ b. Rising n (suc n) (if b then [] else Change n 1 (remarked f item ∷ []) ∷ []))
+    elim (marks_same (item_marks (remarked f item)) (item_marks item)) as (λ b. Rising n (suc n) (if b then [] else Change n 1 (remarked f item ∷ []) ∷ []))
     [ true ↦ omega arith | false ↦ (omega arith, omega arith) ]
 
 -- what a range that is not refused tells
@@ -47,12 +48,12 @@ remark_fine f items from to h =
     let s = span_fits items from to h in
     let low = s.0 in
     let high = s.1 in
-    Fine-Rising items (flat_map (λ at. remark_edit f at (slice_get items at)) (places from to))
+    Fine-Rising items (flat_map (λ at. remark_edit f at (slice_get items at)) (places_in from to))
     (Rising-within from 0 (from + (to - from)) (length items) _ (omega arith) (omega arith)
     (Rising-each (λ at. remark_edit f at (slice_get items at)) (λ n. remark_rises f n (slice_get items n)) from (to - from)))
 
 pub marked_is : (o : Option ℕ) (s t : Transaction) → marked_unless o s ≡ Ok t → s ≡ t
-marked_is None s t h = Ok-same {E = BuildFault} s t h
+marked_is None s t h = Ok-same {E = BuildCause} s t h
 marked_is (Some at) s t h = cc
 
 pub marking_fine : (items : List PlainItem) (from to : ℕ) (m : Mark) (t : Transaction) → marking items from to m ≡ Ok t → Fine items t
@@ -66,7 +67,7 @@ pub unmarking_fine : (items : List PlainItem) (from to : ℕ) (m : Mark) (t : Tr
 unmarking_fine items from to m t h =
     let p = if_ok_else (is_bad_span items from to) _ _ t h in
     let q = if_ok_else (is_bad_mark m) _ _ t p.1 in
-    let e = Ok-same {E = BuildFault} _ t q.1 in
+    let e = Ok-same {E = BuildCause} _ t q.1 in
     subst (Fine items) e (remark_fine (without_mark m) items from to p.0)
 
 pub if_ok_then : {A E : Type 0} (b : Bool) (e : E) (r : Result A E) (t : A) → (if b then r else Err e) ≡ Ok t → (b ≡ true) × (r ≡ Ok t)
@@ -91,7 +92,7 @@ convert_fine items at kind t lawful h =
     let within = n.within in
     let edits = Change at 1 (converted kind (slice_get items at)) ∷ Change (partner items at) 1 (closing_of kind ∷ []) ∷ [] in
     let rising : Rising 0 (length items) edits = (omega arith, (omega arith, omega arith)) in
-    subst (Fine items) (Ok-same {E = BuildFault} (transaction_of items edits) t p.1) (Fine-Rising items edits rising)
+    subst (Fine items) (Ok-same {E = BuildCause} (transaction_of items edits) t p.1) (Fine-Rising items edits rising)
 
 pub from_place : (items : List PlainItem) (n : ℕ) (x : PlainItem) → slice_get items n ≡ Some x → drop n items ≡ x ∷ drop (suc n) items
 from_place [] n x h = cc
@@ -108,7 +109,7 @@ attribute_fine items at name to t h =
     let s = slice_get-split items at _ x.6 in
     let may : may_set name (drop (at - 0) items) ≡ true =
     ap (λ n. may_set name (drop n items)) (omega arith) ∙ ap (may_set name) (from_place items at _ x.6) ∙ and_from _ _ x.7 (ap not q.0) in
-    subst (Fine items) (Ok-same {E = BuildFault} (transaction_of items edits) t q.1) (Fine-edits items edits (omega arith, omega arith) (may, tt))
+    subst (Fine items) (Ok-same {E = BuildCause} (transaction_of items edits) t q.1) (Fine-edits items edits (omega arith, omega arith) (may, tt))
 
 -- A converted branch leaves a lawful list lawful.
 pub convert_lawful : (items : List PlainItem) (at : ℕ) (kind : Kind) (t : Transaction) → Lawful items → convert items at kind ≡ Ok t → Lawful (edited t items)
@@ -133,5 +134,5 @@ convert_lawful items at kind t lawful h =
     let lawful' = other_node_lawful items at k kind o.1 o.1 o.2 o.2 o.3 o.3 [] o.4 None o.5 false lawful o.6 n
     (content_not_first k o.7) (content_not_first kind q.1) (HoldsSame-content k kind o.7 q.1)
     (λ parent. content_held parent kind q.1 ∙ sym (content_held parent k o.7)) in
-    let e = Ok-same {E = BuildFault} (transaction_of items edits) t p.1 in
+    let e = Ok-same {E = BuildCause} (transaction_of items edits) t p.1 in
     subst (λ v. Lawful (edited v items)) e (subst Lawful (sym new) lawful')

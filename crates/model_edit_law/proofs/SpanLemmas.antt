@@ -4,7 +4,7 @@ use Rattle.std.proofs.Common.{◌≡◌, ℕ, ◌+◌, ◌-◌, ◌<◌, ◌≤�
 use Rattle.std.proofs.lemmas.Bool.{and_from, le-leb, false_from_ne_true, eqb-true}
 use Rattle.std.proofs.lemmas.Str.Parse.{IsDigitsTest, FoldsDigits, numerals_by_fold}
 use Rattle.std.proofs.lemmas.Fmt.{digits_decimal, digits_value-decimal, first_decimal}
-use Rattle.model_edit.specs.Grid.{number_after, number_of, span_by}
+use Rattle.model_edit.specs.Grid.{number_after, decimal_number, span_by}
 
 abbrev Glyphs : List ℕ → Type 0
 Glyphs [] = Unit {0}
@@ -20,7 +20,7 @@ number_after_digits n (c ∷ ds) d =
     let test : (nat_le 48 c && nat_le c 57) ≡ true = and_from _ _ (le-leb 48 c d.0) (le-leb c 57 d.1) in
     ap (λ b. if b then number_after (n * 10 + (c - 48)) ds else None) test ∙ number_after_digits (n * 10 + (c - 48)) ds d.2
 
-number_of_digits : (n : ℕ) (ds : List ℕ) → 48 < get_or ds 0 0 → Glyphs ds → folded 0 ds ≡ n → number_of ds ≡ Some n
+number_of_digits : (n : ℕ) (ds : List ℕ) → 48 < get_or ds 0 0 → Glyphs ds → folded 0 ds ≡ n → decimal_number ds ≡ Some n
 number_of_digits n [] first d e = absurd (omega arith)
 number_of_digits n (c ∷ ds) first d e =
     ap (λ b. if b then None else number_after 0 (c ∷ ds)) (false_from_ne_true (c == 48) (λ t. let z = eqb-true c 48 t in omega arith))
@@ -33,11 +33,11 @@ folds : FoldsDigits folded
 folds = record { empty = λ n. refl; more = λ n c cs k. refl }
 
 -- what a call writes into `rowspan` or `colspan` is what the grid reads
-pub number_of-decimal : (n : ℕ) → 1 ≤ n → n < 2 ^ 64 → number_of (decimal n) ≡ Some n
+pub number_of-decimal : (n : ℕ) → 1 ≤ n → n < 2 ^ 64 → decimal_number (decimal n) ≡ Some n
 number_of-decimal n some small =
     let own = numerals_by_fold Glyphs tells folded folds in
     number_of_digits n (decimal n) (first_decimal n (omega arith) small) (digits_decimal own n small) (digits_value-decimal own n small)
 
-pub span_written : (most n : ℕ) → 1 ≤ n → n ≤ most → most < 2 ^ 64 → span_by most (number_of (decimal n)) ≡ n
+pub span_written : (most n : ℕ) → 1 ≤ n → n ≤ most → most < 2 ^ 64 → span_by most (decimal_number (decimal n)) ≡ n
 span_written most n some low small =
     ap (span_by most) (number_of-decimal n some (omega arith)) ∙ ap (λ b. if b then n else 1) (le-leb n most low)

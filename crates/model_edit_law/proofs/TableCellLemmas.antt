@@ -10,9 +10,10 @@ use Rattle.model_items.specs.declared.plain_item.PlainItem.TheVariants.{Opening}
 use Rattle.model_items.specs.Tree.{Open}
 use Rattle.model_change.specs.Attributes.{value_of, attrs_changed, position_kept}
 use Rattle.model_edit.specs.declared.grid_cell.GridCell.{GridCell}
-use Rattle.model_edit.specs.declared.table_fault.TableFault.{TableFault}
-use Rattle.model_edit.specs.Grid.{Row, row_cells, number_of, span_by, span_in, span_of, most_rows, most_columns, placed, is_crooked, with_row, with_rows}
-use Rattle.model_edit_law.specs.Spans.{Span, span_at, span_after}
+use Rattle.model_edit.specs.Causes.{TableCause}
+use Rattle.ve_base.specs.Limits.{max_row_span, max_column_span}
+use Rattle.model_edit.specs.Grid.{TableRow, row_cells, decimal_number, span_by, span_in, cell_span, placed, is_crooked, with_row, with_rows}
+use Rattle.model_edit_law.specs.Spans.{CellSpan, cell_span_at, span_after}
 use Rattle.model_edit_law.proofs.SpanLemmas.{span_written}
 use Rattle.model_edit_law.proofs.TablePlaceLemmas.{if_ok_else}
 use Rattle.model_edit_law.proofs.TableSetLemmas.{Among, set_in, attrs_set, attrs_other}
@@ -23,7 +24,7 @@ pub record Placed (items : List PlainItem) (cells : List GridCell) (row : ℕ) (
   pub among : Among cell cells
   pub its_place : cell.at ≡ n.from
   pub its_row : cell.row ≡ row
-  pub its_rows : cell.rows ≡ (span_at items n).rows
+  pub its_rows : cell.rows ≡ (cell_span_at items n).rows
 
 abbrev pub AllPlaced : List PlainItem → List GridCell → ℕ → List Open → Type 0
 AllPlaced items cells row [] = Unit {0}
@@ -57,28 +58,28 @@ row_placed items row left end (n ∷ nodes) before cells h =
     )
 
 -- each node of each row
-pub rows_placed : (items : List PlainItem) (rows : List Row) (index : ℕ) (before cells : List GridCell) → with_rows items index rows (Ok before) ≡ Ok cells →
-    ((c : GridCell) → Among c before → Among c cells) × ((k : ℕ) (r : Row) → slice_get rows k ≡ Some r → AllPlaced items cells (index + k) (row_cells items r.at))
+pub rows_placed : (items : List PlainItem) (rows : List TableRow) (index : ℕ) (before cells : List GridCell) → with_rows items index rows (Ok before) ≡ Ok cells →
+    ((c : GridCell) → Among c before → Among c cells) × ((k : ℕ) (r : TableRow) → slice_get rows k ≡ Some r → AllPlaced items cells (index + k) (row_cells items r.at))
 rows_placed items [] index before cells h = let e : before ≡ cells = cc in ((λ c a. subst (Among c) e a), λ k r g. cc)
 rows_placed items (row ∷ rows) index before cells h =
     by (λ some g. rows_placed items rows (suc index) some cells g) (with_row items index row.left 0 (row_cells items row.at) before) refl h
   where
     each : (some : List GridCell) → AllPlaced items some index (row_cells items row.at) → ((c : GridCell) → Among c some → Among c cells) →
-        ((k : ℕ) (r : Row) → slice_get rows k ≡ Some r → AllPlaced items cells (suc index + k) (row_cells items r.at)) →
-        (k : ℕ) (r : Row) → slice_get (row ∷ rows) k ≡ Some r → AllPlaced items cells (index + k) (row_cells items r.at)
+        ((k : ℕ) (r : TableRow) → slice_get rows k ≡ Some r → AllPlaced items cells (suc index + k) (row_cells items r.at)) →
+        (k : ℕ) (r : TableRow) → slice_get (row ∷ rows) k ≡ Some r → AllPlaced items cells (index + k) (row_cells items r.at)
     each some here more later zero r g =
         let e : row ≡ r = cc in
         let z : index ≡ index + 0 = omega arith in
-        subst (λ (v : Row). AllPlaced items cells (index + 0) (row_cells items v.at)) e
+        subst (λ (v : TableRow). AllPlaced items cells (index + 0) (row_cells items v.at)) e
         (subst (λ m. AllPlaced items cells m (row_cells items row.at)) z (placed_in items some cells index (row_cells items row.at) more here))
     each some here more later (suc k) r g =
         let z : suc index + k ≡ index + suc k = omega arith in
         subst (λ m. AllPlaced items cells m (row_cells items r.at)) z (later k r g)
 
     by : ((some : List GridCell) → with_rows items (suc index) rows (Ok some) ≡ Ok cells →
-        ((c : GridCell) → Among c some → Among c cells) × ((k : ℕ) (r : Row) → slice_get rows k ≡ Some r → AllPlaced items cells (suc index + k) (row_cells items r.at))) →
-        (o : Result (List GridCell) TableFault) → with_row items index row.left 0 (row_cells items row.at) before ≡ o → with_rows items (suc index) rows o ≡ Ok cells →
-        ((c : GridCell) → Among c before → Among c cells) × ((k : ℕ) (r : Row) → slice_get (row ∷ rows) k ≡ Some r → AllPlaced items cells (index + k) (row_cells items r.at))
+        ((c : GridCell) → Among c some → Among c cells) × ((k : ℕ) (r : TableRow) → slice_get rows k ≡ Some r → AllPlaced items cells (suc index + k) (row_cells items r.at))) →
+        (o : Result (List GridCell) TableCause) → with_row items index row.left 0 (row_cells items row.at) before ≡ o → with_rows items (suc index) rows o ≡ Ok cells →
+        ((c : GridCell) → Among c before → Among c cells) × ((k : ℕ) (r : TableRow) → slice_get (row ∷ rows) k ≡ Some r → AllPlaced items cells (index + k) (row_cells items r.at))
     by next (Err e) g h = cc
     by next (Ok some) g h =
         let a = row_placed items index row.left 0 (row_cells items row.at) before some g in
@@ -86,8 +87,8 @@ rows_placed items (row ∷ rows) index before cells h =
         ((λ c m. b.0 c (a.0 c m)), each some a.1 b.0 b.1)
 
 -- the spans that an item spells
-abbrev pub span_read : Option PlainItem → Span
-span_read o = record { rows = span_of (codes "rowspan") most_rows o; columns = span_of (codes "colspan") most_columns o }
+abbrev pub span_read : Option PlainItem → CellSpan
+span_read o = record { rows = cell_span (codes "rowspan") max_row_span o; columns = cell_span (codes "colspan") max_column_span o }
 
 span_most_by : (most : ℕ) (o : Option ℕ) → 1 ≤ most → span_by most o ≤ most
 span_most_by most None l = l
@@ -99,40 +100,40 @@ span_most_by most (Some n) l = by (nat_le n most) refl
 
 span_most_in : (most : ℕ) (o : Option (List ℕ)) → 1 ≤ most → span_in most o ≤ most
 span_most_in most None l = l
-span_most_in most (Some text) l = span_most_by most (number_of text) l
+span_most_in most (Some text) l = span_most_by most (decimal_number text) l
 
 -- A cell that reaches the row which goes has one row less.
 module _ (kind : Kind) (head : Head) (marks : List Mark) (pre : List ℕ) (origin : Option ℕ) (generated : Bool) where
   abbrev cell_item : PlainItem
   cell_item = Opening kind head marks pre origin generated
 
-  rows_written : (m : ℕ) → 1 ≤ m → m ≤ most_rows → span_read (set_in (codes "rowspan") (Some (decimal m)) (Some cell_item)) ≡ record (span_read (Some cell_item)) { rows = m }
+  rows_written : (m : ℕ) → 1 ≤ m → m ≤ max_row_span → span_read (set_in (codes "rowspan") (Some (decimal m)) (Some cell_item)) ≡ record (span_read (Some cell_item)) { rows = m }
   rows_written m some most =
-      let rows : span_in most_rows (value_of (codes "rowspan") (attrs_changed (codes "rowspan") (position_kept (value_of (codes "rowspan") head.attrs) (Some (decimal m)) (codes "rowspan") None cell_item) (value_of (codes "rowspan") head.attrs) (Some (decimal m)) head.attrs)) ≡ m =
-      ap (span_in most_rows) (attrs_set (codes "rowspan") (decimal m) head.attrs cell_item) ∙ span_written most_rows m some most (omega arith) in
-      let columns = ap (span_in most_columns) (attrs_other (codes "rowspan") (decimal m) (codes "colspan") head.attrs cell_item refl) in
+      let rows : span_in max_row_span (value_of (codes "rowspan") (attrs_changed (codes "rowspan") (position_kept (value_of (codes "rowspan") head.attrs) (Some (decimal m)) (codes "rowspan") None cell_item) (value_of (codes "rowspan") head.attrs) (Some (decimal m)) head.attrs)) ≡ m =
+      ap (span_in max_row_span) (attrs_set (codes "rowspan") (decimal m) head.attrs cell_item) ∙ span_written max_row_span m some most (omega arith) in
+      let columns = ap (span_in max_column_span) (attrs_other (codes "rowspan") (decimal m) (codes "colspan") head.attrs cell_item refl) in
       (λ i. record { rows = rows i; columns = columns i })
 
-  pub columns_written : (m : ℕ) → 1 ≤ m → m ≤ most_columns → span_read (set_in (codes "colspan") (Some (decimal m)) (Some cell_item)) ≡ record (span_read (Some cell_item)) { columns = m }
+  pub columns_written : (m : ℕ) → 1 ≤ m → m ≤ max_column_span → span_read (set_in (codes "colspan") (Some (decimal m)) (Some cell_item)) ≡ record (span_read (Some cell_item)) { columns = m }
   columns_written m some most =
-      let columns : span_in most_columns (value_of (codes "colspan") (attrs_changed (codes "colspan") (position_kept (value_of (codes "colspan") head.attrs) (Some (decimal m)) (codes "colspan") None cell_item) (value_of (codes "colspan") head.attrs) (Some (decimal m)) head.attrs)) ≡ m =
-      ap (span_in most_columns) (attrs_set (codes "colspan") (decimal m) head.attrs cell_item) ∙ span_written most_columns m some most (omega arith) in
-      let rows = ap (span_in most_rows) (attrs_other (codes "colspan") (decimal m) (codes "rowspan") head.attrs cell_item refl) in
+      let columns : span_in max_column_span (value_of (codes "colspan") (attrs_changed (codes "colspan") (position_kept (value_of (codes "colspan") head.attrs) (Some (decimal m)) (codes "colspan") None cell_item) (value_of (codes "colspan") head.attrs) (Some (decimal m)) head.attrs)) ≡ m =
+      ap (span_in max_column_span) (attrs_set (codes "colspan") (decimal m) head.attrs cell_item) ∙ span_written max_column_span m some most (omega arith) in
+      let rows = ap (span_in max_row_span) (attrs_other (codes "colspan") (decimal m) (codes "rowspan") head.attrs cell_item refl) in
       (λ i. record { rows = rows i; columns = columns i })
 
-  pub columns_most : (span_read (Some cell_item)).columns ≤ most_columns
-  columns_most = span_most_in most_columns (value_of (codes "colspan") head.attrs) (omega arith)
+  pub columns_most : (span_read (Some cell_item)).columns ≤ max_column_span
+  columns_most = span_most_in max_column_span (value_of (codes "colspan") head.attrs) (omega arith)
 
   pub span_less : (rows k gone : ℕ) → rows ≡ (span_read (Some cell_item)).rows → k < gone →
       span_read (if nat_lt gone (k + rows) then set_in (codes "rowspan") (Some (decimal (rows - 1))) (Some cell_item) else Some cell_item) ≡ span_after gone k (span_read (Some cell_item))
   span_less rows k gone e l =
       subst (λ m. span_read (if nat_lt gone (k + m) then set_in (codes "rowspan") (Some (decimal (m - 1))) (Some cell_item) else Some cell_item) ≡ span_after gone k (span_read (Some cell_item))) (sym e)
-      (by (nat_lt gone (k + (span_read (Some cell_item)).rows)) refl (span_most_in most_rows (value_of (codes "rowspan") head.attrs) (omega arith)))
+      (by (nat_lt gone (k + (span_read (Some cell_item)).rows)) refl (span_most_in max_row_span (value_of (codes "rowspan") head.attrs) (omega arith)))
     where
-      own : Span
+      own : CellSpan
       own = span_read (Some cell_item)
 
-      by : (b : Bool) → nat_lt gone (k + own.rows) ≡ b → own.rows ≤ most_rows →
+      by : (b : Bool) → nat_lt gone (k + own.rows) ≡ b → own.rows ≤ max_row_span →
           span_read (if b then set_in (codes "rowspan") (Some (decimal (own.rows - 1))) (Some cell_item) else Some cell_item) ≡ (if b then record own { rows = own.rows - 1 } else own)
       by true t most = (let far = ltb-true gone (k + own.rows) t in rows_written (own.rows - 1) (omega arith) (omega arith))
       by false t most = refl

@@ -16,8 +16,8 @@ use Rattle.model_edit_law.specs.Fine.{Fine}
 use Rattle.model_edit.specs.Edits.{Edit, Change, Set, transaction_of, InOrder, may_set, MaySet}
 use Rattle.model_edit_law.proofs.OrderLemmas.{Fine-edits}
 use Rattle.model_edit.specs.declared.grid_cell.GridCell.{GridCell}
-use Rattle.model_edit.specs.declared.table_fault.TableFault.{TableFault}
-use Rattle.model_edit.specs.Grid.{Row, Grid, grid, table_rows, covers_row, covers_column}
+use Rattle.model_edit.specs.Causes.{TableCause}
+use Rattle.model_edit.specs.Grid.{TableRow, Grid, grid, table_rows, covers_row, covers_column}
 use Rattle.model_edit.specs.Tables.{spans_row, spans_column, fault_or, on_grid, row_place, new_row, new_cell, row_in_edits, cell_place, column_edits, whole_node, row_removed, cell_removed}
 use Rattle.model_edit_law.specs.TableLaws.{RowInIsFine, ColInIsFine, RowOutIsFine, ColOutIsFine}
 use Rattle.model_edit_law.proofs.TablePlaceLemmas.{Opens, Chain, Chain-within, Chain-ends, Chain-filter, row_at, cell_kinds, cell_at, Homes, Standing, grid_stands}
@@ -109,7 +109,7 @@ sets_may items name f (cell ∷ cells) low high free c =
     (may_here items (c.1.0) cell.at name free (c.1.1) (c.1.2), sets_may items name f cells (end_of_node items cell.at) high free c.2)
 
 -- a row stands where the chain does
-pub row_within : (items : List PlainItem) (kinds : List Kind) (low high : ℕ) (rows : List Row) (i : ℕ) (r : Row) → Chain row_at items kinds low high rows → slice_get rows i ≡ Some r →
+pub row_within : (items : List PlainItem) (kinds : List Kind) (low high : ℕ) (rows : List TableRow) (i : ℕ) (r : TableRow) → Chain row_at items kinds low high rows → slice_get rows i ≡ Some r →
     (low ≤ r.at) × (suc (partner items r.at) ≤ high)
 row_within items kinds low high [] i r c h = cc
 row_within items kinds low high (one ∷ rows) zero r c h =
@@ -124,16 +124,16 @@ row_within items kinds low high (one ∷ rows) (suc i) r c h =
     (omega arith, p.1)
 
 -- an earlier row ends before a later one begins
-pub rows_apart : (items : List PlainItem) (kinds : List Kind) (low high : ℕ) (rows : List Row) (i k : ℕ) (r later : Row) → Chain row_at items kinds low high rows →
+pub rows_apart : (items : List PlainItem) (kinds : List Kind) (low high : ℕ) (rows : List TableRow) (i k : ℕ) (r later : TableRow) → Chain row_at items kinds low high rows →
     slice_get rows i ≡ Some r → slice_get rows k ≡ Some later → i < k → suc (partner items r.at) ≤ later.at
 rows_apart items kinds low high [] i k r later c h g less = cc
 rows_apart items kinds low high (one ∷ rows) i zero r later c h g less = absurd (omega arith)
 rows_apart items kinds low high (one ∷ rows) zero (suc k) r later c h g less =
     let e : one ≡ r = cc in
-    subst (λ (v : Row). suc (partner items v.at) ≤ later.at) e (row_within items kinds (end_of_node items one.at) high rows k later c.2 g).0
+    subst (λ (v : TableRow). suc (partner items v.at) ≤ later.at) e (row_within items kinds (end_of_node items one.at) high rows k later c.2 g).0
 rows_apart items kinds low high (one ∷ rows) (suc i) (suc k) r later c h g less = rows_apart items kinds (end_of_node items one.at) high rows i k r later c.2 h g (omega arith)
 
-place_within : (items : List PlainItem) (kinds : List Kind) (low high : ℕ) (one : Row) (rows : List Row) (k : ℕ) → Chain row_at items kinds low high (one ∷ rows) →
+place_within : (items : List PlainItem) (kinds : List Kind) (low high : ℕ) (one : TableRow) (rows : List TableRow) (k : ℕ) → Chain row_at items kinds low high (one ∷ rows) →
     (low ≤ row_place items (one ∷ rows) k) × (row_place items (one ∷ rows) k ≤ high)
 place_within items kinds low high one [] zero c = let a = c.0 in let b = c.2 in let d = (c.1.2).ahead in (c.0, omega arith)
 place_within items kinds low high one [] (suc k) c = let a = c.0 in let b = c.2 in let d = (c.1.2).ahead in (omega arith, c.2)
@@ -143,21 +143,21 @@ place_within items kinds low high one (next ∷ rows) (suc k) c =
     let r = place_within items kinds (end_of_node items one.at) high next rows k c.2 in
     let a = c.0 in let d = (c.1.2).ahead in let q = r.0 in (omega arith, r.1)
 
-place_after : (items : List PlainItem) (kinds : List Kind) (low high : ℕ) (rows : List Row) (i k : ℕ) (r : Row) → Chain row_at items kinds low high rows →
+place_after : (items : List PlainItem) (kinds : List Kind) (low high : ℕ) (rows : List TableRow) (i k : ℕ) (r : TableRow) → Chain row_at items kinds low high rows →
     slice_get rows i ≡ Some r → i < k → suc (partner items r.at) ≤ row_place items rows k
 place_after items kinds low high [] i k r c h less = cc
 place_after items kinds low high (one ∷ rows) i zero r c h less = absurd (omega arith)
-place_after items kinds low high (one ∷ []) zero (suc k) r c h less = let e : one ≡ r = cc in subst (λ (v : Row). suc (partner items v.at) ≤ suc (partner items one.at)) e (omega arith)
+place_after items kinds low high (one ∷ []) zero (suc k) r c h less = let e : one ≡ r = cc in subst (λ (v : TableRow). suc (partner items v.at) ≤ suc (partner items one.at)) e (omega arith)
 place_after items kinds low high (one ∷ []) (suc i) (suc k) r c h less = cc
 place_after items kinds low high (one ∷ next ∷ rows) zero (suc k) r c h less =
     let e : one ≡ r = cc in
-    subst (λ (v : Row). suc (partner items v.at) ≤ row_place items (next ∷ rows) k) e (place_within items kinds (end_of_node items one.at) high next rows k c.2).0
+    subst (λ (v : TableRow). suc (partner items v.at) ≤ row_place items (next ∷ rows) k) e (place_within items kinds (end_of_node items one.at) high next rows k c.2).0
 place_after items kinds low high (one ∷ next ∷ rows) (suc i) (suc k) r c h less =
     place_after items kinds (end_of_node items one.at) high (next ∷ rows) i k r c.2 h (omega arith)
 
 -- cells of rows above a place
-spanning_up : (items : List PlainItem) (rows : List Row) (row place : ℕ) (cells : List GridCell) → Homes items rows cells →
-    ((i : ℕ) (r : Row) → slice_get rows i ≡ Some r → i < row → suc (partner items r.at) ≤ place) → Ups place (filter (spans_row row) cells)
+spanning_up : (items : List PlainItem) (rows : List TableRow) (row place : ℕ) (cells : List GridCell) → Homes items rows cells →
+    ((i : ℕ) (r : TableRow) → slice_get rows i ≡ Some r → i < row → suc (partner items r.at) ≤ place) → Ups place (filter (spans_row row) cells)
 spanning_up items rows row place [] h g = tt
 spanning_up items rows row place (cell ∷ cells) h g =
     let F = filter (spans_row row) cells in
@@ -172,15 +172,15 @@ spanning_up items rows row place (cell ∷ cells) h g =
       | inr no_ ↦ subst (λ b. Ups place (cond b (cell ∷ F) F)) (sym no_) rest
     ]
 
-pub fault_or_is : (o : Option TableFault) (s t : Transaction) → fault_or o s ≡ Ok t → s ≡ t
-fault_or_is None s t h = Ok-same {E = TableFault} s t h
+pub fault_or_is : (o : Option TableCause) (s t : Transaction) → fault_or o s ≡ Ok t → s ≡ t
+fault_or_is None s t h = Ok-same {E = TableCause} s t h
 fault_or_is (Some e) s t h = cc
 
-pub grid_given : (r : Result Grid TableFault) (f : Grid → Result Transaction TableFault) (t : Transaction) → on_grid r f ≡ Ok t → (g : Grid) × (r ≡ Ok g) × (f g ≡ Ok t)
+pub grid_given : (r : Result Grid TableCause) (f : Grid → Result Transaction TableCause) (t : Transaction) → on_grid r f ≡ Ok t → (g : Grid) × (r ≡ Ok g) × (f g ≡ Ok t)
 grid_given (Err e) f t h = cc
 grid_given (Ok g) f t h = (g, refl, h)
 
-row_place_high : (items : List PlainItem) (kinds : List Kind) (low high : ℕ) (rows : List Row) (k : ℕ) → Chain row_at items kinds low high rows → row_place items rows k ≤ high
+row_place_high : (items : List PlainItem) (kinds : List Kind) (low high : ℕ) (rows : List TableRow) (k : ℕ) → Chain row_at items kinds low high rows → row_place items rows k ≤ high
 row_place_high items kinds low high [] k c = omega arith
 row_place_high items kinds low high (one ∷ rows) k c = (place_within items kinds low high one rows k c).1
 
@@ -208,7 +208,7 @@ row_in_fine items at row t lawful h =
     let may : EachMay items edits = EachMay-append items (sets (codes "rowspan") f cells) (Change (row_place items (table_rows items at) row) 0 (new_row g row) ∷ []) (sets_may items (codes "rowspan") f cells (suc at) (partner items at) refl chain) tt in
     subst (Fine items) (fault_or_is _ (transaction_of items edits) t p.2) (fine_each items edits (row_in_order items at row g s) may)
 
-removed_order : (items : List PlainItem) (place : ℕ) (o : Option Row) → ((r : Row) → o ≡ Some r → (place ≡ r.at) × (suc (partner items r.at) ≤ length items) × (suc r.at ≤ partner items r.at)) →
+removed_order : (items : List PlainItem) (place : ℕ) (o : Option TableRow) → ((r : TableRow) → o ≡ Some r → (place ≡ r.at) × (suc (partner items r.at) ≤ length items) × (suc r.at ≤ partner items r.at)) →
     place ≤ length items → (l : ℕ) → l ≤ place → InOrder l (length items) (row_removed items o)
 removed_order items place None h high l low = omega arith
 removed_order items place (Some r) h high l low =
@@ -218,21 +218,21 @@ removed_order items place (Some r) h high l low =
     let c = p.2 in
     (omega arith, omega arith)
 
-removed_may : (items : List PlainItem) (o : Option Row) → EachMay items (row_removed items o)
+removed_may : (items : List PlainItem) (o : Option TableRow) → EachMay items (row_removed items o)
 removed_may items None = tt
 removed_may items (Some r) = tt
 
-pub row_ahead : (items : List PlainItem) (kinds : List Kind) (low high : ℕ) (rows : List Row) (i : ℕ) (r : Row) → Chain row_at items kinds low high rows → slice_get rows i ≡ Some r → suc r.at ≤ partner items r.at
+pub row_ahead : (items : List PlainItem) (kinds : List Kind) (low high : ℕ) (rows : List TableRow) (i : ℕ) (r : TableRow) → Chain row_at items kinds low high rows → slice_get rows i ≡ Some r → suc r.at ≤ partner items r.at
 row_ahead items kinds low high [] i r c h = cc
-row_ahead items kinds low high (one ∷ rows) zero r c h = let e : one ≡ r = cc in subst (λ (v : Row). suc v.at ≤ partner items v.at) e (c.1.2).ahead
+row_ahead items kinds low high (one ∷ rows) zero r c h = let e : one ≡ r = cc in subst (λ (v : TableRow). suc v.at ≤ partner items v.at) e (c.1.2).ahead
 row_ahead items kinds low high (one ∷ rows) (suc i) r c h = row_ahead items kinds (end_of_node items one.at) high rows i r c.2 h
 
 -- where the row stands, and else the end of the list
-place_or_end : List PlainItem → Option Row → ℕ
+place_or_end : List PlainItem → Option TableRow → ℕ
 place_or_end items None = length items
 place_or_end items (Some r) = r.at
 
-pub row_out_order : (items : List PlainItem) (at row : ℕ) (g : Grid) → Standing items at g → (o : Option Row) → slice_get (table_rows items at) row ≡ o →
+pub row_out_order : (items : List PlainItem) (at row : ℕ) (g : Grid) → Standing items at g → (o : Option TableRow) → slice_get (table_rows items at) row ≡ o →
     InOrder 0 (length items) (sets (codes "rowspan") (λ c. Some (decimal (c.rows - 1))) (filter (spans_row row) g.cells) ++ row_removed items o)
 row_out_order items at row g s None e =
     let rows = table_rows items at in
@@ -323,7 +323,7 @@ chain_between items low high low' high' (cell ∷ cells) h b c =
     (b.0, c.1, chain_up_to items (end_of_node items cell.at) high high' cells b.1 (Between-zero items low' high' cells b.2) c.2)
 
 -- the cells of one row
-row_between : (items : List PlainItem) (rows : List Row) (index : ℕ) (row : Row) (cells : List GridCell) → Homes items rows cells → slice_get rows index ≡ Some row →
+row_between : (items : List PlainItem) (rows : List TableRow) (index : ℕ) (row : TableRow) (cells : List GridCell) → Homes items rows cells → slice_get rows index ≡ Some row →
     Between items (suc row.at) (partner items row.at) (filter (λ (c : GridCell). c.row == index) cells)
 row_between items rows index row [] h e = tt
 row_between items rows index row (cell ∷ cells) h e =
@@ -334,15 +334,15 @@ row_between items rows index row (cell ∷ cells) h e =
       | inl yes_ ↦
           (let home = h.0 in
           let z = eqb-true cell.row index yes_ in
-          let same : home.row ≡ row = (let q : ◌≡◌ {A = Option Row} (Some home.row) (Some row) = sym home.named ∙ ap (slice_get rows) z ∙ e in cc) in
-          let low : suc row.at ≤ cell.at = subst (λ (r : Row). suc r.at ≤ cell.at) same home.low in
-          let high : end_of_node items cell.at ≤ partner items row.at = subst (λ (r : Row). end_of_node items cell.at ≤ partner items r.at) same home.high in
+          let same : home.row ≡ row = (let q : ◌≡◌ {A = Option TableRow} (Some home.row) (Some row) = sym home.named ∙ ap (slice_get rows) z ∙ e in cc) in
+          let low : suc row.at ≤ cell.at = subst (λ (r : TableRow). suc r.at ≤ cell.at) same home.low in
+          let high : end_of_node items cell.at ≤ partner items row.at = subst (λ (r : TableRow). end_of_node items cell.at ≤ partner items r.at) same home.high in
           subst P (sym yes_) (low, high, rest))
       | inr no_ ↦ subst P (sym no_) rest
     ]
 
 -- where no cell grows into the new column at this row, none of the row's cells spans it
-none_spans : (items : List PlainItem) (rows : List Row) (index column : ℕ) (cells : List GridCell) → Homes items rows cells →
+none_spans : (items : List PlainItem) (rows : List TableRow) (index column : ℕ) (cells : List GridCell) → Homes items rows cells →
     list_any (λ (c : GridCell). spans_column column c && covers_row c index) cells ≡ false →
     filter (spans_column column) (filter (λ (c : GridCell). c.row == index) cells) ≡ []
 none_spans items rows index column [] h n = refl
@@ -367,7 +367,7 @@ none_spans items rows index column (cell ∷ cells) h n =
     and_false false b e h = refl
 
 -- the new cell's place is in the row
-place_between : (items : List PlainItem) (row : Row) (column low : ℕ) (cells : List GridCell) → Chain cell_at items cell_kinds low (partner items row.at) cells →
+place_between : (items : List PlainItem) (row : TableRow) (column low : ℕ) (cells : List GridCell) → Chain cell_at items cell_kinds low (partner items row.at) cells →
     (low ≤ cell_place items row column cells) × (cell_place items row column cells ≤ partner items row.at)
 place_between items row column low [] c = (c, omega arith)
 place_between items row column low (cell ∷ []) c =
@@ -402,7 +402,7 @@ pub record RowEdits (items : List PlainItem) (low high : ℕ) (edits : List Edit
   pub order : InOrder low high edits
   pub may : EachMay items edits
 
-row_edits : (items : List PlainItem) (at column : ℕ) (g : Grid) → Standing items at g → (index : ℕ) (row : Row) → slice_get (table_rows items at) index ≡ Some row →
+row_edits : (items : List PlainItem) (at column : ℕ) (g : Grid) → Standing items at g → (index : ℕ) (row : TableRow) → slice_get (table_rows items at) index ≡ Some row →
     RowEdits items (suc row.at) (partner items row.at) (column_edits items column g (index, row))
 row_edits items at column g s index row e =
     let rows = table_rows items at in
@@ -431,8 +431,8 @@ row_edits items at column g s index row e =
           (record { order = (b0, omega arith); may = tt }))
     ]
 
-pub all_row_edits : (items : List PlainItem) (at column : ℕ) (g : Grid) → Standing items at g → (rows : List Row) (index low high : ℕ) →
-    ((n : ℕ) (row : Row) → slice_get rows n ≡ Some row → slice_get (table_rows items at) (index + n) ≡ Some row) → Chain row_at items (Tr ∷ []) low high rows →
+pub all_row_edits : (items : List PlainItem) (at column : ℕ) (g : Grid) → Standing items at g → (rows : List TableRow) (index low high : ℕ) →
+    ((n : ℕ) (row : TableRow) → slice_get rows n ≡ Some row → slice_get (table_rows items at) (index + n) ≡ Some row) → Chain row_at items (Tr ∷ []) low high rows →
     RowEdits items low high (flat_map (column_edits items column g) (enumerate_from index rows))
 all_row_edits items at column g s [] index low high named c = record { order = c; may = tt }
 all_row_edits items at column g s (row ∷ rows) index low high named c =

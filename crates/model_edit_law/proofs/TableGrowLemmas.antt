@@ -4,10 +4,10 @@ use Rattle.std.specs.List.{list_any, range_with_len, enumerate_from}
 use Rattle.std.proofs.lemmas.Bool.{and_parts, and_from, or_parts}
 use Rattle.ve_kinds.specs.declared.kind.Kind.TheVariants.{Th, Tr, Td, P, InternalList}
 use Rattle.ve_kinds.specs.Table.{may_hold, is_among, kind_same}
-use Rattle.model_items.specs.Law.{top, opened, State, start, finish, may_open, step, joined, after, verdict, verdict_at, Lawful}
+use Rattle.model_items.specs.Law.{top, opened, State, start, finish, may_open, step, followed, after, verdict, verdict_at, Lawful}
 use Rattle.model_edit_law.proofs.BracketLemmas.{HoldsSame-itself, state_of, Leads, leads_cons, leads_append, opened_leads, node_parts}
 use Rattle.model_edit_law.proofs.EditLemmas.{take-whole, edited-transaction_from, order_ends}
-use Rattle.model_edit.specs.Grid.{covers_row, Row, Grid, grid, table_rows, covers_column}
+use Rattle.model_edit.specs.Grid.{covers_row, TableRow, Grid, grid, table_rows, covers_column}
 use Rattle.model_edit.specs.Tables.{spans_column, cell_place, column_edits, spans_row, first_fault, fault_or, row_place, new_row, new_cell, row_in_edits}
 use Rattle.model_edit_law.specs.TableLaws.{ColInStaysLawful, RowInStaysLawful}
 use Rattle.model_edit_law.proofs.TableFineLemmas.{all_row_edits, InOrder-within, drop_twice, drop_at, sets, fault_or_is, grid_given, row_in_order}
@@ -28,7 +28,7 @@ use Rattle.model_items.specs.Offsets.{partner, end_of_node}
 use Rattle.model_edit.specs.Edits.{Edit, Change, Set, setting, transaction_of, substituted_from, InOrder}
 use Rattle.model_edit_law.proofs.NodeLemmas.{opened_state}
 use Rattle.model_edit.specs.declared.grid_cell.GridCell.{GridCell}
-use Rattle.model_edit.specs.declared.table_fault.TableFault.{TableFault}
+use Rattle.model_edit.specs.Causes.{TableCause}
 use Rattle.model_edit_law.proofs.TablePlaceLemmas.{Opens, Chain, Chain-filter, row_at, cell_kinds, cell_at, grid_stands}
 
 take_split : (n k m : ℕ) (xs : List PlainItem) → n + k ≡ m → take m xs ≡ take n xs ++ take k (drop n xs)
@@ -99,7 +99,7 @@ led whole (Set place name to ∷ edits) n end s o w m r h =
     let past : after start (take (suc place) whole) ≡ Ok q.0 =
     ap (after start) (take_split place 1 (suc place) whole z) ∙ after_whole (take place whole) (take 1 (drop place whole)) start p.0 q.0 there (ap (after p.0) one ∙ q.1) in
     let c = setting name to rest in
-    let changed : after p.0 (item_changed c x.0 ∷ []) ≡ Ok q.0 = ap (λ v. joined 1 v (λ next. Ok next)) (same_step c p.0 x.0) ∙ q.1 in
+    let changed : after p.0 (item_changed c x.0 ∷ []) ≡ Ok q.0 = ap (λ v. followed 1 v (λ next. Ok next)) (same_step c p.0 x.0) ∙ q.1 in
     let later = led whole edits (suc place) end q.0 o.1 w m past q.2 in
     let tail : substituted_from place (on_first (item_changed c) rest) edits ≡ item_changed c x.0 ∷ substituted_from (suc place) (drop (suc place) whole) edits =
     ap (λ v. substituted_from place (on_first (item_changed c) v) edits) e1 ∙ skip_first edits place end (item_changed c x.0) (drop (suc place) whole) o.1 in
@@ -164,14 +164,14 @@ may_after items at lawful o s h =
 opens_Tr : (items : List PlainItem) (at : ℕ) → (kind : Kind) × (is_among (Tr ∷ []) kind ≡ true) × Opens items kind at → Opens items Tr at
 opens_Tr items at o = subst (λ k. Opens items k at) (is_Tr o.0 o.1) o.2
 
-may_place : (items : List PlainItem) (low high : ℕ) (one : Row) (rows : List Row) (k : ℕ) → Lawful items → Chain row_at items (Tr ∷ []) low high (one ∷ rows) → (s : State) →
+may_place : (items : List PlainItem) (low high : ℕ) (one : TableRow) (rows : List TableRow) (k : ℕ) → Lawful items → Chain row_at items (Tr ∷ []) low high (one ∷ rows) → (s : State) →
     after start (take (row_place items (one ∷ rows) k) items) ≡ Ok s → may_open s Tr ≡ true
 may_place items low high one [] zero lawful c s h = may_at items one.at lawful (opens_Tr items one.at c.1) s h
 may_place items low high one [] (suc k) lawful c s h = may_after items one.at lawful (opens_Tr items one.at c.1) s h
 may_place items low high one (next ∷ rows) zero lawful c s h = may_at items one.at lawful (opens_Tr items one.at c.1) s h
 may_place items low high one (next ∷ rows) (suc k) lawful c s h = may_place items (end_of_node items one.at) high next rows k lawful c.2 s h
 
-first_no : (b : Bool) (e : TableFault) (causes : List (Bool × TableFault)) (s t : Transaction) → fault_or (first_fault ((b, e) ∷ causes)) s ≡ Ok t → b ≡ false
+first_no : (b : Bool) (e : TableCause) (causes : List (Bool × TableCause)) (s t : Transaction) → fault_or (first_fault ((b, e) ∷ causes)) s ≡ Ok t → b ≡ false
 first_no false e causes s t h = refl
 first_no true e causes s t h = cc
 
@@ -191,7 +191,7 @@ row_in_lawful items at row t lawful h =
     (sets_led items (codes "rowspan") (λ c. Some (decimal (suc c.rows))) (filter (spans_row row) g.cells) (Change (row_place items (table_rows items at) row) 0 (new_row g row) ∷ [])
     ((λ st v r e. subst (Leads (after st (new_row g row))) (Ok-same {E = LawFault} st v e) (row_leads g row st (may (table_rows items at) s.rows (sym s.count) some st r))), tt)))
   where
-    may : (rows : List Row) → Chain row_at items (Tr ∷ []) (suc at) (partner items at) rows → {n : ℕ} → length rows ≡ n → (n == 0) ≡ false → (st : State) → after start (take (row_place items rows row) items) ≡ Ok st → may_open st Tr ≡ true
+    may : (rows : List TableRow) → Chain row_at items (Tr ∷ []) (suc at) (partner items at) rows → {n : ℕ} → length rows ≡ n → (n == 0) ≡ false → (st : State) → after start (take (row_place items rows row) items) ≡ Ok st → may_open st Tr ≡ true
     may [] c e z st r = absurd (let q = ap (λ n. n == 0) e in let w : true ≡ false = q ∙ z in cc)
     may (one ∷ rows) c e z st r = may_place items (suc at) (partner items at) one rows row lawful c st r
 
@@ -233,11 +233,11 @@ row_end_may items at lawful o s h =
     take_split at (suc (length c.inside)) (partner items at) items (omega arith)
     ∙ ap (λ v. take at items ++ v) (ap (take (suc (length c.inside))) (drop_at items at x o.here) ∙ ap (λ v. x ∷ take (length c.inside) v) c.whole ∙ ap (λ v. x ∷ v) (take-whole c.inside _)) in
     let inside : after p.before (x ∷ c.inside) ≡ Ok a =
-    ap (λ r. joined 1 r (λ next. after next c.inside)) (p.allowed.1 ∙ ap Ok st.2) ∙ ap (λ r. Rattle.model_items.specs.Law.outcome_moved 1 r) (c.kept Tr (p.before).stack (p.before).seen (HoldsSame-itself Tr) (omega arith)) in
+    ap (λ r. followed 1 r (λ next. after next c.inside)) (p.allowed.1 ∙ ap Ok st.2) ∙ ap (λ r. Rattle.model_items.specs.Law.outcome_moved 1 r) (c.kept Tr (p.before).stack (p.before).seen (HoldsSame-itself Tr) (omega arith)) in
     let e : a ≡ s = Ok-same {E = LawFault} a s (sym (after_whole (take at items) (x ∷ c.inside) start p.before a p.reached inside) ∙ ap (after start) (sym cut) ∙ h) in
     subst (λ (v : State). may_open v Td ≡ true) e refl
 
-cell_place_may : (items : List PlainItem) (row : Row) (column low high : ℕ) (cells : List GridCell) → Lawful items → Opens items Tr row.at → Chain cell_at items cell_kinds low high cells → (s : State) →
+cell_place_may : (items : List PlainItem) (row : TableRow) (column low high : ℕ) (cells : List GridCell) → Lawful items → Opens items Tr row.at → Chain cell_at items cell_kinds low high cells → (s : State) →
     after start (take (cell_place items row column cells) items) ≡ Ok s → may_open s Td ≡ true
 cell_place_may items row column low high [] lawful o c s h = row_end_may items row.at lawful o s h
 cell_place_may items row column low high (cell ∷ []) lawful o c s h = by (nat_le column cell.column) h
@@ -265,7 +265,7 @@ EachLed-append items [] ys h g = g
 EachLed-append items (Change place count inserted ∷ xs) ys h g = (h.0, EachLed-append items xs ys h.1 g)
 EachLed-append items (Set place name to ∷ xs) ys h g = EachLed-append items xs ys h g
 
-columns_led : (items : List PlainItem) (column : ℕ) (g : Grid) (clow chigh : ℕ) → Lawful items → Chain cell_at items cell_kinds clow chigh g.cells → (rows : List Row) (index low high : ℕ) →
+columns_led : (items : List PlainItem) (column : ℕ) (g : Grid) (clow chigh : ℕ) → Lawful items → Chain cell_at items cell_kinds clow chigh g.cells → (rows : List TableRow) (index low high : ℕ) →
     Chain row_at items (Tr ∷ []) low high rows → EachLed items (flat_map (column_edits items column g) (enumerate_from index rows))
 columns_led items column g clow chigh lawful cells [] index low high c = tt
 columns_led items column g clow chigh lawful cells (row ∷ rows) index low high c =

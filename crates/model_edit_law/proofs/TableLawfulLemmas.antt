@@ -18,7 +18,7 @@ use Rattle.model_edit_law.proofs.EditLemmas.{take-whole}
 use Rattle.model_edit_law.proofs.BracketLemmas.{state_of, node_parts, HoldsSame-itself}
 use Rattle.model_edit_law.proofs.NodeLemmas.{opened_state}
 use Rattle.model_edit.specs.declared.grid_cell.GridCell.{GridCell}
-use Rattle.model_edit.specs.Grid.{Row, grid, table_rows, covers_column}
+use Rattle.model_edit.specs.Grid.{TableRow, grid, table_rows, covers_column}
 use Rattle.model_edit.specs.Tables.{spans_row, whole_node, row_removed, cell_removed}
 use Rattle.model_edit_law.specs.TableLaws.{RowOutStaysLawful, ColOutStaysLawful}
 use Rattle.model_edit_law.proofs.NeutralLemmas.{EachNeutral, neutral_lawful}
@@ -74,12 +74,12 @@ sets_neutral : (items : List PlainItem) (name : List ℕ) (f : GridCell → Opti
 sets_neutral items name f [] tail h = h
 sets_neutral items name f (c ∷ cells) tail h = sets_neutral items name f cells tail h
 
-pub row_opens : (items : List PlainItem) (low high : ℕ) (rows : List Row) (i : ℕ) (r : Row) → Chain row_at items (Tr ∷ []) low high rows → slice_get rows i ≡ Some r →
+pub row_opens : (items : List PlainItem) (low high : ℕ) (rows : List TableRow) (i : ℕ) (r : TableRow) → Chain row_at items (Tr ∷ []) low high rows → slice_get rows i ≡ Some r →
     (kind : Kind) × (kind_same kind InternalList ≡ false) × Opens items kind r.at
 row_opens items low high [] i r c h = cc
 row_opens items low high (one ∷ rows) zero r c h =
     let e : one ≡ r = cc in
-    subst (λ (v : Row). (kind : Kind) × (kind_same kind InternalList ≡ false) × Opens items kind v.at) e (c.1.0, not_first (c.1.0) (c.1.1), c.1.2)
+    subst (λ (v : TableRow). (kind : Kind) × (kind_same kind InternalList ≡ false) × Opens items kind v.at) e (c.1.0, not_first (c.1.0) (c.1.1), c.1.2)
 row_opens items low high (one ∷ rows) (suc i) r c h = row_opens items (end_of_node items one.at) high rows i r c.2 h
 
 pub row_out_lawful : RowOutStaysLawful
@@ -95,7 +95,7 @@ row_out_lawful items at row t lawful h =
     (neutral_lawful items edits lawful (row_out_order items at row g s o refl)
     (sets_neutral items (codes "rowspan") f cells (row_removed items o) (gone s.rows o refl)))
   where
-    gone : Chain row_at items (Tr ∷ []) (suc at) (partner items at) (table_rows items at) → (o : Option Row) → slice_get (table_rows items at) row ≡ o → EachNeutral items (row_removed items o)
+    gone : Chain row_at items (Tr ∷ []) (suc at) (partner items at) (table_rows items at) → (o : Option TableRow) → slice_get (table_rows items at) row ≡ o → EachNeutral items (row_removed items o)
     gone c None e = tt
     gone c (Some r) e = let q = row_opens items (suc at) (partner items at) (table_rows items at) row r c e in (node_back items q.0 r.at lawful q.1 q.2, tt)
 

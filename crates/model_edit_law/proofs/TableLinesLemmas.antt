@@ -9,8 +9,8 @@ use Rattle.model_items.specs.declared.plain_item.PlainItem.{PlainItem}
 use Rattle.model_items.specs.Law.{Lawful}
 use Rattle.model_items.specs.Tree.{Open}
 use Rattle.model_items.specs.Offsets.{partner, end_of_node}
-use Rattle.model_edit.specs.Grid.{Row, children_of, section_rows, row_cells}
-use Rattle.model_edit_law.specs.Spans.{Line, span_after, lines_after, span_at, line_at}
+use Rattle.model_edit.specs.Grid.{TableRow, children_of, section_rows, row_cells}
+use Rattle.model_edit_law.specs.Spans.{Line, span_after, lines_after, cell_span_at, line_at}
 use Rattle.model_edit_law.proofs.SiblingLemmas.{place_without, node_without, Outside, no_less, node_outside, node_gone}
 use Rattle.model_edit_law.proofs.TableSetLemmas.{map-append}
 use Rattle.model_edit_law.proofs.TablePlaceLemmas.{Chain, from_of, children_of_stand, section_stands, sections_stand}
@@ -26,20 +26,20 @@ module _ (items new : List PlainItem) (p n gone : ℕ) where
   fm nodes = filter_map (node_without p n) nodes
 
   -- a row that stays, of number i, has its cells still, and above the one that goes their spans are less where they reached it
-  pub record Kept (i : ℕ) (r : Row) : Type 0 where
+  pub record Kept (i : ℕ) (r : TableRow) : Type 0 where
     pub outside : Outside p n r.at
-    pub above : i < gone → map (span_at new) (row_cells new (place_without p n r.at)) ≡ map (span_after gone i) (map (span_at items) (row_cells items r.at))
-    pub below : gone < i → map (span_at new) (row_cells new (place_without p n r.at)) ≡ map (span_at items) (row_cells items r.at)
+    pub above : i < gone → map (cell_span_at new) (row_cells new (place_without p n r.at)) ≡ map (span_after gone i) (map (cell_span_at items) (row_cells items r.at))
+    pub below : gone < i → map (cell_span_at new) (row_cells new (place_without p n r.at)) ≡ map (cell_span_at items) (row_cells items r.at)
 
-  abbrev pub AllKept : ℕ → List Row → Type 0
+  abbrev pub AllKept : ℕ → List TableRow → Type 0
   AllKept i [] = Unit {0}
   AllKept i (r ∷ rows) = ((i ≡ gone → ⊥) → Kept i r) × (i ≡ gone → r.at ≡ p) × AllKept (suc i) rows
 
-  kept_parts : (i next : ℕ) (xs ys : List Row) → next ≡ i + length xs → AllKept i (xs ++ ys) → AllKept i xs × AllKept next ys
+  kept_parts : (i next : ℕ) (xs ys : List TableRow) → next ≡ i + length xs → AllKept i (xs ++ ys) → AllKept i xs × AllKept next ys
   kept_parts i next [] ys e h = (tt, (let z : i ≡ next = omega arith in subst (λ k. AllKept k ys) z h))
   kept_parts i next (x ∷ xs) ys e h = let r = kept_parts (suc i) next xs ys (omega arith) h.2 in ((h.0, h.1, r.0), r.1)
 
-  gone_row : (i above : ℕ) (rows : List Row) → i + above ≡ gone → above < length rows → AllKept i rows → (r : Row) × (slice_get rows above ≡ Some r) × (r.at ≡ p)
+  gone_row : (i above : ℕ) (rows : List TableRow) → i + above ≡ gone → above < length rows → AllKept i rows → (r : TableRow) × (slice_get rows above ≡ Some r) × (r.at ≡ p)
   gone_row i above [] e l h = absurd (omega arith)
   gone_row i zero (r ∷ rows) e l h = (r, refl, h.1 (omega arith))
   gone_row i (suc above) (r ∷ rows) e l h = gone_row (suc i) above rows (omega arith) (omega arith) h.2
@@ -116,7 +116,7 @@ module _ (items new : List PlainItem) (p n gone : ℕ) where
     -- now of all sections
     module _ (lawful : Lawful items) (kinds : List Kind) (ends : p + n ≡ end_of_node items p)
         (kids : (at : ℕ) → Outside p n at → children_of (Tr ∷ []) new (place_without p n at) ≡ fm (children_of (Tr ∷ []) items at)) where
-      abbrev pub rows_in : List PlainItem → Open → List Row
+      abbrev pub rows_in : List PlainItem → Open → List TableRow
       rows_in list section = section_rows (children_of (Tr ∷ []) list section.from)
 
       abbrev Sections : (low high : ℕ) → List Open → Type 0
@@ -153,10 +153,10 @@ module _ (items new : List PlainItem) (p n gone : ℕ) where
           nodes : List Open
           nodes = children_of (Tr ∷ []) items section.from
 
-          rows : List Row
+          rows : List TableRow
           rows = rows_in items section
 
-          later : List Row
+          later : List TableRow
           later = flat_map (rows_in items) sections
 
           long : length rows ≡ length nodes

@@ -17,8 +17,9 @@ use Rattle.model_edit.specs.Brackets.{is_opening_of}
 use Rattle.model_items.specs.Offsets.{partner, end_of_node, siblings, children, passes}
 use Rattle.model_edit_law.proofs.BracketLemmas.{node_parts, partner-opening, slice_get-at, slice_get-split}
 use Rattle.model_edit.specs.declared.grid_cell.GridCell.{GridCell}
-use Rattle.model_edit.specs.declared.table_fault.TableFault.{TableFault}
-use Rattle.model_edit.specs.Grid.{children_of, Row, section_rows, table_rows, row_cells, placed, is_crooked, number_after, number_of, span_by, span_in, span_of, most_rows, with_row, with_rows, Grid, grid_with, grid}
+use Rattle.model_edit.specs.Causes.{TableCause, NotTable}
+use Rattle.ve_base.specs.Limits.{max_row_span}
+use Rattle.model_edit.specs.Grid.{children_of, TableRow, section_rows, table_rows, row_cells, placed, is_crooked, number_after, decimal_number, span_by, span_in, cell_span, with_row, with_rows, Grid, grid_with, grid}
 
 -- a node of the kind begins at the place
 pub record Opens (items : List PlainItem) (kind : Kind) (at : ℕ) : Type 0 where
@@ -167,7 +168,7 @@ pub children_of_stand : (items : List PlainItem) (kinds : List Kind) (kind : Kin
     Chain from_of items kinds (suc at) (partner items at) (children_of kinds items at)
 children_of_stand items kinds kind at lawful o = Chain-kids items kinds (suc at) (partner items at) (children items at) (children_stand items kind at lawful o)
 
-abbrev pub row_at : Row → ℕ
+abbrev pub row_at : TableRow → ℕ
 row_at r = r.at
 
 pub section_stands : (items : List PlainItem) (low high : ℕ) (nodes : List Open) → Chain from_of items (Tr ∷ []) low high nodes → Chain row_at items (Tr ∷ []) low high (section_rows nodes)
@@ -197,24 +198,24 @@ abbrev pub cell_at : GridCell → ℕ
 cell_at c = c.at
 
 -- a cell stands in the row of its number
-pub record Home (items : List PlainItem) (rows : List Row) (c : GridCell) : Type 0 where
-  pub row : Row
+pub record Home (items : List PlainItem) (rows : List TableRow) (c : GridCell) : Type 0 where
+  pub row : TableRow
   pub named : slice_get rows c.row ≡ Some row
   pub low : suc row.at ≤ c.at
   pub high : end_of_node items c.at ≤ partner items row.at
   pub inside : suc c.at ≤ partner items row.at
   pub tall : 1 ≤ c.rows
 
-abbrev pub Homes : List PlainItem → List Row → List GridCell → Type 0
+abbrev pub Homes : List PlainItem → List TableRow → List GridCell → Type 0
 Homes items rows [] = Unit {0}
 Homes items rows (c ∷ cells) = Home items rows c × Homes items rows cells
 
-Homes-append : (items : List PlainItem) (rows : List Row) (xs ys : List GridCell) → Homes items rows xs → Homes items rows ys → Homes items rows (xs ++ ys)
+Homes-append : (items : List PlainItem) (rows : List TableRow) (xs ys : List GridCell) → Homes items rows xs → Homes items rows ys → Homes items rows (xs ++ ys)
 Homes-append items rows [] ys h g = g
 Homes-append items rows (x ∷ xs) ys h g = (h.0, Homes-append items rows xs ys h.1 g)
 
 -- cells so far
-pub record Cells (items : List PlainItem) (rows : List Row) (low high : ℕ) (cells : List GridCell) : Type 0 where
+pub record Cells (items : List PlainItem) (rows : List TableRow) (low high : ℕ) (cells : List GridCell) : Type 0 where
   pub chain : Chain cell_at items cell_kinds low high cells
   pub homes : Homes items rows cells
 
@@ -227,7 +228,7 @@ number_least n m (digit ∷ digits) h =
     ]
 
 -- a number without a leading zero is no zero
-number_some : (n : ℕ) (text : List ℕ) → number_of text ≡ Some n → 1 ≤ n
+number_some : (n : ℕ) (text : List ℕ) → decimal_number text ≡ Some n → 1 ≤ n
 number_some n [] h = cc
 number_some n (digit ∷ digits) h =
     elim (cases_Bool (digit == 48)) [
@@ -255,9 +256,9 @@ span_least_by most (Some n) h = let p = h n refl in elim (nat_le n most) as (λ 
 
 span_least_in : (most : ℕ) (o : Option (List ℕ)) → 1 ≤ span_in most o
 span_least_in most None = omega arith
-span_least_in most (Some text) = span_least_by most (number_of text) (λ n e. number_some n text e)
+span_least_in most (Some text) = span_least_by most (decimal_number text) (λ n e. number_some n text e)
 
-pub span_least : (name : List ℕ) (most : ℕ) (o : Option PlainItem) → 1 ≤ span_of name most o
+pub span_least : (name : List ℕ) (most : ℕ) (o : Option PlainItem) → 1 ≤ cell_span name most o
 span_least name most None = omega arith
 span_least name most (Some (Char c marks)) = omega arith
 span_least name most (Some (Closing kind pre)) = omega arith
@@ -267,7 +268,7 @@ pub if_ok_else : {A E : Type 0} (b : Bool) (e : E) (r : Result A E) (t : A) → 
 if_ok_else true e r t h = cc
 if_ok_else false e r t h = (refl, h)
 
-row_cells_stand : (items : List PlainItem) (rows : List Row) (index left end low middle high : ℕ) (row : Row) (nodes : List Open) (before cells : List GridCell) →
+row_cells_stand : (items : List PlainItem) (rows : List TableRow) (index left end low middle high : ℕ) (row : TableRow) (nodes : List Open) (before cells : List GridCell) →
     slice_get rows index ≡ Some row → suc row.at ≤ middle → high ≤ partner items row.at → Chain from_of items cell_kinds middle high nodes →
     Cells items rows low middle before → with_row items index left end nodes before ≡ Ok cells → Cells items rows low high cells
 row_cells_stand items rows index left end low middle high row [] before cells named inside inside' c b h =
@@ -282,12 +283,12 @@ row_cells_stand items rows index left end low middle high row (n ∷ nodes) befo
     let far = Chain-ends from_of items cell_kinds next high nodes c.2 in
     let more : Cells items rows low next (before ++ one ∷ []) = record {
       chain = Chain-append cell_at items cell_kinds low middle next before (one ∷ []) b.chain (c.0, c.1, omega arith);
-      homes = Homes-append items rows before (one ∷ []) b.homes (record { row = row; named = named; low = omega arith; high = omega arith; inside = omega arith; tall = span_least (codes "rowspan") most_rows (slice_get items n.from) }, tt);
+      homes = Homes-append items rows before (one ∷ []) b.homes (record { row = row; named = named; low = omega arith; high = omega arith; inside = omega arith; tall = span_least (codes "rowspan") max_row_span (slice_get items n.from) }, tt);
     } in
     row_cells_stand items rows index left (one.column + one.columns) low next high row nodes (before ++ one ∷ []) cells named (omega arith) inside' c.2 more p.1
 
-all_cells_stand : (items : List PlainItem) (all rows : List Row) (index low middle high : ℕ) (before cells : List GridCell) → Lawful items →
-    ((n : ℕ) (row : Row) → slice_get rows n ≡ Some row → slice_get all (index + n) ≡ Some row) → Chain row_at items (Tr ∷ []) middle high rows →
+all_cells_stand : (items : List PlainItem) (all rows : List TableRow) (index low middle high : ℕ) (before cells : List GridCell) → Lawful items →
+    ((n : ℕ) (row : TableRow) → slice_get rows n ≡ Some row → slice_get all (index + n) ≡ Some row) → Chain row_at items (Tr ∷ []) middle high rows →
     Cells items all low middle before → with_rows items index rows (Ok before) ≡ Ok cells → Cells items all low high cells
 all_cells_stand items all [] index low middle high before cells lawful named c b h =
     let e : before ≡ cells = cc in
@@ -298,7 +299,7 @@ all_cells_stand items all (row ∷ rows) index low middle high before cells lawf
     (λ n r e. let y : index + suc n ≡ suc index + n = omega arith in subst (λ m. slice_get all m ≡ Some r) y (named (suc n) r e)) c.2 more' h)
     (with_row items index row.left 0 (row_cells items row.at) before) refl h
   where
-    by : ((some : List GridCell) → Cells items all low (end_of_node items row.at) some → with_rows items (suc index) rows (Ok some) ≡ Ok cells → Cells items all low high cells) → (r : Result (List GridCell) TableFault) → with_row items index row.left 0 (row_cells items row.at) before ≡ r → with_rows items (suc index) rows r ≡ Ok cells → Cells items all low high cells
+    by : ((some : List GridCell) → Cells items all low (end_of_node items row.at) some → with_rows items (suc index) rows (Ok some) ≡ Ok cells → Cells items all low high cells) → (r : Result (List GridCell) TableCause) → with_row items index row.left 0 (row_cells items row.at) before ≡ r → with_rows items (suc index) rows r ≡ Ok cells → Cells items all low high cells
     by next (Err e) g h = cc
     by next (Ok some) g h =
         let o = c.1.2 in
@@ -330,10 +331,10 @@ opens_table items at (Some (Opening k head marks pre origin generated)) lawful e
 pub grid_stands : (items : List PlainItem) (at : ℕ) (g : Grid) → Lawful items → grid items at ≡ Ok g → Standing items at g
 grid_stands items at g lawful h = choose (passes (is_opening_of Table) (slice_get items at)) refl h
   where
-    rows : List Row
+    rows : List TableRow
     rows = table_rows items at
 
-    by : Opens items Table at → (r : Result (List GridCell) TableFault) → with_rows items 0 rows (Ok []) ≡ r → grid_with (length rows) r ≡ Ok g → Standing items at g
+    by : Opens items Table at → (r : Result (List GridCell) TableCause) → with_rows items 0 rows (Ok []) ≡ r → grid_with (length rows) r ≡ Ok g → Standing items at g
     by o (Err e) w h = cc
     by o (Ok cells) w h =
         let e : record { rows = length rows; columns = Rattle.model_edit.specs.Grid.right_end cells; cells = cells } ≡ g = cc in
@@ -341,6 +342,6 @@ grid_stands items at g lawful h = choose (passes (is_opening_of Table) (slice_ge
         let c = all_cells_stand items rows rows 0 (suc at) (suc at) (partner items at) [] cells lawful (λ n r e. let z : n ≡ 0 + n = omega arith in subst (λ m. slice_get rows m ≡ Some r) z e) s (record { chain = omega arith; homes = tt }) w in
         subst (Standing items at) e (record { table = o; rows = s; count = refl; cells = c })
 
-    choose : (b : Bool) → passes (is_opening_of Table) (slice_get items at) ≡ b → (if b then grid_with (length rows) (with_rows items 0 rows (Ok [])) else Err (Rattle.model_edit.specs.declared.table_fault.TableFault.TheVariants.NotTable at)) ≡ Ok g → Standing items at g
+    choose : (b : Bool) → passes (is_opening_of Table) (slice_get items at) ≡ b → (if b then grid_with (length rows) (with_rows items 0 rows (Ok [])) else Err (NotTable at)) ≡ Ok g → Standing items at g
     choose false e h = cc
     choose true e h = by (opens_table items at (slice_get items at) lawful refl e) (with_rows items 0 rows (Ok [])) refl h

@@ -212,17 +212,17 @@ module _ (name : List ℕ) (f : GridCell → Option (List ℕ)) where
             ((q : ℕ) (o' : Option PlainItem) → q < end_of_node whole x.at → set_at q (filter test cells) o' ≡ o') →
             (Among c cells → end_of_node whole x.at ≤ c.at) →
             set_at c.at (cond b (x ∷ filter test cells) (filter test cells)) o ≡ (if test c then set_in name (f c) o else o)
-        by true e (inl same) next before suffix =
+        by true e (inl same) next before past =
             subst (λ (v : GridCell). set_at v.at (x ∷ filter test cells) o ≡ (if test v then set_in name (f v) o else o)) same
             (before x.at (if x.at == x.at then set_in name (f x) o else o) (let d = ahead in omega arith)
             ∙ ap (λ t. if t then set_in name (f x) o else o) (eq-eqb x.at x.at refl ∙ sym e))
-        by true e (inr a') next before suffix =
-            ap (λ t. set_at c.at (filter test cells) (if t then set_in name (f x) o else o)) (ne_eqb x.at c.at (λ z. let l = suffix a' in let d = ahead in omega arith))
+        by true e (inr a') next before past =
+            ap (λ t. set_at c.at (filter test cells) (if t then set_in name (f x) o else o)) (ne_eqb x.at c.at (λ z. let l = past a' in let d = ahead in omega arith))
             ∙ next a' o
-        by false e (inl same) next before suffix =
+        by false e (inl same) next before past =
             subst (λ (v : GridCell). set_at v.at (filter test cells) o ≡ (if test v then set_in name (f v) o else o)) same
             (before x.at o (let d = ahead in omega arith) ∙ ap (λ t. if t then set_in name (f x) o else o) (sym e))
-        by false e (inr a') next before suffix = next a' o
+        by false e (inr a') next before past = next a' o
 
 -- the value that is set is read back
 value_put : (name value : List ℕ) (attrs : List Attr) → value_of name attrs ≡ None → value_of name (attrs ++ record { name = name; value = value } ∷ []) ≡ Some value

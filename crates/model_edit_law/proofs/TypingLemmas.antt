@@ -11,15 +11,15 @@ use Rattle.model_items.specs.declared.plain_item.PlainItem.{PlainItem}
 use Rattle.model_items.specs.declared.plain_item.PlainItem.TheVariants.{Char, Opening, Closing}
 use Rattle.ve_kinds.specs.Table.{kind_same, may_hold, is_content_branch}
 use Rattle.model_items.specs.declared.law_fault.LawFault.TheVariants.{Unlawful, TooDeep}
-use Rattle.model_items.specs.Law.{State, start, finish, top, is_empty, is_over, may_open, step, joined, outcome_moved, after, verdict, Lawful}
+use Rattle.model_items.specs.Law.{State, start, finish, top, is_empty, is_over, may_open, step, followed, outcome_moved, after, verdict, Lawful}
 use Rattle.model_items.proofs.LawLemmas.{if_ok, Ok-same, joined-ok, after_whole, after_parts, after_from_Lawful, piece_fits, piece_fails}
 use Rattle.model_change.specs.Transaction.{Transaction, edited}
-use Rattle.model_edit.specs.declared.build_fault.BuildFault.{BuildFault}
+use Rattle.model_edit.specs.Causes.{BuildCause}
 use Rattle.model_edit.specs.Brackets.{opening_of, closing_of, closing_for, copy_of, is_internal}
 use Rattle.model_items.specs.Offsets.{openings_at, stack_at, kind_at}
 use Rattle.model_edit.specs.Edits.{Change, transaction_of}
 use Rattle.model_edit_law.proofs.BracketLemmas.{fits_parts, state_of, fits, fits-after, Leads, leads_cons, leads_append, opened_leads, Openings, Openings-after, stack_at-after}
-use Rattle.model_edit.specs.Insert.{reopened, is_bad_offset, is_mixed, is_content_pieces, in_paragraph, may_hold_pieces, levels_up, put_at, text_pieces}
+use Rattle.model_edit.specs.Insert.{reopened, is_bad_offset, is_mixed, is_content_pieces, in_paragraph, may_hold_pieces, levels_up, put_into, text_pieces}
 use Rattle.model_edit_law.specs.InsertLaws.{TypingStaysLawful}
 use Rattle.model_edit_law.proofs.InsertLemmas.{Openings-take, closings_fit, copies_fit, if_ok_else, edited-put, not_internal}
 
@@ -90,7 +90,7 @@ item_follows s x t h = elim (cases_Bool (is_over s)) [ inr other ↦ other | inl
 chars_lead : (marks : List Mark) (text : List ℕ) (s : State) → is_content_branch (top s.stack) ≡ true → after s (text_pieces marks text) ≡ Ok s
 chars_lead marks [] s h = refl
 chars_lead marks (c ∷ text) s h =
-    ap (λ b. joined 1 (if b then Ok s else Err (Unlawful 0)) (λ next. after next (text_pieces marks text))) h ∙ ap (outcome_moved 1) (chars_lead marks text s h)
+    ap (λ b. followed 1 (if b then Ok s else Err (Unlawful 0)) (λ next. after next (text_pieces marks text))) h ∙ ap (outcome_moved 1) (chars_lead marks text s h)
 
 paragraph_leads : (marks : List Mark) (text : List ℕ) (s : State) → may_hold (top s.stack) P ≡ true → is_over s ≡ false →
     Leads (after s (opening_of P [] ∷ text_pieces marks text ++ closing_of P ∷ [])) s
@@ -105,7 +105,7 @@ abbrev pub PiecesLead : List PlainItem → Type 0
 PiecesLead pieces = (s : State) → may_hold_pieces (top s.stack) pieces ≡ true → is_over s ≡ false → Leads (after s pieces) s
 
 pub put_stays : (items : List PlainItem) (at : ℕ) (pieces : List PlainItem) (o : Option ℕ) (t : Transaction) → Lawful items → at < length items →
-    levels_up pieces (stack_at items at) ≡ o → put_at items at pieces o ≡ Ok t → PiecesLead pieces →
+    levels_up pieces (stack_at items at) ≡ o → put_into items at pieces o ≡ Ok t → PiecesLead pieces →
     (verdict (edited t items) ≡ None) ⊎ ((n : ℕ) × (verdict (edited t items) ≡ Some (TooDeep n)))
 put_stays items at pieces None t lawful within e h lead = cc
 put_stays items at pieces (Some j) t lawful within e h lead =
@@ -133,7 +133,7 @@ put_stays items at pieces (Some j) t lawful within e h lead =
     (leads_append (state_of (inner ++ outer) s.seen) (state_of outer s.seen) (state_of (inner ++ outer) s.seen) (map closing_for openings)
     (pieces ++ reverse (map copy_of openings)) (inl closed_) middle) in
     let new = reopened openings pieces in
-    let made : transaction_of items (Change at 0 new ∷ []) ≡ t = Ok-same {E = BuildFault} (transaction_of items (Change at 0 new ∷ [])) t h in
+    let made : transaction_of items (Change at 0 new ∷ []) ≡ t = Ok-same {E = BuildCause} (transaction_of items (Change at 0 new ∷ [])) t h in
     let gives : edited t items ≡ take at items ++ (new ++ drop at items) = ap (λ v. edited v items) (sym made) ∙ edited-put items at new (omega arith) in
     let old : Lawful (take at items ++ ([] ++ drop at items)) = subst Lawful (sym (take-append-drop at items)) lawful in
     let P : List PlainItem → Type 0 = λ v. (verdict v ≡ None) ⊎ ((n : ℕ) × (verdict v ≡ Some (TooDeep n))) in

@@ -10,9 +10,9 @@ use Rattle.model_items.specs.declared.plain_item.PlainItem.TheVariants.{Char, Op
 use Rattle.model_items.specs.Law.{Lawful}
 use Rattle.model_items.proofs.LawLemmas.{Ok-same}
 use Rattle.model_items.specs.Tree.{Open, length_to_close}
-use Rattle.model_edit.specs.declared.build_fault.BuildFault.{BuildFault}
+use Rattle.model_edit.specs.Causes.{BuildCause}
 use Rattle.model_edit.specs.Brackets.{is_opening_of}
-use Rattle.model_items.specs.Offsets.{partner, end_of_node, siblings, is_unmatched, places, passes}
+use Rattle.model_items.specs.Offsets.{partner, end_of_node, siblings, is_unmatched, places_in, passes}
 use Rattle.model_edit_law.specs.Fine.{Fine}
 use Rattle.model_edit.specs.Edits.{Edit, Change, transaction_of}
 use Rattle.model_edit_law.proofs.OrderLemmas.{Rising, Fine-Rising, Rising-within, Rising-append}
@@ -175,7 +175,7 @@ wrap_fine items from to plan t lawful h =
     by (wrong_place items from to plan.unwrap_outer plan.unwrap_each) refl p.1 low high m
   where
     by : (o : Option ℕ) → wrong_place items from to plan.unwrap_outer plan.unwrap_each ≡ o → wrapped_unless o (transaction_of items (wrap_edits items from to plan)) ≡ Ok t →
-        from < to → to ≤ length items → list_any (is_unmatched items from to) (places from to) ≡ false → Fine items t
+        from < to → to ≤ length items → list_any (is_unmatched items from to) (places_in from to) ≡ false → Fine items t
     by (Some at) e g low high m = cc
     by None e g low high m = placed (nat_lt from (length plan.unwrap_outer)) refl e
       where
@@ -204,4 +204,4 @@ wrap_fine items from to plan t lawful h =
                   (Rising-append from to (length items) (flat_map (λ (node : Open). node_edits node.from (end_of_node items node.from) (length plan.unwrap_each) plan.wrap_each) (nodes_in items from to))
                   (Change to (length plan.unwrap_outer) (closings_of plan.wrap_outer) ∷ []) nodes (omega arith, last)),
             ) in
-            subst (Fine items) (Ok-same {E = BuildFault} (transaction_of items (wrap_edits items from to plan)) t g) (Fine-Rising items (wrap_edits items from to plan) all)
+            subst (Fine items) (Ok-same {E = BuildCause} (transaction_of items (wrap_edits items from to plan)) t g) (Fine-Rising items (wrap_edits items from to plan) all)

@@ -20,39 +20,42 @@ use Rattle.model_edit.specs.Tables.{row_in, col_in, row_out, col_out}
 use Rattle.model_edit_law.specs.Fine.{Fine}
 
 -- what edits insert, one piece after the other
-abbrev pub pieces_of : List Edit → List PlainItem
-pieces_of [] = []
-pieces_of (Change place count inserted ∷ edits) = inserted ++ pieces_of edits
-pieces_of (Set place name to ∷ edits) = pieces_of edits
+abbrev pub inserted_pieces : List Edit → List PlainItem
+inserted_pieces [] = []
+inserted_pieces (Change place count inserted ∷ edits) = inserted ++ inserted_pieces edits
+inserted_pieces (Set place name to ∷ edits) = inserted_pieces edits
 
 -- The one transaction of edits inserts just that.
 abbrev pub EditsInsertPieces : Type 0
-EditsInsertPieces = (items : List PlainItem) (edits : List Edit) → all_inserted (transaction_of items edits) ≡ pieces_of edits
+EditsInsertPieces = (items : List PlainItem) (edits : List Edit) → all_inserted (transaction_of items edits) ≡ inserted_pieces edits
 
 -- Where the pieces have names apart, so has what the transaction inserts.
 abbrev pub EditsAreApart : Type 0
-EditsAreApart = (items : List PlainItem) (edits : List Edit) → AllNamesApart (pieces_of edits) → InsertedApart (transaction_of items edits)
+EditsAreApart = (items : List PlainItem) (edits : List Edit) → AllNamesApart (inserted_pieces edits) → InsertedApart (transaction_of items edits)
 
 -- Edits in order then leave names of the list apart.
 abbrev pub EditsStayApart : Type 0
 EditsStayApart = (items : List PlainItem) (edits : List Edit) → InOrder 0 (length items) edits → MaySet 0 items edits →
-    AllNamesApart items → AllNamesApart (pieces_of edits) → AllNamesApart (substituted items edits)
+    AllNamesApart items → AllNamesApart (inserted_pieces edits) → AllNamesApart (substituted items edits)
 
 -- So does each edit, which is fine: it inserts names apart, by the laws below.
 abbrev pub FineStaysApart : Type 0
-FineStaysApart = (items : List PlainItem) (t : Transaction) → Fine items t → AllNamesApart items → InsertedApart t → AllNamesApart (edited t items)
+FineStaysApart = (items : List PlainItem) (t : Transaction) → Fine items t → AllNamesApart items → InsertedApart t →
+    AllNamesApart (edited t items)
 
 -- Insertion and split open copies of the list's openings. What is inserted has names apart where they have, and the pieces.
 abbrev pub InsertionIsApart : Type 0
-InsertionIsApart = (items : List PlainItem) (at : ℕ) (pieces : List PlainItem) (t : Transaction) → AllNamesApart items → AllNamesApart pieces →
-    insertion items at pieces ≡ Ok t → InsertedApart t
+InsertionIsApart = (items : List PlainItem) (at : ℕ) (pieces : List PlainItem) (t : Transaction) → AllNamesApart items →
+    AllNamesApart pieces → insertion items at pieces ≡ Ok t → InsertedApart t
 
 abbrev pub SplitIsApart : Type 0
-SplitIsApart = (items : List PlainItem) (at depth : ℕ) (t : Transaction) → AllNamesApart items → split items at depth ≡ Ok t → InsertedApart t
+SplitIsApart = (items : List PlainItem) (at depth : ℕ) (t : Transaction) → AllNamesApart items → split items at depth ≡ Ok t →
+    InsertedApart t
 
 -- Characters have no attributes.
 abbrev pub TypingIsApart : Type 0
-TypingIsApart = (items : List PlainItem) (at : ℕ) (text : List ℕ) (t : Transaction) → AllNamesApart items → text_insertion items at text ≡ Ok t → InsertedApart t
+TypingIsApart = (items : List PlainItem) (at : ℕ) (text : List ℕ) (t : Transaction) → AllNamesApart items →
+    text_insertion items at text ≡ Ok t → InsertedApart t
 
 abbrev pub PlainTypingIsApart : Type 0
 PlainTypingIsApart = (items : List PlainItem) (at : ℕ) (text : List ℕ) (t : Transaction) → AllNamesApart items →
@@ -64,17 +67,21 @@ RemovalIsApart = (items : List PlainItem) (from to : ℕ) (t : Transaction) → 
 
 -- Items with other marks, and an opening with another kind, keep their attributes.
 abbrev pub MarkingIsApart : Type 0
-MarkingIsApart = (items : List PlainItem) (from to : ℕ) (m : Mark) (t : Transaction) → AllNamesApart items → marking items from to m ≡ Ok t → InsertedApart t
+MarkingIsApart = (items : List PlainItem) (from to : ℕ) (m : Mark) (t : Transaction) → AllNamesApart items →
+    marking items from to m ≡ Ok t → InsertedApart t
 
 abbrev pub UnmarkingIsApart : Type 0
-UnmarkingIsApart = (items : List PlainItem) (from to : ℕ) (m : Mark) (t : Transaction) → AllNamesApart items → unmarking items from to m ≡ Ok t → InsertedApart t
+UnmarkingIsApart = (items : List PlainItem) (from to : ℕ) (m : Mark) (t : Transaction) → AllNamesApart items →
+    unmarking items from to m ≡ Ok t → InsertedApart t
 
 abbrev pub ConvertIsApart : Type 0
-ConvertIsApart = (items : List PlainItem) (at : ℕ) (kind : Kind) (t : Transaction) → AllNamesApart items → convert items at kind ≡ Ok t → InsertedApart t
+ConvertIsApart = (items : List PlainItem) (at : ℕ) (kind : Kind) (t : Transaction) → AllNamesApart items → convert items at kind ≡ Ok t →
+    InsertedApart t
 
 -- What sets an attribute inserts nothing.
 abbrev pub AttributeIsApart : Type 0
-AttributeIsApart = (items : List PlainItem) (at : ℕ) (name : List ℕ) (to : Option (List ℕ)) (t : Transaction) → attribute items at name to ≡ Ok t → InsertedApart t
+AttributeIsApart = (items : List PlainItem) (at : ℕ) (name : List ℕ) (to : Option (List ℕ)) (t : Transaction) →
+    attribute items at name to ≡ Ok t → InsertedApart t
 
 -- no node of a plan has two attributes of one name
 abbrev pub ShapesApart : List Shape → Type 0
@@ -85,7 +92,8 @@ PlanApart plan = ShapesApart plan.wrap_outer × ShapesApart plan.wrap_each
 
 -- A wrap inserts the openings that its plan gives.
 abbrev pub WrapIsApart : Type 0
-WrapIsApart = (items : List PlainItem) (from to : ℕ) (plan : WrapPlan) (t : Transaction) → PlanApart plan → wrap items from to plan ≡ Ok t → InsertedApart t
+WrapIsApart = (items : List PlainItem) (from to : ℕ) (plan : WrapPlan) (t : Transaction) → PlanApart plan →
+    wrap items from to plan ≡ Ok t → InsertedApart t
 
 -- A list that an item begins by moving deeper has no attributes, and one that is continued after an item moved out is a copy.
 abbrev pub IndentIsApart : Type 0

@@ -14,7 +14,8 @@ use Rattle.model_edit.specs.Insert.{split, insertion, text_pieces}
 
 -- A split leaves a lawful list lawful.
 abbrev pub SplitStaysLawful : Type 0
-SplitStaysLawful = (items : List PlainItem) (at depth : ℕ) (t : Transaction) → Lawful items → split items at depth ≡ Ok t → Lawful (edited t items)
+SplitStaysLawful = (items : List PlainItem) (at depth : ℕ) (t : Transaction) → Lawful items → split items at depth ≡ Ok t →
+    Lawful (edited t items)
 
 -- Typing, with any marks, leaves it lawful, or its nodes are nested over 100 deep.
 abbrev pub TypingStaysLawful : Type 0
@@ -45,7 +46,8 @@ FragmentStaysLawful = (items : List PlainItem) (at : ℕ) (parent : Kind) (piece
 
 -- The transactions are reduced, apply, and can put back what they remove.
 abbrev pub InsertionIsFine : Type 0
-InsertionIsFine = (items : List PlainItem) (at : ℕ) (pieces : List PlainItem) (t : Transaction) → insertion items at pieces ≡ Ok t → Fine items t
+InsertionIsFine = (items : List PlainItem) (at : ℕ) (pieces : List PlainItem) (t : Transaction) → insertion items at pieces ≡ Ok t →
+    Fine items t
 
 abbrev pub SplitIsFine : Type 0
 SplitIsFine = (items : List PlainItem) (at depth : ℕ) (t : Transaction) → split items at depth ≡ Ok t → Fine items t

@@ -17,8 +17,8 @@ abbrev pub joins_list : List PlainItem → ℕ → Bool
 joins_list items at = passes_before (is_closing_of (kind_at items at)) items (at - 1)
 
 -- where the item stands after it was moved deeper
-abbrev pub new_place : List PlainItem → ℕ → ℕ
-new_place items at = if joins_list items at then at - 2 else at
+abbrev pub indented_place : List PlainItem → ℕ → ℕ
+indented_place items at = if joins_list items at then at - 2 else at
 
 -- no whitespace is lost, and a list that the item joins is not empty
 pub record Plain (items : List PlainItem) (at : ℕ) : Type 0 where
@@ -35,18 +35,18 @@ pub record GivesBack (items new : List PlainItem) (at : ℕ) : Type 0 where
 -- An item moved in and out again: the list is as it was.
 abbrev pub IndentIsUndone : Type 0
 IndentIsUndone = (items : List PlainItem) (at : ℕ) (t : Transaction) → Lawful items → indent items at ≡ Ok t → Plain items at →
-    GivesBack items (edited t items) (new_place items at)
+    GivesBack items (edited t items) (indented_place items at)
 
 -- characters, and the brackets of leaves
-abbrev pub is_text : PlainItem → Bool
-is_text (Char c marks) = true
-is_text (Opening kind head marks pre origin generated) = is_leaf kind
-is_text (Closing kind pre) = is_leaf kind
+abbrev pub is_character_or_leaf : PlainItem → Bool
+is_character_or_leaf (Char c marks) = true
+is_character_or_leaf (Opening kind head marks pre origin generated) = is_leaf kind
+is_character_or_leaf (Closing kind pre) = is_leaf kind
 
 -- Moving an item deeper keeps characters and leaves in order.
 abbrev pub IndentKeepsText : Type 0
 IndentKeepsText = (items : List PlainItem) (at : ℕ) (t : Transaction) → Lawful items → indent items at ≡ Ok t →
-    filter is_text (edited t items) ≡ filter is_text items
+    filter is_character_or_leaf (edited t items) ≡ filter is_character_or_leaf items
 
 -- It leaves a lawful list lawful, or its nodes are nested over 100 deep.
 abbrev pub IndentStaysLawful : Type 0
@@ -56,7 +56,7 @@ IndentStaysLawful = (items : List PlainItem) (at : ℕ) (t : Transaction) → La
 -- Moving an item out keeps them too, and leaves a lawful list lawful.
 abbrev pub OutdentKeepsText : Type 0
 OutdentKeepsText = (items : List PlainItem) (at : ℕ) (t : Transaction) → Lawful items → outdent items at ≡ Ok t →
-    filter is_text (edited t items) ≡ filter is_text items
+    filter is_character_or_leaf (edited t items) ≡ filter is_character_or_leaf items
 
 abbrev pub OutdentStaysLawful : Type 0
 OutdentStaysLawful = (items : List PlainItem) (at : ℕ) (t : Transaction) → Lawful items → outdent items at ≡ Ok t → Lawful (edited t items)

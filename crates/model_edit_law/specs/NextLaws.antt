@@ -19,7 +19,7 @@ IsEnd Ahead items at = passes is_closing (slice_get items at) ≡ true
 IsEnd Back items at = passes is_opening (slice_get items (at - 1)) ≡ true
 
 -- It goes farther, to an offset of the list at which the same nodes are open: it stays in its content branch.
-pub record Goes (dir : Dir) (items : List PlainItem) (at to : ℕ) : Type 0 where
+pub record CaretGoes (dir : Dir) (items : List PlainItem) (at to : ℕ) : Type 0 where
   pub farther : IsFarther dir at to
   pub within : to ≤ length items
   pub branch : opens_at items to ≡ opens_at items at
@@ -27,7 +27,7 @@ pub record Goes (dir : Dir) (items : List PlainItem) (at to : ℕ) : Type 0 wher
 
 abbrev pub CaretStaysInBranch : Type 0
 CaretStaysInBranch = (items : List PlainItem) (at to : ℕ) (dir : Dir) (by : By) → Lawful items → is_content items at ≡ true →
-    next items at dir by ≡ Some to → Goes dir items at to
+    next items at dir by ≡ Some to → CaretGoes dir items at to
 
 -- It goes nowhere exactly at an end of its branch.
 abbrev pub CaretStopsAtEnds : Type 0

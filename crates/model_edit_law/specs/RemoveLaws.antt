@@ -12,4 +12,5 @@ RemovalIsFine = (items : List PlainItem) (from to : ℕ) (t : Transaction) → L
 
 -- A removal leaves a lawful list lawful.
 abbrev pub RemovalStaysLawful : Type 0
-RemovalStaysLawful = (items : List PlainItem) (from to : ℕ) (t : Transaction) → Lawful items → removal items from to ≡ Ok t → Lawful (edited t items)
+RemovalStaysLawful = (items : List PlainItem) (from to : ℕ) (t : Transaction) → Lawful items → removal items from to ≡ Ok t →
+    Lawful (edited t items)

@@ -19,24 +19,31 @@ abbrev pub UnmarkingIsFine : Type 0
 UnmarkingIsFine = (items : List PlainItem) (from to : ℕ) (m : Mark) (t : Transaction) → unmarking items from to m ≡ Ok t → Fine items t
 
 abbrev pub ConvertIsFine : Type 0
-ConvertIsFine = (items : List PlainItem) (at : ℕ) (kind : Kind) (t : Transaction) → Lawful items → convert items at kind ≡ Ok t → Fine items t
+ConvertIsFine = (items : List PlainItem) (at : ℕ) (kind : Kind) (t : Transaction) → Lawful items → convert items at kind ≡ Ok t →
+    Fine items t
 
 abbrev pub AttributeIsFine : Type 0
-AttributeIsFine = (items : List PlainItem) (at : ℕ) (name : List ℕ) (to : Option (List ℕ)) (t : Transaction) → attribute items at name to ≡ Ok t → Fine items t
+AttributeIsFine = (items : List PlainItem) (at : ℕ) (name : List ℕ) (to : Option (List ℕ)) (t : Transaction) →
+    attribute items at name to ≡ Ok t → Fine items t
 
 -- A converted branch leaves a lawful list lawful.
 abbrev pub ConvertStaysLawful : Type 0
-ConvertStaysLawful = (items : List PlainItem) (at : ℕ) (kind : Kind) (t : Transaction) → Lawful items → convert items at kind ≡ Ok t → Lawful (edited t items)
+ConvertStaysLawful = (items : List PlainItem) (at : ℕ) (kind : Kind) (t : Transaction) → Lawful items → convert items at kind ≡ Ok t →
+    Lawful (edited t items)
 
 abbrev pub WrapIsFine : Type 0
-WrapIsFine = (items : List PlainItem) (from to : ℕ) (plan : WrapPlan) (t : Transaction) → Lawful items → wrap items from to plan ≡ Ok t → Fine items t
+WrapIsFine = (items : List PlainItem) (from to : ℕ) (plan : WrapPlan) (t : Transaction) → Lawful items → wrap items from to plan ≡ Ok t →
+    Fine items t
 
 -- So do marks set and taken, and an attribute set.
 abbrev pub MarkingStaysLawful : Type 0
-MarkingStaysLawful = (items : List PlainItem) (from to : ℕ) (m : Mark) (t : Transaction) → Lawful items → marking items from to m ≡ Ok t → Lawful (edited t items)
+MarkingStaysLawful = (items : List PlainItem) (from to : ℕ) (m : Mark) (t : Transaction) → Lawful items →
+    marking items from to m ≡ Ok t → Lawful (edited t items)
 
 abbrev pub UnmarkingStaysLawful : Type 0
-UnmarkingStaysLawful = (items : List PlainItem) (from to : ℕ) (m : Mark) (t : Transaction) → Lawful items → unmarking items from to m ≡ Ok t → Lawful (edited t items)
+UnmarkingStaysLawful = (items : List PlainItem) (from to : ℕ) (m : Mark) (t : Transaction) → Lawful items →
+    unmarking items from to m ≡ Ok t → Lawful (edited t items)
 
 abbrev pub AttributeStaysLawful : Type 0
-AttributeStaysLawful = (items : List PlainItem) (at : ℕ) (name : List ℕ) (to : Option (List ℕ)) (t : Transaction) → Lawful items → attribute items at name to ≡ Ok t → Lawful (edited t items)
+AttributeStaysLawful = (items : List PlainItem) (at : ℕ) (name : List ℕ) (to : Option (List ℕ)) (t : Transaction) → Lawful items →
+    attribute items at name to ≡ Ok t → Lawful (edited t items)

@@ -6,9 +6,9 @@ use Rattle.model_items.specs.Law.{Lawful, verdict}
 use Rattle.model_change.specs.Transaction.{Transaction, edited}
 use Rattle.model_edit_law.specs.Fine.{Fine}
 use Rattle.model_edit.specs.Grid.{Grid, grid}
-use Rattle.model_edit.specs.declared.table_fault.TableFault.{TableFault}
+use Rattle.model_edit.specs.Causes.{TableCause}
 use Rattle.model_edit.specs.Layout.{Rectangle, Layout, layout_of, without_row, without_column, row_out_layout, col_out_layout}
-use Rattle.model_edit_law.specs.Spans.{Line, lay, lines_of, lines_after, LowIn, lines_left, EachSome}
+use Rattle.model_edit_law.specs.Spans.{Line, lay, table_lines, lines_after, LowIn, lines_left, EachSome}
 use Rattle.model_edit.specs.Tables.{row_in, col_in, row_out, col_out}
 
 -- The transactions are reduced, apply, and can put back what they remove.
@@ -26,15 +26,17 @@ ColOutIsFine = (items : List PlainItem) (at column : ℕ) (t : Transaction) → 
 
 -- A row or a column taken out leaves a lawful list lawful.
 abbrev pub RowOutStaysLawful : Type 0
-RowOutStaysLawful = (items : List PlainItem) (at row : ℕ) (t : Transaction) → Lawful items → row_out items at row ≡ Ok t → Lawful (edited t items)
+RowOutStaysLawful = (items : List PlainItem) (at row : ℕ) (t : Transaction) → Lawful items → row_out items at row ≡ Ok t →
+    Lawful (edited t items)
 
 abbrev pub ColOutStaysLawful : Type 0
-ColOutStaysLawful = (items : List PlainItem) (at column : ℕ) (t : Transaction) → Lawful items → col_out items at column ≡ Ok t → Lawful (edited t items)
+ColOutStaysLawful = (items : List PlainItem) (at column : ℕ) (t : Transaction) → Lawful items → col_out items at column ≡ Ok t →
+    Lawful (edited t items)
 
 -- The rectangles of a table without a row, in which each cell was one high, are those without the row.
 abbrev pub RowOutLays : Type 0
-RowOutLays = (lines : List Line) (gone : ℕ) (all : List Rectangle) → gone < length lines → LowIn gone all → lay 0 lines (Some []) ≡ Some all →
-    lay 0 (lines_after gone gone 0 lines) (Some []) ≡ Some (filter_map (without_row gone) all)
+RowOutLays = (lines : List Line) (gone : ℕ) (all : List Rectangle) → gone < length lines → LowIn gone all →
+    lay 0 lines (Some []) ≡ Some all → lay 0 (lines_after gone gone 0 lines) (Some []) ≡ Some (filter_map (without_row gone) all)
 
 -- So are those of a table without a column, where each row keeps what is left of its cells.
 abbrev pub ColOutLays : Type 0
@@ -43,22 +45,23 @@ ColOutLays = (lines : List Line) (gone : ℕ) (all : List Rectangle) → EachSom
 
 -- A grid's rectangles are those that its rows' spans give.
 abbrev pub GridLays : Type 0
-GridLays = (items : List PlainItem) (at : ℕ) (g : Grid) → grid items at ≡ Ok g → lay 0 (lines_of items at) (Some []) ≡ Some (layout_of g).rectangles
+GridLays = (items : List PlainItem) (at : ℕ) (g : Grid) → grid items at ≡ Ok g →
+    lay 0 (table_lines items at) (Some []) ≡ Some (layout_of g).rectangles
 
 -- the rectangles of a grid, if there is one
-abbrev pub laid_out : Result Grid TableFault → Result Layout TableFault
+abbrev pub laid_out : Result Grid TableCause → Result Layout TableCause
 laid_out (Err fault) = Err fault
 laid_out (Ok g) = Ok (layout_of g)
 
 -- After a row is taken out a table's grid is the old one without the row, rectangle by rectangle in the same order.
 abbrev pub RowOutGrid : Type 0
-RowOutGrid = (items : List PlainItem) (at row : ℕ) (t : Transaction) (g : Grid) → Lawful items → grid items at ≡ Ok g → row_out items at row ≡ Ok t →
-    laid_out (grid (edited t items) at) ≡ Ok (row_out_layout (layout_of g) row)
+RowOutGrid = (items : List PlainItem) (at row : ℕ) (t : Transaction) (g : Grid) → Lawful items → grid items at ≡ Ok g →
+    row_out items at row ≡ Ok t → laid_out (grid (edited t items) at) ≡ Ok (row_out_layout (layout_of g) row)
 
 -- After a column is taken out it is the old one without the column.
 abbrev pub ColOutGrid : Type 0
-ColOutGrid = (items : List PlainItem) (at column : ℕ) (t : Transaction) (g : Grid) → Lawful items → grid items at ≡ Ok g → col_out items at column ≡ Ok t →
-    laid_out (grid (edited t items) at) ≡ Ok (col_out_layout (layout_of g) column)
+ColOutGrid = (items : List PlainItem) (at column : ℕ) (t : Transaction) (g : Grid) → Lawful items → grid items at ≡ Ok g →
+    col_out items at column ≡ Ok t → laid_out (grid (edited t items) at) ≡ Ok (col_out_layout (layout_of g) column)
 
 -- A row put in leaves it lawful, or its nodes are nested over 100 deep.
 abbrev pub RowInStaysLawful : Type 0

@@ -10,17 +10,17 @@ use Rattle.ve_kinds.specs.Table.{kind_same, may_hold, is_content_branch}
 use Rattle.model_items.proofs.SameLemmas.{Means-kind_same}
 use Rattle.model_items.specs.declared.law_fault.LawFault.{LawFault}
 use Rattle.model_items.specs.declared.law_fault.LawFault.TheVariants.{Unlawful, TooDeep}
-use Rattle.model_items.specs.Law.{State, start, finish, top, is_empty, is_over, may_open, opened, closed, step, fault_moved, outcome_moved, joined, after, verdict_at, verdict, Lawful, place_of, IsFirstOffence, AtItem, AtEnd, VerdictIsFirstOffence, PieceDiffers, PieceFails, PieceFits, StateDecided}
+use Rattle.model_items.specs.Law.{State, start, finish, top, is_empty, is_over, may_open, opened, closed, step, fault_moved, outcome_moved, followed, after, verdict_at, verdict, Lawful, fault_place, IsFirstOffence, AtItem, AtEnd, VerdictIsFirstOffence, PieceDiffers, PieceFails, PieceFits, StateDecided}
 
 fault_moved-add : (m n : ℕ) (f : LawFault) → fault_moved m (fault_moved n f) ≡ fault_moved (m + n) f
 fault_moved-add m n (Unlawful at) = ap Unlawful (omega arith)
 fault_moved-add m n (TooDeep at) = ap TooDeep (omega arith)
 
 joined-assoc : (m n : ℕ) (r : Result State LawFault) (f g : State → Result State LawFault) →
-    joined m r (λ s. joined n (f s) g) ≡ joined (m + n) (joined m r f) g
+    followed m r (λ s. followed n (f s) g) ≡ followed (m + n) (followed m r f) g
 joined-assoc m n (Err e) f g = refl
 joined-assoc m n (Ok s) f g =
-    elim (f s) as (λ v. outcome_moved m (joined n v g) ≡ joined (m + n) (outcome_moved m v) g)
+    elim (f s) as (λ v. outcome_moved m (followed n v g) ≡ followed (m + n) (outcome_moved m v) g)
     [ Err e ↦ refl | Ok t ↦ elim (g t) as (λ v. outcome_moved m (outcome_moved n v) ≡ outcome_moved (m + n) v) [ Err e ↦ ap Err (fault_moved-add m n e) | Ok u ↦ refl ] ]
 
 fault_moved-zero : (f : LawFault) → fault_moved 0 f ≡ f
@@ -33,18 +33,18 @@ outcome_moved-zero (Err (Unlawful at)) = ap (λ n. Err (Unlawful n)) (zero-add a
 outcome_moved-zero (Err (TooDeep at)) = ap (λ n. Err (TooDeep n)) (zero-add at)
 
 -- a list in two parts
-pub after-append : (s : State) (xs ys : List PlainItem) → after s (xs ++ ys) ≡ joined (length xs) (after s xs) (λ t. after t ys)
+pub after-append : (s : State) (xs ys : List PlainItem) → after s (xs ++ ys) ≡ followed (length xs) (after s xs) (λ t. after t ys)
 after-append s [] ys = sym (outcome_moved-zero (after s ys))
 after-append s (x ∷ xs) ys =
-    ap (joined 1 (step s x)) (λ i next. after-append next xs ys i)
+    ap (followed 1 (step s x)) (λ i next. after-append next xs ys i)
     ∙ joined-assoc 1 (length xs) (step s x) (λ next. after next xs) (λ t. after t ys)
-    ∙ ap (λ n. joined n (after s (x ∷ xs)) (λ t. after t ys)) (one-add (length xs))
+    ∙ ap (λ n. followed n (after s (x ∷ xs)) (λ t. after t ys)) (one-add (length xs))
 
 after-append-ok : (s : State) (xs ys : List PlainItem) (t : State) → after s xs ≡ Ok t → after s (xs ++ ys) ≡ outcome_moved (length xs) (after t ys)
-after-append-ok s xs ys t h = after-append s xs ys ∙ ap (λ r. joined (length xs) r (λ u. after u ys)) h
+after-append-ok s xs ys t h = after-append s xs ys ∙ ap (λ r. followed (length xs) r (λ u. after u ys)) h
 
 after-append-err : (s : State) (xs ys : List PlainItem) (f : LawFault) → after s xs ≡ Err f → after s (xs ++ ys) ≡ Err f
-after-append-err s xs ys f h = after-append s xs ys ∙ ap (λ r. joined (length xs) r (λ u. after u ys)) h
+after-append-err s xs ys f h = after-append s xs ys ∙ ap (λ r. followed (length xs) r (λ u. after u ys)) h
 
 -- what a choice that ended well tells
 pub if_ok : {A E : Type 0} (b : Bool) (r : Result A E) (e : E) (u : A) → (if b then r else Err e) ≡ Ok u → (b ≡ true) × (r ≡ Ok u)
@@ -120,7 +120,7 @@ step-injective (Closing kind pre) s t u p q =
     state_same s t (a.0 ∙ sym b.0) (a.1 ∙ sym b.1)
 
 -- what comes first went well, and so did the rest
-pub joined-ok : (n : ℕ) (r : Result State LawFault) (f : State → Result State LawFault) (u : State) → joined n r f ≡ Ok u →
+pub joined-ok : (n : ℕ) (r : Result State LawFault) (f : State → Result State LawFault) (u : State) → followed n r f ≡ Ok u →
     (t : State) × (r ≡ Ok t) × (f t ≡ Ok u)
 joined-ok n (Err e) f u h = cc
 joined-ok n (Ok t) f u h = (t, refl, moved_ok (f t) h)
@@ -175,19 +175,19 @@ both_changes X A R A' R' old left right =
     let rest : after b.0 R' ≡ Ok finish = ap (λ s. after s R') (sym ab ∙ ac) ∙ c.2 in
     Lawful_from_after (X ++ (A' ++ R')) (after_whole X (A' ++ R') start y.0 finish y.1 (after_whole A' R' y.0 b.0 finish b.1 rest))
 
-place_of-fault_moved : (n : ℕ) (f : LawFault) → place_of (fault_moved n f) ≡ n + place_of f
+place_of-fault_moved : (n : ℕ) (f : LawFault) → fault_place (fault_moved n f) ≡ n + fault_place f
 place_of-fault_moved n (Unlawful at) = refl
 place_of-fault_moved n (TooDeep at) = refl
 
 -- an offence of one item has place 0
 abbrev AtOnce : Result State LawFault → Type 0
-AtOnce r = (f : LawFault) → r ≡ Err f → place_of f ≡ 0
+AtOnce r = (f : LawFault) → r ≡ Err f → fault_place f ≡ 0
 
 ok_at_once : (s : State) → AtOnce (Ok s)
 ok_at_once s f h = cc
 
-err_at_once : (e : LawFault) → place_of e ≡ 0 → AtOnce (Err e)
-err_at_once e p f h = let same : e ≡ f = cc in ap place_of (sym same) ∙ p
+err_at_once : (e : LawFault) → fault_place e ≡ 0 → AtOnce (Err e)
+err_at_once e p f h = let same : e ≡ f = cc in ap fault_place (sym same) ∙ p
 
 if_at_once : (b : Bool) (r q : Result State LawFault) → AtOnce r → AtOnce q → AtOnce (if b then r else q)
 if_at_once true r q p p' = p
@@ -227,7 +227,7 @@ first_bad (x ∷ xs) s fault h = by_step (first_bad xs) (step s x) refl h
     again before f g e = ap (fault_moved 1) e ∙ fault_moved-add 1 (length before) f ∙ ap (λ n. fault_moved n f) (one-add (length before))
 
     by_step : ((t : State) (f : LawFault) → after t xs ≡ Err f → FirstBad xs t f) → (r : Result State LawFault) → step s x ≡ r →
-        joined 1 r (λ next. after next xs) ≡ Err fault → FirstBad (x ∷ xs) s fault
+        followed 1 r (λ next. after next xs) ≡ Err fault → FirstBad (x ∷ xs) s fault
     by_step rest (Err f) e h =
         let same : f ≡ fault = cc in
         record { before = []; item = x; suffix = xs; there = s; offence = f; parts = refl; went = refl; bad = e; moved = sym same ∙ sym (fault_moved-zero f) }
@@ -241,7 +241,7 @@ first_bad (x ∷ xs) s fault h = by_step (first_bad xs) (step s x) refl h
           there = r.there;
           offence = r.offence;
           parts = ap (λ l. x ∷ l) r.parts;
-          went = ap (λ o. joined 1 o (λ next. after next r.before)) e ∙ ap (outcome_moved 1) r.went;
+          went = ap (λ o. followed 1 o (λ next. after next r.before)) e ∙ ap (outcome_moved 1) r.went;
           bad = r.bad;
           moved = m.2 ∙ again r.before r.offence m.0 r.moved;
         }
@@ -261,10 +261,10 @@ verdict_is_first_offence items fault h = by_end (after start items) refl h
         by_over true over h = cc
         by_over false over h = let same : Unlawful (length items) ≡ fault = cc in AtEnd s e over (sym same)
 
-verdict_place : (items : List PlainItem) (fault : LawFault) → verdict items ≡ Some fault → place_of fault ≤ length items
+verdict_place : (items : List PlainItem) (fault : LawFault) → verdict items ≡ Some fault → fault_place fault ≤ length items
 verdict_place items fault h = by_offence (verdict_is_first_offence items fault h)
   where
-    by_offence : IsFirstOffence items fault → place_of fault ≤ length items
+    by_offence : IsFirstOffence items fault → fault_place fault ≤ length items
     by_offence (AtItem before suffix item s f e went bad moved) =
         let at = step_at_once s item f bad in
         rw (e, moved, place_of-fault_moved (length before) f, at, length-append before (item ∷ suffix)) (omega arith)
@@ -283,12 +283,12 @@ piece_differs X A Z new s t u lawful p q r apart =
     end = length (X ++ (new ++ Z))
 
     Claim : Type 0
-    Claim = (fault : LawFault) × (verdict (X ++ (new ++ Z)) ≡ Some fault) × (length X + length new ≤ place_of fault) × (place_of fault ≤ length (X ++ (new ++ Z)))
+    Claim = (fault : LawFault) × (verdict (X ++ (new ++ Z)) ≡ Some fault) × (length X + length new ≤ fault_place fault) × (fault_place fault ≤ length (X ++ (new ++ Z)))
 
     new_end : after start (X ++ (new ++ Z)) ≡ outcome_moved (length X) (outcome_moved (length new) (after u Z))
     new_end = after-append-ok start X (new ++ Z) s p ∙ ap (outcome_moved (length X)) (after-append-ok s new Z u r)
 
-    claim : (fault : LawFault) → verdict (X ++ (new ++ Z)) ≡ Some fault → length X + length new ≤ place_of fault → Claim
+    claim : (fault : LawFault) → verdict (X ++ (new ++ Z)) ≡ Some fault → length X + length new ≤ fault_place fault → Claim
     claim fault e far = (fault, e, far, verdict_place (X ++ (new ++ Z)) fault e)
 
     by_end : (o : Result State LawFault) → after u Z ≡ o → after t Z ≡ Ok finish → Claim

@@ -8,8 +8,8 @@ use Rattle.model_items.specs.declared.plain_item.PlainItem.{PlainItem}
 use Rattle.model_items.specs.declared.plain_item.PlainItem.TheVariants.{Char, Opening, Closing}
 use Rattle.model_items.specs.declared.law_fault.LawFault.{LawFault}
 use Rattle.model_items.specs.declared.law_fault.LawFault.TheVariants.{Unlawful}
-use Rattle.model_items.specs.Law.{State, start, finish, top, may_open, opened, closed, step, outcome_moved, joined, after}
-use Rattle.model_items.specs.Tree.{Forest, Empty, Run, Branch, with_char, first_of, reading, Shape, Letter, Begin, End, shape_of, shapes}
+use Rattle.model_items.specs.Law.{State, start, finish, top, may_open, opened, closed, step, outcome_moved, followed, after}
+use Rattle.model_items.specs.Tree.{Forest, Empty, Run, Branch, with_char, first_forest, reading, Shape, Letter, Begin, End, shape_of, shapes}
 use Rattle.model_items.specs.LawfulTree.{AllHeld, nesting, is_none, ends_with_internal_list, LawfulHasTree, TreeIsLawful}
 use Rattle.model_items.proofs.SameLemmas.{Means-kind_same}
 use Rattle.model_items.proofs.LawLemmas.{if_ok, Ok-same, closed_before, joined-ok, after_from_Lawful, Lawful_from_after}
@@ -65,7 +65,7 @@ rest-with_char (k ∷ ks) here (f ∷ fs) h = refl
 
 -- a node closed round what stands here
 levels-branch : (kind : Kind) (ks : List Kind) (here : Forest) (outer : List Forest) → may_hold (top ks) kind ≡ true →
-    Levels (kind ∷ ks) here outer → Levels ks (Branch kind here (first_of outer)) (drop 1 outer)
+    Levels (kind ∷ ks) here outer → Levels ks (Branch kind here (first_forest outer)) (drop 1 outer)
 levels-branch kind ks here [] h p = absurd p
 levels-branch kind [] here (f ∷ fs) h p =
     let room = p.1 in
@@ -87,7 +87,7 @@ rest-branch k ks f g (h ∷ hs) = refl
 
 ends-branch : (kind : Kind) (ks : List Kind) (seen : Bool) (here : Forest) (outer : List Forest) → may_open (record { stack = ks; seen = seen }) kind ≡ true →
     Levels (kind ∷ ks) here outer → Ends (seen || kind_same kind InternalList) (root_rest (kind ∷ ks) here outer) →
-    Ends seen (root_rest ks (Branch kind here (first_of outer)) (drop 1 outer))
+    Ends seen (root_rest ks (Branch kind here (first_forest outer)) (drop 1 outer))
 ends-branch kind ks seen here [] may levels ends = absurd levels
 ends-branch kind [] seen here (f ∷ fs) may levels ends =
     by_kind (kind_same kind InternalList) seen refl (and_parts (may_hold Root kind) _ may).1 ends
@@ -157,7 +157,7 @@ step_by s (End kind) = closed s.stack s.seen kind
 
 abbrev after_by : State → List Shape → Result State LawFault
 after_by s [] = Ok s
-after_by s (x ∷ xs) = joined 1 (step_by s x) (λ next. after_by next xs)
+after_by s (x ∷ xs) = followed 1 (step_by s x) (λ next. after_by next xs)
 
 step-shape : (s : State) (x : PlainItem) → step s x ≡ step_by s (shape_of x)
 step-shape s (Char c marks) = refl
@@ -166,17 +166,17 @@ step-shape s (Closing kind pre) = refl
 
 after-shapes : (items : List PlainItem) (s : State) → after s items ≡ after_by s (map shape_of items)
 after-shapes [] s = refl
-after-shapes (x ∷ items) s = λ i. joined 1 (step-shape s x i) (λ next. after-shapes items next i)
+after-shapes (x ∷ items) s = λ i. followed 1 (step-shape s x i) (λ next. after-shapes items next i)
 
 -- one walk and then another
 after_by-append : (xs ys : List Shape) (s t u : State) → after_by s xs ≡ Ok t → after_by t ys ≡ Ok u → after_by s (xs ++ ys) ≡ Ok u
 after_by-append [] ys s t u p q = subst (λ v. after_by v ys ≡ Ok u) (sym (Ok-same {E = LawFault} s t p)) q
 after_by-append (x ∷ xs) ys s t u p q =
     let r = joined-ok 1 (step_by s x) (λ next. after_by next xs) t p in
-    ap (λ o. joined 1 o (λ next. after_by next (xs ++ ys))) r.1 ∙ ap (outcome_moved 1) (after_by-append xs ys r.0 t u r.2 q)
+    ap (λ o. followed 1 o (λ next. after_by next (xs ++ ys))) r.1 ∙ ap (outcome_moved 1) (after_by-append xs ys r.0 t u r.2 q)
 
 after_by-cons : (x : Shape) (xs : List Shape) (s t u : State) → step_by s x ≡ Ok t → after_by t xs ≡ Ok u → after_by s (x ∷ xs) ≡ Ok u
-after_by-cons x xs s t u p q = ap (λ o. joined 1 o (λ next. after_by next xs)) p ∙ ap (outcome_moved 1) q
+after_by-cons x xs s t u p q = ap (λ o. followed 1 o (λ next. after_by next xs)) p ∙ ap (outcome_moved 1) q
 
 letters_pass : (n : ℕ) (s : State) → is_content_branch (top s.stack) ≡ true → after_by s (replicate n Letter) ≡ Ok s
 letters_pass zero s h = refl

@@ -14,3 +14,4 @@ mod LawExamples
 mod TreeExamples
 mod NodeAtExamples
 mod OffsetExamples
+mod MarkExamples

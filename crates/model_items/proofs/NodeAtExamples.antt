@@ -5,7 +5,7 @@ use Rattle.ve_kinds.specs.declared.kind.Kind.TheVariants.{Root, P, Ul, Li, Div, 
 use Rattle.ve_base.specs.Empty.{empty_head}
 use Rattle.model_items.specs.declared.plain_item.PlainItem.{PlainItem}
 use Rattle.model_items.specs.declared.plain_item.PlainItem.TheVariants.{Char, Opening, Closing}
-use Rattle.model_items.specs.Tree.{Empty, Branch, Place, tree_of}
+use Rattle.model_items.specs.Tree.{Empty, Branch, NodeExtent, tree_of}
 use Rattle.model_items.specs.NodeAt.{all_places}
 use Rattle.model_items.specs.LawfulTree.{nesting, ends_with_internal_list}
 
@@ -15,7 +15,7 @@ open_ kind = Opening kind empty_head [] [] None false
 abbrev close_ : Kind → PlainItem
 close_ kind = Closing kind []
 
-abbrev place_ : Kind → ℕ → ℕ → Place
+abbrev place_ : Kind → ℕ → ℕ → NodeExtent
 place_ kind from to = record { kind = kind; from = from; to = to }
 
 -- the list of `<ul><li><p>ab</p></li></ul><p>c</p>`

@@ -9,7 +9,7 @@ use Rattle.model_items.specs.declared.plain_item.PlainItem.{PlainItem}
 use Rattle.model_items.specs.declared.plain_item.PlainItem.TheVariants.{Char, Opening, Closing}
 use Rattle.model_items.specs.declared.law_fault.LawFault.{LawFault}
 use Rattle.model_items.specs.Law.{State, start, finish, top, step, after}
-use Rattle.model_items.specs.Tree.{Forest, Empty, Run, Branch, with_char, first_of, reading, tree_of, item_count, Open, opens_after, length_to_close, Place, place_with, class_in}
+use Rattle.model_items.specs.Tree.{Forest, Empty, Run, Branch, with_char, first_forest, reading, tree_of, item_count, Open, opens_after, length_to_close, NodeExtent, place_with, class_in}
 use Rattle.model_items.specs.NodeAt.{places_from, root_place, all_places, IsInnermost, search, TreeHasAllItems, NodeAtIsFound, NodeAtIsInnermost, OpenIsStack, ClassIsOfTop}
 use Rattle.model_items.proofs.LawLemmas.{if_ok, Ok-same, opened_before, closed_before, joined-ok, after_from_Lawful}
 use Rattle.model_items.proofs.TreeLemmas.{read_deep}
@@ -60,13 +60,13 @@ not_lt a b h =
     ]
 
 -- at the forest's start or before it nothing inside holds the offset
-search-start : (d : Place) (at : ℕ) (f : Forest) (o : ℕ) → o ≤ at → search d at f o ≡ d
+search-start : (d : NodeExtent) (at : ℕ) (f : Forest) (o : ℕ) → o ≤ at → search d at f o ≡ d
 search-start d at Empty o h = refl
 search-start d at (Run count later) o h = search-start d (at + count) later o (omega arith)
 search-start d at (Branch kind inside later) o h =
     rw (not_lt at o h) (search-start d (at + (item_count inside + 2)) later o (omega arith))
 
-search-with_char : (d : Place) (at : ℕ) (f : Forest) (o : ℕ) → search d at (with_char f) o ≡ search d (suc at) f o
+search-with_char : (d : NodeExtent) (at : ℕ) (f : Forest) (o : ℕ) → search d at (with_char f) o ≡ search d (suc at) f o
 search-with_char d at Empty o = refl
 search-with_char d at (Run count later) o = let e : at + suc count ≡ suc at + count = omega arith in ap (λ n. search d n later o) e
 search-with_char d at (Branch kind inside later) o = let e : at + 1 ≡ suc at = omega arith in ap (λ n. search d n (Branch kind inside later) o) e
@@ -88,7 +88,7 @@ close-suc zero f g (h ∷ hs) e less = omega arith
 close-suc (suc depth) f g (h ∷ hs) e less = omega arith
 
 close-branch : (depth : ℕ) (kind : Kind) (inside : Forest) (outer : List Forest) → depth < length (drop 1 outer) →
-    suc (close_of (suc depth) inside outer) ≡ close_of depth (Branch kind inside (first_of outer)) (drop 1 outer)
+    suc (close_of (suc depth) inside outer) ≡ close_of depth (Branch kind inside (first_forest outer)) (drop 1 outer)
 close-branch depth kind inside [] less = absurd (omega arith)
 close-branch depth kind inside (f ∷ []) less = absurd (omega arith)
 close-branch zero kind inside (f ∷ (g ∷ gs)) less = omega arith
@@ -132,7 +132,7 @@ total_count (Opening kind head marks pre origin generated ∷ items) s h =
     by_outer (reading items).here (reading items).outer deep (total_count items p.0 p.2)
   where
     by_outer : (here : Forest) (outer : List Forest) → length outer ≡ suc (length s.stack) → item_count here + outer_count outer ≡ length items →
-        item_count (Branch kind here (first_of outer)) + outer_count (drop 1 outer) ≡ suc (length items)
+        item_count (Branch kind here (first_forest outer)) + outer_count (drop 1 outer) ≡ suc (length items)
     by_outer here [] deep e = absurd (omega arith)
     by_outer here (f ∷ fs) deep e = omega arith
 total_count (Closing kind pre ∷ items) s h =
@@ -141,7 +141,7 @@ total_count (Closing kind pre ∷ items) s h =
     omega arith
 
 -- the search from a place on: in what stands here, and then, where the offset is past the closing of the innermost open node, outside of that
-abbrev locate : List Open → ℕ → Forest → List Forest → ℕ → Place
+abbrev locate : List Open → ℕ → Forest → List Forest → ℕ → NodeExtent
 locate [] at here outer o = search (record { kind = Root; from = 0; to = at + item_count here }) at here o
 locate (inner ∷ opens) at here [] o = record { kind = inner.kind; from = inner.from; to = 0 }
 locate (inner ∷ opens) at here (f ∷ fs) o =
@@ -161,7 +161,7 @@ locate_char (inner ∷ opens) at f (g ∷ gs) o e =
     let one = item_count-with_char f in
     let n : suc at + (item_count f + 1) ≡ at + (item_count (with_char f) + 1) = omega arith in
     ap (λ n. if nat_lt o n then search (record { kind = inner.kind; from = inner.from; to = n }) (suc at) f o else locate opens n g gs o) n
-    ∙ ap (λ (p : Place). if nat_lt o (at + (item_count (with_char f) + 1)) then p else locate opens (at + (item_count (with_char f) + 1)) g gs o)
+    ∙ ap (λ (p : NodeExtent). if nat_lt o (at + (item_count (with_char f) + 1)) then p else locate opens (at + (item_count (with_char f) + 1)) g gs o)
     (sym (search-with_char (record { kind = inner.kind; from = inner.from; to = at + (item_count (with_char f) + 1) }) at f o))
 
 locate_close : (inner : Open) (opens : List Open) (at : ℕ) (f : Forest) (fs : List Forest) (o : ℕ) → at < o →
@@ -171,16 +171,16 @@ locate_close inner opens at f fs o past =
     ap (λ n. locate opens n f fs o) n ∙ sym (rw (not_lt o (at + 1) (omega arith)) refl)
 
 -- a node that begins here
-abbrev branch_at : Kind → ℕ → Forest → Place
+abbrev branch_at : Kind → ℕ → Forest → NodeExtent
 branch_at kind at inside = record { kind = kind; from = at; to = at + (item_count inside + 2) }
 
-search-branch : (d : Place) (at : ℕ) (kind : Kind) (inside later : Forest) (o : ℕ) → at < o →
+search-branch : (d : NodeExtent) (at : ℕ) (kind : Kind) (inside later : Forest) (o : ℕ) → at < o →
     search d at (Branch kind inside later) o
     ≡ (if nat_lt o (at + (item_count inside + 2)) then search (branch_at kind at inside) (suc at) inside o else search d (at + (item_count inside + 2)) later o)
 search-branch d at kind inside later o past = rw (lt-ltb at o past) refl
 
 -- one test within another
-nested_if : (o n end : ℕ) (p q r : Place) → n ≤ end →
+nested_if : (o n end : ℕ) (p q r : NodeExtent) → n ≤ end →
     (if nat_lt o n then p else (if nat_lt o end then q else r)) ≡ (if nat_lt o end then (if nat_lt o n then p else q) else r)
 nested_if o n end p q r le =
     elim (cases_Bool (nat_lt o n)) [
@@ -189,7 +189,7 @@ nested_if o n end p q r le =
     ]
 
 locate_open : (kind : Kind) (opens : List Open) (at : ℕ) (inside : Forest) (outer : List Forest) (o : ℕ) → length outer ≡ suc (length opens) → at < o →
-    locate (record { kind = kind; from = at } ∷ opens) (suc at) inside outer o ≡ locate opens at (Branch kind inside (first_of outer)) (drop 1 outer) o
+    locate (record { kind = kind; from = at } ∷ opens) (suc at) inside outer o ≡ locate opens at (Branch kind inside (first_forest outer)) (drop 1 outer) o
 locate_open kind opens at inside [] o e past = absurd (omega arith)
 locate_open kind [] at inside (g ∷ gs) o e past =
     let n : suc at + (item_count inside + 1) ≡ at + (item_count inside + 2) = omega arith in
@@ -211,7 +211,7 @@ locate_open kind (inner ∷ opens) at inside (g ∷ (h ∷ hs)) o e past =
     (search (record { kind = inner.kind; from = inner.from; to = end }) (at + (item_count inside + 2)) g o)
     (locate opens end h hs o)
     (omega arith)
-    ∙ ap (λ (p : Place). if nat_lt o end then p else locate opens end h hs o) (sym (search-branch (record { kind = inner.kind; from = inner.from; to = end }) at kind inside g o past))
+    ∙ ap (λ (p : NodeExtent). if nat_lt o end then p else locate opens end h hs o) (sym (search-branch (record { kind = inner.kind; from = inner.from; to = end }) at kind inside g o past))
   where
     end : ℕ
     end = at + (item_count inside + 2 + item_count g + 1)
@@ -284,17 +284,17 @@ found_in_tree items at lawful room =
 -- the search gives the innermost
 
 -- the offset lies inside
-abbrev Inside : ℕ → Place → Type 0
+abbrev Inside : ℕ → NodeExtent → Type 0
 Inside o p = (p.from < o) × (o < p.to)
 
-abbrev Bounds : ℕ → ℕ → Place → Type 0
+abbrev Bounds : ℕ → ℕ → NodeExtent → Type 0
 Bounds at end p = (at ≤ p.from) × (p.to ≤ end)
 
-only_place : (p q : Place) → Contains (p ∷ []) q → p ≡ q
+only_place : (p q : NodeExtent) → Contains (p ∷ []) q → p ≡ q
 only_place p q (zero, below, here) = here
 only_place p q (suc k, below, here) = absurd (let none : ⊥ = omega arith in none)
 
-places_bounds : (f : Forest) (at : ℕ) (q : Place) → Contains (places_from at f) q → Bounds at (at + item_count f) q
+places_bounds : (f : Forest) (at : ℕ) (q : NodeExtent) → Contains (places_from at f) q → Bounds at (at + item_count f) q
 places_bounds Empty at q within = absurd (let below = within.1 in omega arith)
 places_bounds (Run count later) at q within = let b = places_bounds later (at + count) q within in let x = b.0 in let y = b.1 in (omega arith, omega arith)
 places_bounds (Branch kind inside later) at q within =
@@ -307,11 +307,11 @@ places_bounds (Branch kind inside later) at q within =
     ]
 
 -- what was found is the node round the forest, or one of the forest that holds the offset; and each one of the forest that holds it is round what was found
-record Searched (d : Place) (at : ℕ) (f : Forest) (o : ℕ) (p : Place) : Type 0 where
+record Searched (d : NodeExtent) (at : ℕ) (f : Forest) (o : ℕ) (p : NodeExtent) : Type 0 where
   node : (p ≡ d) ⊎ (Contains (places_from at f) p × Inside o p)
-  within : (q : Place) → Contains (places_from at f) q → Inside o q → (q.from ≤ p.from) × (p.to ≤ q.to)
+  within : (q : NodeExtent) → Contains (places_from at f) q → Inside o q → (q.from ≤ p.from) × (p.to ≤ q.to)
 
-contains_first : (p : Place) (ps : List Place) → Contains (p ∷ ps) p
+contains_first : (p : NodeExtent) (ps : List NodeExtent) → Contains (p ∷ ps) p
 contains_first p ps = (0, omega arith, refl)
 
 -- a node of a branch is the branch itself, stands in it or after it
@@ -319,7 +319,7 @@ module _ (kind : Kind) (at : ℕ) (inside later : Forest) (o : ℕ) where
   end : ℕ
   end = at + (item_count inside + 2)
 
-  parts_of_branch : {Goal : Type 0} (q : Place) → Contains (places_from at (Branch kind inside later)) q →
+  parts_of_branch : {Goal : Type 0} (q : NodeExtent) → Contains (places_from at (Branch kind inside later)) q →
       (branch_at kind at inside ≡ q → Goal) → (Contains (places_from (suc at) inside) q → Goal) → (Contains (places_from (at + (item_count inside + 2)) later) q → Goal) → Goal
   parts_of_branch q within one two three =
       elim (Contains-append_cases (branch_at kind at inside ∷ []) (places_from (suc at) inside ++ places_from (at + (item_count inside + 2)) later) q within) [
@@ -327,10 +327,10 @@ module _ (kind : Kind) (at : ℕ) (inside later : Forest) (o : ℕ) where
         | inr rest ↦ elim (Contains-append_cases (places_from (suc at) inside) (places_from (at + (item_count inside + 2)) later) q rest) [ inl a ↦ two a | inr b ↦ three b ]
       ]
 
-  in_branch : (d : Place) (p : Place) → at < o → o < at + (item_count inside + 2) → Searched (branch_at kind at inside) (suc at) inside o p → Searched d at (Branch kind inside later) o p
+  in_branch : (d : NodeExtent) (p : NodeExtent) → at < o → o < at + (item_count inside + 2) → Searched (branch_at kind at inside) (suc at) inside o p → Searched d at (Branch kind inside later) o p
   in_branch d p past before r = record {
     node = inr (found_node r.node);
-    within = λ q c ins. parts_of_branch q c (λ e. subst (λ (x : Place). (x.from ≤ p.from) × (p.to ≤ x.to)) e (round r.node)) (λ a. r.within q a ins)
+    within = λ q c ins. parts_of_branch q c (λ e. subst (λ (x : NodeExtent). (x.from ≤ p.from) × (p.to ≤ x.to)) e (round r.node)) (λ a. r.within q a ins)
         (λ b. absurd (let far = places_bounds later (at + (item_count inside + 2)) q b in let x = far.0 in let y = ins.0 in omega arith));
   }
     where
@@ -346,10 +346,10 @@ module _ (kind : Kind) (at : ℕ) (inside later : Forest) (o : ℕ) where
       )
 
       round : (p ≡ branch_at kind at inside) ⊎ (Contains (places_from (suc at) inside) p × Inside o p) → (at ≤ p.from) × (p.to ≤ at + (item_count inside + 2))
-      round (inl e) = subst (λ (x : Place). (at ≤ x.from) × (x.to ≤ at + (item_count inside + 2))) (sym e) (omega arith, omega arith)
+      round (inl e) = subst (λ (x : NodeExtent). (at ≤ x.from) × (x.to ≤ at + (item_count inside + 2))) (sym e) (omega arith, omega arith)
       round (inr c) = let b = places_bounds inside (suc at) p c.0 in let x = b.0 in let y = b.1 in (omega arith, omega arith)
 
-  after_branch : (d : Place) (p : Place) → ((at < o) × (o < at + (item_count inside + 2)) → ⊥) → Searched d (at + (item_count inside + 2)) later o p → Searched d at (Branch kind inside later) o p
+  after_branch : (d : NodeExtent) (p : NodeExtent) → ((at < o) × (o < at + (item_count inside + 2)) → ⊥) → Searched d (at + (item_count inside + 2)) later o p → Searched d at (Branch kind inside later) o p
   after_branch d p outside r = record {
     node = elim (r.node) [
       | inl e ↦ inl e
@@ -365,7 +365,7 @@ module _ (kind : Kind) (at : ℕ) (inside later : Forest) (o : ℕ) where
         (λ b. r.within q b ins);
   }
 
-search_tree : (f : Forest) (d : Place) (at o : ℕ) → Searched d at f o (search d at f o)
+search_tree : (f : Forest) (d : NodeExtent) (at o : ℕ) → Searched d at f o (search d at f o)
 search_tree Empty d at o = record { node = inl refl; within = λ q c ins. absurd (let below = c.1 in omega arith) }
 search_tree (Run count later) d at o = let r = search_tree later d (at + count) o in record { node = r.node; within = r.within }
 search_tree (Branch kind inside later) d at o =
@@ -388,7 +388,7 @@ count_all items lawful =
     by_outer [] none total = omega arith
     by_outer (f ∷ fs) none total = absurd (omega arith)
 
-innermost_of : (items : List PlainItem) (at : ℕ) (p : Place) → item_count (tree_of items) ≡ length items → Searched (root_place items) 0 (tree_of items) at p → IsInnermost items at p
+innermost_of : (items : List PlainItem) (at : ℕ) (p : NodeExtent) → item_count (tree_of items) ≡ length items → Searched (root_place items) 0 (tree_of items) at p → IsInnermost items at p
 innermost_of items at p count s = record {
   node = elim (s.node) [
     | inl e ↦ subst (Contains (all_places items)) (sym e) (contains_first (root_place items) (places_from 0 (tree_of items)))
@@ -396,16 +396,16 @@ innermost_of items at p count s = record {
   ];
   holds = elim (s.node) [ inl e ↦ inl e | inr c ↦ inr c.1 ];
   within = λ q c holds. elim holds [
-    | inl e ↦ subst (λ (x : Place). (x.from ≤ p.from) × (p.to ≤ x.to)) (sym e) (in_root (s.node))
+    | inl e ↦ subst (λ (x : NodeExtent). (x.from ≤ p.from) × (p.to ≤ x.to)) (sym e) (in_root (s.node))
     | inr ins ↦ elim (Contains-append_cases (root_place items ∷ []) (places_from 0 (tree_of items)) q c) [
-      | inl here ↦ subst (λ (x : Place). (x.from ≤ p.from) × (p.to ≤ x.to)) (only_place (root_place items) q here) (in_root (s.node))
+      | inl here ↦ subst (λ (x : NodeExtent). (x.from ≤ p.from) × (p.to ≤ x.to)) (only_place (root_place items) q here) (in_root (s.node))
       | inr one ↦ s.within q one ins
     ]
   ];
 }
   where
     in_root : (p ≡ root_place items) ⊎ (Contains (places_from 0 (tree_of items)) p × Inside at p) → (0 ≤ p.from) × (p.to ≤ length items)
-    in_root (inl e) = subst (λ (x : Place). (0 ≤ x.from) × (x.to ≤ length items)) (sym e) (omega arith, omega arith)
+    in_root (inl e) = subst (λ (x : NodeExtent). (0 ≤ x.from) × (x.to ≤ length items)) (sym e) (omega arith, omega arith)
     in_root (inr c) = let b = places_bounds (tree_of items) 0 p c.0 in let y = b.1 in (omega arith, omega arith)
 
 pub node_at_is_innermost : NodeAtIsInnermost

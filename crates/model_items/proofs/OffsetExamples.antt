@@ -3,7 +3,7 @@ use Rattle.std.proofs.Common.{◌≡◌, true, List, [], ◌∷◌, ◌++◌, So
 use Rattle.std.specs.Prelude.{codes}
 use Rattle.ve_kinds.specs.declared.kind.Kind.TheVariants.{P, Ul, Li, Br}
 use Rattle.model_items.specs.declared.plain_item.PlainItem.{PlainItem}
-use Rattle.model_items.specs.Offsets.{stack_at, is_content, is_inside_leaf, is_structural, partner, unmatched, nearest_content}
+use Rattle.model_items.specs.Offsets.{stack_at, is_content, is_inside_leaf, is_structural_at, partner, unmatched, nearest_content}
 use Rattle.model_items.proofs.ExampleItems.{text, node, internal}
 
 -- `<p>ab</p><ul><li><p>cd</p></li></ul>`
@@ -23,7 +23,7 @@ crossing = refl
 abbrev leaf_inside : List PlainItem
 leaf_inside = node P (text (codes "a") ++ node Br []) ++ (node P (text (codes "b")) ++ internal)
 
-leaf : (is_inside_leaf leaf_inside 3 ≡ true) × (is_content leaf_inside 4 ≡ true) × (is_structural leaf_inside 5 ≡ true)
+leaf : (is_inside_leaf leaf_inside 3 ≡ true) × (is_content leaf_inside 4 ≡ true) × (is_structural_at leaf_inside 5 ≡ true)
 leaf = (refl, refl, refl)
 
 inner : (nearest_content leaf_inside 0 ≡ Some 1) × (nearest_content leaf_inside 3 ≡ Some 2) × (nearest_content leaf_inside 10 ≡ Some 7) × (nearest_content internal 1 ≡ None)

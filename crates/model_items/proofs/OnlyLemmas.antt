@@ -6,13 +6,13 @@ use Rattle.model_items.specs.declared.item.Item.TheVariants as item
 use Rattle.model_items.specs.declared.plain_item.PlainItem.{PlainItem}
 use Rattle.model_items.specs.declared.plain_item.PlainItem.TheVariants.{Char, Opening, Closing}
 use Rattle.model_items.specs.Plain.{plain_list}
-use Rattle.model_items.specs.Tree.{Forest, Empty, Run, Branch, with_char, Reading, first_of, reading, Shape, Letter, Begin, End, shape_of, shapes, begins_with_run, HasWholeRuns, TreeHasWholeRuns, TreeIsOnly, TreeReadsNoValues}
+use Rattle.model_items.specs.Tree.{Forest, Empty, Run, Branch, with_char, Reading, first_forest, reading, Shape, Letter, Begin, End, shape_of, shapes, begins_with_run, HasWholeRuns, TreeHasWholeRuns, TreeIsOnly, TreeReadsNoValues}
 
 -- reading, by the shapes alone
 abbrev reading_by : Shape → Reading → Reading
 reading_by Letter r = record { here = with_char r.here; outer = r.outer }
 reading_by (End kind) r = record { here = Empty; outer = r.here ∷ r.outer }
-reading_by (Begin kind) r = record { here = Branch kind r.here (first_of r.outer); outer = drop 1 r.outer }
+reading_by (Begin kind) r = record { here = Branch kind r.here (first_forest r.outer); outer = drop 1 r.outer }
 
 abbrev reading_of : List Shape → Reading
 reading_of [] = record { here = Empty; outer = [] }
@@ -68,7 +68,7 @@ whole-with_char Empty h = (omega arith, refl, tt)
 whole-with_char (Run count later) h = (omega arith, h.1, h.2)
 whole-with_char (Branch kind inside later) h = (omega arith, refl, h)
 
-whole-first_of : (fs : List Forest) → AllWhole fs → HasWholeRuns (first_of fs)
+whole-first_of : (fs : List Forest) → AllWhole fs → HasWholeRuns (first_forest fs)
 whole-first_of [] h = tt
 whole-first_of (f ∷ fs) h = h.0
 

@@ -7,7 +7,7 @@ use Rattle.ve_kinds.specs.Table.{is_content_branch}
 use Rattle.model_items.specs.declared.law_fault.LawFault.{LawFault}
 use Rattle.model_items.specs.Law.{State, start, finish, top, step, after}
 use Rattle.model_items.proofs.LawLemmas.{if_ok, Ok-same, opened_before, closed_before, joined-ok, after_from_Lawful}
-use Rattle.model_items.specs.Tree.{Forest, Empty, Run, Branch, with_char, first_of, reading, tree_of, Shape, Letter, Begin, End, shape_of, shapes, TreeSpells}
+use Rattle.model_items.specs.Tree.{Forest, Empty, Run, Branch, with_char, first_forest, reading, tree_of, Shape, Letter, Begin, End, shape_of, shapes, TreeSpells}
 
 -- the closings of the open kinds, and what follows each
 closings : List Kind → List Forest → List Shape
@@ -51,7 +51,7 @@ read_from (Opening kind head marks pre origin generated ∷ items) s h =
     record { spelled = both.0; deep = both.1 }
   where
     around : (here : Forest) (outer : List Forest) → shapes here ++ closings (kind ∷ s.stack) outer ≡ map shape_of items → length outer ≡ suc (length s.stack) →
-        (shapes (Branch kind here (first_of outer)) ++ closings s.stack (drop 1 outer) ≡ Begin kind ∷ map shape_of items) × (length (drop 1 outer) ≡ length s.stack)
+        (shapes (Branch kind here (first_forest outer)) ++ closings s.stack (drop 1 outer) ≡ Begin kind ∷ map shape_of items) × (length (drop 1 outer) ≡ length s.stack)
     around here [] e f = absurd (omega arith)
     around here (forest ∷ outer) e f =
         (ap (λ l. Begin kind ∷ l) (append_assoc (shapes here) (End kind ∷ shapes forest) (closings s.stack outer) ∙ e), omega arith)

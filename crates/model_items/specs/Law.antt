@@ -1,5 +1,6 @@
 -- Which items may stand where: a state that each item moves on, and the verdict over a whole list. The rules are this project's own.
 use Rattle.std.specs.Prelude.{◌≡◌, ◌≢◌, ℕ, ◌+◌, ◌≤◌, Bool, true, false, not, ◌&&◌, ◌||◌, if◌then◌else◌, nat_lt, List, [], ◌∷◌, ◌++◌, length, Option, Some, None, Result, Ok, Err}
+use Rattle.ve_base.specs.Limits.{max_open_kinds}
 use Rattle.ve_kinds.specs.declared.kind.Kind.{Kind}
 use Rattle.ve_kinds.specs.declared.kind.Kind.TheVariants.{Root, InternalList}
 use Rattle.ve_base.specs.declared.value.Value.{Value}
@@ -35,17 +36,18 @@ is_empty (k ∷ outer) = false
 abbrev pub is_over : State → Bool
 is_over s = is_empty s.stack && s.seen
 
--- A kind may be opened in a node that may hold it. The internal list opens once, outside all nodes; where it is closed again nothing else opens.
+-- A kind may be opened in a node that may hold it. The internal list opens once, outside all nodes; where it is closed again nothing
+-- else opens.
 abbrev pub may_open : State → Kind → Bool
 may_open s k =
     may_hold (top s.stack) k
     && (if kind_same k InternalList then is_empty s.stack && not s.seen else not (is_over s))
 
--- an opening goes on top, where it may; at most 100 are open
+-- an opening goes on top, where it may and is not one too many
 abbrev pub opened : State → Kind → Result State LawFault
 opened s k =
     if may_open s k
-    then (if nat_lt (length s.stack) 100
+    then (if nat_lt (length s.stack) max_open_kinds
     then Ok (record { stack = k ∷ s.stack; seen = s.seen || kind_same k InternalList })
     else Err (TooDeep 0))
     else Err (Unlawful 0)
@@ -61,9 +63,9 @@ step s (Char c marks) = if is_content_branch (top s.stack) then Ok s else Err (U
 step s (Opening kind head marks pre origin generated) = opened s kind
 step s (Closing kind pre) = closed s.stack s.seen kind
 
-abbrev pub place_of : LawFault → ℕ
-place_of (Unlawful at) = at
-place_of (TooDeep at) = at
+abbrev pub fault_place : LawFault → ℕ
+fault_place (Unlawful at) = at
+fault_place (TooDeep at) = at
 
 -- the same offence n places on
 abbrev pub fault_moved : ℕ → LawFault → LawFault
@@ -75,14 +77,14 @@ outcome_moved n (Ok s) = Ok s
 outcome_moved n (Err fault) = Err (fault_moved n fault)
 
 -- the outcome of n items, and then of the rest
-abbrev pub joined : ℕ → Result State LawFault → (State → Result State LawFault) → Result State LawFault
-joined n (Err fault) rest = Err fault
-joined n (Ok s) rest = outcome_moved n (rest s)
+abbrev pub followed : ℕ → Result State LawFault → (State → Result State LawFault) → Result State LawFault
+followed n (Err fault) rest = Err fault
+followed n (Ok s) rest = outcome_moved n (rest s)
 
 -- the state after the items, or the first offence, with its place counted from where they begin
 abbrev pub after : State → List PlainItem → Result State LawFault
 after s [] = Ok s
-after s (item ∷ items) = joined 1 (step s item) (λ next. after next items)
+after s (item ∷ items) = followed 1 (step s item) (λ next. after next items)
 
 -- a list ends well with all nodes closed and the internal list seen
 abbrev pub verdict_at : ℕ → Result State LawFault → Option LawFault
@@ -96,11 +98,11 @@ verdict items = verdict_at (length items) (after start items)
 abbrev pub Lawful : List PlainItem → Type 0
 Lawful items = verdict items ≡ None
 
--- The verdict names the first offence: all items before it may be gone through, and the item there may not; or all may, and the list ends in the wrong state.
+-- The verdict names the first offence: all items before it may be gone through, and the item there may not; or all may, and the list
+-- ends in the wrong state.
 pub data IsFirstOffence (items : List PlainItem) (fault : LawFault) : Type 0 where
-  AtItem : (before suffix : List PlainItem) (item : PlainItem) (s : State) (f : LawFault) → items ≡ before ++ (item ∷ suffix) →
-      after start before ≡ Ok s → step s item ≡ Err f → fault ≡ fault_moved (length before) f →
-      IsFirstOffence items fault
+  AtItem : (prefix suffix : List PlainItem) (item : PlainItem) (s : State) (f : LawFault) → items ≡ prefix ++ (item ∷ suffix) →
+      after start prefix ≡ Ok s → step s item ≡ Err f → fault ≡ fault_moved (length prefix) f → IsFirstOffence items fault
   AtEnd : (s : State) → after start items ≡ Ok s → is_over s ≡ false → fault ≡ Unlawful (length items) → IsFirstOffence items fault
 
 abbrev pub VerdictIsFirstOffence : Type 0
@@ -108,28 +110,30 @@ VerdictIsFirstOffence = (items : List PlainItem) (fault : LawFault) → verdict 
 
 -- The law reads no values: items that cite the same places stand alike over any list of values.
 abbrev pub LawReadsNoValues : Type 0
-LawReadsNoValues = (values others : List Value) (items : List Item) (s : State) → after s (plain_list values items) ≡ after s (plain_list others items)
+LawReadsNoValues = (values others : List Value) (items : List Item) (s : State) →
+    after s (plain_list values items) ≡ after s (plain_list others items)
 
 abbrev pub VerdictReadsNoValues : Type 0
-VerdictReadsNoValues = (values others : List Value) (items : List Item) → verdict (plain_list values items) ≡ verdict (plain_list others items)
+VerdictReadsNoValues = (values others : List Value) (items : List Item) →
+    verdict (plain_list values items) ≡ verdict (plain_list others items)
 
--- A list is X, A and Z, and A is replaced by a new piece. Then the piece alone, from the state after X, tells the new verdict: where it fails, the list fails there.
+-- A list is X, A and Z, and A is replaced by a new piece. Then the piece alone, from the state after X, tells the new verdict: where
+-- it fails, the list fails there.
 abbrev pub PieceFails : Type 0
 PieceFails = (X new Z : List PlainItem) (s : State) (fault : LawFault) →
-    after start X ≡ Ok s → after s new ≡ Err fault →
-    verdict (X ++ (new ++ Z)) ≡ Some (fault_moved (length X) fault)
+    after start X ≡ Ok s → after s new ≡ Err fault → verdict (X ++ (new ++ Z)) ≡ Some (fault_moved (length X) fault)
 
 -- Where it ends in the state in which A ends, the new list is lawful, since the old one is.
 abbrev pub PieceFits : Type 0
 PieceFits = (X A Z new : List PlainItem) (s t : State) → Lawful (X ++ (A ++ Z)) →
-    after start X ≡ Ok s → after s A ≡ Ok t → after s new ≡ Ok t →
-    Lawful (X ++ (new ++ Z))
+    after start X ≡ Ok s → after s A ≡ Ok t → after s new ≡ Ok t → Lawful (X ++ (new ++ Z))
 
 -- In every other case the first offence lies in Z, or at its end.
 abbrev pub PieceDiffers : Type 0
 PieceDiffers = (X A Z new : List PlainItem) (s t u : State) → Lawful (X ++ (A ++ Z)) →
     after start X ≡ Ok s → after s A ≡ Ok t → after s new ≡ Ok u → u ≢ t →
-    (fault : LawFault) × (verdict (X ++ (new ++ Z)) ≡ Some fault) × (length X + length new ≤ place_of fault) × (place_of fault ≤ length (X ++ (new ++ Z)))
+    (fault : LawFault) × (verdict (X ++ (new ++ Z)) ≡ Some fault) × (length X + length new ≤ fault_place fault)
+    × (fault_place fault ≤ length (X ++ (new ++ Z)))
 
 -- What follows a place decides the state there: from no two states do the same items lead to one.
 abbrev pub StateDecided : Type 0

@@ -1,5 +1,6 @@
 -- What a lawful list is, in words of its tree and without a walk along it.
 use Rattle.std.specs.Prelude.{◌≡◌, ℕ, suc, ◌≤◌, max, Bool, true, false, if◌then◌else◌, List, map}
+use Rattle.ve_base.specs.Limits.{max_open_kinds}
 use Rattle.ve_kinds.specs.declared.kind.Kind.{Kind}
 use Rattle.ve_kinds.specs.declared.kind.Kind.TheVariants.{Root, InternalList}
 use Rattle.ve_kinds.specs.Table.{kind_same, may_hold, is_content_branch}
@@ -31,7 +32,7 @@ ends_with_internal_list (Branch kind inside later) = if kind_same kind InternalL
 
 pub record IsLawfulTree (f : Forest) : Type 0 where
   pub held : AllHeld Root f
-  pub nested : nesting f ≤ 100
+  pub nested : nesting f ≤ max_open_kinds
   pub ended : ends_with_internal_list f ≡ true
 
 -- A lawful list is what its tree writes out, and its tree is lawful.

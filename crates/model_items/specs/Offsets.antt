@@ -50,8 +50,8 @@ is_content items at = is_content_branch (kind_at items at)
 abbrev pub is_inside_leaf : List PlainItem → ℕ → Bool
 is_inside_leaf items at = is_leaf (kind_at items at)
 
-abbrev pub is_structural : List PlainItem → ℕ → Bool
-is_structural items at = not (is_content items at) && not (is_inside_leaf items at)
+abbrev pub is_structural_at : List PlainItem → ℕ → Bool
+is_structural_at items at = not (is_content items at) && not (is_inside_leaf items at)
 
 -- where the innermost open node begins
 abbrev pub first_from : List Open → ℕ
@@ -72,7 +72,8 @@ partner items at = partner_of (slice_get items at) items at
 abbrev pub end_of_node : List PlainItem → ℕ → ℕ
 end_of_node items at = suc (partner items at)
 
--- the nodes side by side from the first item on, whose place is `at`, as far as the node goes that they stand in; `depth` nodes are open already
+-- the nodes side by side from the first item on, whose place is `at`, as far as the node goes that they stand in; `depth` nodes are
+-- open already
 abbrev pub siblings : (depth at : ℕ) → List PlainItem → List Open
 siblings depth at [] = []
 siblings depth at (Char c marks ∷ items) = siblings depth (suc at) items
@@ -91,11 +92,11 @@ abbrev pub is_unmatched : List PlainItem → ℕ → ℕ → ℕ → Bool
 is_unmatched items from to at = let other = partner items at in not (nat_le from other && nat_lt other to)
 
 -- the places of a range
-abbrev pub places : ℕ → ℕ → List ℕ
-places from to = range_with_len from (to - from)
+abbrev pub places_in : ℕ → ℕ → List ℕ
+places_in from to = range_with_len from (to - from)
 
 abbrev pub unmatched_places : List PlainItem → ℕ → ℕ → List ℕ
-unmatched_places items from to = filter (is_unmatched items from to) (places from to)
+unmatched_places items from to = filter (is_unmatched items from to) (places_in from to)
 
 -- how many closings and openings of a range are unmatched
 abbrev pub unmatched : List PlainItem → ℕ → ℕ → ℕ × ℕ
@@ -126,7 +127,7 @@ nearest at [] = None
 nearest at (one ∷ others) = Some (nearer at one (nearest at others))
 
 abbrev pub content_offsets : List PlainItem → List ℕ
-content_offsets items = filter (is_content items) (places 0 (suc (length items)))
+content_offsets items = filter (is_content items) (places_in 0 (suc (length items)))
 
 -- the nearest content offset, the lower of two at one distance
 abbrev pub nearest_content : List PlainItem → ℕ → Option ℕ

@@ -55,7 +55,8 @@ CitesWhite values (Some id) = (text : List ℕ) × (slice_get values id.0 ≡ So
 -- an item's head cites only heads, its marks only marks and its whitespace only whitespace, and nothing that is empty
 abbrev pub CitesWell : List Value → Item → Type 0
 CitesWell values (item.Char ch marks) = CitesMarks values marks
-CitesWell values (item.Opening kind generated head marks pre origin) = CitesHead values head × CitesMarks values marks × CitesWhite values pre
+CitesWell values (item.Opening kind generated head marks pre origin) =
+    CitesHead values head × CitesMarks values marks × CitesWhite values pre
 CitesWell values (item.Closing kind pre) = CitesWhite values pre
 
 -- no value stands at two places
@@ -65,5 +66,4 @@ AreDistinct values = (i j : ℕ) (v : Value) → slice_get values i ≡ Some v �
 -- Over distinct values, two items that cite well are one item where they are equal by value: so places may be compared in place of values.
 abbrev pub PlainTellsApart : Type 0
 PlainTellsApart = (values : List Value) (x y : Item) → AreDistinct values → CitesWell values x → CitesWell values y →
-    plain values x ≡ plain values y →
-    x ≡ y
+    plain values x ≡ plain values y → x ≡ y

@@ -26,20 +26,21 @@ with_char (Run count later) = Run (suc count) later
 with_char Empty = Run 1 Empty
 with_char (Branch kind inside later) = Run 1 (Branch kind inside later)
 
--- What the items from a place to the list's end spell: the siblings that they begin with, and then, from the inside out, those that follow each node which they close.
+-- What the items from a place to the list's end spell: the siblings that they begin with, and then, from the inside out, those that
+-- follow each node which they close.
 pub record Reading : Type 0 where
   pub here : Forest
   pub outer : List Forest
 
-abbrev pub first_of : List Forest → Forest
-first_of [] = Empty
-first_of (f ∷ outer) = f
+abbrev pub first_forest : List Forest → Forest
+first_forest [] = Empty
+first_forest (f ∷ outer) = f
 
 abbrev pub reading_with : PlainItem → Reading → Reading
 reading_with (Char c marks) r = record { here = with_char r.here; outer = r.outer }
 reading_with (Closing kind pre) r = record { here = Empty; outer = r.here ∷ r.outer }
 reading_with (Opening kind head marks pre origin generated) r =
-    record { here = Branch kind r.here (first_of r.outer); outer = drop 1 r.outer }
+    record { here = Branch kind r.here (first_forest r.outer); outer = drop 1 r.outer }
 
 abbrev pub reading : List PlainItem → Reading
 reading [] = record { here = Empty; outer = [] }
@@ -89,17 +90,17 @@ length_to_close zero (Closing kind pre ∷ items) = 1
 length_to_close (suc depth) (Closing kind pre ∷ items) = suc (length_to_close depth items)
 
 -- a node's kind and the places where it begins and ends
-pub record Place : Type 0 where
+pub record NodeExtent : Type 0 where
   pub kind : Kind
   pub from : ℕ
   pub to : ℕ
 
-abbrev pub place_with : List Open → ℕ → List PlainItem → Place
+abbrev pub place_with : List Open → ℕ → List PlainItem → NodeExtent
 place_with [] at rest = record { kind = Root; from = 0; to = at + length rest }
 place_with (inner ∷ outer) at rest = record { kind = inner.kind; from = inner.from; to = at + length_to_close 0 rest }
 
 -- the innermost node round an offset, text nodes aside: its opening stands before the offset, its closing at the offset or after it
-abbrev pub node_at : List PlainItem → ℕ → Place
+abbrev pub node_at : List PlainItem → ℕ → NodeExtent
 node_at items at = place_with (opens_after [] 0 (take at items)) at (drop at items)
 
 -- characters may stand in a content branch, and nothing in a leaf

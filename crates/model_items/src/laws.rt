@@ -1,3 +1,4 @@
+// What lists of items, their trees and their offsets keep. Each function does nothing, and its contract is a law that is proved.
 ghost use Rattle.model_items.specs.Same.{Means, item_same, value_same};
 ghost use Rattle.model_items.specs.Plain.{PlainTellsApart};
 ghost use Rattle.model_items.specs.Law.{VerdictIsFirstOffence, LawReadsNoValues, VerdictReadsNoValues, PieceFails, PieceFits, PieceDiffers, StateDecided};

@@ -13,7 +13,7 @@ use Rattle.model_change.specs.Attributes.{AttrChange, value_of, is_reserved, att
 use Rattle.model_change.specs.Transaction.{Retain, Replace, Attribute, Transaction, all_inserted, on_first, edited, old_length, new_length}
 use Rattle.model_change.specs.Fault.{first_allows}
 use Rattle.model_change.specs.Inverse.{attribute_ops, inverse_after, inverse}
-use Rattle.model_change.specs.Join.{Clash, first, without_first, last, without_end, core, is_active, start_of, end_of, both_attributes, conflict, retained, with_ends, moved_on, with_new_end, join, ranges, row_with, list_with, join_row, after_row, join_list}
+use Rattle.model_change.specs.Join.{RangeConflict, first, without_first, last, without_end, core, is_active, start_of, end_of, both_attributes, conflict, retained, with_ends, moved_on, with_new_end, join, range_conflict, row_with, list_with, join_row, after_row, join_list}
 use Rattle.model_change.specs.Replay.{replay, reversal, flattened, mine_of, entry_at, made_before, made_after, AllRun}
 use Rattle.model_change.proofs.Fits.{Fits, parts_of_Applies}
 use Rattle.model_page.specs.Elements.{is_white}
@@ -183,19 +183,19 @@ reversals_refer (t ∷ ts) items run i r =
     (and_from (inserts_referring (inverse t)) true (inverses_refer t items run.0.applies r) refl)
 
 -- a row of transactions with one of mine after it
-abbrev RowRefers : Result (List Transaction × Transaction) Clash → Type 0
+abbrev RowRefers : Result (List Transaction × Transaction) RangeConflict → Type 0
 RowRefers (Ok row) = (all_insert_referring row.0 ≡ true) × (inserts_referring row.1 ≡ true)
 RowRefers (Err clash) = Unit {0}
 
-abbrev ListsRefer : Result (List Transaction × List Transaction) Clash → Type 0
+abbrev ListsRefer : Result (List Transaction × List Transaction) RangeConflict → Type 0
 ListsRefer (Ok joined) = (all_insert_referring joined.0 ≡ true) × (all_insert_referring joined.1 ≡ true)
 ListsRefer (Err clash) = Unit {0}
 
-row-with : (t : Transaction) (row : Result (List Transaction × Transaction) Clash) → inserts_referring t ≡ true → RowRefers row → RowRefers (row_with t row)
+row-with : (t : Transaction) (row : Result (List Transaction × Transaction) RangeConflict) → inserts_referring t ≡ true → RowRefers row → RowRefers (row_with t row)
 row-with t (Ok row) p r = (and_from (inserts_referring t) (all_insert_referring row.0) p r.0, r.1)
 row-with t (Err clash) p r = tt
 
-row-chosen : (c : Bool) (clash : Clash) (row : Result (List Transaction × Transaction) Clash) → RowRefers row → RowRefers (if c then Err clash else row)
+row-chosen : (c : Bool) (clash : RangeConflict) (row : Result (List Transaction × Transaction) RangeConflict) → RowRefers row → RowRefers (if c then Err clash else row)
 row-chosen true clash row r = tt
 row-chosen false clash row r = r
 
@@ -204,13 +204,13 @@ row-refers [] mine c m = (refl, m)
 row-refers (one ∷ committed) mine c m =
     let p = and_parts (inserts_referring one) (all_insert_referring committed) c in
     let j = joins_refer one mine p.0 m in
-    row-chosen (conflict one mine) (ranges one mine) _ (row-with (join one mine).0 (join_row committed (join one mine).1) j.0 (row-refers committed (join one mine).1 p.1 j.1))
+    row-chosen (conflict one mine) (range_conflict one mine) _ (row-with (join one mine).0 (join_row committed (join one mine).1) j.0 (row-refers committed (join one mine).1 p.1 j.1))
 
-list-with : (t : Transaction) (joined : Result (List Transaction × List Transaction) Clash) → inserts_referring t ≡ true → ListsRefer joined → ListsRefer (list_with t joined)
+list-with : (t : Transaction) (joined : Result (List Transaction × List Transaction) RangeConflict) → inserts_referring t ≡ true → ListsRefer joined → ListsRefer (list_with t joined)
 list-with t (Ok joined) p r = (r.0, and_from (inserts_referring t) (all_insert_referring joined.1) p r.1)
 list-with t (Err clash) p r = tt
 
-row-after : (row : Result (List Transaction × Transaction) Clash) (rest : List Transaction → Result (List Transaction × List Transaction) Clash) → RowRefers row →
+row-after : (row : Result (List Transaction × Transaction) RangeConflict) (rest : List Transaction → Result (List Transaction × List Transaction) RangeConflict) → RowRefers row →
     ((over : List Transaction) → all_insert_referring over ≡ true → ListsRefer (rest over)) → ListsRefer (after_row row rest)
 row-after (Ok row) rest r f = list-with row.1 (rest row.0) r.1 (f row.0 r.0)
 row-after (Err clash) rest r f = tt
@@ -243,10 +243,10 @@ flattened-parts [] i l = absurd (omega (arith, l))
 flattened-parts (entry ∷ entries) zero l = refl
 flattened-parts (entry ∷ entries) (suc i) l = ap (λ ts. entry ++ ts) (flattened-parts entries i (omega (arith, l))) ∙ sym (append_assoc entry (made_before entries i) (entry_at entries i ++ made_after entries i))
 
-ok_same : (ts us : List Transaction) → ◌≡◌ {A = Result (List Transaction) Clash} (Ok ts) (Ok us) → ts ≡ us
+ok_same : (ts us : List Transaction) → ◌≡◌ {A = Result (List Transaction) RangeConflict} (Ok ts) (Ok us) → ts ≡ us
 ok_same ts us e = cc
 
-mine-refers : (joined : Result (List Transaction × List Transaction) Clash) (back : List Transaction) → ListsRefer joined → mine_of joined ≡ Ok back → all_insert_referring back ≡ true
+mine-refers : (joined : Result (List Transaction × List Transaction) RangeConflict) (back : List Transaction) → ListsRefer joined → mine_of joined ≡ Ok back → all_insert_referring back ≡ true
 mine-refers (Ok joined) back r e = ap all_insert_referring (sym (ok_same joined.1 back e)) ∙ r.1
 mine-refers (Err clash) back r e = cc
 

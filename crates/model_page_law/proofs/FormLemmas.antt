@@ -14,7 +14,7 @@ use Rattle.ve_kinds.specs.Table.{kind_same}
 use Rattle.ve_kinds.specs.Table.{may_hold, is_among, is_content_branch, is_leaf, inline_leaves, block_leaves}
 use Rattle.model_items.specs.declared.law_fault.LawFault.{LawFault}
 use Rattle.model_items.specs.declared.law_fault.LawFault.TheVariants.{Unlawful, TooDeep}
-use Rattle.model_items.specs.Law.{State, start, top, is_empty, is_over, may_open, opened, closed, step, outcome_moved, joined, after, verdict_at, Lawful}
+use Rattle.model_items.specs.Law.{State, start, top, is_empty, is_over, may_open, opened, closed, step, outcome_moved, followed, after, verdict_at, Lawful}
 use Rattle.model_page.specs.Elements.{is_white}
 use Rattle.model_page.specs.References.{Body}
 use Rattle.ve_base.specs.Empty.{empty_head}
@@ -285,7 +285,7 @@ moved_ok : (r : Result State LawFault) (u : State) → outcome_moved 1 r ≡ Ok 
 moved_ok (Ok s) u e = e
 moved_ok (Err f) u e = cc
 
-joined_ok : (r : Result State LawFault) (rest : State → Result State LawFault) (u : State) → joined 1 r rest ≡ Ok u → (t : State) × (r ≡ Ok t) × (rest t ≡ Ok u)
+joined_ok : (r : Result State LawFault) (rest : State → Result State LawFault) (u : State) → followed 1 r rest ≡ Ok u → (t : State) × (r ≡ Ok t) × (rest t ≡ Ok u)
 joined_ok (Ok t) rest u e = (t, refl, moved_ok (rest t) u e)
 joined_ok (Err f) rest u e = cc
 

@@ -11,7 +11,7 @@ use Rattle.ve_base.specs.declared.marks.Mark.{Mark}
 use Rattle.ve_base.specs.Empty.{empty_head}
 use Rattle.model_items.specs.declared.plain_item.PlainItem.{PlainItem}
 use Rattle.model_items.specs.declared.plain_item.PlainItem.TheVariants.{Char, Opening, Closing}
-use Rattle.model_items.specs.Law.{State, start, finish, top, is_empty, is_over, may_open, opened, closed, step, outcome_moved, joined, after}
+use Rattle.model_items.specs.Law.{State, start, finish, top, is_empty, is_over, may_open, opened, closed, step, outcome_moved, followed, after}
 use Rattle.model_items.proofs.LawLemmas.{after_whole, Lawful_from_after}
 use Rattle.model_items.proofs.SameLemmas.{Means-kind_same}
 use Rattle.std.specs.Option.{option_or}
@@ -30,7 +30,7 @@ use Rattle.model_page_law.proofs.NestLemmas.{innermost, Closes, Nests, Holds, Me
 -- ---- one item, and then the rest
 
 first_step : (s t u : State) (item : PlainItem) (items : List PlainItem) → step s item ≡ Ok t → after t items ≡ Ok u → after s (item ∷ items) ≡ Ok u
-first_step s t u item items e h = ap (λ r. joined 1 r (λ next. after next items)) e ∙ ap (outcome_moved 1) h
+first_step s t u item items e h = ap (λ r. followed 1 r (λ next. after next items)) e ∙ ap (outcome_moved 1) h
 
 abbrev state : List Kind → Bool → State
 state stack seen = record { stack = stack; seen = seen }
@@ -138,10 +138,10 @@ runs parent base seen e o (Closing kind pre ∷ items) spans s t h c d =
 
 after-with_origins : (items : List PlainItem) (k : ℕ) (s : State) → after s (with_origins k items) ≡ after s items
 after-with_origins [] k s = refl
-after-with_origins (Char c marks ∷ items) k s = (λ i. joined 1 (step s (Char c marks)) (λ next. after-with_origins items k next i))
-after-with_origins (Closing kind pre ∷ items) k s = (λ i. joined 1 (step s (Closing kind pre)) (λ next. after-with_origins items k next i))
+after-with_origins (Char c marks ∷ items) k s = (λ i. followed 1 (step s (Char c marks)) (λ next. after-with_origins items k next i))
+after-with_origins (Closing kind pre ∷ items) k s = (λ i. followed 1 (step s (Closing kind pre)) (λ next. after-with_origins items k next i))
 after-with_origins (Opening kind head marks pre origin generated ∷ items) k s =
-    (λ i. joined 1 (step s (Opening kind head marks pre origin generated)) (λ next. after-with_origins items (suc k) next i))
+    (λ i. followed 1 (step s (Opening kind head marks pre origin generated)) (λ next. after-with_origins items (suc k) next i))
 
 -- what stands in a flow parent nests there, with a span for each opening
 pub flow_holds : (kind : Kind) → Sane (Flow kind) → (parts : Parts) (w : Place) → Holds kind (in_flow kind parts w).later.items

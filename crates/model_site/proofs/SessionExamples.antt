@@ -1,13 +1,12 @@
 -- Two sites and the server.
-use Rattle.std.proofs.Common.{◌≡◌, ℕ, List, [], ◌∷◌, ◌++◌, length, map, slice_get, Option, Some, None, option_map, Result, Ok, Err, codes, refl}
+use Rattle.std.proofs.Common.{◌≡◌, ℕ, List, [], ◌∷◌, length, map, slice_get, Option, Some, None, option_map, Result, Ok, Err, codes, refl}
 use Rattle.ve_base.specs.declared.value.Value.{Value}
 use Rattle.ve_base.specs.declared.value.Value.TheVariants as value
 use Rattle.model_items.specs.declared.plain_item.PlainItem.{PlainItem}
 use Rattle.model_site.specs.declared.served.Served.{Served}
 use Rattle.model_site.specs.declared.taken.Taken.{Taken}
 use Rattle.model_site.specs.declared.taken.Taken.TheVariants as taken
-use Rattle.model_site.specs.declared.site_fault.SendFault.{SendFault}
-use Rattle.model_site.specs.declared.site_fault.SendFault.TheVariants.{InFlight}
+use Rattle.model_site.specs.Causes.{SendCause, InFlight}
 use Rattle.model_site.specs.Site.{Site, send, Submission}
 use Rattle.model_site.specs.Session.{Member, Session, started, serve_next, take_next}
 use Rattle.model_site.specs.Events.{Perform, Undo, Revoke, Send, Serve, Take, run}
@@ -89,11 +88,11 @@ revoked : lists (run both_insert (Serve 0 ∷ Serve 1 ∷ Take 0 ∷ Take 0 ∷ 
 revoked = refl
 
 -- what a send answers: the base and the number of entries, or why not
-abbrev sent_as : Result (Site × Submission) SendFault → Result (ℕ × ℕ) SendFault
+abbrev sent_as : Result (Site × Submission) SendCause → Result (ℕ × ℕ) SendCause
 sent_as (Ok r) = Ok (r.1.base, length r.1.entries)
 sent_as (Err fault) = Err fault
 
-abbrev sends : Session → ℕ → Option (Result (ℕ × ℕ) SendFault)
+abbrev sends : Session → ℕ → Option (Result (ℕ × ℕ) SendCause)
 sends w k = option_map (λ (m : Member). sent_as (send m.site)) (slice_get w.members k)
 
 -- the number submitted, though two of the three were dropped; and nothing is unsent

@@ -1,9 +1,7 @@
 -- Undo, redo and sending at one site.
 use Rattle.std.proofs.Common.{◌≡◌, List, [], ◌∷◌, Option, Some, None, Result, Ok, Err, codes, refl}
 use Rattle.model_change.specs.Transaction.{Transaction}
-use Rattle.model_site.specs.declared.site_fault.UndoFault.TheVariants.{NothingToUndo, AlreadyShared}
-use Rattle.model_site.specs.declared.site_fault.RedoFault.TheVariants.{NothingToRedo}
-use Rattle.model_site.specs.declared.site_fault.SendFault.TheVariants.{InFlight, NothingToSend}
+use Rattle.model_site.specs.Causes.{NothingToUndo, AlreadyShared, NothingToRedo, InFlight, NothingToSend}
 use Rattle.model_site.specs.Site.{Site, starting, with_entry, undo, redo, send, Submission}
 use Rattle.model_site.specs.Take.{take_ack}
 use Rattle.model_site.proofs.ExampleItems.{chars_, page, opened, inserts}

@@ -1,4 +1,5 @@
 pub mod Replica
+pub mod Causes
 pub mod Refused
 pub mod Entries
 pub mod Site

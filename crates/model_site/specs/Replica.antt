@@ -6,7 +6,7 @@ use Rattle.model_change.specs.Transaction.{Transaction, edited}
 use Rattle.model_change.specs.Inverse.{filled}
 use Rattle.model_change.specs.Store.{cited, fill, changed_heads, brought}
 use Rattle.model_edit.specs.declared.selection.Selection.{Selection}
-use Rattle.model_edit.specs.Translate.{between, moved}
+use Rattle.model_edit.specs.Translate.{between, moved_selection}
 
 pub record Replica : Type 0 where
   -- the list, by value
@@ -22,7 +22,7 @@ opened_with items = record { items = items; store = fill [] (cited items); selec
 -- after a transaction; the store is filled with these values, and the selection moves
 abbrev pub changed_by : Transaction → List Value → Replica → Replica
 changed_by t values r = let items = edited t r.items in
-    record { items = items; store = fill r.store values; selection = moved t items r.selection }
+    record { items = items; store = fill r.store values; selection = moved_selection t items r.selection }
 
 -- a transaction performed: the store is filled with what its inserted items cite, and then with the heads that it changes
 abbrev pub performed : Transaction → Replica → Replica

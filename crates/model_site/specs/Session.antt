@@ -13,15 +13,15 @@ use Rattle.model_site.specs.Joined.{Joined, join_entries}
 use Rattle.model_site.specs.Take.{take_foreign, take_ack}
 
 -- what the server sends to a site: entries of another site, or how many of its own were accepted
-pub data Feed : Type 0 where
-  Foreign : (entries : List Parcel) → Feed
-  Ack : (accepted : ℕ) → Feed
+pub data SiteFeed : Type 0 where
+  Foreign : (entries : List Parcel) → SiteFeed
+  Ack : (accepted : ℕ) → SiteFeed
 
 -- a site and its queues to and from the server, the first in each the next
 pub record Member : Type 0 where
   pub site : Site
   pub submissions : List Submission
-  pub feeds : List Feed
+  pub feeds : List SiteFeed
 
 pub record Session : Type 0 where
   pub base : Replica
@@ -36,31 +36,32 @@ abbrev pub started : Replica → ℕ → Session
 started base sites = record { base = base; committed = []; members = replicate sites (joining base) }
 
 -- the member at k replaced
-abbrev pub put_at : ℕ → Member → List Member → List Member
-put_at k m [] = []
-put_at zero m (n ∷ ms) = m ∷ ms
-put_at (suc k) m (n ∷ ms) = n ∷ put_at k m ms
+abbrev pub put_member : ℕ → Member → List Member → List Member
+put_member k m [] = []
+put_member zero m (n ∷ ms) = m ∷ ms
+put_member (suc k) m (n ∷ ms) = n ∷ put_member k m ms
 
 abbrev pub with_member : ℕ → Member → Session → Session
-with_member k m w = record w { members = put_at k m w.members }
+with_member k m w = record w { members = put_member k m w.members }
 
 -- the entries of a submission, joined over those committed since its base
 abbrev pub accepted_of : (committed : List Parcel) → Submission → Joined
 accepted_of committed s = join_entries (flattened (drop s.base committed)) s.entries
 
-abbrev pub foreign_feed : List Parcel → List Feed
+abbrev pub foreign_feed : List Parcel → List SiteFeed
 foreign_feed [] = []
 foreign_feed (p ∷ ps) = Foreign (p ∷ ps) ∷ []
 
--- what the site at k gets when these entries of the sender are accepted: the sender their number, each other site the entries, if there is one
-abbrev pub feed_for : (sender k : ℕ) → List Parcel → List Feed
+-- what the site at k gets when these entries of the sender are accepted: the sender their number, each other site the entries, if
+-- there is one
+abbrev pub feed_for : (sender k : ℕ) → List Parcel → List SiteFeed
 feed_for sender k entries = if k == sender then Ack (length entries) ∷ [] else foreign_feed entries
 
 abbrev pub all_fed : (sender k : ℕ) → List Parcel → List Member → List Member
 all_fed sender k entries [] = []
 all_fed sender k entries (m ∷ ms) = record m { feeds = m.feeds ++ feed_for sender k entries } ∷ all_fed sender (suc k) entries ms
 
-abbrev pub clash_of : Option join.Clash → Option Clash
+abbrev pub clash_of : Option join.RangeConflict → Option Clash
 clash_of None = None
 clash_of (Some c) = Some (record { committed = c.committed; submitted = c.mine })
 
@@ -73,7 +74,7 @@ serve_one k m s later w =
     let j = accepted_of w.committed s in (
       record w {
         committed = w.committed ++ j.kept;
-        members = all_fed k 0 j.kept (put_at k (record m { submissions = later }) w.members);
+        members = all_fed k 0 j.kept (put_member k (record m { submissions = later }) w.members);
       },
       served_as j s,
     )
@@ -86,16 +87,16 @@ serve_first k m (s ∷ later) w = Some (serve_one k m s later w)
 abbrev pub serve_next : ℕ → Member → Session → Option (Session × Served)
 serve_next k m w = serve_first k m m.submissions w
 
-abbrev pub site_after : Feed → Site → Site
+abbrev pub site_after : SiteFeed → Site → Site
 site_after (Foreign entries) site = take_foreign entries site
 site_after (Ack accepted) site = take_ack site
 
 -- how many entries came, and how many pending ones were dropped for them
-abbrev pub taken_as : Feed → (old new : Site) → Taken
+abbrev pub taken_as : SiteFeed → (old new : Site) → Taken
 taken_as (Foreign entries) old new = taken.Foreign (length entries) (length (pending old) - length (pending new))
 taken_as (Ack accepted) old new = taken.Acked accepted
 
-abbrev pub take_first : ℕ → Member → List Feed → Session → Option (Session × Taken)
+abbrev pub take_first : ℕ → Member → List SiteFeed → Session → Option (Session × Taken)
 take_first k m [] w = None
 take_first k m (f ∷ later) w =
     let site = site_after f m.site in

@@ -1,18 +1,12 @@
 -- One site: what it edits, takes back and sends.
 use Rattle.std.specs.Prelude.{ℕ, ◌+◌, ◌==◌, if◌then◌else◌, List, [], ◌∷◌, ◌++◌, length, take, Option, Some, None, Result, Ok, Err}
 use Rattle.model_change.specs.Transaction.{Transaction}
-use Rattle.model_change.specs.Join.{Clash}
+use Rattle.model_change.specs.Join.{RangeConflict}
 use Rattle.model_change.specs.Replay.{revoke}
 use Rattle.model_edit.specs.declared.selection.Selection.{Selection}
-use Rattle.model_site.specs.declared.edit_fault.EditFault.{EditFault}
-use Rattle.model_site.specs.declared.site_fault.UndoFault.{UndoFault}
-use Rattle.model_site.specs.declared.site_fault.UndoFault.TheVariants.{NothingToUndo, AlreadyShared}
-use Rattle.model_site.specs.declared.site_fault.RedoFault.{RedoFault}
-use Rattle.model_site.specs.declared.site_fault.RedoFault.TheVariants.{NothingToRedo}
-use Rattle.model_site.specs.declared.site_fault.SendFault.{SendFault}
-use Rattle.model_site.specs.declared.site_fault.SendFault.TheVariants.{InFlight, NothingToSend}
+use Rattle.model_site.specs.Causes.{EditCause, UndoCause, NothingToUndo, AlreadyShared, RedoCause, NothingToRedo, SendCause, InFlight, NothingToSend}
 use Rattle.model_site.specs.Replica.{Replica, all_performed}
-use Rattle.model_site.specs.Refused.{edit_fault}
+use Rattle.model_site.specs.Refused.{edit_cause}
 use Rattle.model_site.specs.Entries.{Parcel, Entry, parcels, entry_of, reverted}
 
 pub record Site : Type 0 where
@@ -48,33 +42,33 @@ with_entry ts site = record site {
   undone = [];
 }
 
-abbrev pub edit_unless : Option EditFault → Transaction → Site → Result Site EditFault
+abbrev pub edit_unless : Option EditCause → Transaction → Site → Result Site EditCause
 edit_unless (Some fault) t site = Err fault
 edit_unless None t site = Ok (with_entry (t ∷ []) site)
 
-abbrev pub edit : Transaction → Site → Result Site EditFault
-edit t site = edit_unless (edit_fault t site.replica) t site
+abbrev pub edit : Transaction → Site → Result Site EditCause
+edit t site = edit_unless (edit_cause t site.replica) t site
 
 -- entries but for the last, and the last
 abbrev pub parted : Entry → List Entry → List Entry × Entry
 parted e [] = ([], e)
 parted e (f ∷ es) = let r = parted f es in (e ∷ r.0, r.1)
 
-abbrev pub undo_last : List Entry → Site → Result Site UndoFault
+abbrev pub undo_last : List Entry → Site → Result Site UndoCause
 undo_last [] site = Err (if site.shared == 0 then NothingToUndo else AlreadyShared site.shared)
 undo_last (e ∷ es) site = let p = parted e es in
     Ok (record site { replica = reverted p.1 site.replica; unsent = p.0; undone = p.1.txs ∷ site.undone })
 
 -- the last unsent entry is taken back
-abbrev pub undo : Site → Result Site UndoFault
+abbrev pub undo : Site → Result Site UndoCause
 undo site = undo_last site.unsent site
 
-abbrev pub redo_first : List Parcel → Site → Result Site RedoFault
+abbrev pub redo_first : List Parcel → Site → Result Site RedoCause
 redo_first [] site = Err NothingToRedo
 redo_first (ts ∷ undone) site = Ok (record (with_entry ts site) { undone = undone })
 
 -- what was undone last is performed again, as a new entry
-abbrev pub redo : Site → Result Site RedoFault
+abbrev pub redo : Site → Result Site RedoCause
 redo site = redo_first site.undone site
 
 -- what a site sends: its entries, made on the list with so many committed ones
@@ -82,7 +76,7 @@ pub record Submission : Type 0 where
   pub base : ℕ
   pub entries : List Parcel
 
-abbrev pub send_unless : Option ℕ → List Entry → Site → Result (Site × Submission) SendFault
+abbrev pub send_unless : Option ℕ → List Entry → Site → Result (Site × Submission) SendCause
 send_unless (Some entries) unsent site = Err (InFlight entries)
 send_unless None [] site = Err NothingToSend
 send_unless None (e ∷ es) site = Ok (
@@ -91,17 +85,18 @@ send_unless None (e ∷ es) site = Ok (
 )
 
 -- all unsent entries are sent as one submission, where none is on its way
-abbrev pub send : Site → Result (Site × Submission) SendFault
+abbrev pub send : Site → Result (Site × Submission) SendCause
 send site = send_unless site.in_flight site.unsent site
 
 -- the entries whose replay is the site's list: the committed ones that it has seen, and then its pending ones
 abbrev pub entries_of : (committed : List Parcel) → Site → List Parcel
 entries_of committed site = take site.seen committed ++ parcels (pending site)
 
--- Entry i of these taken back under all later ones, as a new entry; or the first conflict. Only a committed one may be named, so i is below `seen`.
-abbrev pub revoke_by : Result (List Transaction) Clash → Site → Result Site Clash
+-- Entry i of these taken back under all later ones, as a new entry; or the first conflict. Only a committed one may be named, so i is
+-- below `seen`.
+abbrev pub revoke_by : Result (List Transaction) RangeConflict → Site → Result Site RangeConflict
 revoke_by (Err clash) site = Err clash
 revoke_by (Ok back) site = Ok (with_entry back site)
 
-abbrev pub revoke_entry : (committed : List Parcel) → ℕ → Site → Result Site Clash
+abbrev pub revoke_entry : (committed : List Parcel) → ℕ → Site → Result Site RangeConflict
 revoke_entry committed i site = revoke_by (revoke (entries_of committed site) i) site

@@ -9,7 +9,8 @@ use Rattle.model_site.specs.Joined.{Joined, join_entries}
 abbrev pub noted : ℕ → List Parcel → List Entry
 noted stored = map (λ (p : Parcel). record { txs = p; store_before = stored; store_after = stored })
 
--- The pending entries that are not kept are taken back, the last first; the foreign entry is performed over those kept; and these are joined over it.
+-- The pending entries that are not kept are taken back, the last first; the foreign entry is performed over those kept; and these are
+-- joined over it.
 abbrev pub with_joined : Joined → Site → Site
 with_joined j site =
     let replica = all_performed j.committed (all_reverted (drop (length j.kept) (pending site)) site.replica) in

@@ -1,7 +1,7 @@
 -- What is kept of entries under committed transactions in two parts is what the second part keeps of what the first keeps.
 use Rattle.std.proofs.Common.{◌≡◌, false, true, Bool, List, [], ◌∷◌, ◌++◌, Option, Some, None, Result, Ok, Err, option_map, option_and_then, if◌then◌else◌, refl, sym, ap, ◌∙◌}
 use Rattle.model_change.specs.Transaction.{Transaction}
-use Rattle.model_change.specs.Join.{Clash, conflict, join, ranges, row_with, list_with, join_row, after_row, join_list}
+use Rattle.model_change.specs.Join.{RangeConflict, conflict, join, range_conflict, row_with, list_with, join_row, after_row, join_list}
 use Rattle.model_change.proofs.ReversalLaw.{join_list-none}
 use Rattle.model_site.specs.Entries.{Parcel}
 use Rattle.model_site.specs.Joined.{joined_first, join_entries}
@@ -14,7 +14,7 @@ Lists = List Transaction × List Transaction
 
 -- ---- joins without the conflict that ends them: of two that can't be joined, which one conflicts first depends on the order of rows and columns
 
-abbrev or_none : {A : Type 0} → Result A Clash → Option A
+abbrev or_none : {A : Type 0} → Result A RangeConflict → Option A
 or_none (Ok x) = Some x
 or_none (Err clash) = None
 
@@ -29,8 +29,8 @@ try_row_is : (committed : List Transaction) (t : Transaction) → or_none (join_
 try_row_is [] t = refl
 try_row_is (one ∷ committed) t = by_conflict (conflict one t) (join_row committed (join one t).1) (try_row committed (join one t).1) (try_row_is committed (join one t).1)
   where
-    by_conflict : (c : Bool) (r : Result Row Clash) (o : Option Row) → or_none r ≡ o →
-        or_none (if c then Err (ranges one t) else row_with (join one t).0 r) ≡ (if c then None else option_map (over_it (join one t).0) o)
+    by_conflict : (c : Bool) (r : Result Row RangeConflict) (o : Option Row) → or_none r ≡ o →
+        or_none (if c then Err (range_conflict one t) else row_with (join one t).0 r) ≡ (if c then None else option_map (over_it (join one t).0) o)
     by_conflict true r o h = refl
     by_conflict false (Err clash) o h = ap (option_map (over_it (join one t).0)) h
     by_conflict false (Ok r) o h = ap (option_map (over_it (join one t).0)) h
@@ -49,11 +49,11 @@ try_list_is : (committed mine : List Transaction) → or_none (join_list committ
 try_list_is committed [] = refl
 try_list_is committed (t ∷ mine) = by_row (λ c. try_list_is c mine) (join_row committed t) (try_row committed t) (try_row_is committed t)
   where
-    by_list : (row : Row) (x : Result Lists Clash) (o : Option Lists) → or_none x ≡ o → or_none (list_with row.1 x) ≡ option_map (under_it row) o
+    by_list : (row : Row) (x : Result Lists RangeConflict) (o : Option Lists) → or_none x ≡ o → or_none (list_with row.1 x) ≡ option_map (under_it row) o
     by_list row (Err clash) o e = ap (option_map (under_it row)) e
     by_list row (Ok x) o e = ap (option_map (under_it row)) e
 
-    by_row : ((c : List Transaction) → or_none (join_list c mine) ≡ try_list c mine) → (r : Result Row Clash) (o : Option Row) → or_none r ≡ o →
+    by_row : ((c : List Transaction) → or_none (join_list c mine) ≡ try_list c mine) → (r : Result Row RangeConflict) (o : Option Row) → or_none r ≡ o →
         or_none (after_row r (λ over. join_list over mine)) ≡ option_and_then (with_row mine) o
     by_row ih (Err clash) o h = ap (option_and_then (with_row mine)) h
     by_row ih (Ok row) o h = by_list row (join_list row.0 mine) (try_list row.0 mine) (ih row.0) ∙ ap (option_and_then (with_row mine)) h
@@ -136,7 +136,7 @@ kept committed entries = (join_entries committed entries).kept
 kept_is : (committed : List Transaction) (e : Parcel) (es : List Parcel) → kept committed (e ∷ es) ≡ kept_first (try_list committed e) (λ over. kept over es)
 kept_is committed e es = by_first (join_list committed e) ∙ ap (λ o. kept_first o (λ over. kept over es)) (try_list_is committed e)
   where
-    by_first : (r : Result Lists Clash) → (joined_first committed r (λ over. join_entries over es)).kept ≡ kept_first (or_none r) (λ over. kept over es)
+    by_first : (r : Result Lists RangeConflict) → (joined_first committed r (λ over. join_entries over es)).kept ≡ kept_first (or_none r) (λ over. kept over es)
     by_first (Err clash) = refl
     by_first (Ok r) = refl
 

@@ -12,7 +12,7 @@ use Rattle.model_change.specs.Transaction.{Transaction, all_removed}
 use Rattle.model_site.specs.Entries.{Entry, Parcel, all_reverted, parcels, reverted}
 use Rattle.model_site.specs.Replica.{Replica, all_filled, all_performed, all_put_back, performed}
 use Rattle.model_site.specs.Take.{noted}
-use Rattle.model_site_law.specs.Chain.{Chain, needed}
+use Rattle.model_site_law.specs.Chain.{Chain, needed_values}
 use Rattle.model_site_law.specs.Sound.{AllIn, AllMayRun, Sound}
 use Rattle.model_site_law.proofs.NeedLemmas.{AllNeeded, removed-filled}
 use Rattle.model_site_law.proofs.PerformLemmas.{all_performed_grows, performed_grows, performed_held, put_back_grows, removed_held, reversed_held}
@@ -51,7 +51,7 @@ pub record IsLast (S : List Value) (least : ℕ) (items : List PlainItem) (e : E
   pub rises : e.store_before ≤ e.store_after
   pub within : e.store_after ≤ length S
   pub list : e.store_before < e.store_after → AllIn (take e.store_before S) (cited items)
-  pub needs : AllIn (take e.store_after S) (needed e.txs)
+  pub needs : AllIn (take e.store_after S) (needed_values e.txs)
 
 chain_last : (S : List Value) (least : ℕ) (items : List PlainItem) (es : List Entry) (e : Entry) → Chain S least items (es ++ e ∷ []) →
     IsLast S least (replay (flattened (parcels es)) items) e
@@ -78,7 +78,7 @@ chain_prefix S T least items (x ∷ es) e c same long =
       c.0,
       c.1,
       (λ h. subst (λ r. AllIn r (cited items)) (sym (same_prefix x.store_before e.store_before S T low same)) (c.2 h)),
-      subst (λ r. AllIn r (needed x.txs)) (sym (same_prefix x.store_after e.store_before S T high same)) c.3,
+      subst (λ r. AllIn r (needed_values x.txs)) (sym (same_prefix x.store_after e.store_before S T high same)) c.3,
       chain_prefix S T x.store_after (replay x.txs items) es e c.4 same long,
     )
 
@@ -98,13 +98,13 @@ chain_within S least items (e ∷ es) c = let r = chain_within S e.store_after (
 
 -- one more entry, performed on the list of those before it
 pub chain_more : (S T : List Value) (least : ℕ) (items : List PlainItem) (es : List Entry) (e : Entry) → Grown S T → Chain S least items es →
-    e.store_before ≡ length S → e.store_after ≡ length T → AllIn S (cited (replay (flattened (parcels es)) items)) → AllIn T (needed e.txs) → Chain T least items (es ++ e ∷ [])
+    e.store_before ≡ length S → e.store_after ≡ length T → AllIn S (cited (replay (flattened (parcels es)) items)) → AllIn T (needed_values e.txs) → Chain T least items (es ++ e ∷ [])
 chain_more S T least items [] e g c b a held needs =
     let long = length_grown S T g in (
       omega arith,
       omega arith,
       (λ h. subst (λ r. AllIn r (cited items)) (sym (ap (λ n. take n T) b ∙ prefix_grown (length S) S T g (omega arith) ∙ take-length S)) held),
-      subst (λ r. AllIn r (needed e.txs)) (sym (ap (λ n. take n T) a ∙ take-length T)) needs,
+      subst (λ r. AllIn r (needed_values e.txs)) (sym (ap (λ n. take n T) a ∙ take-length T)) needs,
       omega arith,
     )
 chain_more S T least items (x ∷ es) e g c b a held needs =
@@ -113,7 +113,7 @@ chain_more S T least items (x ∷ es) e g c b a held needs =
       c.0,
       c.1,
       (λ h. subst (λ r. AllIn r (cited items)) (sym (prefix_grown x.store_before S T g low)) (c.2 h)),
-      subst (λ r. AllIn r (needed x.txs)) (sym (prefix_grown x.store_after S T g high)) c.3,
+      subst (λ r. AllIn r (needed_values x.txs)) (sym (prefix_grown x.store_after S T g high)) c.3,
       chain_more S T x.store_after (replay x.txs items) es e g c.4 b a (subst (λ i. AllIn S (cited i)) (replay-append x.txs (flattened (parcels es)) items) held) needs,
     )
 
@@ -132,12 +132,12 @@ cut_is e s least items l held same = by_test ((length s.store == e.store_after) 
     by_test true h =
         let grown = put_back_grows (reversal e.txs) s in
         let low : e.store_before ≤ length s.store = (let a = l.rises in let b = l.within in omega arith) in
-        let prefix = prefix_grown e.store_before s.store (all_put_back (reversal e.txs) s).store grown low in
+        let begins = prefix_grown e.store_before s.store (all_put_back (reversal e.txs) s).store grown low in
         let rise : e.store_before < e.store_after = ltb-true e.store_before e.store_after (and_parts (length s.store == e.store_after) (nat_lt e.store_before e.store_after) h).1 in
         record {
-          prefix = take_take e.store_before e.store_before (all_put_back (reversal e.txs) s).store (omega arith) ∙ prefix;
+          prefix = take_take e.store_before e.store_before (all_put_back (reversal e.txs) s).store (omega arith) ∙ begins;
           long = (let a = length_grown s.store (all_put_back (reversal e.txs) s).store grown in let b = length-take e.store_before (all_put_back (reversal e.txs) s).store in omega arith);
-          held = subst (λ r. AllIn r (cited items)) (sym prefix) (l.list rise);
+          held = subst (λ r. AllIn r (cited items)) (sym begins) (l.list rise);
         }
     by_test false h =
         let grown = put_back_grows (reversal e.txs) s in
@@ -146,7 +146,7 @@ cut_is e s least items l held same = by_test ((length s.store == e.store_after) 
           prefix = prefix_grown e.store_before s.store (all_put_back (reversal e.txs) s).store grown low;
           long = (let a = length_grown s.store (all_put_back (reversal e.txs) s).store grown in omega arith);
           held = subst (λ i. AllIn (all_put_back (reversal e.txs) s).store (cited i)) same
-              (reversed_held e.txs s (held_of_prefix e.store_after s.store (needed e.txs) l.needs) held);
+              (reversed_held e.txs s (held_of_prefix e.store_after s.store (needed_values e.txs) l.needs) held);
         }
 
 pub record Kept (T : List Value) (items now : List PlainItem) (es : List Entry) : Type 0 where
@@ -187,21 +187,21 @@ all_reverted_kept es (f ∷ fs) s items sound runs list c held =
 pub chain_noted : (S : List Value) (least : ℕ) (items : List PlainItem) (ps : List Parcel) → least ≤ length S → AllNeeded S ps → Chain S least items (noted (length S) ps)
 chain_noted S least items [] h n = h
 chain_noted S least items (p ∷ ps) h n =
-    (h, omega arith, (λ r. absurd (omega arith)), subst (λ r. AllIn r (needed p)) (sym (take-length S)) n.0, chain_noted S (length S) (replay p items) ps (omega arith) n.1)
+    (h, omega arith, (λ r. absurd (omega arith)), subst (λ r. AllIn r (needed_values p)) (sym (take-length S)) n.0, chain_noted S (length S) (replay p items) ps (omega arith) n.1)
 
 -- what entries need is there
 pub chain_needed : (S : List Value) (least : ℕ) (items : List PlainItem) (es : List Entry) → Chain S least items es → AllNeeded S (parcels es)
 chain_needed S least items [] c = tt
-chain_needed S least items (e ∷ es) c = (held_of_prefix e.store_after S (needed e.txs) c.3, chain_needed S e.store_after (replay e.txs items) es c.4)
+chain_needed S least items (e ∷ es) c = (held_of_prefix e.store_after S (needed_values e.txs) c.3, chain_needed S e.store_after (replay e.txs items) es c.4)
 
 -- ---- performing
 
-pub performed_needed : (ts : List Transaction) (s : Replica) → AllMayRun ts s.items → AllIn s.store (cited s.items) → AllIn (all_performed ts s).store (needed (all_filled ts s.items))
+pub performed_needed : (ts : List Transaction) (s : Replica) → AllMayRun ts s.items → AllIn s.store (cited s.items) → AllIn (all_performed ts s).store (needed_values (all_filled ts s.items))
 performed_needed [] s may held = none_in (all_performed [] s).store
 performed_needed (t ∷ ts) s may held =
     let next = performed t s in
     let end = (all_performed ts next).store in
     let mine = subst (λ r. AllIn s.store (cited r)) (sym (removed-filled t s.items)) (removed_held s.store t s.items may.0.reduced may.0.applies held) in
-    in_append end (cited (all_removed (filled t s.items))) (needed (all_filled ts next.items))
+    in_append end (cited (all_removed (filled t s.items))) (needed_values (all_filled ts next.items))
     (in_grown next.store end _ (all_performed_grows ts next) (in_grown s.store next.store _ (performed_grows t s) mine))
     (performed_needed ts next may.1 (performed_held t s held))

@@ -3,19 +3,17 @@ use Rattle.std.proofs.Common.{◌≡◌, ℕ, zero, suc, ◌+◌, ◌≤◌, Lis
 use Rattle.std.proofs.lemmas.List.{append_assoc, append-nil}
 use Rattle.ve_base.specs.declared.value.Value.{Value}
 use Rattle.model_items.specs.declared.plain_item.PlainItem.{PlainItem}
-use Rattle.model_change.specs.Join.{Clash}
+use Rattle.model_change.specs.Join.{RangeConflict}
 use Rattle.model_change.specs.Replay.{AllRun, flattened, replay, revoke}
 use Rattle.model_change.specs.Store.{cited}
 use Rattle.model_change.specs.Transaction.{Transaction}
 use Rattle.model_site.specs.Entries.{Entry, Parcel, entry_of, parcels, reverted}
 use Rattle.model_site.specs.Events.{Event, Perform, Redo, Revoke, Select, Send, Serve, Take, Undo, after_turn, at_member, happens, run, with_sent, with_site, with_site_of}
 use Rattle.model_site.specs.Replica.{Replica, all_filled, all_performed}
-use Rattle.model_site.specs.Session.{Ack, Feed, Foreign, Member, Session, all_fed, joining, put_at, serve_first, serve_next, started, take_first, take_next}
+use Rattle.model_site.specs.Session.{Ack, SiteFeed, Foreign, Member, Session, all_fed, joining, put_member, serve_first, serve_next, started, take_first, take_next}
 use Rattle.model_site.specs.Site.{Site, Submission, entries_of, parted, pending, redo, redo_first, revoke_by, revoke_entry, send, send_unless, undo, undo_last, with_entry, with_selection}
 use Rattle.model_site.specs.Take.{take_ack, take_entry, take_foreign}
-use Rattle.model_site.specs.declared.site_fault.RedoFault.{RedoFault}
-use Rattle.model_site.specs.declared.site_fault.SendFault.{SendFault}
-use Rattle.model_site.specs.declared.site_fault.UndoFault.{UndoFault}
+use Rattle.model_site.specs.Causes.{RedoCause, SendCause, UndoCause}
 use Rattle.model_site_law.specs.Chain.{Fresh, Numbered, stored}
 use Rattle.model_site_law.specs.Holds.{ground}
 use Rattle.model_site_law.specs.Laws.{UndoneAtOnce, UndoneIsFirst}
@@ -134,7 +132,7 @@ on_it base committed m h z =
     none [] h = refl
     none (p ∷ ps) h = absurd (omega arith)
 
-put_fresh : (w : Session) (k : ℕ) (m : Member) → Every (IfFresh w.base) w.members → IfFresh w.base m → Every (IfFresh w.base) (put_at k m w.members)
+put_fresh : (w : Session) (k : ℕ) (m : Member) → Every (IfFresh w.base) w.members → IfFresh w.base m → Every (IfFresh w.base) (put_member k m w.members)
 put_fresh w k m all p = every_put (IfFresh w.base) w.members k m all p
 
 fed_fresh : (base : Replica) (sender k : ℕ) (ps : List Parcel) (ms : List Member) → Every (IfFresh base) ms → Every (IfFresh base) (all_fed sender k ps ms)
@@ -218,7 +216,7 @@ module _ (w : Session) (h : SessionHolds w) (opens : AllIn w.base.store (cited w
           put_fresh w k (record m { site = site }) all (λ z. same_fresh w.base m.site site refl refl (every_get (IfFresh w.base) w.members k m all e z))
   event_fresh (Undo k) may = by_site (slice_get w.members k) refl
     where
-      by_result : (m : Member) → slice_get w.members k ≡ Some m → (r : Result Site UndoFault) → undo m.site ≡ r → After (with_site_of k m r w)
+      by_result : (m : Member) → slice_get w.members k ≡ Some m → (r : Result Site UndoCause) → undo m.site ≡ r → After (with_site_of k m r w)
       by_result m e (Err f) d = all
       by_result m e (Ok site) d = put_fresh w k (record m { site = site }) all
           (undone_fresh m (every_get _ w.members k m h.members e) (every_get (IfFresh w.base) w.members k m all e) site d)
@@ -228,7 +226,7 @@ module _ (w : Session) (h : SessionHolds w) (opens : AllIn w.base.store (cited w
       by_site (Some m) e = by_result m e (undo m.site) refl
   event_fresh (Redo k) may = by_site (slice_get w.members k) refl
     where
-      by_result : (m : Member) → slice_get w.members k ≡ Some m → (r : Result Site RedoFault) → redo m.site ≡ r → After (with_site_of k m r w)
+      by_result : (m : Member) → slice_get w.members k ≡ Some m → (r : Result Site RedoCause) → redo m.site ≡ r → After (with_site_of k m r w)
       by_result m e (Err f) d = all
       by_result m e (Ok site) d = put_fresh w k (record m { site = site }) all
           (redone_fresh m (every_get _ w.members k m h.members e) (every_get (IfFresh w.base) w.members k m all e) site d)
@@ -239,7 +237,7 @@ module _ (w : Session) (h : SessionHolds w) (opens : AllIn w.base.store (cited w
   event_fresh (Revoke k i) may = by_site (slice_get w.members k) refl
     where
       -- a site that may revoke has seen something, also after it
-      by_result : (m : Member) → i < m.site.seen → (r : Result (List Transaction) Clash) → After (with_site_of k m (revoke_by r m.site) w)
+      by_result : (m : Member) → i < m.site.seen → (r : Result (List Transaction) RangeConflict) → After (with_site_of k m (revoke_by r m.site) w)
       by_result m below (Err clash) = all
       by_result m below (Ok back) = put_fresh w k (record m { site = with_entry back m.site }) all (λ z. absurd (let none : ⊥ = omega arith in none))
 
@@ -248,7 +246,7 @@ module _ (w : Session) (h : SessionHolds w) (opens : AllIn w.base.store (cited w
       by_site (Some m) e = by_result m (may m e) (revoke (entries_of w.committed m.site) i)
   event_fresh (Send k) may = by_site (slice_get w.members k) refl
     where
-      by_result : (m : Member) → slice_get w.members k ≡ Some m → (r : Result (Site × Submission) SendFault) → send m.site ≡ r → After (with_sent k m r w)
+      by_result : (m : Member) → slice_get w.members k ≡ Some m → (r : Result (Site × Submission) SendCause) → send m.site ≡ r → After (with_sent k m r w)
       by_result m e (Err f) d = all
       by_result m e (Ok r) d = put_fresh w k (record { site = r.0; submissions = m.submissions ++ r.1 ∷ []; feeds = m.feeds }) all
           (sent_fresh m (every_get (IfFresh w.base) w.members k m all e) r d)
@@ -267,7 +265,7 @@ module _ (w : Session) (h : SessionHolds w) (opens : AllIn w.base.store (cited w
       by_site (Some m) e = by_queue m e m.submissions
   event_fresh (Take k) may = by_site (slice_get w.members k) refl
     where
-      by_feed : (m : Member) → slice_get w.members k ≡ Some m → (fs : List Feed) → After (after_turn w (take_first k m fs w))
+      by_feed : (m : Member) → slice_get w.members k ≡ Some m → (fs : List SiteFeed) → After (after_turn w (take_first k m fs w))
       by_feed m e [] = all
       by_feed m e (Foreign ps ∷ fs) = put_fresh w k (record m { site = take_foreign ps m.site; feeds = fs }) all (foreign_fresh w.base ps m.site (every_get (IfFresh w.base) w.members k m all e))
       by_feed m e (Ack n ∷ fs) = put_fresh w k (record m { site = take_ack m.site; feeds = fs }) all (ack_fresh w.base m.site (every_get (IfFresh w.base) w.members k m all e))

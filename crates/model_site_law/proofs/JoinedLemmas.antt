@@ -1,7 +1,7 @@
 -- A foreign entry over pending ones: what stays runs after it, it runs after what stays, and one list comes of both.
 use Rattle.std.proofs.Common.{◌≡◌, List, [], ◌∷◌, ◌++◌, length, take, Result, Ok, Err, refl, sym, ap, ◌∙◌, subst}
 use Rattle.model_items.specs.declared.plain_item.PlainItem.{PlainItem}
-use Rattle.model_change.specs.Join.{Clash, join_list}
+use Rattle.model_change.specs.Join.{RangeConflict, join_list}
 use Rattle.model_change.specs.Replay.{AllRun, flattened, replay}
 use Rattle.model_change.specs.Transaction.{Transaction}
 use Rattle.model_change.proofs.JoinListLaw.{lists_agree}
@@ -16,7 +16,7 @@ entries_join foreign [] items sound run runs = record { kept_run = tt; committed
 entries_join foreign (p ∷ ps) items sound run runs = by_first (λ f l. entries_join f ps l) (join_list foreign p) refl
   where
     by_first : ((f : Parcel) (l : List PlainItem) → Sound l → AllRun f l → AllRun (flattened ps) l → AreJoined f ps l (join_entries f ps)) →
-        (o : Result (List Transaction × List Transaction) Clash) → join_list foreign p ≡ o →
+        (o : Result (List Transaction × List Transaction) RangeConflict) → join_list foreign p ≡ o →
         AreJoined foreign (p ∷ ps) items (joined_first foreign o (λ next. join_entries next ps))
     by_first later (Err clash) h = record { kept_run = tt; committed_run = run; one_list = refl }
     by_first later (Ok r) h =
@@ -38,7 +38,7 @@ pub first_part : (foreign : Parcel) (ps qs : List Parcel) → take (length ps) (
 first_part foreign [] qs = refl
 first_part foreign (p ∷ ps) qs = by_first (λ f. first_part f ps qs) (join_list foreign p)
   where
-    by_first : ((f : Parcel) → take (length ps) (join_entries f (ps ++ qs)).kept ≡ (join_entries f ps).kept) → (o : Result (List Transaction × List Transaction) Clash) →
+    by_first : ((f : Parcel) → take (length ps) (join_entries f (ps ++ qs)).kept ≡ (join_entries f ps).kept) → (o : Result (List Transaction × List Transaction) RangeConflict) →
         take (length (p ∷ ps)) (joined_first foreign o (λ next. join_entries next (ps ++ qs))).kept ≡ (joined_first foreign o (λ next. join_entries next ps)).kept
     by_first later (Err clash) = refl
     by_first later (Ok r) = ap (λ rest. r.1 ∷ rest) (later r.0)

@@ -6,7 +6,7 @@ use Rattle.model_items.specs.declared.plain_item.PlainItem.TheVariants.{Char}
 use Rattle.model_change.specs.Transaction.{Retain, Replace, Transaction}
 use Rattle.model_site.specs.Session.{Foreign, Ack}
 use Rattle.model_site.specs.Events.{Undo, Redo}
-use Rattle.model_site_law.specs.Chain.{needed, stored}
+use Rattle.model_site_law.specs.Chain.{needed_values, stored}
 use Rattle.model_site_law.specs.Protocol.{InStep, kept_under}
 use Rattle.model_site_law.specs.Laws.{turns}
 
@@ -24,7 +24,7 @@ removal = Retain 1 ∷ Replace (Char 97 [] ∷ Char 98 bold ∷ []) [] ∷ Retai
 abbrev insertion : ℕ → ℕ → Transaction
 insertion before suffix = Retain before ∷ Replace [] (Char 88 italic ∷ []) ∷ Retain suffix ∷ []
 
-to_come_back : needed (removal ∷ insertion 1 3 ∷ []) ≡ value.Marks bold ∷ []
+to_come_back : needed_values (removal ∷ insertion 1 3 ∷ []) ≡ value.Marks bold ∷ []
 to_come_back = refl
 
 in_the_end : stored (removal ∷ insertion 1 3 ∷ []) [] (value.Marks bold ∷ []) ≡ value.Marks bold ∷ value.Marks italic ∷ []

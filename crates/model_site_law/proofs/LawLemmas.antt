@@ -1,7 +1,7 @@
 -- The laws, from what always holds.
 use Rattle.std.proofs.Common.{◌≡◌, ℕ, List, [], ◌∷◌, ◌++◌, take, slice_get, Some, Result, Ok, Err, Option, None, refl, sym, ap, ◌∙◌, subst}
 use Rattle.model_items.specs.declared.plain_item.PlainItem.{PlainItem}
-use Rattle.model_change.specs.Join.{Clash}
+use Rattle.model_change.specs.Join.{RangeConflict}
 use Rattle.model_change.specs.Replay.{AllRun, flattened, made_before, replay, revoke}
 use Rattle.model_change.specs.Store.{cited}
 use Rattle.model_change.specs.Transaction.{Transaction}
@@ -9,7 +9,7 @@ use Rattle.model_change.proofs.ReversalLaw.{revoke_takes_back}
 use Rattle.model_site.specs.Entries.{parcels}
 use Rattle.model_site.specs.Events.{Event, Perform, Redo, Revoke, Select, Send, Serve, Take, Undo, after_turn, at_member, happens, run, with_sent, with_site_of}
 use Rattle.model_site.specs.Replica.{Replica}
-use Rattle.model_site.specs.Session.{Feed, Member, Session, serve_first, started, take_first}
+use Rattle.model_site.specs.Session.{SiteFeed, Member, Session, serve_first, started, take_first}
 use Rattle.model_site.specs.Site.{Site, Submission, entries_of, redo, revoke_by, revoke_entry, send, undo, with_entry}
 use Rattle.model_site_law.specs.KeptLaws.{HoldsAtFirst}
 use Rattle.model_site_law.specs.Laws.{AckCounts, CommittedRun, EntriesRun, FirstReplicaOpens, IsWithout, ListIsReplay, ListIsSound, OneList, RevokeLeavesOut, StoreHolds}
@@ -42,7 +42,7 @@ base_served : (w : Session) (k : ℕ) (m : Member) (ss : List Submission) → (a
 base_served w k m [] = refl
 base_served w k m (s ∷ later) = refl
 
-base_taken : (w : Session) (k : ℕ) (m : Member) (fs : List Feed) → (after_turn w (take_first k m fs w)).base ≡ w.base
+base_taken : (w : Session) (k : ℕ) (m : Member) (fs : List SiteFeed) → (after_turn w (take_first k m fs w)).base ≡ w.base
 base_taken w k m [] = refl
 base_taken w k m (f ∷ later) = refl
 
@@ -127,7 +127,7 @@ pub revoke_leaves_out : RevokeLeavesOut
 revoke_leaves_out base sites events k m opens may e i next inside done =
     by_result (revoke (entries_of (run (started base sites) events).committed m.site) i) refl done
   where
-    by_result : (r : Result (List Transaction) Clash) → revoke (entries_of (run (started base sites) events).committed m.site) i ≡ r → revoke_by r m.site ≡ Ok next →
+    by_result : (r : Result (List Transaction) RangeConflict) → revoke (entries_of (run (started base sites) events).committed m.site) i ≡ r → revoke_by r m.site ≡ Ok next →
         IsWithout (entries_of (run (started base sites) events).committed m.site) i base.items next.replica.items
     by_result (Err clash) g done = cc
     by_result (Ok back) g done =

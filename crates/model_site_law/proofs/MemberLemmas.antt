@@ -7,7 +7,7 @@ use Rattle.model_change.specs.Store.{cited}
 use Rattle.model_site.specs.Entries.{Entry, Parcel, parcels}
 use Rattle.model_site.specs.Joined.{join_entries}
 use Rattle.model_site.specs.Replica.{Replica}
-use Rattle.model_site.specs.Session.{Ack, Feed, Foreign, Member}
+use Rattle.model_site.specs.Session.{Ack, SiteFeed, Foreign, Member}
 use Rattle.model_site.specs.Site.{Site, Submission, pending, send, send_unless}
 use Rattle.model_site.specs.Take.{noted, take_ack, take_entry, take_foreign}
 use Rattle.model_site_law.specs.Chain.{Chain}
@@ -27,36 +27,36 @@ length-parcels (e ∷ es) = ap (λ n. suc n) (length-parcels es)
 -- ---- queues of feeds
 
 -- without an acknowledgement, what is sent doesn't matter
-no_ack_any : (rest sent other : List Parcel) (feeds : List Feed) → NoAck feeds → InStep rest sent feeds → InStep rest other feeds
+no_ack_any : (rest sent other : List Parcel) (feeds : List SiteFeed) → NoAck feeds → InStep rest sent feeds → InStep rest other feeds
 no_ack_any rest sent other [] n i = i
 no_ack_any rest sent other (Foreign ps ∷ feeds) n i = (i.0, i.1, no_ack_any i.0 _ _ feeds n i.2)
 no_ack_any rest sent other (Ack k ∷ feeds) n i = absurd n
 
 -- more is committed, and is fed
-pub more_fed : (rest sent ps : List Parcel) (feeds : List Feed) → InStep rest sent feeds → InStep (rest ++ ps) sent (feeds ++ Foreign ps ∷ [])
+pub more_fed : (rest sent ps : List Parcel) (feeds : List SiteFeed) → InStep rest sent feeds → InStep (rest ++ ps) sent (feeds ++ Foreign ps ∷ [])
 more_fed rest sent ps [] i = ([], ap (λ r. r ++ ps) i ∙ sym (append-nil ps), refl)
 more_fed rest sent ps (Foreign qs ∷ feeds) i =
     (i.0 ++ ps, ap (λ r. r ++ ps) i.1 ∙ append_assoc qs i.0 ps, more_fed i.0 _ ps feeds i.2)
 more_fed rest sent ps (Ack n ∷ feeds) i =
     (i.0 ++ ps, ap (λ r. r ++ ps) i.1 ∙ append_assoc sent i.0 ps, i.2, more_fed i.0 [] ps feeds i.3)
 
-pub no_ack_more : (ps : List Parcel) (feeds : List Feed) → NoAck feeds → NoAck (feeds ++ Foreign ps ∷ [])
+pub no_ack_more : (ps : List Parcel) (feeds : List SiteFeed) → NoAck feeds → NoAck (feeds ++ Foreign ps ∷ [])
 no_ack_more ps [] n = tt
 no_ack_more ps (Foreign qs ∷ feeds) n = no_ack_more ps feeds n
 no_ack_more ps (Ack k ∷ feeds) n = absurd n
 
-pub one_ack_more : (ps : List Parcel) (feeds : List Feed) → OneAck feeds → OneAck (feeds ++ Foreign ps ∷ [])
+pub one_ack_more : (ps : List Parcel) (feeds : List SiteFeed) → OneAck feeds → OneAck (feeds ++ Foreign ps ∷ [])
 one_ack_more ps [] n = absurd n
 one_ack_more ps (Foreign qs ∷ feeds) n = one_ack_more ps feeds n
 one_ack_more ps (Ack k ∷ feeds) n = no_ack_more ps feeds n
 
-pub one_ack_from : (k : ℕ) (feeds : List Feed) → NoAck feeds → OneAck (feeds ++ Ack k ∷ [])
+pub one_ack_from : (k : ℕ) (feeds : List SiteFeed) → NoAck feeds → OneAck (feeds ++ Ack k ∷ [])
 one_ack_from k [] n = tt
 one_ack_from k (Foreign qs ∷ feeds) n = one_ack_from k feeds n
 one_ack_from k (Ack j ∷ feeds) n = absurd n
 
 -- what is accepted of what is sent is committed and acknowledged
-pub acknowledged : (rest sent : List Parcel) (feeds : List Feed) → NoAck feeds → InStep rest sent feeds →
+pub acknowledged : (rest sent : List Parcel) (feeds : List SiteFeed) → NoAck feeds → InStep rest sent feeds →
     InStep (rest ++ (join_entries (flattened rest) sent).kept) sent (feeds ++ Ack (length (join_entries (flattened rest) sent).kept) ∷ [])
 acknowledged rest sent [] n i =
     subst (λ r. InStep (r ++ (join_entries (flattened r) sent).kept) sent (Ack (length (join_entries (flattened r) sent).kept) ∷ [])) (sym i)
@@ -109,7 +109,7 @@ foreign_taken base before (p ∷ ps) s sound runs h =
 
 -- ---- taking
 
-turn_after_foreign : (base : List PlainItem) (committed rest later ps : List Parcel) (m next : Member) (feeds : List Feed) →
+turn_after_foreign : (base : List PlainItem) (committed rest later ps : List Parcel) (m next : Member) (feeds : List SiteFeed) →
     m.feeds ≡ Foreign ps ∷ feeds → next.feeds ≡ feeds → next.submissions ≡ m.submissions → next.site.in_flight ≡ m.site.in_flight →
     parcels next.site.sent ≡ (join_entries (flattened ps) (parcels m.site.sent)).kept → rest ≡ ps ++ later →
     Turn base committed rest m → Turn base committed later next
@@ -135,7 +135,7 @@ pub record Feeds (base : List PlainItem) (before ps : List Parcel) : Type 0 wher
   pub sound : Sound (ground base before)
   pub runs : AllRun (flattened ps) (ground base before)
 
-pub feeds_run : (base : List PlainItem) (committed : List Parcel) (ps : List Parcel) (feeds : List Feed) (m : Member) → Sound base → AllRun (flattened committed) base →
+pub feeds_run : (base : List PlainItem) (committed : List Parcel) (ps : List Parcel) (feeds : List SiteFeed) (m : Member) → Sound base → AllRun (flattened committed) base →
     m.feeds ≡ Foreign ps ∷ feeds → (h : MemberHolds base committed m) → Feeds base h.before ps
 feeds_run base committed ps feeds m sound runs f h =
     let step = subst (InStep h.rest (parcels m.site.sent)) f h.in_step in
@@ -149,7 +149,7 @@ feeds_run base committed ps feeds m sound runs f h =
       runs = (AllRun-parts (flattened ps) (flattened later) (ground base h.before) first.1).0;
     }
 
-pub foreign_feed_holds : (base : List PlainItem) (committed : List Parcel) (ps : List Parcel) (feeds : List Feed) (m : Member) →
+pub foreign_feed_holds : (base : List PlainItem) (committed : List Parcel) (ps : List Parcel) (feeds : List SiteFeed) (m : Member) →
     Sound base → AllRun (flattened committed) base → m.feeds ≡ Foreign ps ∷ feeds → MemberHolds base committed m →
     MemberHolds base committed (record m { site = take_foreign ps m.site; feeds = feeds })
 foreign_feed_holds base committed ps feeds m sound runs f h =
@@ -167,13 +167,13 @@ foreign_feed_holds base committed ps feeds m sound runs f h =
       turn = turn_after_foreign base committed h.rest later ps m next feeds f refl refl taken.in_flight taken.sent step.1 h.turn;
     }
 
-ack_ends : (base : List PlainItem) (committed rest : List Parcel) (n : ℕ) (feeds : List Feed) (m : Member) →
+ack_ends : (base : List PlainItem) (committed rest : List Parcel) (n : ℕ) (feeds : List SiteFeed) (m : Member) →
     m.feeds ≡ Ack n ∷ feeds → Turn base committed rest m → (m.submissions ≡ []) × NoAck feeds
 ack_ends base committed rest n feeds m f (AtRest a b c none) = absurd (subst NoAck f none)
 ack_ends base committed rest n feeds m f (Submitted k s a b none w) = absurd (subst NoAck f none)
 ack_ends base committed rest n feeds m f (Answered k a b one) = (b, subst OneAck f one)
 
-pub ack_holds : (base : List PlainItem) (committed : List Parcel) (n : ℕ) (feeds : List Feed) (m : Member) →
+pub ack_holds : (base : List PlainItem) (committed : List Parcel) (n : ℕ) (feeds : List SiteFeed) (m : Member) →
     m.feeds ≡ Ack n ∷ feeds → MemberHolds base committed m →
     MemberHolds base committed (record m { site = take_ack m.site; feeds = feeds })
 ack_holds base committed n feeds m f h =
@@ -204,7 +204,7 @@ ack_holds base committed n feeds m f h =
     }
 
 -- the number acknowledged is the number that the site still holds as sent
-pub ack_counts : (base : List PlainItem) (committed : List Parcel) (n : ℕ) (feeds : List Feed) (m : Member) →
+pub ack_counts : (base : List PlainItem) (committed : List Parcel) (n : ℕ) (feeds : List SiteFeed) (m : Member) →
     m.feeds ≡ Ack n ∷ feeds → MemberHolds base committed m → n ≡ length m.site.sent
 ack_counts base committed n feeds m f h = (subst (InStep h.rest (parcels m.site.sent)) f h.in_step).2 ∙ length-parcels m.site.sent
 

@@ -4,12 +4,12 @@ use Rattle.std.proofs.lemmas.List.{append_assoc, append-nil}
 use Rattle.ve_base.specs.declared.value.Value.{Value}
 use Rattle.model_items.specs.declared.plain_item.PlainItem.{PlainItem}
 use Rattle.model_change.specs.Inverse.{filled}
-use Rattle.model_change.specs.Join.{Clash, after_row, both_attributes, conflict, core, end_of, first, has_some, is_active, join, join_list, join_row, last, list_with, moved_on, ranges, retained, row_with, start_of, with_ends, with_new_end, without_end, without_first}
+use Rattle.model_change.specs.Join.{RangeConflict, after_row, both_attributes, conflict, core, end_of, first, has_some, is_active, join, join_list, join_row, last, list_with, moved_on, range_conflict, retained, row_with, start_of, with_ends, with_new_end, without_end, without_first}
 use Rattle.model_change.specs.Store.{cited}
 use Rattle.model_change.specs.Transaction.{Attribute, Replace, Retain, Transaction, all_removed, new_length}
 use Rattle.model_site.specs.Entries.{Parcel}
 use Rattle.model_site.specs.Joined.{join_entries, joined_first}
-use Rattle.model_site_law.specs.Chain.{needed}
+use Rattle.model_site_law.specs.Chain.{needed_values}
 use Rattle.model_site_law.specs.Sound.{AllIn}
 
 removed-append : (xs ys : Transaction) → all_removed (xs ++ ys) ≡ all_removed xs ++ all_removed ys
@@ -79,17 +79,17 @@ removed-join a b = by_both (both_attributes a b)
         let both : Transaction × Transaction = if not (is_active b) then (a, retained (new_length a)) else left in
         by_first (is_active a) both (by_second (is_active b) refl left (by_left (nat_le (end_of a) (start_of b))))
 
-pub row_with-ok : (one : Transaction) (r : Result (List Transaction × Transaction) Clash) (row : List Transaction × Transaction) → row_with one r ≡ Ok row →
+pub row_with-ok : (one : Transaction) (r : Result (List Transaction × Transaction) RangeConflict) (row : List Transaction × Transaction) → row_with one r ≡ Ok row →
     (rest : List Transaction × Transaction) × (r ≡ Ok rest) × ((one ∷ rest.0, rest.1) ≡ row)
 row_with-ok one (Err clash) row h = cc
 row_with-ok one (Ok rest) row h = let e : ◌≡◌ {A = List Transaction × Transaction} (one ∷ rest.0, rest.1) row = cc in (rest, refl, e)
 
-pub list_with-ok : (one : Transaction) (r : Result (List Transaction × List Transaction) Clash) (joined : List Transaction × List Transaction) → list_with one r ≡ Ok joined →
+pub list_with-ok : (one : Transaction) (r : Result (List Transaction × List Transaction) RangeConflict) (joined : List Transaction × List Transaction) → list_with one r ≡ Ok joined →
     (rest : List Transaction × List Transaction) × (r ≡ Ok rest) × ((rest.0, one ∷ rest.1) ≡ joined)
 list_with-ok one (Err clash) joined h = cc
 list_with-ok one (Ok rest) joined h = let e : ◌≡◌ {A = List Transaction × List Transaction} (rest.0, one ∷ rest.1) joined = cc in (rest, refl, e)
 
-pub after_row-ok : (r : Result (List Transaction × Transaction) Clash) (f : List Transaction → Result (List Transaction × List Transaction) Clash)
+pub after_row-ok : (r : Result (List Transaction × Transaction) RangeConflict) (f : List Transaction → Result (List Transaction × List Transaction) RangeConflict)
     (joined : List Transaction × List Transaction) → after_row r f ≡ Ok joined →
     (row : List Transaction × Transaction) × (r ≡ Ok row) × (list_with row.1 (f row.0) ≡ Ok joined)
 after_row-ok (Err clash) f joined h = cc
@@ -102,28 +102,28 @@ if_ok false e r y h = h
 removed-row : (committed : List Transaction) (t : Transaction) (row : List Transaction × Transaction) → join_row committed t ≡ Ok row → all_removed row.1 ≡ all_removed t
 removed-row [] t row h = let e : ◌≡◌ {A = List Transaction × Transaction} ([], t) row = cc in ap (λ (r : List Transaction × Transaction). all_removed r.1) (sym e)
 removed-row (one ∷ committed) t row h =
-    let p = row_with-ok (join one t).0 (join_row committed (join one t).1) row (if_ok (conflict one t) (ranges one t) _ row h) in
+    let p = row_with-ok (join one t).0 (join_row committed (join one t).1) row (if_ok (conflict one t) (range_conflict one t) _ row h) in
     ap (λ (r : List Transaction × Transaction). all_removed r.1) (sym p.2) ∙ removed-row committed (join one t).1 p.0 p.1 ∙ removed-join one t
 
-needed-list : (committed mine : List Transaction) (r : List Transaction × List Transaction) → join_list committed mine ≡ Ok r → needed r.1 ≡ needed mine
-needed-list committed [] r h = let e : ◌≡◌ {A = List Transaction × List Transaction} (committed, []) r = cc in ap (λ (q : List Transaction × List Transaction). needed q.1) (sym e)
+needed-list : (committed mine : List Transaction) (r : List Transaction × List Transaction) → join_list committed mine ≡ Ok r → needed_values r.1 ≡ needed_values mine
+needed-list committed [] r h = let e : ◌≡◌ {A = List Transaction × List Transaction} (committed, []) r = cc in ap (λ (q : List Transaction × List Transaction). needed_values q.1) (sym e)
 needed-list committed (t ∷ mine) r h =
     let p = after_row-ok (join_row committed t) (λ over. join_list over mine) r h in
     let q = list_with-ok p.0.1 (join_list p.0.0 mine) r p.2 in
-    ap (λ (u : List Transaction × List Transaction). needed u.1) (sym q.2)
+    ap (λ (u : List Transaction × List Transaction). needed_values u.1) (sym q.2)
     ∙ ap (λ n. cited (all_removed p.0.1) ++ n) (needed-list p.0.0 mine q.0 q.1)
-    ∙ ap (λ n. cited n ++ needed mine) (removed-row committed t p.0 p.1)
+    ∙ ap (λ n. cited n ++ needed_values mine) (removed-row committed t p.0 p.1)
 
 -- each parcel's undo finds what it needs
 abbrev pub AllNeeded : List Value → List Parcel → Type 0
 AllNeeded S [] = Unit {0}
-AllNeeded S (p ∷ ps) = AllIn S (needed p) × AllNeeded S ps
+AllNeeded S (p ∷ ps) = AllIn S (needed_values p) × AllNeeded S ps
 
 pub over_needed : (S : List Value) (foreign : Parcel) (ps : List Parcel) → AllNeeded S (take (length (join_entries foreign ps).kept) ps) → AllNeeded S (join_entries foreign ps).kept
 over_needed S foreign [] h = tt
 over_needed S foreign (p ∷ ps) h = by_first (λ f. over_needed S f ps) (join_list foreign p) refl h
   where
-    by_first : ((f : Parcel) → AllNeeded S (take (length (join_entries f ps).kept) ps) → AllNeeded S (join_entries f ps).kept) → (o : Result (List Transaction × List Transaction) Clash) → join_list foreign p ≡ o →
+    by_first : ((f : Parcel) → AllNeeded S (take (length (join_entries f ps).kept) ps) → AllNeeded S (join_entries f ps).kept) → (o : Result (List Transaction × List Transaction) RangeConflict) → join_list foreign p ≡ o →
         AllNeeded S (take (length (joined_first foreign o (λ next. join_entries next ps)).kept) (p ∷ ps)) → AllNeeded S (joined_first foreign o (λ next. join_entries next ps)).kept
     by_first ih (Err clash) e h = tt
     by_first ih (Ok r) e h = (subst (AllIn S) (sym (needed-list foreign p r e)) h.0, ih r.0 h.1)

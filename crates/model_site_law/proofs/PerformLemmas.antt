@@ -13,7 +13,7 @@ use Rattle.model_change.proofs.Fits.{Fits, parts_of_Applies}
 use Rattle.model_change.proofs.InverseLemmas.{reduced_parts}
 use Rattle.model_change.proofs.InverseNormal.{inverse_inserts}
 use Rattle.model_site.specs.Replica.{Replica, all_performed, all_put_back, performed, put_back}
-use Rattle.model_site_law.specs.Chain.{needed}
+use Rattle.model_site_law.specs.Chain.{needed_values}
 use Rattle.model_site_law.specs.Sound.{AllIn}
 use Rattle.model_site_law.proofs.StoreLemmas.{Grown, fill_grows, fill_has, grown_itself, grown_twice, in_append, in_cited, in_cited_parts, in_grown, in_parts, in_take_drop, none_in}
 
@@ -104,11 +104,11 @@ put_back_grows (t ∷ ts) s =
     grown_twice s.store next.store (all_put_back ts next).store (fill_grows s.store (changed_heads t s.items)) (put_back_grows ts next)
 
 -- where what the transactions removed is there, so is all of the list that taking them back gives
-pub reversed_held : (ts : List Transaction) (s : Replica) → AllIn s.store (needed ts) → AllIn s.store (cited s.items) →
+pub reversed_held : (ts : List Transaction) (s : Replica) → AllIn s.store (needed_values ts) → AllIn s.store (cited s.items) →
     AllIn (all_put_back (reversal ts) s).store (cited (all_put_back (reversal ts) s).items)
 reversed_held [] s n p = p
 reversed_held (t ∷ ts) s n p =
-    let parts = in_parts s.store (cited (all_removed t)) (needed ts) n in
+    let parts = in_parts s.store (cited (all_removed t)) (needed_values ts) n in
     let later = all_put_back (reversal ts) s in
     let next = (put_back (inverse t) later).store in
     let heads = changed_heads (inverse t) later.items in

@@ -7,10 +7,9 @@ use Rattle.model_change.specs.Transaction.{Transaction}
 use Rattle.model_site.specs.Entries.{Entry, Parcel, entry_of, parcels, reverted}
 use Rattle.model_site.specs.Events.{Event, Redo, Undo, at_member, happens, run, with_site_of}
 use Rattle.model_site.specs.Replica.{Replica, all_filled}
-use Rattle.model_site.specs.Session.{Member, Session, put_at, started}
+use Rattle.model_site.specs.Session.{Member, Session, put_member, started}
 use Rattle.model_site.specs.Site.{Site, parted, pending, redo, redo_first, undo, undo_last, with_entry}
-use Rattle.model_site.specs.declared.site_fault.RedoFault.{RedoFault}
-use Rattle.model_site.specs.declared.site_fault.UndoFault.{UndoFault}
+use Rattle.model_site.specs.Causes.{RedoCause, UndoCause}
 use Rattle.model_site_law.specs.Chain.{Fresh, stored}
 use Rattle.model_site_law.specs.Laws.{RedoneIsAsBefore, turns}
 use Rattle.model_site_law.specs.MayHappen.{MayHappen}
@@ -90,7 +89,7 @@ redo_alike base s t list runs done = by_first s.undone refl done
 
 -- ---- over turns
 
-get_put : (k : ℕ) (m n : Member) (ms : List Member) → slice_get ms k ≡ Some n → slice_get (put_at k m ms) k ≡ Some m
+get_put : (k : ℕ) (m n : Member) (ms : List Member) → slice_get ms k ≡ Some n → slice_get (put_member k m ms) k ≡ Some m
 get_put k m n [] h = cc
 get_put zero m n (x ∷ ms) h = refl
 get_put (suc k) m n (x ∷ ms) h = get_put k m n ms h
@@ -104,14 +103,14 @@ record Next (base : Replica) (k : ℕ) (m : Member) (w : Session) : Type 0 where
 undo_next : (w : Session) (k : ℕ) (m : Member) → slice_get w.members k ≡ Some m → Next w.base k m (happens w (Undo k))
 undo_next w k m e = subst (λ o. Next w.base k m (at_member w o (λ n. with_site_of k n (undo n.site) w))) (sym e) (by_result (undo m.site) refl)
   where
-    by_result : (r : Result Site UndoFault) → undo m.site ≡ r → Next w.base k m (with_site_of k m r w)
+    by_result : (r : Result Site UndoCause) → undo m.site ≡ r → Next w.base k m (with_site_of k m r w)
     by_result (Err f) d = record { member = m; there = e; alike = alike_itself w.base m.site }
     by_result (Ok s) d = record { member = record m { site = s }; there = get_put k (record m { site = s }) m w.members e; alike = undo_alike w.base m.site s d }
 
 redo_next : (w : Session) (k : ℕ) (m : Member) → SessionHolds w → m.site.seen ≡ 0 → slice_get w.members k ≡ Some m → Next w.base k m (happens w (Redo k))
 redo_next w k m h z e = subst (λ o. Next w.base k m (at_member w o (λ n. with_site_of k n (redo n.site) w))) (sym e) (by_result (redo m.site) refl)
   where
-    by_result : (r : Result Site RedoFault) → redo m.site ≡ r → Next w.base k m (with_site_of k m r w)
+    by_result : (r : Result Site RedoCause) → redo m.site ≡ r → Next w.base k m (with_site_of k m r w)
     by_result (Err f) d = record { member = m; there = e; alike = alike_itself w.base m.site }
     by_result (Ok s) d =
         let p = every_get (MemberHolds w.base.items w.committed) w.members k m h.members e in

@@ -1,16 +1,14 @@
 -- What each change of a replica and each cut of its store keeps, holds of every site, whatever happened.
 use Rattle.std.proofs.Common.{◌≡◌, ◌<◌, ℕ, zero, suc, List, [], ◌∷◌, ◌++◌, replicate, slice_get, Option, Some, None, Result, Ok, Err, refl}
-use Rattle.model_change.specs.Join.{Clash}
+use Rattle.model_change.specs.Join.{RangeConflict}
 use Rattle.model_change.specs.Replay.{revoke}
 use Rattle.model_change.specs.Transaction.{Transaction}
 use Rattle.model_site.specs.Events.{Event, Perform, Redo, Revoke, Select, Send, Serve, Take, Undo, after_turn, at_member, happens, run, with_sent, with_site, with_site_of}
 use Rattle.model_site.specs.Replica.{Replica}
-use Rattle.model_site.specs.Session.{Ack, Feed, Foreign, Member, Session, joining, put_at, serve_first, serve_next, started, take_first, take_next}
+use Rattle.model_site.specs.Session.{Ack, SiteFeed, Foreign, Member, Session, joining, put_member, serve_first, serve_next, started, take_first, take_next}
 use Rattle.model_site.specs.Site.{Site, Submission, entries_of, redo, revoke_by, revoke_entry, send, undo, with_entry, with_selection}
 use Rattle.model_site.specs.Take.{take_ack, take_foreign}
-use Rattle.model_site.specs.declared.site_fault.RedoFault.{RedoFault}
-use Rattle.model_site.specs.declared.site_fault.SendFault.{SendFault}
-use Rattle.model_site.specs.declared.site_fault.UndoFault.{UndoFault}
+use Rattle.model_site.specs.Causes.{RedoCause, SendCause, UndoCause}
 use Rattle.model_site_law.specs.MayHappen.{AllMayHappen, MayHappen}
 use Rattle.model_site_law.specs.Protocol.{Every, MemberHolds, SessionHolds}
 use Rattle.model_site_law.specs.Sound.{Opens}
@@ -30,7 +28,7 @@ module _ (P : Replica → Type 0) (is_kept : IsKept P) (w : Session) (h : Sessio
   holds_here : (k : ℕ) (m : Member) → slice_get w.members k ≡ Some m → MemberHolds w.base.items w.committed m
   holds_here k m e = every_get (MemberHolds w.base.items w.committed) w.members k m h.members e
 
-  put : (k : ℕ) (m : Member) → P m.site.replica → Every (OfMember P) (put_at k m w.members)
+  put : (k : ℕ) (m : Member) → P m.site.replica → Every (OfMember P) (put_member k m w.members)
   put k m p = every_put (OfMember P) w.members k m all p
 
   event_keeps : (e : Event) → MayHappen w e → SelectKeeps P w e → Kept (happens w e)
@@ -46,7 +44,7 @@ module _ (P : Replica → Type 0) (is_kept : IsKept P) (w : Session) (h : Sessio
       by_site (Some m) e = put k (record m { site = with_selection s m.site }) (keeps m e (here k m e))
   event_keeps (Undo k) may keeps = by_site (slice_get w.members k) refl
     where
-      by_result : (m : Member) → slice_get w.members k ≡ Some m → (r : Result Site UndoFault) → undo m.site ≡ r → Kept (with_site_of k m r w)
+      by_result : (m : Member) → slice_get w.members k ≡ Some m → (r : Result Site UndoCause) → undo m.site ≡ r → Kept (with_site_of k m r w)
       by_result m e (Err f) d = all
       by_result m e (Ok site) d =
           let p = holds_here k m e in
@@ -58,7 +56,7 @@ module _ (P : Replica → Type 0) (is_kept : IsKept P) (w : Session) (h : Sessio
       by_site (Some m) e = by_result m e (undo m.site) refl
   event_keeps (Redo k) may keeps = by_site (slice_get w.members k) refl
     where
-      by_result : (m : Member) → slice_get w.members k ≡ Some m → (r : Result Site RedoFault) → redo m.site ≡ r → Kept (with_site_of k m r w)
+      by_result : (m : Member) → slice_get w.members k ≡ Some m → (r : Result Site RedoCause) → redo m.site ≡ r → Kept (with_site_of k m r w)
       by_result m e (Err f) d = all
       by_result m e (Ok site) d =
           let p = holds_here k m e in
@@ -69,7 +67,7 @@ module _ (P : Replica → Type 0) (is_kept : IsKept P) (w : Session) (h : Sessio
       by_site (Some m) e = by_result m e (redo m.site) refl
   event_keeps (Revoke k i) may keeps = by_site (slice_get w.members k) refl
     where
-      by_result : (m : Member) → slice_get w.members k ≡ Some m → i < m.site.seen → (r : Result (List Transaction) Clash) → revoke (entries_of w.committed m.site) i ≡ r →
+      by_result : (m : Member) → slice_get w.members k ≡ Some m → i < m.site.seen → (r : Result (List Transaction) RangeConflict) → revoke (entries_of w.committed m.site) i ≡ r →
           Kept (with_site_of k m (revoke_by r m.site) w)
       by_result m e below (Err clash) d = all
       by_result m e below (Ok back) d =
@@ -83,7 +81,7 @@ module _ (P : Replica → Type 0) (is_kept : IsKept P) (w : Session) (h : Sessio
       by_site (Some m) e = by_result m e (may m e) (revoke (entries_of w.committed m.site) i) refl
   event_keeps (Send k) may keeps = by_site (slice_get w.members k) refl
     where
-      by_result : (m : Member) → slice_get w.members k ≡ Some m → (r : Result (Site × Submission) SendFault) → send m.site ≡ r → Kept (with_sent k m r w)
+      by_result : (m : Member) → slice_get w.members k ≡ Some m → (r : Result (Site × Submission) SendCause) → send m.site ≡ r → Kept (with_sent k m r w)
       by_result m e (Err f) d = all
       by_result m e (Ok r) d =
           put k (record { site = r.0; submissions = m.submissions ++ r.1 ∷ []; feeds = m.feeds }) (send_keep P is_kept m.site r d (here k m e))
@@ -102,7 +100,7 @@ module _ (P : Replica → Type 0) (is_kept : IsKept P) (w : Session) (h : Sessio
       by_site (Some m) e = by_queue m e m.submissions
   event_keeps (Take k) may keeps = by_site (slice_get w.members k) refl
     where
-      by_feed : (m : Member) → slice_get w.members k ≡ Some m → (fs : List Feed) → m.feeds ≡ fs → Kept (after_turn w (take_first k m fs w))
+      by_feed : (m : Member) → slice_get w.members k ≡ Some m → (fs : List SiteFeed) → m.feeds ≡ fs → Kept (after_turn w (take_first k m fs w))
       by_feed m e [] f = all
       by_feed m e (Foreign ps ∷ fs) f =
           let p = holds_here k m e in

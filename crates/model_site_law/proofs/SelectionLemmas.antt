@@ -9,7 +9,7 @@ use Rattle.ve_kinds.proofs.LawLemmas.{leaves_are_empty}
 use Rattle.model_items.specs.declared.plain_item.PlainItem.{PlainItem}
 use Rattle.model_items.specs.declared.plain_item.PlainItem.TheVariants.{Char, Opening, Closing}
 use Rattle.model_items.specs.declared.law_fault.LawFault.{LawFault}
-use Rattle.model_items.specs.Law.{State, start, finish, top, may_open, step, joined, after, Lawful}
+use Rattle.model_items.specs.Law.{State, start, finish, top, may_open, step, followed, after, Lawful}
 use Rattle.model_items.specs.Tree.{Open, opens_with, opens_after}
 use Rattle.model_items.proofs.LawLemmas.{if_ok, Ok-same, opened_before, closed_before, joined-ok, after_parts, after_whole, after_from_Lawful}
 use Rattle.model_change.specs.Transaction.{Retain, Replace, Attribute, Transaction, new_length, edited}
@@ -18,7 +18,7 @@ use Rattle.model_edit.specs.declared.selection.Bias.{Bias}
 use Rattle.model_edit.specs.declared.selection.Bias.TheVariants.{Left, Right}
 use Rattle.model_items.specs.Offsets.{is_inside_leaf}
 use Rattle.model_edit.specs.Translate.{is_before, items_before, translate, between, past_leaf}
-use Rattle.model_site_law.specs.SelectionLaws.{Stands, StandsIn, MovedStands}
+use Rattle.model_site_law.specs.SelectionLaws.{EndStands, StandsIn, MovedStands}
 
 -- ---- offsets that have moved lie in the list
 
@@ -135,10 +135,10 @@ below_length zero (y ∷ items) x rest h = omega arith
 below_length (suc at) [] x rest h = cc
 below_length (suc at) (y ∷ items) x rest h = let below = below_length at items x rest h in omega arith
 
-past_leaf_stands : (items : List PlainItem) (at : ℕ) → Lawful items → at ≤ length items → Stands items (past_leaf items at)
+past_leaf_stands : (items : List PlainItem) (at : ℕ) → Lawful items → at ≤ length items → EndStands items (past_leaf items at)
 past_leaf_stands items at lawful within = by_test (is_inside_leaf items at) refl
   where
-    by_test : (b : Bool) → is_inside_leaf items at ≡ b → Stands items (if b then suc at else at)
+    by_test : (b : Bool) → is_inside_leaf items at ≡ b → EndStands items (if b then suc at else at)
     by_test false e = (within, e)
     by_test true e =
         let whole : after start (take at items ++ drop at items) ≡ Ok finish = subst (λ l. after start l ≡ Ok finish) (sym (take-append-drop at items)) (after_from_Lawful items lawful) in
@@ -146,23 +146,23 @@ past_leaf_stands items at lawful within = by_test (is_inside_leaf items at) refl
         let nested = nested-after (take at items) start p.0 p.1 tt in
         let leaf = sym (inside_is items at p.0 p.1) ∙ e in
         let c = closed_at_once p.0 (drop at items) nested leaf p.2 in
-        let prefix = take_more at items c.first c.rest c.parts in
+        let begins = take_more at items c.first c.rest c.parts in
         let reached : after start (take (suc at) items) ≡ Ok c.next =
-        subst (λ l. after start l ≡ Ok c.next) (sym prefix) (after_whole (take at items) (c.first ∷ []) start p.0 c.next p.1 (one_step p.0 c.next c.first c.steps)) in
+        subst (λ l. after start l ≡ Ok c.next) (sym begins) (after_whole (take at items) (c.first ∷ []) start p.0 c.next p.1 (one_step p.0 c.next c.first c.steps)) in
         (below_length at items c.first c.rest c.parts, inside_is items (suc at) c.next reached ∙ c.none)
       where
         one_step : (s t : State) (x : PlainItem) → step s x ≡ Ok t → after s (x ∷ []) ≡ Ok t
-        one_step s t x h = ap (λ r. joined 1 r (λ next. after next [])) h
+        one_step s t x h = ap (λ r. followed 1 r (λ next. after next [])) h
 
 pub moved_stands : MovedStands
 moved_stands t items s applies lawful =
     let new = edited t items in
     let long = gives_new_length t items applies in
-    let stands : (offset : ℕ) (bias : Bias) → Stands new (past_leaf new (translate t offset bias)) =
+    let stands : (offset : ℕ) (bias : Bias) → EndStands new (past_leaf new (translate t offset bias)) =
     λ offset bias. past_leaf_stands new (translate t offset bias) lawful (let within = items_before_within bias offset 0 t in omega arith) in
     by_ends (s.anchor == s.focus) (nat_lt s.anchor s.focus) stands
   where
-    by_ends : (same below : Bool) → ((offset : ℕ) (bias : Bias) → Stands (edited t items) (past_leaf (edited t items) (translate t offset bias))) →
+    by_ends : (same below : Bool) → ((offset : ℕ) (bias : Bias) → EndStands (edited t items) (past_leaf (edited t items) (translate t offset bias))) →
         StandsIn (edited t items) (let r = if same then between (translate t s.anchor Left) (translate t s.focus Left)
         else (if below then between (translate t s.anchor Right) (translate t s.focus Left)
         else between (translate t s.anchor Left) (translate t s.focus Right)) in between (past_leaf (edited t items) r.anchor) (past_leaf (edited t items) r.focus))

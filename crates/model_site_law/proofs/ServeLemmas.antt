@@ -9,7 +9,7 @@ use Rattle.model_site.specs.Entries.{Parcel, parcels}
 use Rattle.model_site.specs.Events.{Event, Perform, Redo, Revoke, Select, Send, Serve, Take, Undo, after_turn, at_member, happens, run}
 use Rattle.model_site.specs.Joined.{join_entries}
 use Rattle.model_site.specs.Replica.{Replica}
-use Rattle.model_site.specs.Session.{Ack, Foreign, Member, Session, accepted_of, all_fed, feed_for, foreign_feed, joining, put_at, serve_first, serve_next, started}
+use Rattle.model_site.specs.Session.{Ack, Foreign, Member, Session, accepted_of, all_fed, feed_for, foreign_feed, joining, put_member, serve_first, serve_next, started}
 use Rattle.model_site.specs.Site.{Submission}
 use Rattle.model_site_law.specs.Holds.{ground}
 use Rattle.model_site_law.specs.MayHappen.{AllMayHappen, MayHappen}
@@ -136,7 +136,7 @@ module _ (base : List PlainItem) (committed new : List Parcel) where
 
   -- from the site at `k` on, of which the sender comes at `i` from there
   all_after : (sender k i : ℕ) (m next : Member) (ms : List Member) → k + i ≡ sender → Every (MemberHolds base committed) ms → slice_get ms i ≡ Some m →
-      Now (record next { feeds = next.feeds ++ Ack (length new) ∷ [] }) → Every Now (all_fed sender k new (put_at i next ms))
+      Now (record next { feeds = next.feeds ++ Ack (length new) ∷ [] }) → Every Now (all_fed sender k new (put_member i next ms))
   all_after sender k i m next [] e all h p = cc
   all_after sender k zero m next (n ∷ ms) e all h p =
       let here : (k == sender) ≡ true = eq-eqb k sender (omega arith) in (

@@ -1,17 +1,15 @@
 -- What always holds of sites and server together is kept by each event.
 use Rattle.std.proofs.Common.{◌≡◌, ℕ, zero, suc, List, [], ◌∷◌, ◌++◌, slice_get, Option, Some, None, Result, Ok, Err, ◌<◌, refl, sym, ap, ◌∙◌, subst}
 use Rattle.model_items.specs.declared.plain_item.PlainItem.{PlainItem}
-use Rattle.model_change.specs.Join.{Clash}
+use Rattle.model_change.specs.Join.{RangeConflict}
 use Rattle.model_change.specs.Replay.{AllRun, flattened, revoke}
 use Rattle.model_change.specs.Transaction.{Transaction}
 use Rattle.model_edit.specs.declared.selection.Selection.{Selection}
 use Rattle.model_site.specs.Entries.{Entry, Parcel, parcels, reverted}
 use Rattle.model_site.specs.Events.{Perform, Redo, Revoke, Select, Send, Take, Undo, after_turn, at_member, happens, with_sent, with_site, with_site_of}
-use Rattle.model_site.specs.Session.{Ack, Feed, Foreign, Member, Session, put_at, take_first, take_next, with_member}
+use Rattle.model_site.specs.Session.{Ack, SiteFeed, Foreign, Member, Session, put_member, take_first, take_next, with_member}
 use Rattle.model_site.specs.Site.{Site, Submission, entries_of, parted, redo, redo_first, revoke_by, revoke_entry, send, undo, undo_last, with_entry, with_selection}
-use Rattle.model_site.specs.declared.site_fault.RedoFault.{RedoFault}
-use Rattle.model_site.specs.declared.site_fault.SendFault.{SendFault}
-use Rattle.model_site.specs.declared.site_fault.UndoFault.{UndoFault}
+use Rattle.model_site.specs.Causes.{RedoCause, SendCause, UndoCause}
 use Rattle.model_site_law.specs.Holds.{Holds, ground}
 use Rattle.model_site_law.specs.MayHappen.{MayHappen}
 use Rattle.model_site_law.specs.Protocol.{Answered, AtRest, Every, InStep, MemberHolds, SessionHolds, Submitted, Turn, Waits}
@@ -27,7 +25,7 @@ every_get P [] k m all h = cc
 every_get P (n ∷ ms) zero m all h = let e : n ≡ m = cc in subst P e all.0
 every_get P (n ∷ ms) (suc k) m all h = every_get P ms k m all.1 h
 
-pub every_put : (P : Member → Type 0) (ms : List Member) (k : ℕ) (m : Member) → Every P ms → P m → Every P (put_at k m ms)
+pub every_put : (P : Member → Type 0) (ms : List Member) (k : ℕ) (m : Member) → Every P ms → P m → Every P (put_member k m ms)
 every_put P [] k m all p = tt
 every_put P (n ∷ ms) zero m all p = (p, all.1)
 every_put P (n ∷ ms) (suc k) m all p = (all.0, every_put P ms k m all.1 p)
@@ -110,7 +108,7 @@ select_in w k s h = by_site (slice_get w.members k) refl
 pub undo_in : (w : Session) (k : ℕ) → SessionHolds w → SessionHolds (happens w (Undo k))
 undo_in w k h = by_site (slice_get w.members k) refl
   where
-    by_result : (m : Member) → MemberHolds w.base.items w.committed m → (r : Result Site UndoFault) → undo m.site ≡ r → SessionHolds (with_site_of k m r w)
+    by_result : (m : Member) → MemberHolds w.base.items w.committed m → (r : Result Site UndoCause) → undo m.site ≡ r → SessionHolds (with_site_of k m r w)
     by_result m p (Err f) e = h
     by_result m p (Ok site) e =
         let same = undo_keeps m.site site e in
@@ -124,7 +122,7 @@ undo_in w k h = by_site (slice_get w.members k) refl
 pub redo_in : (w : Session) (k : ℕ) → SessionHolds w → SessionHolds (happens w (Redo k))
 redo_in w k h = by_site (slice_get w.members k) refl
   where
-    by_result : (m : Member) → MemberHolds w.base.items w.committed m → (r : Result Site RedoFault) → redo m.site ≡ r → SessionHolds (with_site_of k m r w)
+    by_result : (m : Member) → MemberHolds w.base.items w.committed m → (r : Result Site RedoCause) → redo m.site ≡ r → SessionHolds (with_site_of k m r w)
     by_result m p (Err f) e = h
     by_result m p (Ok site) e =
         let same = redo_keeps m.site site e in
@@ -137,7 +135,7 @@ redo_in w k h = by_site (slice_get w.members k) refl
 revoke_keeps : (committed : List Parcel) (i : ℕ) (s next : Site) → revoke_entry committed i s ≡ Ok next → (next.in_flight ≡ s.in_flight) × (next.sent ≡ s.sent)
 revoke_keeps committed i s next done = by_result (revoke (entries_of committed s) i) done
   where
-    by_result : (r : Result (List Transaction) Clash) → revoke_by r s ≡ Ok next → (next.in_flight ≡ s.in_flight) × (next.sent ≡ s.sent)
+    by_result : (r : Result (List Transaction) RangeConflict) → revoke_by r s ≡ Ok next → (next.in_flight ≡ s.in_flight) × (next.sent ≡ s.sent)
     by_result (Err clash) done = cc
     by_result (Ok back) done =
         let e : with_entry back s ≡ next = cc in
@@ -146,7 +144,7 @@ revoke_keeps committed i s next done = by_result (revoke (entries_of committed s
 pub revoke_in : (w : Session) (k i : ℕ) → SessionHolds w → MayHappen w (Revoke k i) → SessionHolds (happens w (Revoke k i))
 revoke_in w k i h may = by_site (slice_get w.members k) refl
   where
-    by_result : (m : Member) → MemberHolds w.base.items w.committed m → i < m.site.seen → (r : Result Site Clash) → revoke_entry w.committed i m.site ≡ r →
+    by_result : (m : Member) → MemberHolds w.base.items w.committed m → i < m.site.seen → (r : Result Site RangeConflict) → revoke_entry w.committed i m.site ≡ r →
         SessionHolds (with_site_of k m r w)
     by_result m p below (Err clash) e = h
     by_result m p below (Ok site) e =
@@ -161,7 +159,7 @@ revoke_in w k i h may = by_site (slice_get w.members k) refl
 pub send_in : (w : Session) (k : ℕ) → SessionHolds w → SessionHolds (happens w (Send k))
 send_in w k h = by_site (slice_get w.members k) refl
   where
-    by_result : (m : Member) → MemberHolds w.base.items w.committed m → (r : Result (Site × Submission) SendFault) → send m.site ≡ r → SessionHolds (with_sent k m r w)
+    by_result : (m : Member) → MemberHolds w.base.items w.committed m → (r : Result (Site × Submission) SendCause) → send m.site ≡ r → SessionHolds (with_sent k m r w)
     by_result m p (Err f) e = h
     by_result m p (Ok r) e = put_holds w k (record { site = r.0; submissions = m.submissions ++ r.1 ∷ []; feeds = m.feeds }) h (send_holds w.base.items w.committed m r e p)
 
@@ -172,7 +170,7 @@ send_in w k h = by_site (slice_get w.members k) refl
 pub take_in : (w : Session) (k : ℕ) → SessionHolds w → SessionHolds (happens w (Take k))
 take_in w k h = by_site (slice_get w.members k) refl
   where
-    by_feed : (m : Member) → MemberHolds w.base.items w.committed m → (fs : List Feed) → m.feeds ≡ fs → SessionHolds (after_turn w (take_first k m fs w))
+    by_feed : (m : Member) → MemberHolds w.base.items w.committed m → (fs : List SiteFeed) → m.feeds ≡ fs → SessionHolds (after_turn w (take_first k m fs w))
     by_feed m p [] e = h
     by_feed m p (Foreign ps ∷ fs) e = put_holds w k _ h (foreign_feed_holds w.base.items w.committed ps fs m h.sound h.committed e p)
     by_feed m p (Ack n ∷ fs) e = put_holds w k _ h (ack_holds w.base.items w.committed n fs m e p)

@@ -4,7 +4,7 @@ use Rattle.std.proofs.lemmas.List.{append_assoc, append-nil, length-append, take
 use Rattle.std.proofs.Math.Seq.{take-append_seam}
 use Rattle.ve_base.specs.declared.value.Value.{Value}
 use Rattle.model_items.specs.declared.plain_item.PlainItem.{PlainItem}
-use Rattle.model_change.specs.Join.{Clash}
+use Rattle.model_change.specs.Join.{RangeConflict}
 use Rattle.model_change.specs.Replay.{AllRun, flattened, replay, revoke}
 use Rattle.model_change.specs.Store.{cited}
 use Rattle.model_change.specs.Transaction.{Transaction}
@@ -14,7 +14,7 @@ use Rattle.model_site.specs.Joined.{join_entries}
 use Rattle.model_site.specs.Replica.{all_performed}
 use Rattle.model_site.specs.Site.{Site, entries_of, parted, pending, redo, redo_first, revoke_by, revoke_entry, undo, undo_last, with_entry}
 use Rattle.model_site.specs.Take.{noted, take_entry}
-use Rattle.model_site_law.specs.Chain.{Chain, needed}
+use Rattle.model_site_law.specs.Chain.{Chain, needed_values}
 use Rattle.model_site_law.specs.Holds.{Holds, ground}
 use Rattle.model_site_law.specs.Sound.{AllIn, AllMayRun, Sound}
 use Rattle.model_site_law.proofs.ChainLemmas.{all_reverted_kept, chain_more, chain_needed, chain_noted, last_reverted, performed_needed}
@@ -149,7 +149,7 @@ entries_run base before rest committed s split runs h =
 pub seen_within : (base : List PlainItem) (before rest committed : List Parcel) (s : Site) → before ++ rest ≡ committed → Holds base before s →
     s.seen ≤ length (entries_of committed s)
 seen_within base before rest committed s split h =
-    let prefix = ap (λ (r : List Parcel). length r) (seen_is base before rest committed s split h) in
+    let lengths = ap (λ (r : List Parcel). length r) (seen_is base before rest committed s split h) in
     let whole = length-append (take s.seen committed) (parcels (pending s)) in
     let seen = h.seen in
     omega arith
@@ -166,7 +166,7 @@ pub revoke_holds : (base : List PlainItem) (before rest committed : List Parcel)
     Holds base before s → i < s.seen → revoke_entry committed i s ≡ Ok next → Holds base before next
 revoke_holds base before rest committed i s next sound runs split h below done = by_result (revoke (entries_of committed s) i) refl done
   where
-    by_result : (r : Result (List Transaction) Clash) → revoke (entries_of committed s) i ≡ r → revoke_by r s ≡ Ok next → Holds base before next
+    by_result : (r : Result (List Transaction) RangeConflict) → revoke (entries_of committed s) i ≡ r → revoke_by r s ≡ Ok next → Holds base before next
     by_result (Err clash) e done = cc
     by_result (Ok back) e done =
         let same : with_entry back s ≡ next = cc in
@@ -176,7 +176,7 @@ revoke_holds base before rest committed i s next sound runs split h below done =
 
 needed_grown : {S T : List Value} (ps : List Parcel) → Grown S T → AllNeeded S ps → AllNeeded T ps
 needed_grown [] g n = tt
-needed_grown {S = S} {T = T} (p ∷ ps) g n = (in_grown S T (needed p) g n.0, needed_grown ps g n.1)
+needed_grown {S = S} {T = T} (p ∷ ps) g n = (in_grown S T (needed_values p) g n.0, needed_grown ps g n.1)
 
 pub foreign_holds : (base : List PlainItem) (before : List Parcel) (foreign : Parcel) (s : Site) → Sound (ground base before) → Holds base before s → AllRun foreign (ground base before) →
     Holds base (before ++ foreign ∷ []) (take_entry foreign s)

@@ -21,7 +21,7 @@ pub none_in : (S : List Value) → AllIn S []
 none_in S v within = absurd (contains_none v within)
 
 pub in_append : (S xs ys : List Value) → AllIn S xs → AllIn S ys → AllIn S (xs ++ ys)
-in_append S xs ys p q v within = elim (Contains-append_cases xs ys v within) [ inl first ↦ p v first | inr suffix ↦ q v suffix ]
+in_append S xs ys p q v within = elim (Contains-append_cases xs ys v within) [ inl first ↦ p v first | inr second ↦ q v second ]
 
 pub in_parts : (S xs ys : List Value) → AllIn S (xs ++ ys) → AllIn S xs × AllIn S ys
 in_parts S xs ys p = (λ v within. p v (Contains-append_left xs ys v within), λ v within. p v (Contains-append_right xs ys v within))
@@ -49,13 +49,13 @@ fill_has S vs = (fill_appends S vs).all
 
 holds_from : (S : List Value) (v : Value) → Contains S v → holds S v ≡ true
 holds_from [] v within = absurd (contains_none v within)
-holds_from (w ∷ S) v within = by_test (λ suffix. holds_from S v suffix) (value_same v w) refl
+holds_from (w ∷ S) v within = by_test (λ second. holds_from S v second) (value_same v w) refl
   where
     by_test : (Contains S v → holds S v ≡ true) → (b : Bool) → value_same v w ≡ b → (b || holds S v) ≡ true
     by_test rest true e = refl
     by_test rest false e = elim (Contains-append_cases (w ∷ []) S v within) [
       | inl first ↦ let same : value_same v w ≡ true = subst (λ x. value_same v x ≡ true) (sym (contains_one w v first)) (Means-value_same.itself v) in cc
-      | inr suffix ↦ rest suffix
+      | inr second ↦ rest second
     ]
 
 -- nothing is added where all is there

@@ -11,16 +11,19 @@ use Rattle.model_site.specs.Site.{Site, pending}
 use Rattle.model_site_law.specs.Sound.{AllIn}
 
 -- the values that an undo needs again: those that the transactions removed
-abbrev pub needed : List Transaction → List Value
-needed [] = []
-needed (t ∷ ts) = cited (all_removed t) ++ needed ts
+abbrev pub needed_values : List Transaction → List Value
+needed_values [] = []
+needed_values (t ∷ ts) = cited (all_removed t) ++ needed_values ts
 
--- Over pending entries in order, from a list and with a least number: the numbers of the store rise; what an entry's undo needs is in the store up to its second number; and where the first is the lower one, the store up to it has all that the list before the entry cites.
+-- Over pending entries in order, from a list and with a least number: the numbers of the store rise; what an entry's undo needs is in
+-- the store up to its second number; and where the first is the lower one, the store up to it has all that the list before the entry
+-- cites.
 abbrev pub Chain : (store : List Value) → (least : ℕ) → List PlainItem → List Entry → Type 0
 Chain store least items [] = least ≤ length store
 Chain store least items (e ∷ es) =
-    (least ≤ e.store_before) × (e.store_before ≤ e.store_after) × (e.store_before < e.store_after → AllIn (take e.store_before store) (cited items))
-    × AllIn (take e.store_after store) (needed e.txs) × Chain store e.store_after (replay e.txs items) es
+    (least ≤ e.store_before) × (e.store_before ≤ e.store_after) × (e.store_before < e.store_after →
+    AllIn (take e.store_before store) (cited items))
+    × AllIn (take e.store_after store) (needed_values e.txs) × Chain store e.store_after (replay e.txs items) es
 
 -- the store that transactions make of one
 abbrev pub stored : List Transaction → List PlainItem → List Value → List Value

@@ -4,13 +4,13 @@ use Rattle.model_items.specs.declared.plain_item.PlainItem.{PlainItem}
 use Rattle.model_items.specs.Plain.{AreDistinct}
 use Rattle.model_change.specs.Transaction.{Transaction}
 use Rattle.model_change.specs.Store.{cited}
-use Rattle.model_change.specs.Join.{Clash, join_list}
+use Rattle.model_change.specs.Join.{RangeConflict, join_list}
 use Rattle.model_change.specs.Replay.{replay, AllRun, reversal, flattened, entry_at, made_before, made_after}
 use Rattle.model_site.specs.Replica.{Replica, opened_with}
 use Rattle.model_site.specs.Entries.{Parcel}
 use Rattle.model_site.specs.Site.{Site, pending, with_entry, undo, entries_of, revoke_entry}
 use Rattle.model_site.specs.Joined.{Joined, join_entries}
-use Rattle.model_site.specs.Session.{Feed, Ack, Member, Session, started}
+use Rattle.model_site.specs.Session.{SiteFeed, Ack, Member, Session, started}
 use Rattle.model_site.specs.Events.{Event, Undo, Redo, run}
 use Rattle.model_site_law.specs.Sound.{Sound, AllIn, Opens, AllMayRun}
 use Rattle.model_site_law.specs.MayHappen.{AllMayHappen}
@@ -19,10 +19,13 @@ use Rattle.model_site_law.specs.MayHappen.{AllMayHappen}
 abbrev pub FirstReplicaOpens : Type 0
 FirstReplicaOpens = (items : List PlainItem) → Sound items → Opens (opened_with items)
 
--- Which entries are joined over committed transactions, in words of whole lists: the transactions of those kept, joined as one list, are the kept ones; each entry keeps the number of its transactions; and either all are kept, or the list with the next entry has the conflict.
-abbrev pub IsNextInConflict : List Transaction → List Parcel → ℕ → Option Clash → Type 0
+-- Which entries are joined over committed transactions, in words of whole lists: the transactions of those kept, joined as one list,
+-- are the kept ones; each entry keeps the number of its transactions; and either all are kept, or the list with the next entry has the
+-- conflict.
+abbrev pub IsNextInConflict : List Transaction → List Parcel → ℕ → Option RangeConflict → Type 0
 IsNextInConflict committed entries n None = n ≡ length entries
-IsNextInConflict committed entries n (Some clash) = (n < length entries) × (join_list committed (flattened (take (suc n) entries)) ≡ Err clash)
+IsNextInConflict committed entries n (Some clash) =
+    (n < length entries) × (join_list committed (flattened (take (suc n) entries)) ≡ Err clash)
 
 pub record AreFirst (committed : List Transaction) (entries : List Parcel) (j : Joined) : Type 0 where
   pub one_list : join_list committed (flattened (take (length j.kept) entries)) ≡ Ok (j.committed, flattened j.kept)
@@ -32,15 +35,17 @@ pub record AreFirst (committed : List Transaction) (entries : List Parcel) (j : 
 abbrev pub JoinedUntilConflict : Type 0
 JoinedUntilConflict = (committed : List Transaction) (entries : List Parcel) → AreFirst committed entries (join_entries committed entries)
 
--- Entries over one foreign entry, as they are joined: those kept run after it, it runs, joined, after those kept, and one list comes of both.
+-- Entries over one foreign entry, as they are joined: those kept run after it, it runs, joined, after those kept, and one list comes
+-- of both.
 pub record AreJoined (foreign : Parcel) (entries : List Parcel) (items : List PlainItem) (j : Joined) : Type 0 where
   pub kept_run : AllRun (flattened j.kept) (replay foreign items)
   pub committed_run : AllRun j.committed (replay (flattened (take (length j.kept) entries)) items)
-  pub one_list : replay j.committed (replay (flattened (take (length j.kept) entries)) items) ≡ replay (flattened j.kept) (replay foreign items)
+  pub one_list : replay j.committed (replay (flattened (take (length j.kept) entries)) items)
+      ≡ replay (flattened j.kept) (replay foreign items)
 
 abbrev pub EntriesJoin : Type 0
-EntriesJoin = (foreign : Parcel) (entries : List Parcel) (items : List PlainItem) → Sound items → AllRun foreign items → AllRun (flattened entries) items →
-    AreJoined foreign entries items (join_entries foreign entries)
+EntriesJoin = (foreign : Parcel) (entries : List Parcel) (items : List PlainItem) → Sound items → AllRun foreign items →
+    AllRun (flattened entries) items → AreJoined foreign entries items (join_entries foreign entries)
 
 -- what holds of a base, the session and one of its members, whatever happened
 abbrev pub Always : ((base : Replica) (w : Session) (m : Member) → Type 0) → Type 0
@@ -65,11 +70,12 @@ ListIsSound = Always (λ base w m. Sound m.site.replica.items)
 
 -- The number acknowledged is the number of entries that the site still holds as sent when it takes the answer.
 abbrev pub AckCounts : Type 0
-AckCounts = Always (λ base w m. (accepted : ℕ) (later : List Feed) → m.feeds ≡ Ack accepted ∷ later → accepted ≡ length m.site.sent)
+AckCounts = Always (λ base w m. (accepted : ℕ) (later : List SiteFeed) → m.feeds ≡ Ack accepted ∷ later → accepted ≡ length m.site.sent)
 
 -- Sites that have seen as much, and have nothing pending, have one list.
 abbrev pub OneList : Type 0
-OneList = (base : Replica) (sites : ℕ) (events : List Event) (k l : ℕ) (m n : Member) → Opens base → AllMayHappen (started base sites) events →
+OneList = (base : Replica) (sites : ℕ) (events : List Event) (k l : ℕ) (m n : Member) → Opens base →
+    AllMayHappen (started base sites) events →
     slice_get (run (started base sites) events).members k ≡ Some m → slice_get (run (started base sites) events).members l ≡ Some n →
     m.site.seen ≡ n.site.seen → pending m.site ≡ [] → pending n.site ≡ [] → m.site.replica.items ≡ n.site.replica.items
 
@@ -82,7 +88,8 @@ FirstStoreIsDistinct = (items : List PlainItem) → AreDistinct (opened_with ite
 
 -- The values of a site's store are distinct, if those of the first one are.
 abbrev pub StoreIsDistinct : Type 0
-StoreIsDistinct = (base : Replica) (sites : ℕ) (events : List Event) (k : ℕ) (m : Member) → Opens base → AreDistinct base.store → AllMayHappen (started base sites) events →
+StoreIsDistinct = (base : Replica) (sites : ℕ) (events : List Event) (k : ℕ) (m : Member) → Opens base → AreDistinct base.store →
+    AllMayHappen (started base sites) events →
     slice_get (run (started base sites) events).members k ≡ Some m → AreDistinct m.site.replica.store
 
 -- A site's list after it took entry i back: the one that the later entries give without it, joined over its reversal.
@@ -94,17 +101,18 @@ pub record IsWithout (entries : List Parcel) (i : ℕ) (base now : List PlainIte
   pub list : now ≡ replay later (replay (made_before entries i) base)
 
 abbrev pub RevokeLeavesOut : Type 0
-RevokeLeavesOut = Always (λ base w m. (i : ℕ) (next : Site) → i < length (entries_of w.committed m.site) → revoke_entry w.committed i m.site ≡ Ok next →
-    IsWithout (entries_of w.committed m.site) i base.items next.replica.items)
+RevokeLeavesOut = Always (λ base w m. (i : ℕ) (next : Site) → i < length (entries_of w.committed m.site) →
+    revoke_entry w.committed i m.site ≡ Ok next → IsWithout (entries_of w.committed m.site) i base.items next.replica.items)
 
 -- What is undone at once leaves list and store as they were, whatever happened before.
 abbrev pub UndoneAtOnce : Type 0
-UndoneAtOnce = Always (λ base w m. (ts : List Transaction) (next : Site) → AllMayRun ts m.site.replica.items → undo (with_entry ts m.site) ≡ Ok next →
-    (next.replica.items ≡ m.site.replica.items) × (next.replica.store ≡ m.site.replica.store))
+UndoneAtOnce = Always (λ base w m. (ts : List Transaction) (next : Site) → AllMayRun ts m.site.replica.items →
+    undo (with_entry ts m.site) ≡ Ok next → (next.replica.items ≡ m.site.replica.items) × (next.replica.store ≡ m.site.replica.store))
 
 -- A site that has taken nothing and has nothing pending has the first list and the first store.
 abbrev pub UndoneIsFirst : Type 0
-UndoneIsFirst = Always (λ base w m. m.site.seen ≡ 0 → pending m.site ≡ [] → (m.site.replica.items ≡ base.items) × (m.site.replica.store ≡ base.store))
+UndoneIsFirst = Always (λ base w m. m.site.seen ≡ 0 → pending m.site ≡ [] →
+    (m.site.replica.items ≡ base.items) × (m.site.replica.store ≡ base.store))
 
 -- undoing and redoing at one site
 abbrev pub turns : ℕ → List Bool → List Event
@@ -112,9 +120,11 @@ turns k [] = []
 turns k (true ∷ more) = Undo k ∷ turns k more
 turns k (false ∷ more) = Redo k ∷ turns k more
 
--- A site that has taken nothing and has nothing undone undoes and redoes, in any order, until nothing is undone again: its list and its store are as before.
+-- A site that has taken nothing and has nothing undone undoes and redoes, in any order, until nothing is undone again: its list and
+-- its store are as before.
 abbrev pub RedoneIsAsBefore : Type 0
-RedoneIsAsBefore = (base : Replica) (sites : ℕ) (events : List Event) (k : ℕ) (m n : Member) (order : List Bool) → Opens base → AllMayHappen (started base sites) events →
+RedoneIsAsBefore = (base : Replica) (sites : ℕ) (events : List Event) (k : ℕ) (m n : Member) (order : List Bool) → Opens base →
+    AllMayHappen (started base sites) events →
     slice_get (run (started base sites) events).members k ≡ Some m → m.site.seen ≡ 0 → m.site.undone ≡ [] →
     slice_get (run (run (started base sites) events) (turns k order)).members k ≡ Some n → n.site.undone ≡ [] →
     (n.site.replica.items ≡ m.site.replica.items) × (n.site.replica.store ≡ m.site.replica.store)

@@ -2,14 +2,14 @@
 use Rattle.std.specs.Prelude.{◌≡◌, ◌<◌, true, List, [], ◌∷◌, slice_get, Some, None}
 use Rattle.model_change.specs.Transaction.{Transaction, is_reduced, InsertedApart}
 use Rattle.model_site.specs.Replica.{Replica}
-use Rattle.model_site.specs.Refused.{edit_fault}
+use Rattle.model_site.specs.Refused.{edit_cause}
 use Rattle.model_site.specs.Session.{Member, Session}
 use Rattle.model_site.specs.Events.{Event, Perform, Revoke, happens}
 use Rattle.model_site_law.specs.Sound.{MayRun, AllMayRun}
 
 -- So may each one that a site does not refuse: the rest is kept by the type of transactions.
 abbrev pub EditMayRun : Type 0
-EditMayRun = (t : Transaction) (r : Replica) → is_reduced t ≡ true → InsertedApart t → edit_fault t r ≡ None → MayRun t r.items
+EditMayRun = (t : Transaction) (r : Replica) → is_reduced t ≡ true → InsertedApart t → edit_cause t r ≡ None → MayRun t r.items
 
 -- What is performed may be performed on the site's list, and what is revoked was seen. All else may always happen.
 abbrev pub MayHappen : Session → Event → Type 0

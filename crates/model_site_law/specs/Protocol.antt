@@ -5,7 +5,7 @@ use Rattle.model_change.specs.Replay.{AllRun, flattened}
 use Rattle.model_site.specs.Entries.{Parcel, parcels}
 use Rattle.model_site.specs.Site.{Submission}
 use Rattle.model_site.specs.Joined.{join_entries}
-use Rattle.model_site.specs.Session.{Feed, Foreign, Ack, Member, Session}
+use Rattle.model_site.specs.Session.{SiteFeed, Foreign, Ack, Member, Session}
 use Rattle.model_site_law.specs.Sound.{Sound}
 use Rattle.model_site_law.specs.Holds.{Holds, ground}
 
@@ -13,18 +13,19 @@ use Rattle.model_site_law.specs.Holds.{Holds, ground}
 abbrev pub kept_under : (committed entries : List Parcel) → List Parcel
 kept_under committed entries = (join_entries (flattened committed) entries).kept
 
--- The feeds bring `rest`, the committed entries that the site has not seen, in order. At the answer, what is kept of `sent` under the feeds before it is what was committed of it, and so many are acknowledged.
-abbrev pub InStep : (rest sent : List Parcel) → List Feed → Type 0
+-- The feeds bring `rest`, the committed entries that the site has not seen, in order. At the answer, what is kept of `sent` under the
+-- feeds before it is what was committed of it, and so many are acknowledged.
+abbrev pub InStep : (rest sent : List Parcel) → List SiteFeed → Type 0
 InStep rest sent [] = rest ≡ []
 InStep rest sent (Foreign ps ∷ feeds) = (later : List Parcel) × (rest ≡ ps ++ later) × InStep later (kept_under ps sent) feeds
 InStep rest sent (Ack n ∷ feeds) = (later : List Parcel) × (rest ≡ sent ++ later) × (n ≡ length sent) × InStep later [] feeds
 
-abbrev pub NoAck : List Feed → Type 0
+abbrev pub NoAck : List SiteFeed → Type 0
 NoAck [] = Unit {0}
 NoAck (Foreign ps ∷ feeds) = NoAck feeds
 NoAck (Ack n ∷ feeds) = ⊥
 
-abbrev pub OneAck : List Feed → Type 0
+abbrev pub OneAck : List SiteFeed → Type 0
 OneAck [] = ⊥
 OneAck (Foreign ps ∷ feeds) = OneAck feeds
 OneAck (Ack n ∷ feeds) = NoAck feeds

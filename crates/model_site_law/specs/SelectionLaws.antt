@@ -6,7 +6,7 @@ use Rattle.model_change.specs.Transaction.{Transaction, edited}
 use Rattle.model_change.specs.Fault.{Applies}
 use Rattle.model_edit.specs.declared.selection.Selection.{Selection}
 use Rattle.model_items.specs.Offsets.{is_inside_leaf}
-use Rattle.model_edit.specs.Translate.{moved}
+use Rattle.model_edit.specs.Translate.{moved_selection}
 use Rattle.model_site.specs.Replica.{Replica, opened_with}
 use Rattle.model_site.specs.Session.{Member, Session, started}
 use Rattle.model_site.specs.Events.{Event, Select, happens, run}
@@ -14,13 +14,13 @@ use Rattle.model_site_law.specs.Sound.{Opens}
 use Rattle.model_site_law.specs.MayHappen.{AllMayHappen}
 
 -- the offset is one of the list, and not inside a leaf
-abbrev pub Stands : List PlainItem → ℕ → Type 0
-Stands items at = (at ≤ length items) × (is_inside_leaf items at ≡ false)
+abbrev pub EndStands : List PlainItem → ℕ → Type 0
+EndStands items at = (at ≤ length items) × (is_inside_leaf items at ≡ false)
 
 -- both ends do
 pub record StandsIn (items : List PlainItem) (s : Selection) : Type 0 where
-  pub anchor : Stands items s.anchor
-  pub focus : Stands items s.focus
+  pub anchor : EndStands items s.anchor
+  pub focus : EndStands items s.focus
 
 -- what is selected stands in the site's list
 abbrev pub SelectsWithin : Session → Event → Type 0
@@ -37,10 +37,12 @@ FirstSelectionStands = (items : List PlainItem) → StandsIn items (opened_with 
 
 -- Any selection stands in the new list once it has moved through a transaction that applies and leaves a lawful list.
 abbrev pub MovedStands : Type 0
-MovedStands = (t : Transaction) (items : List PlainItem) (s : Selection) → Applies t items → Lawful (edited t items) → StandsIn (edited t items) (moved t (edited t items) s)
+MovedStands = (t : Transaction) (items : List PlainItem) (s : Selection) → Applies t items → Lawful (edited t items) →
+    StandsIn (edited t items) (moved_selection t (edited t items) s)
 
 -- So the selection of every site stands in its list, whatever happened, if what is selected does.
 abbrev pub SelectionStands : Type 0
-SelectionStands = (base : Replica) (sites : ℕ) (events : List Event) (k : ℕ) (m : Member) → Opens base → StandsIn base.items base.selection →
-    AllMayHappen (started base sites) events → AllSelectWithin (started base sites) events → slice_get (run (started base sites) events).members k ≡ Some m →
+SelectionStands = (base : Replica) (sites : ℕ) (events : List Event) (k : ℕ) (m : Member) → Opens base →
+    StandsIn base.items base.selection → AllMayHappen (started base sites) events → AllSelectWithin (started base sites) events →
+    slice_get (run (started base sites) events).members k ≡ Some m →
     StandsIn m.site.replica.items m.site.replica.selection

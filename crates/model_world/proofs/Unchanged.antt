@@ -2,8 +2,7 @@
 use Rattle.std.proofs.Common.{◌≡◌, ℕ, nat_lt, Bool, true, false, List, length, slice_get, slice_range, ◌||◌, Option, Some, None, Result, Ok, Err, if◌then◌else◌, unwrap_or, refl}
 use Rattle.model_change.specs.Transaction.{Transaction}
 use Rattle.model_page.specs.PageItems.{Opened}
-use Rattle.model_edit.specs.declared.table_fault.TableFault.{TableFault}
-use Rattle.model_edit.specs.declared.list_fault.ListFault.{ListFault}
+use Rattle.model_edit.specs.Causes.{TableCause, ListCause}
 use Rattle.model_edit.specs.declared.selection.Selection.{Selection}
 use Rattle.model_edit.specs.Translate.{between}
 use Rattle.model_edit.specs.Grid.{Grid, grid}
@@ -65,14 +64,14 @@ erased_answers : (a : Asked) (r : Result Selection Refusal) → Answers (erased_
 erased_answers a (Ok s) = performed_answers a (change_on (replica_of a) (change.Remove (lower s) (higher s)))
 erased_answers a (Err refusal) = tt
 
-grid_answers : (a : Asked) (r : Result Grid TableFault) → Answers (grid_or_no a r)
+grid_answers : (a : Asked) (r : Result Grid TableCause) → Answers (grid_or_no a r)
 grid_answers a (Ok g) = refl
 grid_answers a (Err fault) = tt
 
-table_answers : (a : Asked) (r : Result Transaction TableFault) → Answers (table_changed a r)
+table_answers : (a : Asked) (r : Result Transaction TableCause) → Answers (table_changed a r)
 table_answers a r = performed_answers a (allowed (replica_of a) (refused_as table_refusal r))
 
-list_answers : (a : Asked) (r : Result Transaction ListFault) → Answers (list_changed a r)
+list_answers : (a : Asked) (r : Result Transaction ListCause) → Answers (list_changed a r)
 list_answers a r = performed_answers a (allowed (replica_of a) (refused_as list_refusal r))
 
 sent_answers : (a : Asked) (r : Result (Site × Submission) Refusal) → Answers (sent_or_no a r)

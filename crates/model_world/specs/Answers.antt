@@ -11,8 +11,7 @@ use Rattle.model_page_write.specs.PageText.{write}
 use Rattle.model_edit.specs.declared.selection.Selection.{Selection}
 use Rattle.model_edit.specs.declared.selection.Dir.{Dir}
 use Rattle.model_edit.specs.declared.selection.By.{By}
-use Rattle.model_edit.specs.declared.table_fault.TableFault.{TableFault}
-use Rattle.model_edit.specs.declared.list_fault.ListFault.{ListFault}
+use Rattle.model_edit.specs.Causes.{TableCause, ListCause}
 use Rattle.model_items.specs.Offsets.{is_content, is_inside_leaf}
 use Rattle.model_edit.specs.Translate.{between}
 use Rattle.model_edit.specs.Next.{next}
@@ -89,10 +88,10 @@ abbrev pub batch_or_no : Asked → Result (List Transaction) BatchRefusal → Ou
 batch_or_no a (Err f) = Err (reply.NoBatch f.at f.refusal)
 batch_or_no a (Ok ts) = changed a (with_entry ts (site_of a))
 
-abbrev pub table_changed : Asked → Result Transaction TableFault → Outcome
+abbrev pub table_changed : Asked → Result Transaction TableCause → Outcome
 table_changed a result = performed_or_no a (allowed (replica_of a) (refused_as table_refusal result))
 
-abbrev pub list_changed : Asked → Result Transaction ListFault → Outcome
+abbrev pub list_changed : Asked → Result Transaction ListCause → Outcome
 list_changed a result = performed_or_no a (allowed (replica_of a) (refused_as list_refusal result))
 
 -- ---- selections
@@ -189,7 +188,7 @@ node_told a at = let node = node_at (site_items a) at in told a (reply.At node.k
 abbrev pub node_or_no : Asked → ℕ → Outcome
 node_or_no a at = if nat_lt (length (site_items a)) at then refused (BadOffset at) else node_told a at
 
-abbrev pub grid_or_no : Asked → Result Grid TableFault → Outcome
+abbrev pub grid_or_no : Asked → Result Grid TableCause → Outcome
 grid_or_no a (Err fault) = refused (table_refusal fault)
 grid_or_no a (Ok g) = told a (reply.Grid g.rows g.columns g.cells)
 

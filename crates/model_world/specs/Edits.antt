@@ -8,7 +8,7 @@ use Rattle.model_change.specs.Transaction.{Retain, Replace, Attribute, Transacti
 use Rattle.model_page.specs.PageItems.{or_nothing}
 use Rattle.model_page.specs.Fragment.{pieces_of}
 use Rattle.model_page.specs.Limits.{fragment_limit}
-use Rattle.model_edit.specs.declared.build_fault.BuildFault.{BuildFault}
+use Rattle.model_edit.specs.Causes.{BuildCause}
 use Rattle.model_items.specs.Offsets.{stack_at}
 use Rattle.model_edit.specs.Edits.{setting}
 use Rattle.model_edit.specs.Insert.{is_bad_offset, insertion, text_insertion, plain_text_insertion, split}
@@ -16,9 +16,9 @@ use Rattle.model_edit.specs.Remove.{removal}
 use Rattle.model_edit.specs.Marking.{marking, unmarking}
 use Rattle.model_edit.specs.Wrap.{wrap}
 use Rattle.model_edit.specs.Convert.{convert, attribute}
-use Rattle.model_site.specs.declared.edit_fault.EditFault.{EditFault}
+use Rattle.model_site.specs.Causes.{EditCause}
 use Rattle.model_site.specs.Replica.{Replica, performed}
-use Rattle.model_site.specs.Refused.{edit_fault}
+use Rattle.model_site.specs.Refused.{edit_cause}
 use Rattle.model_world.specs.declared.change.TextMarks.{TextMarks}
 use Rattle.model_world.specs.declared.change.TextMarks.TheVariants.{Left, Plain}
 use Rattle.model_world.specs.declared.change.OpWords.{OpWords}
@@ -29,7 +29,7 @@ use Rattle.model_world.specs.declared.refusal.Refusal.{Refusal}
 use Rattle.model_world.specs.declared.refusal.Refusal.TheVariants.{BadOffset, BadLength, TooManyMarks}
 use Rattle.model_world.specs.Refusals.{refused_as, html_refusal, build_refusal, edit_refusal}
 
-abbrev pub built : Result Transaction BuildFault → Result Transaction Refusal
+abbrev pub built : Result Transaction BuildCause → Result Transaction Refusal
 built result = refused_as build_refusal result
 
 -- ---- fragments: the offset is judged first, then the spelling, then the marks, and then the insertion
@@ -76,7 +76,7 @@ applied items ops = elim (needs ops == length items) [
 
 -- ---- changes
 
-abbrev pub text_typed : TextMarks → List PlainItem → ℕ → List ℕ → Result Transaction BuildFault
+abbrev pub text_typed : TextMarks → List PlainItem → ℕ → List ℕ → Result Transaction BuildCause
 text_typed Left items at text = text_insertion items at text
 text_typed Plain items at text = plain_text_insertion items at text
 
@@ -93,14 +93,14 @@ change_of items (change.Convert at kind) = built (convert items at kind)
 change_of items (change.Attr at name to) = built (attribute items at name to)
 change_of items (change.Apply ops) = applied items ops
 
-abbrev pub unless_faulty : Option EditFault → Transaction → Result Transaction Refusal
+abbrev pub unless_faulty : Option EditCause → Transaction → Result Transaction Refusal
 unless_faulty None t = Ok t
 unless_faulty (Some fault) t = Err (edit_refusal fault)
 
 -- the transaction, where it may be performed
 abbrev pub allowed : Replica → Result Transaction Refusal → Result Transaction Refusal
 allowed r (Err refusal) = Err refusal
-allowed r (Ok t) = unless_faulty (edit_fault t r) t
+allowed r (Ok t) = unless_faulty (edit_cause t r) t
 
 abbrev pub change_on : Replica → Change → Result Transaction Refusal
 change_on r c = allowed r (change_of r.items c)

@@ -1,6 +1,7 @@
 -- Where a change is refused as `store_full`, the store is full.
+use Rattle.std.specs.Option.{option_or}
 use Rattle.std.proofs.Common.{◌≡◌, ◌<◌, ℕ, zero, suc, ◌+◌, ◌==◌, Bool, true, false, not, ◌&&◌, nat_lt, if◌then◌else◌, List, [], ◌∷◌, length, take, drop, slice_get, Option, Some, None, Result, Ok, Err, refl, sym, ap, ◌∙◌, subst}
-use Rattle.std.specs.Prelude.{encode_utf8_all, find}
+use Rattle.std.specs.Prelude.{encode_utf8_all, find, option_map}
 use Rattle.std.proofs.lemmas.Bool.{and_parts, ltb-true}
 use Rattle.ve_kinds.specs.Table.{is_content_branch, is_element}
 use Rattle.model_spelling.specs.Forest.{Forest}
@@ -17,16 +18,15 @@ use Rattle.model_change.specs.declared.tx_fault.TxFault.{TxFault}
 use Rattle.model_change.specs.declared.tx_fault.TxFault.TheVariants as tx
 use Rattle.model_change.specs.Attributes.{item_changed, is_reserved}
 use Rattle.model_change.specs.Transaction.{Transaction, old_length, on_first}
-use Rattle.model_change.specs.Fault.{differs_at, mismatch_at, bad_attribute_at, fault_by, fault}
-use Rattle.std.specs.Option.{option_or}
+use Rattle.model_change.specs.Fault.{differs_at, mismatch_at, bad_attribute_at, fault}
 use Rattle.model_page.specs.PageItems.{or_nothing}
 use Rattle.model_page.specs.Fragment.{pieces_of}
 use Rattle.model_page.specs.Limits.{fragment_limit}
-use Rattle.model_edit.specs.declared.build_fault.BuildFault.{BuildFault}
-use Rattle.model_edit.specs.declared.build_fault.BuildFault.TheVariants as build
-use Rattle.model_items.specs.Offsets.{stack_at, kind_at, is_content, is_bad_span, places, passes}
+use Rattle.model_edit.specs.Causes.{BuildCause}
+use Rattle.model_edit.specs.Causes as build
+use Rattle.model_items.specs.Offsets.{stack_at, kind_at, is_content, is_bad_span, places_in, passes}
 use Rattle.model_edit.specs.Edits.{setting}
-use Rattle.model_edit.specs.Insert.{is_bad_offset, is_mixed, is_bad_depth, in_paragraph, levels_up, put_at, marks_before, text_pieces, insertion, split}
+use Rattle.model_edit.specs.Insert.{is_bad_offset, is_mixed, is_bad_depth, in_paragraph, levels_up, put_into, marks_before, text_pieces, insertion, split}
 use Rattle.model_edit.specs.Remove.{is_bad_removal, removal}
 use Rattle.model_edit.specs.Marking.{is_bad_mark, is_full_for, marked_unless, marking, unmarking}
 use Rattle.model_edit.specs.Wrap.{is_bad_wrap, wrong_place, wrapped_unless, wrap}
@@ -36,10 +36,10 @@ use Rattle.model_edit_law.proofs.InsertLemmas.{insertion_fine, split_fine}
 use Rattle.model_edit_law.proofs.RemoveLemmas.{removal_fine}
 use Rattle.model_edit_law.proofs.ShapeLemmas.{marking_fine, unmarking_fine, convert_fine, attribute_fine}
 use Rattle.model_edit_law.proofs.WrapLemmas.{wrap_fine}
-use Rattle.model_site.specs.declared.edit_fault.EditFault.{EditFault}
-use Rattle.model_site.specs.declared.edit_fault.EditFault.TheVariants as edit
+use Rattle.model_site.specs.Causes.{EditCause}
+use Rattle.model_site.specs.Causes as edit
 use Rattle.model_site.specs.Replica.{Replica, performed}
-use Rattle.model_site.specs.Refused.{transaction_fault, law_fault, items_fault, store_fault}
+use Rattle.model_site.specs.Refused.{law_cause, items_cause, store_cause}
 use Rattle.model_site_law.specs.Sound.{Sound}
 use Rattle.model_world.specs.declared.change.TextMarks.{TextMarks}
 use Rattle.model_world.specs.declared.change.TextMarks.TheVariants.{Left, Plain}
@@ -56,56 +56,21 @@ use Rattle.model_world_law.specs.Fit.{IsWritten}
 use Rattle.model_world_law.specs.Causes.{FillsStore, StoreFullIsFull}
 use Rattle.model_world_law.proofs.ChangeLemmas.{given}
 
--- ---- builders never want memory
+-- ---- no builder is refused as a full store
 
-abbrev NoWant : Result Transaction BuildFault → Type 0
-NoWant (Err build.Memory) = ⊥
-NoWant _ = Unit {0}
-
-chosen : (b : Bool) (x y : Result Transaction BuildFault) → NoWant x → NoWant y → NoWant (if b then x else y)
-chosen true x y p q = p
-chosen false x y p q = q
-
-put_at_wants : (items : List PlainItem) (at : ℕ) (pieces : List PlainItem) (o : Option ℕ) → NoWant (put_at items at pieces o)
-put_at_wants items at pieces None = tt
-put_at_wants items at pieces (Some j) = tt
-
-insertion_wants : (items : List PlainItem) (at : ℕ) (pieces : List PlainItem) → NoWant (insertion items at pieces)
-insertion_wants items at pieces =
-    let placed = in_paragraph (kind_at items at) pieces in
-    chosen (is_bad_offset items at) (Err (build.BadOffset at)) _ tt
-    (chosen (is_mixed pieces) (Err (build.NoPlace at)) (put_at items at placed (levels_up placed (stack_at items at))) tt
-    (put_at_wants items at placed (levels_up placed (stack_at items at))))
-
-split_wants : (items : List PlainItem) (at depth : ℕ) → NoWant (split items at depth)
-split_wants items at depth =
-    chosen (is_bad_offset items at) (Err (build.BadOffset at)) _ tt
-    (chosen (not (is_content items at)) (Err (build.NotContent at)) _ tt
-    (chosen (is_bad_depth (stack_at items at) depth) (Err (build.BadDepth depth)) (Ok _) tt tt))
-
-marked_wants : (o : Option ℕ) (t : Transaction) → NoWant (marked_unless o t)
-marked_wants None t = tt
-marked_wants (Some at) t = tt
-
-wrapped_wants : (o : Option ℕ) (t : Transaction) → NoWant (wrapped_unless o t)
-wrapped_wants None t = tt
-wrapped_wants (Some at) t = tt
-
--- so a builder is never refused as a full store
-built_is : (r : Result Transaction BuildFault) → NoWant r → built r ≡ Err StoreFull → ⊥
-built_is (Ok t) p h = cc
-built_is (Err (build.BadOffset at)) p h = cc
-built_is (Err (build.NoPlace at)) p h = cc
-built_is (Err (build.NotContent at)) p h = cc
-built_is (Err (build.BadDepth depth)) p h = cc
-built_is (Err (build.BadRange from to)) p h = cc
-built_is (Err build.BadMark) p h = cc
-built_is (Err (build.TooManyMarks at)) p h = cc
-built_is (Err (build.NotWrapped at)) p h = cc
-built_is (Err (build.NotBranch at)) p h = cc
-built_is (Err (build.NotOpening at)) p h = cc
-built_is (Err (build.BadAttr at)) p h = cc
-built_is (Err build.Memory) p h = p
+built_is : (r : Result Transaction BuildCause) → built r ≡ Err StoreFull → ⊥
+built_is (Ok t) h = cc
+built_is (Err (build.BadOffset at)) h = cc
+built_is (Err (build.NoPlace at)) h = cc
+built_is (Err (build.NotContent at)) h = cc
+built_is (Err (build.BadDepth depth)) h = cc
+built_is (Err (build.BadRange from to)) h = cc
+built_is (Err build.BadMark) h = cc
+built_is (Err (build.TooManyMarks at)) h = cc
+built_is (Err (build.NotWrapped at)) h = cc
+built_is (Err (build.NotBranch at)) h = cc
+built_is (Err (build.NotOpening at)) h = cc
+built_is (Err (build.BadAttr at)) h = cc
 
 -- ---- nor is a fragment, or operations
 
@@ -124,7 +89,7 @@ forest_is items at f h = by (fragment_limit (stack_at items at) f) h
       | None ↦ built (insertion items at (pieces_of (stack_at items at) f))
     ]) ≡ Err StoreFull → ⊥
     by (Some byte) h = cc
-    by None h = built_is (insertion items at (pieces_of (stack_at items at) f)) (insertion_wants items at (pieces_of (stack_at items at) f)) h
+    by None h = built_is (insertion items at (pieces_of (stack_at items at) f)) h
 
 text_is : (items : List PlainItem) (at : ℕ) (text : List ℕ) → text_inserted items at text ≡ Err StoreFull → ⊥
 text_is items at text h = by (fault_of text) h
@@ -156,27 +121,16 @@ applied_is items ops h = by (needs ops == length items) h
     by true h = cc
     by false h = cc
 
-typed_wants : (marks : TextMarks) (items : List PlainItem) (at : ℕ) (text : List ℕ) → NoWant (text_typed marks items at text)
-typed_wants Left items at text = insertion_wants items at (text_pieces (marks_before items at) text)
-typed_wants Plain items at text = insertion_wants items at (text_pieces [] text)
-
 change_is : (items : List PlainItem) (c : Change) → change_of items c ≡ Err StoreFull → ⊥
-change_is items (change.Text at text marks) h = built_is (text_typed marks items at text) (typed_wants marks items at text) h
+change_is items (change.Text at text marks) h = built_is (text_typed marks items at text) h
 change_is items (change.Insert at html) h = fragment_is items at html h
-change_is items (change.Remove from to) h = built_is (removal items from to) (chosen (is_bad_removal items from to) (Err (build.BadRange from to)) (Ok _) tt tt) h
-change_is items (change.Split at depth) h = built_is (split items at depth) (split_wants items at depth) h
-change_is items (change.Mark from to mark) h =
-    built_is (marking items from to mark)
-    (chosen (is_bad_span items from to) (Err (build.BadRange from to)) _ tt (chosen (is_bad_mark mark) (Err build.BadMark) _ tt (marked_wants (find (λ at. passes (is_full_for mark) (slice_get items at)) (places from to)) _))) h
-change_is items (change.Unmark from to mark) h =
-    built_is (unmarking items from to mark) (chosen (is_bad_span items from to) (Err (build.BadRange from to)) _ tt (chosen (is_bad_mark mark) (Err build.BadMark) (Ok _) tt tt)) h
-change_is items (change.Wrap from to plan) h =
-    built_is (wrap items from to plan) (chosen (is_bad_wrap items from to) (Err (build.BadRange from to)) _ tt (wrapped_wants (wrong_place items from to plan.unwrap_outer plan.unwrap_each) _)) h
-change_is items (change.Convert at kind) h =
-    built_is (convert items at kind) (chosen (passes (opens_kind is_content_branch) (slice_get items at) && is_content_branch kind) (Ok _) (Err (build.NotBranch at)) tt tt) h
-change_is items (change.Attr at name to) h =
-    built_is (attribute items at name to)
-    (chosen (passes (opens_kind is_element) (slice_get items at)) _ (Err (build.NotOpening at)) (chosen (is_reserved name) (Err (build.BadAttr at)) (Ok _) tt tt) tt) h
+change_is items (change.Remove from to) h = built_is (removal items from to) h
+change_is items (change.Split at depth) h = built_is (split items at depth) h
+change_is items (change.Mark from to mark) h = built_is (marking items from to mark) h
+change_is items (change.Unmark from to mark) h = built_is (unmarking items from to mark) h
+change_is items (change.Wrap from to plan) h = built_is (wrap items from to plan) h
+change_is items (change.Convert at kind) h = built_is (convert items at kind) h
+change_is items (change.Attr at name to) h = built_is (attribute items at name to) h
 change_is items (change.Apply ops) h = applied_is items ops h
 
 -- ---- what is removed is the list's own
@@ -238,7 +192,7 @@ mutual
       let p = and_parts (operations.word_may_precede (op.Attr next value) ops) (operations.words_are_normal ops) h in
       after_match next value ops at items (on_first (item_changed (setting next value items)) other) p.0 p.1 (first_changed (item_changed (setting next value items)) other ∙ e)
 
-fault_none : (b : Bool) (o p : Option ℕ) (e : TxFault) → (if b then option_or (fault_by (λ at. tx.Mismatch at) o) (fault_by (λ at. tx.BadAttr at) p) else Some e) ≡ None → o ≡ None
+fault_none : (b : Bool) (o p : Option ℕ) (e : TxFault) → (if b then option_or (option_map (λ at. tx.Mismatch at) o) (option_map (λ at. tx.BadAttr at) p) else Some e) ≡ None → o ≡ None
 fault_none true None p e h = refl
 fault_none true (Some at) p e h = cc
 fault_none false o p e h = cc
@@ -304,30 +258,31 @@ change_match items (change.Apply ops) t w s h = applied_match items ops t w.0 h
 
 -- ---- what is left is the store
 
-abbrev Told : Option EditFault → Transaction → Type 0
+abbrev Told : Option EditCause → Transaction → Type 0
 Told o t = unless_faulty o t ≡ Err StoreFull
 
-store_left : (count : ℕ) (t : Transaction) → Told (store_fault count) t → 1048576 < count
+store_left : (count : ℕ) (t : Transaction) → Told (store_cause count) t → 1048576 < count
 store_left count t h = by (nat_lt 1048576 count) refl h
   where
     by : (b : Bool) → nat_lt 1048576 count ≡ b → Told (if b then Some edit.StoreFull else None) t → 1048576 < count
     by true e h = ltb-true 1048576 count e
     by false e h = cc
 
-items_left : (count stored : ℕ) (t : Transaction) → Told (option_or (items_fault count) (store_fault stored)) t → 1048576 < stored
+items_left : (count stored : ℕ) (t : Transaction) → Told (option_or (items_cause count) (store_cause stored)) t → 1048576 < stored
 items_left count stored t h = by (nat_lt 4194304 count) h
   where
-    by : (b : Bool) → Told (option_or (if b then Some (edit.TooManyItems count) else None) (store_fault stored)) t → 1048576 < stored
+    by : (b : Bool) → Told (option_or (if b then Some (edit.TooManyItems count) else None) (store_cause stored)) t → 1048576 < stored
     by true h = cc
     by false h = store_left stored t h
 
-law_left : (o : Option LawFault) (count stored : ℕ) (t : Transaction) → Told (option_or (law_fault o) (option_or (items_fault count) (store_fault stored))) t → 1048576 < stored
+law_left : (o : Option LawFault) (count stored : ℕ) (t : Transaction) → Told (option_or (law_cause o) (option_or (items_cause count) (store_cause stored))) t → 1048576 < stored
 law_left None count stored t h = items_left count stored t h
 law_left (Some (law.Unlawful at)) count stored t h = cc
 law_left (Some (law.TooDeep at)) count stored t h = cc
 
-matched_left : (b : Bool) (o p : Option ℕ) (has need : ℕ) (rest : Option EditFault) (t : Transaction) → o ≡ None →
-    Told (option_or (transaction_fault (if b then option_or (fault_by (λ at. tx.Mismatch at) o) (fault_by (λ at. tx.BadAttr at) p) else Some (tx.BadLength has need))) rest) t → Told rest t
+matched_left : (b : Bool) (o p : Option ℕ) (has need : ℕ) (rest : Option EditCause) (t : Transaction) → o ≡ None →
+    Told (option_or (if b then option_or (option_map (λ at. edit.Mismatch at) o) (option_map (λ at. edit.BadAttr at) p) else Some (edit.BadLength has need)) rest) t →
+    Told rest t
 matched_left true None None has need rest t e h = h
 matched_left true None (Some at) has need rest t e h = cc
 matched_left true (Some at) p has need rest t e h = cc

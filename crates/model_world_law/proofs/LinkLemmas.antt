@@ -7,8 +7,7 @@ use Rattle.model_items.proofs.LawLemmas.{Ok-same}
 use Rattle.model_change.specs.Transaction.{Transaction, edited}
 use Rattle.model_change.proofs.FilledLemmas.{names_stay_apart}
 use Rattle.model_edit.specs.declared.selection.Selection.{Selection}
-use Rattle.model_edit.specs.declared.table_fault.TableFault.{TableFault}
-use Rattle.model_edit.specs.declared.list_fault.ListFault.{ListFault}
+use Rattle.model_edit.specs.Causes.{TableCause, ListCause}
 use Rattle.model_edit.specs.declared.selection.Dir.{Dir}
 use Rattle.model_edit.specs.declared.selection.By.{By}
 use Rattle.model_items.specs.Offsets.{kind_at, is_content, is_inside_leaf}
@@ -19,17 +18,14 @@ use Rattle.model_edit_law.proofs.NextLemmas.{caret_stays_in_branch}
 use Rattle.model_edit.specs.Grid.{Grid, grid}
 use Rattle.model_edit.specs.Tables.{row_in, row_out, col_in, col_out}
 use Rattle.model_edit.specs.Lists.{indent, outdent}
-use Rattle.model_site.specs.declared.edit_fault.EditFault.{EditFault}
-use Rattle.model_site.specs.declared.site_fault.UndoFault.{UndoFault}
-use Rattle.model_site.specs.declared.site_fault.RedoFault.{RedoFault}
-use Rattle.model_site.specs.declared.site_fault.SendFault.{SendFault}
+use Rattle.model_site.specs.Causes.{EditCause, UndoCause, RedoCause, SendCause}
 use Rattle.model_site.specs.declared.served.Served.{Served}
 use Rattle.model_site.specs.declared.taken.Taken.{Taken}
 use Rattle.model_site.specs.Replica.{Replica, performed, all_performed}
-use Rattle.model_site.specs.Refused.{edit_fault}
-use Rattle.model_change.specs.Join.{Clash}
+use Rattle.model_site.specs.Refused.{edit_cause}
+use Rattle.model_change.specs.Join.{RangeConflict}
 use Rattle.model_site.specs.Site.{Site, Submission, with_entry, with_selection, undo, redo, send, revoke_entry}
-use Rattle.model_site.specs.Session.{Session, Member, put_at, with_member, serve_next, take_next}
+use Rattle.model_site.specs.Session.{Session, Member, put_member, with_member, serve_next, take_next}
 use Rattle.model_site.specs.Events.{Event, Perform, Select, Undo, Redo, Revoke, Send, Serve, Take, at_member, with_site_of, with_sent, after_turn, happens}
 use Rattle.model_site.specs.Events as events
 use Rattle.model_site_law.specs.Sound.{Sound, MayRun, AllMayRun}
@@ -60,17 +56,17 @@ use Rattle.model_world_law.proofs.TypedLemmas.{content_no_leaf, typed_stands}
 -- a transaction that is allowed is the one that was given, and the site does not refuse it
 pub record IsAllowed (r : Replica) (result : Result Transaction Refusal) (t : Transaction) : Type 0 where
   pub given : result ≡ Ok t
-  pub faultless : edit_fault t r ≡ None
+  pub faultless : edit_cause t r ≡ None
 
 allowed_is : (r : Replica) (result : Result Transaction Refusal) (t : Transaction) → allowed r result ≡ Ok t → IsAllowed r result t
 allowed_is r (Err refusal) t h = cc
-allowed_is r (Ok u) t h = by_fault (edit_fault u r) refl h
+allowed_is r (Ok u) t h = by_fault (edit_cause u r) refl h
   where
-    by_fault : (o : Option EditFault) → edit_fault u r ≡ o → unless_faulty o u ≡ Ok t → IsAllowed r (Ok u) t
+    by_fault : (o : Option EditCause) → edit_cause u r ≡ o → unless_faulty o u ≡ Ok t → IsAllowed r (Ok u) t
     by_fault (Some f) e h = cc
     by_fault None e h =
         let same : u ≡ t = cc in
-        record { given = ap (λ v. Ok v) same; faultless = subst (λ v. edit_fault v r ≡ None) same e }
+        record { given = ap (λ v. Ok v) same; faultless = subst (λ v. edit_cause v r ≡ None) same e }
 
 may_run : (r : Replica) (result : Result Transaction Refusal) (t : Transaction) → ((u : Transaction) → result ≡ Ok u → Fit u) → allowed r result ≡ Ok t → MayRun t r.items
 may_run r result t fit h =
@@ -114,12 +110,12 @@ typing_written s text = by_test (is_collapsed s)
 some_same : (m n : Member) → Some m ≡ Some n → m ≡ n
 some_same m n e = cc
 
-get_put : (k : ℕ) (m n : Member) (ms : List Member) → slice_get ms k ≡ Some n → slice_get (put_at k m ms) k ≡ Some m
+get_put : (k : ℕ) (m n : Member) (ms : List Member) → slice_get ms k ≡ Some n → slice_get (put_member k m ms) k ≡ Some m
 get_put k m n [] h = cc
 get_put zero m n (x ∷ ms) h = refl
 get_put (suc k) m n (x ∷ ms) h = get_put k m n ms h
 
-put_put : (k : ℕ) (m n : Member) (ms : List Member) → put_at k m (put_at k n ms) ≡ put_at k m ms
+put_put : (k : ℕ) (m n : Member) (ms : List Member) → put_member k m (put_member k n ms) ≡ put_member k m ms
 put_put k m n [] = refl
 put_put zero m n (x ∷ ms) = refl
 put_put (suc k) m n (x ∷ ms) = ap (λ r. x ∷ r) (put_put k m n ms)
@@ -173,7 +169,7 @@ selects a s sel within =
     (of_member a s (λ m. events.with_site a.k m (with_selection sel m.site) a.session))
 
 typed_leads : (a : Asked) → Stands a → (r : Result (List Transaction) BatchRefusal) → ((ts : List Transaction) → r ≡ Ok ts → AllMayRun ts (site_items a)) →
-    ((ts : List Transaction) → r ≡ Ok ts → selection.Stands (all_performed ts (replica_of a)).items (after_text ts)) → Leads a (typed_or_no a r)
+    ((ts : List Transaction) → r ≡ Ok ts → selection.EndStands (all_performed ts (replica_of a)).items (after_text ts)) → Leads a (typed_or_no a r)
 typed_leads a s (Err f) may stands = tt
 typed_leads a s (Ok ts) may stands =
     let sel = between (after_text ts) (after_text ts) in
@@ -195,7 +191,7 @@ typed_leads a s (Ok ts) may stands =
 
 -- what typing gives, by its last transaction
 text_after : (r : Replica) (at : ℕ) (text : List ℕ) (ts : List Transaction) → 0 < length text → MadeInTurn (change.Text at text Left ∷ []) ts r → AllMayRun ts r.items →
-    selection.Stands (all_performed ts r).items (after_text ts)
+    selection.EndStands (all_performed ts r).items (after_text ts)
 text_after r at text [] some m may = absurd m
 text_after r at text (t ∷ []) some m may =
     let made = allowed_is r (change_of r.items (change.Text at text Left)) t m.0 in
@@ -203,40 +199,40 @@ text_after r at text (t ∷ []) some m may =
 text_after r at text (t ∷ u ∷ ts) some m may = absurd m.1
 
 typing_after : (r : Replica) (sel : Selection) (text : List ℕ) (ts : List Transaction) → 0 < length text → batch_on r (typing sel text) ≡ Ok ts → AllMayRun ts r.items →
-    selection.Stands (all_performed ts r).items (after_text ts)
+    selection.EndStands (all_performed ts r).items (after_text ts)
 typing_after r sel text ts some h may = by (is_collapsed sel) ts (batch_is_whole r (typing sel text) ts h) may
   where
     by : (b : Bool) (us : List Transaction) →
         MadeInTurn (if b then change.Text (lower sel) text Left ∷ [] else change.Remove (lower sel) (higher sel) ∷ change.Text (lower sel) text Left ∷ []) us r →
-        AllMayRun us r.items → selection.Stands (all_performed us r).items (after_text us)
+        AllMayRun us r.items → selection.EndStands (all_performed us r).items (after_text us)
     by true us m may = text_after r (lower sel) text us some m may
     by false [] m may = absurd m
     by false (t ∷ []) m may = absurd m.1
     by false (t ∷ u ∷ us) m may = text_after (performed t r) (lower sel) text (u ∷ us) some m.1 may.1
 
-moved_leads : (a : Asked) → Stands a → (keep : Bool) (r : Result ℕ Refusal) → ((at : ℕ) → r ≡ Ok at → selection.Stands (site_items a) at) → Leads a (moved_or_no a keep r)
+moved_leads : (a : Asked) → Stands a → (keep : Bool) (r : Result ℕ Refusal) → ((at : ℕ) → r ≡ Ok at → selection.EndStands (site_items a) at) → Leads a (moved_or_no a keep r)
 moved_leads a s keep (Err refusal) stands = tt
 moved_leads a s keep (Ok at) stands = selects a s (between (if keep then (replica_of a).selection.anchor else at) at) (record { anchor = by keep; focus = stands at refl })
   where
-    by : (b : Bool) → selection.Stands (site_items a) (if b then (replica_of a).selection.anchor else at)
+    by : (b : Bool) → selection.EndStands (site_items a) (if b then (replica_of a).selection.anchor else at)
     by true = s.selection.anchor
     by false = stands at refl
 
 -- a caret's next place is one of its content branch
-place_stands : (items : List PlainItem) (at : ℕ) (dir : Dir) (by : By) (to : ℕ) → Lawful items → next_place items at dir by ≡ Ok to → selection.Stands items to
+place_stands : (items : List PlainItem) (at : ℕ) (dir : Dir) (by : By) (to : ℕ) → Lawful items → next_place items at dir by ≡ Ok to → selection.EndStands items to
 place_stands items at dir by to lawful h = in_content (is_content items at) refl h
   where
-    at_edge : is_content items at ≡ true → (o : Option ℕ) → next items at dir by ≡ o → edge_or at o ≡ Ok to → selection.Stands items to
+    at_edge : is_content items at ≡ true → (o : Option ℕ) → next items at dir by ≡ o → edge_or at o ≡ Ok to → selection.EndStands items to
     at_edge c None e h = cc
     at_edge c (Some place) e h =
         let same : place ≡ to = Ok-same {E = Refusal} place to h in
         let goes = caret_stays_in_branch items at place dir by lawful c e in
-        subst (selection.Stands items) same (goes.within, content_no_leaf (kind_at items place) goes.content)
+        subst (selection.EndStands items) same (goes.within, content_no_leaf (kind_at items place) goes.content)
 
     in_content : (b : Bool) → is_content items at ≡ b → (elim b as (λ _. Result ℕ Refusal) [
       | false ↦ Err (NotContent at)
       | true ↦ edge_or at (next items at dir by)
-    ]) ≡ Ok to → selection.Stands items to
+    ]) ≡ Ok to → selection.EndStands items to
     in_content false c h = cc
     in_content true c h = at_edge c (next items at dir by) refl h
 
@@ -244,21 +240,21 @@ either : (a : Asked) (b : Bool) (x y : Outcome) → Leads a x → Leads a y → 
 either a true x y p q = p
 either a false x y p q = q
 
-grid_leads : (a : Asked) (r : Result Grid TableFault) → Leads a (grid_or_no a r)
+grid_leads : (a : Asked) (r : Result Grid TableCause) → Leads a (grid_or_no a r)
 grid_leads a (Ok g) = stays a
 grid_leads a (Err f) = tt
 
-undo_leads : (a : Asked) → Stands a → (r : Result Site UndoFault) → undo (site_of a) ≡ r → Leads a (changed_or_no a (refused_as undo_refusal r))
+undo_leads : (a : Asked) → Stands a → (r : Result Site UndoCause) → undo (site_of a) ≡ r → Leads a (changed_or_no a (refused_as undo_refusal r))
 undo_leads a s (Err f) e = tt
 undo_leads a s (Ok site) e = one_event a (Undo a.k) _ tt tt
     (ap (λ r. with_site_of a.k a.member r a.session) (sym e) ∙ of_member a s (λ m. with_site_of a.k m (undo m.site) a.session))
 
-redo_leads : (a : Asked) → Stands a → (r : Result Site RedoFault) → redo (site_of a) ≡ r → Leads a (changed_or_no a (refused_as redo_refusal r))
+redo_leads : (a : Asked) → Stands a → (r : Result Site RedoCause) → redo (site_of a) ≡ r → Leads a (changed_or_no a (refused_as redo_refusal r))
 redo_leads a s (Err f) e = tt
 redo_leads a s (Ok site) e = one_event a (Redo a.k) _ tt tt
     (ap (λ r. with_site_of a.k a.member r a.session) (sym e) ∙ of_member a s (λ m. with_site_of a.k m (redo m.site) a.session))
 
-revoke_leads : (a : Asked) → Stands a → (i : ℕ) → i < (site_of a).seen → (r : Result Site Clash) → revoke_entry a.session.committed i (site_of a) ≡ r →
+revoke_leads : (a : Asked) → Stands a → (i : ℕ) → i < (site_of a).seen → (r : Result Site RangeConflict) → revoke_entry a.session.committed i (site_of a) ≡ r →
     Leads a (changed_or_no a (refused_as revoke_refusal r))
 revoke_leads a s i seen (Err f) e = tt
 revoke_leads a s i seen (Ok site) e = one_event a (Revoke a.k i) _
@@ -275,7 +271,7 @@ revoked_leads a s i = by_seen (nat_lt i (site_of a).seen) refl
     by_seen false e = tt
     by_seen true e = revoke_leads a s i (ltb-true i (site_of a).seen e) (revoke_entry a.session.committed i (site_of a)) refl
 
-send_leads : (a : Asked) → Stands a → (r : Result (Site × Submission) SendFault) → send (site_of a) ≡ r → Leads a (sent_or_no a (refused_as send_refusal r))
+send_leads : (a : Asked) → Stands a → (r : Result (Site × Submission) SendCause) → send (site_of a) ≡ r → Leads a (sent_or_no a (refused_as send_refusal r))
 send_leads a s (Err f) e = tt
 send_leads a s (Ok r) e = one_event a (Send a.k) _ tt tt
     (ap (λ x. with_sent a.k a.member x a.session) (sym e) ∙ of_member a s (λ m. with_sent a.k m (send m.site) a.session))
@@ -290,17 +286,17 @@ take_leads a s None e = tt
 take_leads a s (Some r) e = one_event a (Take a.k) _ tt tt
     (ap (after_turn a.session) (sym e) ∙ of_member a s (λ m. after_turn a.session (take_next a.k m a.session)))
 
-table_leads : (a : Asked) → Stands a → (r : Result Transaction TableFault) → ((t : Transaction) → r ≡ Ok t → Fit t) → Leads a (table_changed a r)
+table_leads : (a : Asked) → Stands a → (r : Result Transaction TableCause) → ((t : Transaction) → r ≡ Ok t → Fit t) → Leads a (table_changed a r)
 table_leads a s r fit = allowed_leads a s (refused_as table_refusal r) (by_result r fit)
   where
-    by_result : (r : Result Transaction TableFault) → ((t : Transaction) → r ≡ Ok t → Fit t) → (u : Transaction) → refused_as table_refusal r ≡ Ok u → Fit u
+    by_result : (r : Result Transaction TableCause) → ((t : Transaction) → r ≡ Ok t → Fit t) → (u : Transaction) → refused_as table_refusal r ≡ Ok u → Fit u
     by_result (Ok t) fit u e = let same : t ≡ u = cc in subst Fit same (fit t refl)
     by_result (Err f) fit u e = cc
 
-list_leads : (a : Asked) → Stands a → (r : Result Transaction ListFault) → ((t : Transaction) → r ≡ Ok t → Fit t) → Leads a (list_changed a r)
+list_leads : (a : Asked) → Stands a → (r : Result Transaction ListCause) → ((t : Transaction) → r ≡ Ok t → Fit t) → Leads a (list_changed a r)
 list_leads a s r fit = allowed_leads a s (refused_as list_refusal r) (by_result r fit)
   where
-    by_result : (r : Result Transaction ListFault) → ((t : Transaction) → r ≡ Ok t → Fit t) → (u : Transaction) → refused_as list_refusal r ≡ Ok u → Fit u
+    by_result : (r : Result Transaction ListCause) → ((t : Transaction) → r ≡ Ok t → Fit t) → (u : Transaction) → refused_as list_refusal r ≡ Ok u → Fit u
     by_result (Ok t) fit u e = let same : t ≡ u = cc in subst Fit same (fit t refl)
     by_result (Err f) fit u e = cc
 
@@ -318,7 +314,7 @@ show_leads a from to =
 node_leads : (a : Asked) (at : ℕ) → Leads a (node_or_no a at)
 node_leads a at = either a (nat_lt (length (site_items a)) at) (refused (BadOffset at)) (node_told a at) tt (stays a)
 
-stands_from : (items : List PlainItem) (at : ℕ) → is_no_end items at ≡ false → selection.Stands items at
+stands_from : (items : List PlainItem) (at : ℕ) → is_no_end items at ≡ false → selection.EndStands items at
 stands_from items at h = let p = or_parts (nat_lt (length items) at) (is_inside_leaf items at) h in (ltb-false (length items) at p.0, p.1)
 
 select_leads : (a : Asked) → Stands a → (anchor focus : ℕ) → Leads a (select_between a anchor focus)

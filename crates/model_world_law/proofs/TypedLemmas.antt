@@ -10,15 +10,15 @@ use Rattle.ve_base.specs.declared.marks.Mark.{Mark}
 use Rattle.model_items.specs.declared.plain_item.PlainItem.{PlainItem}
 use Rattle.model_items.specs.declared.plain_item.PlainItem.TheVariants.{Char, Opening, Closing}
 use Rattle.model_items.specs.declared.law_fault.LawFault.{LawFault}
-use Rattle.model_items.specs.Law.{State, start, finish, top, joined, step, after, Lawful}
+use Rattle.model_items.specs.Law.{State, start, finish, top, followed, step, after, Lawful}
 use Rattle.model_items.proofs.LawLemmas.{if_ok, Ok-same, joined-ok, after_parts, after_whole, after_from_Lawful}
 use Rattle.model_change.specs.Transaction.{Retain, Replace, Attribute, Transaction, all_inserted, edited}
 use Rattle.model_change.specs.Join.{first}
-use Rattle.model_edit.specs.declared.build_fault.BuildFault.{BuildFault}
+use Rattle.model_edit.specs.Causes.{BuildCause}
 use Rattle.model_edit.specs.Brackets.{opening_of, closing_of, closing_for, copy_of}
 use Rattle.model_items.specs.Offsets.{openings_at, stack_at, kind_at}
 use Rattle.model_edit.specs.Edits.{Change, retaining, merged, transaction_from, transaction_of}
-use Rattle.model_edit.specs.Insert.{is_bad_offset, is_mixed, is_content_pieces, in_paragraph, levels_up, reopened, put_at, text_pieces, insertion}
+use Rattle.model_edit.specs.Insert.{is_bad_offset, is_mixed, is_content_pieces, in_paragraph, levels_up, reopened, put_into, text_pieces, insertion}
 use Rattle.model_edit_law.proofs.InsertLemmas.{if_ok_else, edited-put}
 use Rattle.model_edit_law.proofs.BracketLemmas.{stack_at-after}
 use Rattle.model_edit_law.proofs.ApartLemmas.{edits_insert_pieces}
@@ -84,7 +84,7 @@ split_at (y ∷ items) (suc n) x h = ap (λ r. y ∷ r) (split_at items n x h)
 char_step : (s u : State) (c : ℕ) (marks : List Mark) → step s (Char c marks) ≡ Ok u → (is_content_branch (top s.stack) ≡ true) × (s ≡ u)
 char_step s u c marks h = let p = if_ok (is_content_branch (top s.stack)) _ _ u h in (p.0, Ok-same {E = LawFault} s u p.1)
 
-pub char_after : (items : List PlainItem) (n c : ℕ) (marks : List Mark) → Lawful items → slice_get items n ≡ Some (Char c marks) → selection.Stands items (suc n)
+pub char_after : (items : List PlainItem) (n c : ℕ) (marks : List Mark) → Lawful items → slice_get items n ≡ Some (Char c marks) → selection.EndStands items (suc n)
 char_after items n c marks lawful h =
     let x : PlainItem = Char c marks in
     let whole : after start (take n items ++ (x ∷ drop (suc n) items)) ≡ Ok finish = ap (after start) (sym (split_at items n x h)) ∙ after_from_Lawful items lawful in
@@ -92,7 +92,7 @@ char_after items n c marks lawful h =
     let s = p.0 in
     let q = joined-ok 1 (step s x) (λ next. after next (drop (suc n) items)) finish p.2 in
     let r = char_step s q.0 c marks q.1 in
-    let one : after s (x ∷ []) ≡ Ok s = ap (λ (o : Result State LawFault). joined 1 o (λ next. Ok next)) (q.1 ∙ ap (λ v. Ok v) (sym r.1)) in
+    let one : after s (x ∷ []) ≡ Ok s = ap (λ (o : Result State LawFault). followed 1 o (λ next. Ok next)) (q.1 ∙ ap (λ v. Ok v) (sym r.1)) in
     let there : after start (take (suc n) items) ≡ Ok s = ap (after start) (take_more items n x h) ∙ after_whole (take n items) (x ∷ []) start s s p.1 one in
     let stack : stack_at items (suc n) ≡ s.stack = stack_at-after items (suc n) s there in
     let below = found_below items n x h in
@@ -206,7 +206,7 @@ abbrev pub suffix : Transaction → ℕ
 suffix t = first t + to_last_char (all_inserted t)
 
 put_stands : (items : List PlainItem) (at : ℕ) (new : List PlainItem) → at ≤ length items → HasChar new → Lawful (edited (transaction_of items (Change at 0 new ∷ [])) items) →
-    selection.Stands (edited (transaction_of items (Change at 0 new ∷ [])) items) (suffix (transaction_of items (Change at 0 new ∷ [])))
+    selection.EndStands (edited (transaction_of items (Change at 0 new ∷ [])) items) (suffix (transaction_of items (Change at 0 new ∷ [])))
 put_stands items at new within h lawful =
     let t = transaction_of items (Change at 0 new ∷ []) in
     let list = take at items ++ (new ++ drop at items) in
@@ -219,20 +219,20 @@ put_stands items at new within h lawful =
     let one = first_put items at new h in
     let two : to_last_char (all_inserted t) ≡ suc h.0 = ap to_last_char inserted ∙ h.1 in
     let place : suc (at + h.0) ≡ suffix t = omega arith in
-    subst (λ l. selection.Stands l (suffix t)) (sym given) (subst (selection.Stands list) place stands)
+    subst (λ l. selection.EndStands l (suffix t)) (sym given) (subst (selection.EndStands list) place stands)
 
 put_at_stands : (items : List PlainItem) (at : ℕ) (pieces : List PlainItem) (t : Transaction) → at ≤ length items → HasChar pieces → Lawful (edited t items) → (o : Option ℕ) →
-    put_at items at pieces o ≡ Ok t → selection.Stands (edited t items) (suffix t)
+    put_into items at pieces o ≡ Ok t → selection.EndStands (edited t items) (suffix t)
 put_at_stands items at pieces t within h lawful None e = cc
 put_at_stands items at pieces t within h lawful (Some j) e =
     let new = reopened (take j (openings_at items at)) pieces in
-    let same : transaction_of items (Change at 0 new ∷ []) ≡ t = Ok-same {E = BuildFault} (transaction_of items (Change at 0 new ∷ [])) t e in
-    subst (λ u. selection.Stands (edited u items) (suffix u)) same
+    let same : transaction_of items (Change at 0 new ∷ []) ≡ t = Ok-same {E = BuildCause} (transaction_of items (Change at 0 new ∷ [])) t e in
+    subst (λ u. selection.EndStands (edited u items) (suffix u)) same
     (put_stands items at new within (reopened_has_char (take j (openings_at items at)) pieces h) (subst (λ u. Lawful (edited u items)) (sym same) lawful))
 
 -- Typed text stands in the new list, and so does the place after it.
 pub typed_stands : (items : List PlainItem) (at : ℕ) (marks : List Mark) (text : List ℕ) (t : Transaction) → 0 < length text → insertion items at (text_pieces marks text) ≡ Ok t → Lawful (edited t items) →
-    selection.Stands (edited t items) (suffix t)
+    selection.EndStands (edited t items) (suffix t)
 typed_stands items at marks text t some h lawful =
     let pieces = text_pieces marks text in
     let p = if_ok_else (is_bad_offset items at) _ _ t h in

@@ -6,7 +6,7 @@ use Rattle.model_page.specs.PageItems.{Opened}
 use Rattle.model_page_write.specs.PageText.{write}
 use Rattle.model_site.specs.Replica.{Replica, opened_with}
 use Rattle.model_site.specs.Site.{pending, entries_of}
-use Rattle.model_site.specs.Session.{Feed, Ack, Member, Session, started}
+use Rattle.model_site.specs.Session.{SiteFeed, Ack, Member, Session, started}
 use Rattle.model_site.specs.Events.{Event, run}
 use Rattle.model_site_law.specs.Sound.{Sound, AllIn, Opens}
 use Rattle.model_site_law.specs.MayHappen.{AllMayHappen}
@@ -54,7 +54,7 @@ pub record SiteHolds (base : Replica) (w : Session) (m : Member) : Type 0 where
   -- both ends of its selection stand in the list, and not inside a leaf
   pub selection : StandsIn m.site.replica.items m.site.replica.selection
   -- the answer that it takes next counts the entries that it still holds as sent
-  pub acknowledged : (accepted : ℕ) (later : List Feed) → m.feeds ≡ Ack accepted ∷ later → accepted ≡ length m.site.sent
+  pub acknowledged : (accepted : ℕ) (later : List SiteFeed) → m.feeds ≡ Ack accepted ∷ later → accepted ≡ length m.site.sent
   -- having taken nothing and with nothing pending, it has the first list and the first store
   pub undone : m.site.seen ≡ 0 → pending m.site ≡ [] → (m.site.replica.items ≡ base.items) × (m.site.replica.store ≡ base.store)
 

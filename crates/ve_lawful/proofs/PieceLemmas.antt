@@ -16,7 +16,7 @@ use Rattle.ve_lawful.specs.Uncited.{step, after}
 
 abbrev IsAtStart : Result law.State LawFault → Type 0
 IsAtStart (Ok s) = Unit {0}
-IsAtStart (Err fault) = law.place_of fault ≡ 0
+IsAtStart (Err fault) = law.fault_place fault ≡ 0
 
 closed_at_start : (stack : List Kind) (seen : Bool) (k : Kind) → IsAtStart (law.closed stack seen k)
 closed_at_start [] seen k = refl
@@ -36,7 +36,7 @@ step_at_start s (Opening kind head marks pre origin generated) = opened_at_start
 step_at_start s (Closing kind pre) = closed_at_start s.stack s.seen kind
 
 -- the fault of one item has place 0
-pub place_of-step : (s : law.State) (item : Item) (fault : LawFault) → step s item ≡ Err fault → law.place_of fault ≡ 0
+pub place_of-step : (s : law.State) (item : Item) (fault : LawFault) → step s item ≡ Err fault → law.fault_place fault ≡ 0
 place_of-step s item fault h = subst IsAtStart h (step_at_start s (plain [] item))
 
 moved_twice : (m n : ℕ) (fault : LawFault) → law.fault_moved m (law.fault_moved n fault) ≡ law.fault_moved (m + n) fault
@@ -57,8 +57,8 @@ one_more s t u items n d within before now =
     ap (λ l. law.after s (plain_list [] l)) (take_more items n d within)
     ∙ ap (λ l. law.after s l) (map-append (plain []) (take n items) (x ∷ []))
     ∙ after-append s A B
-    ∙ ap (λ r. law.joined (length A) r (λ v. law.after v B)) before
-    ∙ ap (λ r. law.outcome_moved (length A) (law.joined 1 r (λ next. law.after next []))) now
+    ∙ ap (λ r. law.followed (length A) r (λ v. law.after v B)) before
+    ∙ ap (λ r. law.outcome_moved (length A) (law.followed 1 r (λ next. law.after next []))) now
 
 -- where an item isn't allowed, the list fails there
 pub stopped : (s t : law.State) (items : List Item) (n : ℕ) (d : Item) (fault : LawFault) → n < length items → after s (take n items) ≡ Ok t → step t (get_or items n d) ≡ Err fault
@@ -72,13 +72,13 @@ stopped s t items n d fault within before now =
     ap (λ l. law.after s (plain_list [] l)) parts
     ∙ ap (λ l. law.after s l) (map-append (plain []) (take n items) (x ∷ drop (suc n) items))
     ∙ after-append s A B
-    ∙ ap (λ r. law.joined (length A) r (λ v. law.after v B)) before
-    ∙ ap (λ r. law.outcome_moved (length A) (law.joined 1 r (λ next. law.after next (plain_list [] (drop (suc n) items))))) now
+    ∙ ap (λ r. law.followed (length A) r (λ v. law.after v B)) before
+    ∙ ap (λ r. law.outcome_moved (length A) (law.followed 1 r (λ next. law.after next (plain_list [] (drop (suc n) items))))) now
     ∙ ap (λ k. Err (law.fault_moved k fault)) long
 
 -- with places that are counted from before the list
 pub stopped_at : (s t : law.State) (items : List Item) (at n : ℕ) (d : Item) (fault moved : LawFault) → n < length items → after s (take n items) ≡ Ok t
-    → step t (get_or items n d) ≡ Err fault → (law.place_of fault ≡ 0 → moved ≡ law.fault_moved (at + n) fault)
+    → step t (get_or items n d) ≡ Err fault → (law.fault_place fault ≡ 0 → moved ≡ law.fault_moved (at + n) fault)
     → law.outcome_moved at (after s items) ≡ Err moved
 stopped_at s t items at n d fault moved within before now there =
     ap (law.outcome_moved at) (stopped s t items n d fault within before now)

@@ -8,7 +8,7 @@ use model_items::{Item, LawFault};
 
 /// The same offence at another place.
 fn moved_to(fault: LawFault, at: usize) -> LawFault
-    ensures { law.place_of fault ≡ 0 → result ≡ law.fault_moved at fault }
+    ensures { law.fault_place fault ≡ 0 → result ≡ law.fault_moved at fault }
 {
     match fault {
         LawFault::Unlawful { .. } => LawFault::Unlawful { at },

@@ -10,7 +10,7 @@ use Rattle.model_items.specs.declared.plain_item.PlainItem.{PlainItem}
 use Rattle.model_items.specs.declared.plain_item.PlainItem.TheVariants.{Char, Opening, Closing}
 use Rattle.model_items.specs.declared.law_fault.LawFault.{LawFault}
 use Rattle.model_items.specs.declared.law_fault.LawFault.TheVariants.{Unlawful}
-use Rattle.model_items.specs.Law.{State, start, finish, top, is_empty, is_over, may_open, opened, closed, step, outcome_moved, joined, after}
+use Rattle.model_items.specs.Law.{State, start, finish, top, is_empty, is_over, may_open, opened, closed, step, outcome_moved, followed, after}
 use Rattle.model_items.specs.Tree.{Forest, Empty, Run, Branch, Shape, Letter, Begin, End, shape_of, shapes}
 use Rattle.model_items.proofs.LawLemmas.{if_ok, Ok-same, opened_before, closed_before, joined-ok}
 
@@ -21,7 +21,7 @@ step_by s (End kind) = closed s.stack s.seen kind
 
 abbrev pub after_by : State → List Shape → Result State LawFault
 after_by s [] = Ok s
-after_by s (x ∷ xs) = joined 1 (step_by s x) (λ next. after_by next xs)
+after_by s (x ∷ xs) = followed 1 (step_by s x) (λ next. after_by next xs)
 
 step-shape : (s : State) (x : PlainItem) → step s x ≡ step_by s (shape_of x)
 step-shape s (Char c marks) = refl
@@ -30,7 +30,7 @@ step-shape s (Closing kind pre) = refl
 
 pub after-shapes : (items : List PlainItem) (s : State) → after s items ≡ after_by s (map shape_of items)
 after-shapes [] s = refl
-after-shapes (x ∷ items) s = λ i. joined 1 (step-shape s x i) (λ next. after-shapes items next i)
+after-shapes (x ∷ items) s = λ i. followed 1 (step-shape s x i) (λ next. after-shapes items next i)
 
 -- two parts
 pub by_parts : (xs ys : List Shape) (s u : State) → after_by s (xs ++ ys) ≡ Ok u → (t : State) × (after_by s xs ≡ Ok t) × (after_by t ys ≡ Ok u)
@@ -38,16 +38,16 @@ by_parts [] ys s u h = (s, refl, h)
 by_parts (x ∷ xs) ys s u h =
     let p = joined-ok 1 (step_by s x) (λ next. after_by next (xs ++ ys)) u h in
     let q = by_parts xs ys p.0 u p.2 in
-    (q.0, ap (λ r. joined 1 r (λ next. after_by next xs)) p.1 ∙ ap (outcome_moved 1) q.1, q.2)
+    (q.0, ap (λ r. followed 1 r (λ next. after_by next xs)) p.1 ∙ ap (outcome_moved 1) q.1, q.2)
 
 pub by_whole : (xs ys : List Shape) (s t u : State) → after_by s xs ≡ Ok t → after_by t ys ≡ Ok u → after_by s (xs ++ ys) ≡ Ok u
 by_whole [] ys s t u p q = subst (λ v. after_by v ys ≡ Ok u) (sym (Ok-same {E = LawFault} s t p)) q
 by_whole (x ∷ xs) ys s t u p q =
     let r = joined-ok 1 (step_by s x) (λ next. after_by next xs) t p in
-    ap (λ o. joined 1 o (λ next. after_by next (xs ++ ys))) r.1 ∙ ap (outcome_moved 1) (by_whole xs ys r.0 t u r.2 q)
+    ap (λ o. followed 1 o (λ next. after_by next (xs ++ ys))) r.1 ∙ ap (outcome_moved 1) (by_whole xs ys r.0 t u r.2 q)
 
 pub by_one : (x : Shape) (s u : State) → step_by s x ≡ Ok u → after_by s (x ∷ []) ≡ Ok u
-by_one x s u h = ap (λ r. joined 1 r (λ next. after_by next [])) h
+by_one x s u h = ap (λ r. followed 1 r (λ next. after_by next [])) h
 
 -- whole nodes leave the open kinds as they are
 letters_level : (n : ℕ) (s t : State) → after_by s (replicate n Letter) ≡ Ok t → s ≡ t

@@ -1,19 +1,10 @@
--- Marks with one more, and without one.
-use Rattle.std.specs.Prelude.{not, if◌then◌else◌, List, [], ◌∷◌, ◌++◌, filter}
+-- The values of a store where marks are added and taken off.
+use Rattle.std.specs.Prelude.{if◌then◌else◌, List, [], ◌∷◌, ◌++◌}
 use Rattle.ve_base.specs.declared.value.Value.{Value}
 use Rattle.ve_base.specs.declared.value.Value.TheVariants as value
 use Rattle.model_change.specs.Store.{admitted}
-use Rattle.std.specs.List.{list_any}
 use Rattle.ve_base.specs.declared.marks.Mark.{Mark}
-use Rattle.model_items.specs.Same.{mark_same}
-
--- the mark goes inside the others, where no equal one is among them
-abbrev pub marked : List Mark → Mark → List Mark
-marked marks mark = if list_any (mark_same mark) marks then marks else marks ++ mark ∷ []
-
--- each mark that is equal to it goes
-abbrev pub unmarked : List Mark → Mark → List Mark
-unmarked marks mark = filter (λ one. not (mark_same mark one)) marks
+use Rattle.model_items.specs.Marks.{has_mark}
 
 -- the values, and after them these marks where an item has to cite them and they are not there yet
 abbrev pub with_marks : List Value → List Mark → List Value
@@ -22,4 +13,4 @@ with_marks values (one ∷ others) = admitted values (value.Marks (one ∷ other
 
 -- the values, and after them what an item that gets the mark has to cite
 abbrev pub values_marked : List Value → List Mark → Mark → List Value
-values_marked values marks mark = if list_any (mark_same mark) marks then values else admitted values (value.Marks (marks ++ mark ∷ []))
+values_marked values marks mark = if has_mark mark marks then values else admitted values (value.Marks (marks ++ mark ∷ []))

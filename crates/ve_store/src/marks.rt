@@ -6,7 +6,8 @@ ghost use Rattle.model_change.specs.Store.{admitted};
 ghost use Rattle.model_items.specs.Plain.{value_at, marks_in, CitesMarks};
 ghost use Rattle.model_items.specs.Same.{mark_same};
 ghost use Rattle.ve_store.specs.Following.{Grows};
-ghost use Rattle.ve_store.specs.Marked.{marked, unmarked, with_marks, values_marked};
+ghost use Rattle.model_items.specs.Marks.{with_mark, without_mark};
+ghost use Rattle.ve_store.specs.Marked.{with_marks, values_marked};
 
 use crate::{NewValues, Store};
 use std::alloc::Global;
@@ -36,7 +37,7 @@ fn appended(alloc: Global, marks: &[Mark], mark: &Mark) -> Result<Marks, Memory>
 }
 
 fn rest_of(alloc: Global, marks: &[Mark], mark: &Mark) -> Result<Marks, Memory>
-    ensures { IfOk result (λ rest. rest ≡ unmarked marks.now mark.now) }
+    ensures { IfOk result (λ rest. rest ≡ without_mark mark.now marks.now) }
 {
     let mut rest = Marks::new(alloc);
     for one in marks {
@@ -73,7 +74,7 @@ pub fn with_mark(
 ) -> Result<Option<ValueId>, Memory>
     requires follows { new.old.after ≡ length store.now }
     requires cites { CitesMarks (store.now ++ new.old.values) marks }
-    ensures cited { IfOk result (λ id. marks_in (value_at (store.now ++ new.new.values) id) ≡ marked (marks_in (value_at (store.now ++ new.old.values) marks)) mark.now) }
+    ensures cited { IfOk result (λ id. marks_in (value_at (store.now ++ new.new.values) id) ≡ with_mark mark.now (marks_in (value_at (store.now ++ new.old.values) marks))) }
     ensures ok { OnOk result (store.now ++ new.new.values ≡ values_marked (store.now ++ new.old.values) (marks_in (value_at (store.now ++ new.old.values) marks)) mark.now) }
     ensures same { list_any (mark_same mark.now) (marks_in (value_at (store.now ++ new.old.values) marks)) ≡ true → result ≡ Ok marks }
     ensures cites { IfOk result (CitesMarks (store.now ++ new.new.values)) }
@@ -99,8 +100,8 @@ pub fn without_mark(
 ) -> Result<Option<ValueId>, Memory>
     requires follows { new.old.after ≡ length store.now }
     requires cites { CitesMarks (store.now ++ new.old.values) marks }
-    ensures cited { IfOk result (λ id. marks_in (value_at (store.now ++ new.new.values) id) ≡ unmarked (marks_in (value_at (store.now ++ new.old.values) marks)) mark.now) }
-    ensures ok { OnOk result (store.now ++ new.new.values ≡ with_marks (store.now ++ new.old.values) (unmarked (marks_in (value_at (store.now ++ new.old.values) marks)) mark.now)) }
+    ensures cited { IfOk result (λ id. marks_in (value_at (store.now ++ new.new.values) id) ≡ without_mark mark.now (marks_in (value_at (store.now ++ new.old.values) marks))) }
+    ensures ok { OnOk result (store.now ++ new.new.values ≡ with_marks (store.now ++ new.old.values) (without_mark mark.now (marks_in (value_at (store.now ++ new.old.values) marks)))) }
     ensures cites { IfOk result (CitesMarks (store.now ++ new.new.values)) }
     ensures grows { Grows new.old new.new }
     ensures err { OnErr result (new.new ≡ new.old) }

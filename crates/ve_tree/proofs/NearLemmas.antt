@@ -5,7 +5,7 @@ use Rattle.std.proofs.lemmas.List.Elements.{Contains-append_left, Contains-appen
 use Rattle.ve_kinds.specs.declared.kind.Kind.{Kind}
 use Rattle.ve_kinds.specs.declared.kind.Kind.TheVariants.{Root}
 use Rattle.model_items.specs.declared.plain_item.PlainItem.{PlainItem}
-use Rattle.model_items.specs.Tree.{item_count, Place, node_at, tree_of}
+use Rattle.model_items.specs.Tree.{item_count, NodeExtent, node_at, tree_of}
 use Rattle.model_items.proofs.NodeAtLemmas.{count_all}
 use Rattle.ve_arena.specs.declared.node.NodeId.{NodeId}
 use Rattle.ve_arena.specs.declared.node.NodeWhat.TheVariants as what
@@ -22,7 +22,7 @@ use Rattle.ve_tree.proofs.WalkLemmas.{Slots, NoEmptyRun, contains-here, contains
 
 -- The walk to an offset has come to a forest in the node `inner`, which begins at `at`, `left` items before the offset.
 record On {slots : Slots} {root : NodeId} {items : List PlainItem} (tree : IsTree slots root items) (o inner at left : ℕ) (f : Named) : Type 0 where
-  place : Place
+  place : NodeExtent
   parent : Option ℕ
   start : Option ℕ
   listed : Contains (tree_places tree) (record { number = inner; parent = parent; sort = what.Node place.kind; from = place.from; to = place.to })
@@ -83,7 +83,7 @@ into_branch : {slots : Slots} {root : NodeId} {items : List PlainItem} (tree : I
     On tree o inner at left (NamedBranch h kind inside later) → left < item_count (bare inside) + 2 → 1 ≤ left → On tree o h (suc at) (left - 1) inside
 into_branch tree o inner at left h kind inside later w lt some =
     let len = item_count (bare inside) + 2 in
-    let own : Place = record { kind = kind; from = at; to = at + len } in
+    let own : NodeExtent = record { kind = kind; from = at; to = at + len } in
     let below = if nat_le 1 left then seek own (suc at) (left - 1) (bare inside) else w.place in
     record {
       place = own;

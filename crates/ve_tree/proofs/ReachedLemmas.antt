@@ -5,7 +5,7 @@ use Rattle.ve_kinds.specs.declared.kind.Kind.{Kind}
 use Rattle.model_items.specs.declared.item.Item.{Item}
 use Rattle.model_items.specs.declared.item.Item.TheVariants as item
 use Rattle.model_items.specs.Law.{Lawful}
-use Rattle.model_items.specs.Tree.{Forest, Empty, Run, Branch, with_char, first_of, Reading, item_count}
+use Rattle.model_items.specs.Tree.{Forest, Empty, Run, Branch, with_char, first_forest, Reading, item_count}
 use Rattle.ve_arena.specs.declared.node.NodeId.{NodeId}
 use Rattle.ve_arena.specs.declared.node.NodeWhat.{NodeWhat}
 use Rattle.ve_arena.specs.declared.node.NodeWhat.TheVariants as what
@@ -236,7 +236,7 @@ opening_read items (suc k) at m kind g f outer lawful within reads closed ended 
     record {
       place = k;
       place_is = refl;
-      reads = reading-at items k here.0 here.1 ∙ both.0 ∙ ap (λ (r : Reading). record { here = Branch kind r.here (first_of r.outer); outer = drop 1 r.outer }) reads;
+      reads = reading-at items k here.0 here.1 ∙ both.0 ∙ ap (λ (r : Reading). record { here = Branch kind r.here (first_forest r.outer); outer = drop 1 r.outer }) reads;
       closed = both.1 ∙ ap (drop 1) closed;
     }
 

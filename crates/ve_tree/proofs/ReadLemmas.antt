@@ -13,7 +13,7 @@ use Rattle.model_items.specs.declared.law_fault.LawFault.{LawFault}
 use Rattle.model_items.specs.Plain.{plain}
 use Rattle.model_items.specs.Law.{State, start, finish, top, step, after, Lawful}
 use Rattle.model_items.proofs.LawLemmas.{if_ok, Ok-same, opened_before, closed_before, joined-ok, after_from_Lawful}
-use Rattle.model_items.specs.Tree.{Forest, Empty, Run, Branch, with_char, first_of, Reading, reading, reading_with, tree_of, node_count}
+use Rattle.model_items.specs.Tree.{Forest, Empty, Run, Branch, with_char, first_forest, Reading, reading, reading_with, tree_of, node_count}
 use Rattle.ve_tree.specs.IsTree.{unvalued}
 use Rattle.ve_tree.specs.Grown.{IsChar, IsOpening, reading_from, closes, closes_from, pending_count, count_from}
 
@@ -86,7 +86,7 @@ closes-start items lawful = closes-lawful (unvalued items) start (after_from_Law
 
 pub closes-opening : (items : List Item) (m : ℕ) (kind : Kind) (x : Item) → Lawful (unvalued items) → slice_get items m ≡ Some x → IsOpening x →
     closes_from items (suc m) ≡ kind ∷ drop 1 (closes_from items (suc m)) →
-    (reading_with (plain [] x) (reading_from items (suc m)) ≡ record { here = Branch kind (reading_from items (suc m)).here (first_of (reading_from items (suc m)).outer); outer = drop 1 (reading_from items (suc m)).outer })
+    (reading_with (plain [] x) (reading_from items (suc m)) ≡ record { here = Branch kind (reading_from items (suc m)).here (first_forest (reading_from items (suc m)).outer); outer = drop 1 (reading_from items (suc m)).outer })
     × (closes_from items m ≡ drop 1 (closes_from items (suc m)))
 unfolding OpeningsClose
 closes-opening items m kind (item.Char ch marks) lawful at opening closed = absurd opening
@@ -97,7 +97,7 @@ closes-opening items m kind (item.Opening k generated head marks pre origin) law
     let r = reading_from items (suc m) in
     let both : k ∷ drop 1 (closes_from items (suc m)) ≡ kind ∷ drop 1 (closes_from items (suc m)) = sym here.0 ∙ closed in
     let same : k ≡ kind = cc in (
-      (λ i. record { here = Branch (same i) r.here (first_of r.outer); outer = drop 1 r.outer }),
+      (λ i. record { here = Branch (same i) r.here (first_forest r.outer); outer = drop 1 r.outer }),
       closes-at items m (item.Opening k generated head marks pre origin) at,
     )
 
@@ -151,7 +151,7 @@ total-grows (Char c marks) r = omega (arith, with_char-count r.here)
 total-grows (Closing kind pre) r = omega arith
 total-grows (Opening kind head marks pre origin generated) r = by_outer r.outer
   where
-    by_outer : (fs : List Forest) → node_count r.here + pending_count fs ≤ 1 + (node_count r.here + node_count (first_of fs)) + pending_count (drop 1 fs)
+    by_outer : (fs : List Forest) → node_count r.here + pending_count fs ≤ 1 + (node_count r.here + node_count (first_forest fs)) + pending_count (drop 1 fs)
     by_outer [] = omega arith
     by_outer (f ∷ fs) = omega arith
 

@@ -4,12 +4,12 @@ use Rattle.std.proofs.lemmas.Bool.{leb-true, leb-false, ltb-true, cases_Bool, lt
 use Rattle.ve_kinds.specs.declared.kind.Kind.TheVariants.{Root}
 use Rattle.model_items.specs.declared.plain_item.PlainItem.{PlainItem}
 use Rattle.model_items.specs.Law.{Lawful}
-use Rattle.model_items.specs.Tree.{Forest, Empty, Run, Branch, item_count, Place, node_at, tree_of}
+use Rattle.model_items.specs.Tree.{Forest, Empty, Run, Branch, item_count, NodeExtent, node_at, tree_of}
 use Rattle.model_items.specs.NodeAt.{search}
 use Rattle.model_items.proofs.NodeAtLemmas.{found_in_tree}
 
 -- The innermost node round an offset that lies `left` items after the forest's start, which is at `at`, inside the given node.
-abbrev pub seek : Place → ℕ → ℕ → Forest → Place
+abbrev pub seek : NodeExtent → ℕ → ℕ → Forest → NodeExtent
 seek place at left Empty = place
 seek place at left (Run count later) = if nat_le count left then seek place (at + count) (left - count) later else place
 seek place at left (Branch kind inside later) =
@@ -31,7 +31,7 @@ by_test {P = P} a b yes_ no_ = go (nat_le a b) refl
     go false e = no_ e (leb-false a b e)
 
 -- no node of a forest holds an offset before its second item
-search_before : (place : Place) (at o : ℕ) (f : Forest) → o ≤ at → search place at f o ≡ place
+search_before : (place : NodeExtent) (at o : ℕ) (f : Forest) → o ≤ at → search place at f o ≡ place
 search_before place at o Empty h = refl
 search_before place at o (Run count later) h = search_before place (at + count) o later (omega (arith, h))
 search_before place at o (Branch kind inside later) h =
@@ -39,7 +39,7 @@ search_before place at o (Branch kind inside later) h =
     ap (λ t. if t && nat_lt o (at + len) then search (record { kind = kind; from = at; to = at + len }) (suc at) inside o else search place (at + len) later o) (not_below at o h)
     ∙ search_before place (at + len) o later (omega (arith, h))
 
-search_seek : (place : Place) (at left o : ℕ) (f : Forest) → o ≡ at + left → search place at f o ≡ seek place at left f
+search_seek : (place : NodeExtent) (at left o : ℕ) (f : Forest) → o ≡ at + left → search place at f o ≡ seek place at left f
 search_seek place at left o Empty e = refl
 search_seek place at left o (Run count later) e = by_test count left
     (λ b le.
@@ -50,7 +50,7 @@ search_seek place at left o (Run count later) e = by_test count left
     ∙ ap (λ t. if t then seek place (at + count) (left - count) later else place) (sym b))
 search_seek place at left o (Branch kind inside later) e =
     let len = item_count inside + 2 in
-    let own : Place = record { kind = kind; from = at; to = at + len } in
+    let own : NodeExtent = record { kind = kind; from = at; to = at + len } in
     let into = search own (suc at) inside o in
     let past = search place (at + len) later o in
     let below = if nat_le 1 left then seek own (suc at) (left - 1) inside else place in
@@ -73,7 +73,7 @@ search_seek place at left o (Branch kind inside later) e =
     ∙ ap (λ t. if t then seek own (suc at) (left - 1) inside else place) (sym b1)
     ∙ ap (λ t. if t then seek place (at + len) (left - len) later else below) (sym b)))
   where
-    and_no : (t : Bool) (p q : Place) → (if t && false then p else q) ≡ q
+    and_no : (t : Bool) (p q : NodeExtent) → (if t && false then p else q) ≡ q
     and_no true p q = refl
     and_no false p q = refl
 

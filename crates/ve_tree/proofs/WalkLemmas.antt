@@ -6,7 +6,7 @@ use Rattle.ve_kinds.specs.declared.kind.Kind.{Kind}
 use Rattle.ve_kinds.specs.declared.kind.Kind.TheVariants.{Root}
 use Rattle.model_items.specs.declared.plain_item.PlainItem.{PlainItem}
 use Rattle.model_items.specs.declared.plain_item.PlainItem.TheVariants.{Char, Opening, Closing}
-use Rattle.model_items.specs.Tree.{Forest, Empty, Run, Branch, with_char, first_of, reading, item_count, Place, node_at, tree_of}
+use Rattle.model_items.specs.Tree.{Forest, Empty, Run, Branch, with_char, first_forest, reading, item_count, NodeExtent, node_at, tree_of}
 use Rattle.ve_arena.specs.declared.node.NodeId.{NodeId}
 use Rattle.ve_arena.specs.declared.node.NodeWhat.{NodeWhat}
 use Rattle.ve_arena.specs.declared.node.NodeWhat.TheVariants as what
@@ -36,7 +36,7 @@ with_char-runs Empty h = (omega arith, tt)
 with_char-runs (Run count later) h = (omega arith, h.1)
 with_char-runs (Branch kind inside later) h = (omega arith, h)
 
-first_of-runs : (fs : List Forest) → AllNoEmptyRun fs → NoEmptyRun (first_of fs)
+first_of-runs : (fs : List Forest) → AllNoEmptyRun fs → NoEmptyRun (first_forest fs)
 first_of-runs [] h = tt
 first_of-runs (f ∷ fs) h = h.0
 
@@ -63,7 +63,7 @@ tree-runs {items = items} tree = subst NoEmptyRun (sym tree.is_tree) (reading-ru
 -- The walk is in the node `inner`, and the siblings of a forest are still to be passed, `left` items before the offset.
 pub record WalkOn {slots : Slots} {root : NodeId} {items : List PlainItem} (tree : IsTree slots root items) (o inner : ℕ) (next : Option NodeId) (left : ℕ) (f : Named) : Type 0 where
   pub at : ℕ
-  pub place : Place
+  pub place : NodeExtent
   pub parent : Option ℕ
   pub start : Option ℕ
   pub listed : Contains (tree_places tree) (record { number = inner; parent = parent; sort = what.Node place.kind; from = place.from; to = place.to })
@@ -198,7 +198,7 @@ enter_on {slots = slots} tree o inner child left node kind (NamedRun h count lat
 enter_on {slots = slots} tree o inner child left node kind (NamedBranch h k inside later) w here sort lt some =
     let len = item_count (bare inside) + 2 in
     let n = is_next slots child node h _ _ _ here (same_number child h w.next_is) w.shown.0 in
-    let own : Place = record { kind = k; from = w.at; to = w.at + len } in
+    let own : NodeExtent = record { kind = k; from = w.at; to = w.at + len } in
     let below = if nat_le 1 left then seek own (suc w.at) (left - 1) (bare inside) else w.place in
     subst (λ m. Walk tree o m node.first (left - 1)) (sym n.number) (record {
       forest = inside;
@@ -255,7 +255,7 @@ walk_stop {slots = slots} {root = root} {items = items} tree o inner child left 
     by_forest (NamedBranch h kind inside later) w =
         let len = item_count (bare inside) + 2 in
         let n = is_next slots child node h _ _ _ here (same_number child h w.next_is) w.shown.0 in
-        let own : Place = record { kind = kind; from = w.at; to = w.at + len } in
+        let own : NodeExtent = record { kind = kind; from = w.at; to = w.at + len } in
         let below = if nat_le 1 left then seek own (suc w.at) (left - 1) (bare inside) else w.place in
         let none : left < 1 = not_inside kind n.sort_is in
         found tree o inner (Some child) left (NamedBranch h kind inside later) within w

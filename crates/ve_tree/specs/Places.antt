@@ -3,7 +3,7 @@ use Rattle.std.specs.Prelude.{◌≡◌, ℕ, suc, ◌+◌, Option, Some, None, 
 use Rattle.ve_kinds.specs.declared.kind.Kind.{Kind}
 use Rattle.ve_kinds.specs.declared.kind.Kind.TheVariants.{Root}
 use Rattle.model_items.specs.declared.plain_item.PlainItem.{PlainItem}
-use Rattle.model_items.specs.Tree.{Place, item_count}
+use Rattle.model_items.specs.Tree.{NodeExtent, item_count}
 use Rattle.ve_arena.specs.declared.node.NodeId.{NodeId}
 use Rattle.ve_arena.specs.declared.node.NodeWhat.{NodeWhat}
 use Rattle.ve_arena.specs.declared.node.NodeWhat.TheVariants as what
@@ -34,7 +34,7 @@ tree_places {root = root} {items = items} tree =
     record { number = root.0; parent = None; sort = what.Node Root; from = 0; to = length items } ∷ places root.0 0 tree.named
 
 -- it is a node of the tree, of this kind, beginning and ending there
-pub record IsNodeAt {slots : List (Option ArenaNode)} {root : NodeId} {items : List PlainItem} (tree : IsTree slots root items) (n : NodeId) (place : Place) : Type 0 where
+pub record IsNodeAt {slots : List (Option ArenaNode)} {root : NodeId} {items : List PlainItem} (tree : IsTree slots root items) (n : NodeId) (place : NodeExtent) : Type 0 where
   pub parent : Option ℕ
   pub listed : Contains (tree_places tree) (record { number = n.0; parent = parent; sort = what.Node place.kind; from = place.from; to = place.to })
 

@@ -1,4 +1,5 @@
 -- What passes over operations ask of a list is what the model asks.
+use Rattle.std.specs.Option.{option_or}
 use Rattle.std.proofs.Common.{◌≡◌, ◌≤◌, ◌<◌, ℕ, zero, suc, ◌+◌, ◌-◌, ◌^◌, min, Bool, true, false, if◌then◌else◌, List, [], ◌∷◌, ◌++◌, length, take, drop, get_or, slice_get, All, Option, Some, None, refl, sym, ap, ◌∙◌, subst, arith}
 use Rattle.std.proofs.lemmas.List.{length-map, length-drop, length-take, drop-drop, get_or-map, get_or-drop, drop_more}
 use Rattle.std.proofs.lemmas.List.Elements.{All-head, All-tail}
@@ -10,7 +11,6 @@ use Rattle.model_items.proofs.SameLemmas.{Means-item_same}
 use Rattle.model_items.proofs.PlainLemmas.{plain_tells_apart}
 use Rattle.model_change.specs.Attributes.{AttrChange, allows}
 use Rattle.model_change.specs.Fault.{differs_at, first_allows}
-use Rattle.std.specs.Option.{option_or}
 use Rattle.ve_tx.specs.declared.op.Op.{Op}
 use Rattle.ve_tx.specs.declared.op.Op.TheVariants as op
 use Rattle.ve_tx.specs.Operation.{Operation, with_position, unkept}

@@ -1,4 +1,6 @@
 -- The first fault by passes over the operations, each over the old list alone, is the model's.
+use Rattle.std.specs.Option.{option_or}
+use Rattle.std.specs.Prelude.{option_map}
 use Rattle.std.proofs.Common.{◌≡◌, ℕ, zero, suc, ◌+◌, true, false, not, ◌==◌, if◌then◌else◌, List, [], ◌∷◌, length, drop, map, Some, None, refl, sym, ap, ◌∙◌, arith}
 use Rattle.std.proofs.lemmas.Bool.{and_parts, not-true}
 use Rattle.std.proofs.lemmas.List.{length-map, drop-drop, drop-map}
@@ -11,8 +13,7 @@ use Rattle.model_items.specs.Same.{text_same}
 use Rattle.model_change.specs.declared.tx_fault.TxFault.TheVariants.{BadLength, Mismatch, BadAttr}
 use Rattle.model_change.specs.Attributes.{AttrChange, item_changed}
 use Rattle.model_change.specs.Transaction.{Retain, Replace, Attribute, Transaction, old_length, on_first, may_precede, is_reduced}
-use Rattle.model_change.specs.Fault.{differs_at, mismatch_at, first_allows, bad_attribute_at, fault_by, fault}
-use Rattle.std.specs.Option.{option_or}
+use Rattle.model_change.specs.Fault.{differs_at, mismatch_at, first_allows, bad_attribute_at, fault}
 use Rattle.model_change.proofs.InverseLemmas.{reduced_parts}
 use Rattle.model_change.proofs.AttributeJoin.{allows-other}
 use Rattle.ve_tx.specs.Checked.{old_size, mismatch_in, bad_in, change_of, fault_in}
@@ -128,14 +129,14 @@ module _ (values : List Value) (items : List Item) where
       let t = by_value values tx in
       let L = plain_list values items in
       ap (λ n. if n == length L
-      then option_or (fault_by (λ at. Mismatch at) (mismatch_at 0 t L)) (fault_by (λ at. BadAttr at) (bad_attribute_at 0 t L))
+      then option_or (option_map (λ at. Mismatch at) (mismatch_at 0 t L)) (option_map (λ at. BadAttr at) (bad_attribute_at 0 t L))
       else Some (BadLength (length L) n)) size
       ∙ ap (λ n. if old_size (map bare tx) == n
-      then option_or (fault_by (λ at. Mismatch at) (mismatch_at 0 t L)) (fault_by (λ at. BadAttr at) (bad_attribute_at 0 t L))
+      then option_or (option_map (λ at. Mismatch at) (mismatch_at 0 t L)) (option_map (λ at. BadAttr at) (bad_attribute_at 0 t L))
       else Some (BadLength n (old_size (map bare tx)))) long
       ∙ ap (λ o. if old_size (map bare tx) == length items
-      then option_or (fault_by (λ at. Mismatch at) o) (fault_by (λ at. BadAttr at) (bad_attribute_at 0 t L))
+      then option_or (option_map (λ at. Mismatch at) o) (option_map (λ at. BadAttr at) (bad_attribute_at 0 t L))
       else Some (BadLength (length items) (old_size (map bare tx)))) m
       ∙ ap (λ o. if old_size (map bare tx) == length items
-      then option_or (fault_by (λ at. Mismatch at) (mismatch_in values items 0 (map bare tx))) (fault_by (λ at. BadAttr at) o)
+      then option_or (option_map (λ at. Mismatch at) (mismatch_in values items 0 (map bare tx))) (option_map (λ at. BadAttr at) o)
       else Some (BadLength (length items) (old_size (map bare tx)))) b

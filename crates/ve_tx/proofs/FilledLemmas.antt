@@ -1,7 +1,8 @@
 -- The positions of removed attributes are found along the operations.
+use Rattle.std.specs.Option.{option_or}
 use Rattle.std.proofs.Common.{◌≡◌, ◌≤◌, ◌<◌, ℕ, zero, suc, ◌+◌, Bool, true, false, not, ◌==◌, if◌then◌else◌, List, [], ◌∷◌, ◌++◌, length, drop, map, slice_get, Option, Some, None, refl, sym, ap, subst, ◌∙◌, append_assoc, append-nil, arith}
 use Rattle.std.proofs.lemmas.Bool.{and_parts, not-true}
-use Rattle.std.specs.Prelude.{All}
+use Rattle.std.specs.Prelude.{All, option_map}
 use Rattle.std.proofs.lemmas.List.Elements.{All-nil, All-cons, All-head, All-tail}
 use Rattle.std.proofs.lemmas.List.{map-append, drop_all, drop-drop}
 use Rattle.ve_base.specs.declared.head.Head.{Head}
@@ -16,8 +17,7 @@ use Rattle.model_items.proofs.SameLemmas.{Means-text_same, Means-option_same}
 use Rattle.model_change.specs.Attributes.{AttrChange, value_of, is_reserved, item_changed, allows, position_kept}
 use Rattle.model_change.specs.Transaction.{Transaction, Retain, Replace, Attribute, old_length, on_first, is_normal}
 use Rattle.model_change.specs.Transaction as model
-use Rattle.model_change.specs.Fault.{fault_by, mismatch_at, bad_attribute_at, first_allows, Applies}
-use Rattle.std.specs.Option.{option_or}
+use Rattle.model_change.specs.Fault.{mismatch_at, bad_attribute_at, first_allows, Applies}
 use Rattle.model_change.specs.Inverse.{filled, first_filled, IsRestorable}
 use Rattle.model_change.proofs.FilledLemmas.{filling_is_neutral}
 use Rattle.model_change.specs.declared.tx_fault.TxFault.{TxFault}
@@ -163,18 +163,18 @@ filling-last store tx L items i made done g =
 pub applies-allowed : (t : Transaction) (items : List PlainItem) → Applies t items → bad_attribute_at 0 t items ≡ None
 applies-allowed t items h = by_length (old_length t == length items) h
   where
-    none_of : (o : Option ℕ) → fault_by (λ at. BadAttr at) o ≡ None → o ≡ None
+    none_of : (o : Option ℕ) → option_map (λ at. BadAttr at) o ≡ None → o ≡ None
     none_of None e = refl
     none_of (Some at) e = cc
 
-    by_mismatch : (o : Option TxFault) → option_or o (fault_by (λ at. BadAttr at) (bad_attribute_at 0 t items)) ≡ None → bad_attribute_at 0 t items ≡ None
+    by_mismatch : (o : Option TxFault) → option_or o (option_map (λ at. BadAttr at) (bad_attribute_at 0 t items)) ≡ None → bad_attribute_at 0 t items ≡ None
     by_mismatch None e = none_of (bad_attribute_at 0 t items) e
     by_mismatch (Some f) e = cc
 
     by_length : (b : Bool) →
-        (if b then option_or (fault_by (λ at. Mismatch at) (mismatch_at 0 t items)) (fault_by (λ at. BadAttr at) (bad_attribute_at 0 t items)) else Some (BadLength (length items) (old_length t))) ≡ None →
+        (if b then option_or (option_map (λ at. Mismatch at) (mismatch_at 0 t items)) (option_map (λ at. BadAttr at) (bad_attribute_at 0 t items)) else Some (BadLength (length items) (old_length t))) ≡ None →
         bad_attribute_at 0 t items ≡ None
-    by_length true e = by_mismatch (fault_by (λ at. Mismatch at) (mismatch_at 0 t items)) e
+    by_length true e = by_mismatch (option_map (λ at. Mismatch at) (mismatch_at 0 t items)) e
     by_length false e = cc
 
 -- citing does not hang on positions

@@ -1,13 +1,13 @@
 -- What is asked of a list before a transaction changes it, as passes over the operations ask it.
-use Rattle.std.specs.Prelude.{◌≡◌, ◌≢◌, ℕ, ◌+◌, ◌<◌, ◌==◌, if◌then◌else◌, List, [], ◌∷◌, length, take, drop, slice_get, Option, Some, None}
+use Rattle.std.specs.Option.{option_or}
+use Rattle.std.specs.Prelude.{◌≡◌, ◌≢◌, ℕ, ◌+◌, ◌<◌, ◌==◌, if◌then◌else◌, List, [], ◌∷◌, length, take, drop, slice_get, Option, Some, None, option_map}
 use Rattle.ve_base.specs.declared.value.Value.{Value}
 use Rattle.model_items.specs.declared.item.Item.{Item}
 use Rattle.model_items.specs.Plain.{plain_list}
 use Rattle.model_change.specs.declared.tx_fault.TxFault.{TxFault}
 use Rattle.model_change.specs.declared.tx_fault.TxFault.TheVariants.{BadLength, Mismatch, BadAttr}
 use Rattle.model_change.specs.Attributes.{AttrChange}
-use Rattle.model_change.specs.Fault.{differs_at, first_allows, fault_by}
-use Rattle.std.specs.Option.{option_or}
+use Rattle.model_change.specs.Fault.{differs_at, first_allows}
 use Rattle.ve_tx.specs.declared.op.Op.{Op}
 use Rattle.ve_tx.specs.declared.op.Op.TheVariants.{Retain, Replace, Attribute}
 
@@ -45,5 +45,5 @@ bad_in values items at (Attribute name from to ∷ ops) =
 abbrev pub fault_in : List Value → List Item → List Op → Option TxFault
 fault_in values items ops =
     if old_size ops == length items
-    then option_or (fault_by (λ at. Mismatch at) (mismatch_in values items 0 ops)) (fault_by (λ at. BadAttr at) (bad_in values items 0 ops))
+    then option_or (option_map (λ at. Mismatch at) (mismatch_in values items 0 ops)) (option_map (λ at. BadAttr at) (bad_in values items 0 ops))
     else Some (BadLength (length items) (old_size ops))

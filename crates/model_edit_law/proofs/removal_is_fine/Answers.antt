@@ -1,5 +1,0 @@
-use Rattle.model_edit_law.proofs.RemoveLemmas.{removal_fine}
-use Rattle.model_edit_law.proofs.removal_is_fine.Goals as goal
-
-pub returns : goal.returns
-returns c = removal_fine

@@ -1,5 +1,0 @@
-use Rattle.model_site_law.proofs.LawLemmas.{sites_meet}
-use Rattle.model_site_law.proofs.sites_meet.Goals as goal
-
-pub returns : goal.returns
-returns c = sites_meet

@@ -1,0 +1,71 @@
+// What sites and server keep, whatever happens. Each function does nothing, and its contract is a law that is proved.
+ghost use Rattle.model_site_law.specs.Laws.{AckCounts, CommittedRun, EntriesJoin, EntriesRun, FirstReplicaOpens, FirstStoreIsDistinct, JoinedUntilConflict, ListIsReplay, ListIsSound, OneList, RedoneIsAsBefore, RevokeLeavesOut, StoreHolds, StoreIsDistinct, UndoneAtOnce, UndoneIsFirst};
+ghost use Rattle.model_site_law.specs.SelectionLaws.{FirstSelectionStands, MovedStands, SelectionStands};
+ghost use Rattle.model_site_law.specs.MayHappen.{EditMayRun};
+ghost use Rattle.model_site_law.specs.KeptLaws.{EventsKeep, HoldsAtFirst};
+
+/// Entries are joined over committed transactions up to the first conflict: the transactions of those kept join as one list, and with the next entry's
+/// they have that conflict. So an entry is refused or dropped exactly where it or an earlier one conflicts. Those kept run after a foreign entry, it
+/// runs, joined, after those kept, and either way gives one list. "Runs" is said of transactions that are reduced, apply one after the other, each
+/// leave a lawful list, and can be undone.
+pub fn entries_join()
+    ensures first { JoinedUntilConflict }
+    ensures agree { EntriesJoin }
+{}
+
+/// A site's list is the replay of the committed entries that it has seen, of those it has sent and of those unsent, in this order. All of these run
+/// from the base, and so do all committed entries, although neither the server nor a take asks for it. So the list is lawful.
+pub fn lists_are_replays()
+    ensures list { ListIsReplay }
+    ensures runs { EntriesRun }
+    ensures committed { CommittedRun }
+    ensures sound { ListIsSound }
+{}
+
+/// The number that the server accepts is the number of entries that the site still holds as sent when it takes the answer.
+pub fn acks_count()
+    ensures { AckCounts }
+{}
+
+/// Sites that have seen as many committed entries, and have nothing pending, have one list.
+pub fn sites_meet()
+    ensures { OneList }
+{}
+
+/// A site's store has every value that its list cites, also after an undo that follows a take, and has each once. The store that a list is opened with
+/// has them.
+pub fn stores_hold()
+    ensures first { FirstReplicaOpens }
+    ensures always { StoreHolds }
+    ensures distinct { FirstStoreIsDistinct }
+    ensures once { StoreIsDistinct }
+{}
+
+/// A selection that has moved through a transaction stands in the new list, with no end inside a leaf; so a site's selection always stands in its list.
+pub fn selections_stand()
+    ensures first { FirstSelectionStands }
+    ensures moved { MovedStands }
+    ensures always { SelectionStands }
+{}
+
+/// After an entry is taken back the list is the one that the later entries give without it, joined over its reversal.
+pub fn revokes_leave_out()
+    ensures { RevokeLeavesOut }
+{}
+
+/// What is undone at once leaves list and store as they were, whatever happened before.
+/// A site that has taken nothing and has nothing pending has its first list and its first store. One that has taken nothing and has nothing undone
+/// may undo and redo, in any order; once nothing is undone again, its list and its store are as before.
+pub fn undo_gives_back()
+    ensures once { UndoneAtOnce }
+    ensures undone { UndoneIsFirst }
+    ensures redone { RedoneIsAsBefore }
+{}
+
+/// What always holds of sites, queues and server together, in the terms that the code keeps: it holds at first, and each event that may happen keeps
+/// it. A transaction that a site does not refuse may be performed, if it is reduced and inserts names apart, as all transactions of that type are.
+pub fn events_keep()
+    ensures first { HoldsAtFirst }
+    ensures then { EventsKeep }
+    ensures edits { EditMayRun }
+{}
