@@ -1,9 +1,9 @@
--- Where a change is refused as `store_full`, the store is full.
+-- Where a change, a row, a column or a list item is refused as `store_full`, the store is full.
 use Rattle.std.specs.Option.{option_or}
-use Rattle.std.proofs.Common.{◌≡◌, ◌<◌, ℕ, zero, suc, ◌+◌, ◌==◌, Bool, true, false, not, ◌&&◌, nat_lt, if◌then◌else◌, List, [], ◌∷◌, length, take, drop, slice_get, Option, Some, None, Result, Ok, Err, refl, sym, ap, ◌∙◌, subst}
-use Rattle.std.specs.Prelude.{encode_utf8_all, find, option_map}
+use Rattle.std.proofs.Common.{◌≡◌, ◌<◌, ℕ, zero, suc, ◌+◌, ◌==◌, Bool, true, false, ◌&&◌, nat_lt, if◌then◌else◌, List, [], ◌∷◌, length, take, drop, Option, Some, None, Result, Ok, Err, refl, sym, ap, ◌∙◌, subst}
+use Rattle.std.specs.Prelude.{encode_utf8_all, option_map}
 use Rattle.std.proofs.lemmas.Bool.{and_parts, ltb-true}
-use Rattle.ve_kinds.specs.Table.{is_content_branch, is_element}
+use Rattle.ve_base.specs.Limits.{max_values}
 use Rattle.model_spelling.specs.Forest.{Forest}
 use Rattle.model_spelling.specs.Faults.{ForestFault, fault_of}
 use Rattle.model_spelling.specs.Faults as forest
@@ -16,21 +16,26 @@ use Rattle.model_items.proofs.SameLemmas.{Means-item_same}
 use Rattle.model_items.proofs.LawLemmas.{Ok-same}
 use Rattle.model_change.specs.declared.tx_fault.TxFault.{TxFault}
 use Rattle.model_change.specs.declared.tx_fault.TxFault.TheVariants as tx
-use Rattle.model_change.specs.Attributes.{item_changed, is_reserved}
+use Rattle.model_change.specs.Attributes.{item_changed}
 use Rattle.model_change.specs.Transaction.{Transaction, old_length, on_first}
 use Rattle.model_change.specs.Fault.{differs_at, mismatch_at, bad_attribute_at, fault}
 use Rattle.model_page.specs.PageItems.{or_nothing}
 use Rattle.model_page.specs.Fragment.{pieces_of}
 use Rattle.model_page.specs.Limits.{fragment_limit}
-use Rattle.model_edit.specs.Causes.{BuildCause}
+use Rattle.model_edit.specs.Causes.{BuildCause, TableCause, ListCause}
+use Rattle.model_edit.specs.Tables.{row_in, row_out, col_in, col_out}
+use Rattle.model_edit.specs.Lists.{indent, outdent}
+use Rattle.model_edit_law.proofs.TableFineLemmas.{row_in_fine, row_out_fine, col_in_fine, col_out_fine}
+use Rattle.model_edit_law.proofs.IndentLemmas.{indent_fine}
+use Rattle.model_edit_law.proofs.OutdentLemmas.{outdent_fine}
 use Rattle.model_edit.specs.Causes as build
-use Rattle.model_items.specs.Offsets.{stack_at, kind_at, is_content, is_bad_span, places_in, passes}
+use Rattle.model_items.specs.Offsets.{stack_at}
 use Rattle.model_edit.specs.Edits.{setting}
-use Rattle.model_edit.specs.Insert.{is_bad_offset, is_mixed, is_bad_depth, in_paragraph, levels_up, put_into, marks_before, text_pieces, insertion, split}
-use Rattle.model_edit.specs.Remove.{is_bad_removal, removal}
-use Rattle.model_edit.specs.Marking.{is_bad_mark, is_full_for, marked_unless, marking, unmarking}
-use Rattle.model_edit.specs.Wrap.{is_bad_wrap, wrong_place, wrapped_unless, wrap}
-use Rattle.model_edit.specs.Convert.{opens_kind, convert, attribute}
+use Rattle.model_edit.specs.Insert.{is_bad_offset, marks_before, text_pieces, insertion, split}
+use Rattle.model_edit.specs.Remove.{removal}
+use Rattle.model_edit.specs.Marking.{marking, unmarking}
+use Rattle.model_edit.specs.Wrap.{wrap}
+use Rattle.model_edit.specs.Convert.{convert, attribute}
 use Rattle.model_edit_law.specs.Fine.{Fine}
 use Rattle.model_edit_law.proofs.InsertLemmas.{insertion_fine, split_fine}
 use Rattle.model_edit_law.proofs.RemoveLemmas.{removal_fine}
@@ -39,7 +44,7 @@ use Rattle.model_edit_law.proofs.WrapLemmas.{wrap_fine}
 use Rattle.model_site.specs.Causes.{EditCause}
 use Rattle.model_site.specs.Causes as edit
 use Rattle.model_site.specs.Replica.{Replica, performed}
-use Rattle.model_site.specs.Refused.{law_cause, items_cause, store_cause}
+use Rattle.model_site.specs.Refused.{law_cause, items_cause, store_cause, edit_cause}
 use Rattle.model_site_law.specs.Sound.{Sound}
 use Rattle.model_world.specs.declared.change.TextMarks.{TextMarks}
 use Rattle.model_world.specs.declared.change.TextMarks.TheVariants.{Left, Plain}
@@ -50,10 +55,10 @@ use Rattle.model_world.specs.declared.change.Change.TheVariants as change
 use Rattle.model_world.specs.declared.refusal.Refusal.{Refusal}
 use Rattle.model_world.specs.declared.refusal.Refusal.TheVariants.{StoreFull, BadOffset, BadLength, TooManyMarks}
 use Rattle.model_world.specs.Operations as operations
-use Rattle.model_world.specs.Refusals.{html_refusal, build_refusal}
+use Rattle.model_world.specs.Refusals.{html_refusal, build_refusal, table_refusal, list_refusal}
 use Rattle.model_world.specs.Edits.{built, forest_inserted, text_inserted, fragment_inserted, needs, ops_on, applied, text_typed, change_of, unless_faulty, allowed}
 use Rattle.model_world_law.specs.Fit.{IsWritten}
-use Rattle.model_world_law.specs.Causes.{FillsStore, StoreFullIsFull}
+use Rattle.model_world_law.specs.Causes.{FillsStore, StoreFullIsFull, IsFullFor, MovesFillStore}
 use Rattle.model_world_law.proofs.ChangeLemmas.{given}
 
 -- ---- no builder is refused as a full store
@@ -288,16 +293,51 @@ matched_left true None (Some at) has need rest t e h = cc
 matched_left true (Some at) p has need rest t e h = cc
 matched_left false o p has need rest t e h = cc
 
-full_from : (r : Replica) (c : Change) (result : Result Transaction Refusal) → change_of r.items c ≡ result → IsWritten c → Sound r.items → allowed r result ≡ Err StoreFull → FillsStore r c
-full_from r c (Err refusal) e w s h = absurd (change_is r.items c (e ∙ h))
-full_from r c (Ok t) e w s h =
+full_left : (r : Replica) (t : Transaction) → Matches t r.items → Told (edit_cause t r) t → max_values < length (performed t r).store
+full_left r t matches h =
     let new = performed t r in
-    record {
-      t = t;
-      given = e;
-      full = law_left (verdict new.items) (length new.items) (length new.store) t
-          (matched_left (old_length t == length r.items) (mismatch_at 0 t r.items) (bad_attribute_at 0 t r.items) (length r.items) (old_length t) _ t (change_match r.items c t w s e) h);
-    }
+    law_left (verdict new.items) (length new.items) (length new.store) t
+    (matched_left (old_length t == length r.items) (mismatch_at 0 t r.items) (bad_attribute_at 0 t r.items) (length r.items) (old_length t) _ t matches h)
+
+full_from : (r : Replica) (c : Change) (result : Result Transaction Refusal) → change_of r.items c ≡ result → IsWritten c → Sound r.items →
+    allowed r result ≡ Err StoreFull → FillsStore r (change_of r.items c)
+full_from r c (Err refusal) e w s h = absurd (change_is r.items c (e ∙ h))
+full_from r c (Ok t) e w s h = record { t = t; gives = e; full = full_left r t (change_match r.items c t w s e) h }
 
 pub store_full_is_full : StoreFullIsFull
 store_full_is_full r c w s h = full_from r c (change_of r.items c) refl w s h
+
+-- ---- rows, columns and list items
+
+abbrev IsOther : Refusal → Type 0
+IsOther refusal = ◌≡◌ {A = Result Transaction Refusal} (Err refusal) (Err StoreFull) → ⊥
+
+table_is : (c : TableCause) → IsOther (table_refusal c)
+table_is (build.NotTable at) h = cc
+table_is (build.Crooked at) h = cc
+table_is (build.BadRow row rows) h = cc
+table_is (build.BadColumn column columns) h = cc
+table_is (build.TooWide columns) h = cc
+table_is (build.Ragged row) h = cc
+table_is (build.Spanned at) h = cc
+table_is (build.SpanFull at) h = cc
+
+list_is : (c : ListCause) → IsOther (list_refusal c)
+list_is (build.NotListItem at) h = cc
+list_is (build.NoSibling at) h = cc
+list_is (build.NotNested at) h = cc
+
+full_of : {E : Type 0} (r : Replica) (named : E → Refusal) (given : Result Transaction E) → ((c : E) → IsOther (named c)) →
+    ((t : Transaction) → given ≡ Ok t → Fine r.items t) → IsFullFor named r given → FillsStore r given
+full_of r named (Err c) other fine h = absurd (other c h)
+full_of r named (Ok t) other fine h = record { t = t; gives = refl; full = full_left r t (fine_match r.items t (fine t refl)) h }
+
+pub moves_fill_store : MovesFillStore
+moves_fill_store = record {
+  row_in = λ r at row s h. full_of r table_refusal (row_in r.items at row) table_is (λ t e. row_in_fine r.items at row t s.lawful e) h;
+  row_out = λ r at row s h. full_of r table_refusal (row_out r.items at row) table_is (λ t e. row_out_fine r.items at row t s.lawful e) h;
+  col_in = λ r at column s h. full_of r table_refusal (col_in r.items at column) table_is (λ t e. col_in_fine r.items at column t s.lawful e) h;
+  col_out = λ r at column s h. full_of r table_refusal (col_out r.items at column) table_is (λ t e. col_out_fine r.items at column t s.lawful e) h;
+  indent = λ r at s h. full_of r list_refusal (indent r.items at) list_is (λ t e. indent_fine r.items at t s.lawful e) h;
+  outdent = λ r at s h. full_of r list_refusal (outdent r.items at) list_is (λ t e. outdent_fine r.items at t s.lawful e) h;
+}

@@ -3,7 +3,7 @@
 #![tactic(auto)]
 
 ghost use Rattle.model_world_law.specs.Fit.{LinesAreWritten, ChangesFit, MovesFit, PagesAreSound};
-ghost use Rattle.model_world_law.specs.Causes.{StoreFullIsFull};
+ghost use Rattle.model_world_law.specs.Causes.{StoreFullIsFull, MovesFillStore};
 ghost use Rattle.model_world_law.specs.ShownLaws.{ShownIsRead};
 ghost use Rattle.model_world_law.specs.Reached.{EveryWorldIsReached, EverySiteHolds, SitesMeet, UneditedIsWrittenBack};
 
@@ -23,11 +23,12 @@ pub fn shown_is_read()
     ensures { ShownIsRead }
 {}
 
-/// Want of memory, and an item that is not the one to be removed, are never the cause of a change's refusal: `store_full` is told only where the store would
-/// have over 1,048,576 values.
-#[tactic(auto, using(crate::proofs::CauseLemmas::store_full_is_full))]
+/// Want of memory, and an item that is not the one to be removed, are never the cause of a refusal of a change, a row, a column or a moved list item:
+/// `store_full` is told only where the store would have too many values.
+#[tactic(auto, using(crate::proofs::CauseLemmas::store_full_is_full, crate::proofs::CauseLemmas::moves_fill_store))]
 pub fn store_full_is_full()
-    ensures { StoreFullIsFull }
+    ensures changes { StoreFullIsFull }
+    ensures moves { MovesFillStore }
 {}
 
 /// Whatever lines a world is given, it is what some events make of the sites that began on its page, events that the laws of sites and server speak of.
