@@ -48,7 +48,7 @@ abbrev pub first_retained : Transaction → ℕ → ℕ → Option ℕ
 first_retained t at zero = None
 first_retained t at (suc count) = or_next (new_place t at) (first_retained t (suc at) count)
 
--- where a node's opening stands in the other list, or the first retained character of a text; nowhere the root, which has none
+-- where a node's opening stands in the other list, or the first retained character of a text; none for the root, which has no opening
 abbrev pub image : Transaction → NodeName → ℕ → Option ℕ
 image t TheRoot count = None
 image t (Opened at) count = new_place t at

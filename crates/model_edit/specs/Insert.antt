@@ -13,7 +13,7 @@ use Rattle.model_edit.specs.Brackets.{opening_of, closing_of, closing_for, copy_
 use Rattle.model_items.specs.Offsets.{openings_at, stack_at, kind_at, is_content, is_inside_leaf, partner}
 use Rattle.model_edit.specs.Edits.{Change, transaction_of}
 
--- nothing can be put here: at the end, past it, or inside a leaf
+-- nothing can be put there: at the end or past it, or inside a leaf
 abbrev pub is_bad_offset : List PlainItem → ℕ → Bool
 is_bad_offset items at = nat_le (length items) at || is_inside_leaf items at
 

@@ -49,7 +49,7 @@ first_wrong ((at, false) ∷ claims) = Some at
 abbrev pub nodes_in : List PlainItem → ℕ → ℕ → List Open
 nodes_in items from to = siblings 0 from (slice_range items from to)
 
--- the first place, in the order of the list, that has not the bracket that is to go
+-- the first place, in the order of the list, where the bracket that is to go does not stand
 abbrev pub wrong_place : List PlainItem → ℕ → ℕ → List Kind → List Kind → Option ℕ
 wrong_place items from to outer each =
     if nat_lt from (length outer) then Some 0

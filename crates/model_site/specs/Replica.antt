@@ -28,7 +28,7 @@ changed_by t values r = let items = edited t r.items in
 abbrev pub performed : Transaction → Replica → Replica
 performed t r = changed_by t (brought t r.items) r
 
--- one of a reversal, done: what it inserts stood there before, and only heads that it changes can be new
+-- a transaction of a reversal performed: what it inserts stood in the list before, so only heads that it changes can be new values
 abbrev pub put_back : Transaction → Replica → Replica
 put_back t r = changed_by t (changed_heads t r.items) r
 

@@ -20,14 +20,14 @@ pub record Site : Type 0 where
   pub undone : List Parcel
   -- how many entries it sent since the page was opened
   pub shared : ℕ
-  -- how many entries the submission has that is not acknowledged, while there is one
+  -- how many entries its submission has, while one is on its way and not acknowledged
   pub in_flight : Option ℕ
 
 -- a site as it begins
 abbrev pub starting : Replica → Site
 starting r = record { replica = r; seen = 0; sent = []; unsent = []; undone = []; shared = 0; in_flight = None }
 
--- the entries that are its own only: the sent ones and then the unsent
+-- its pending entries: the sent ones and then the unsent
 abbrev pub pending : Site → List Entry
 pending site = site.sent ++ site.unsent
 
