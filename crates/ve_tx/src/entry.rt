@@ -74,6 +74,20 @@ impl EntryList {
         Ok(())
     }
 
+    /// The list of these entries. It takes no memory.
+    pub fn from_vec(list: Vec<Entry>) -> EntryList
+        ensures { result ≡ list.items }
+    {
+        EntryList { list }
+    }
+
+    /// The entries in order. It takes no memory.
+    pub fn into_vec(self) -> Vec<Entry>
+        ensures { result.items ≡ self }
+    {
+        self.list
+    }
+
     /// Lends the entries in order.
     pub fn as_slice(&self) -> &[Entry]
         ensures { result.now ≡ self.now }

@@ -1,0 +1,3 @@
+pub use Rattle.ve_tx.specs.Entry
+pub use Rattle.ve_tx.specs.Parcel
+pub mod Stacks

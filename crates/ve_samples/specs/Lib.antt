@@ -1,0 +1,2 @@
+pub use Rattle.model_items.specs.Plain
+pub mod CitesNothing
