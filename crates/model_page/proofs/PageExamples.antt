@@ -13,7 +13,7 @@ use Rattle.model_items.specs.declared.plain_item.PlainItem.TheVariants.{Char, Op
 use Rattle.model_page.specs.References.{table}
 use Rattle.model_page.specs.declared.ref_table.RefRow.{RefRow}
 use Rattle.ve_base.specs.Empty.{empty_head}
-use Rattle.model_page.specs.Pieces.{Span}
+use Rattle.model_page.specs.Pieces.{SourceSpan}
 use Rattle.model_page.specs.PageItems.{opened_page}
 use Rattle.model_page.proofs.OnLiterals.{page_on_literals}
 
@@ -41,10 +41,10 @@ empty_list = Opening InternalList empty_head [] [] None false ∷ Closing Intern
 abbrev pub items_in : List ℕ → Option (List PlainItem)
 items_in page = option_map (λ o. o.items) (opened_page page)
 
-abbrev pub spans_in : List ℕ → Option (List Span)
+abbrev pub spans_in : List ℕ → Option (List SourceSpan)
 spans_in page = option_map (λ o. o.spans) (opened_page page)
 
-abbrev pub span : ℕ → ℕ → Span
+abbrev pub span : ℕ → ℕ → SourceSpan
 span from to = record { from = from; to = to }
 
 -- ---- marks

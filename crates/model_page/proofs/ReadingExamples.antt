@@ -14,7 +14,7 @@ use Rattle.model_page.specs.DataMw.{reference_of}
 use Rattle.model_page.specs.References.{table}
 use Rattle.model_page.specs.declared.ref_table.RefRow.{RefRow}
 use Rattle.ve_base.specs.Empty.{empty_head}
-use Rattle.model_page.specs.Fragment.{pieces_of}
+use Rattle.model_page.specs.Fragment.{fragment_items}
 use Rattle.model_page.proofs.OnLiterals.{page_on_literals}
 use Rattle.model_page.proofs.PageExamples.{text_, open_, made_, close_, whole_, empty_list, items_in, b}
 
@@ -73,7 +73,7 @@ references = refl
 -- ---- fragments
 
 abbrev fragment : List Kind → List ℕ → Option (List PlainItem)
-fragment stack text = option_map (pieces_of stack) (forest_of text)
+fragment stack text = option_map (fragment_items stack) (forest_of text)
 
 abbrev new_ : Kind → PlainItem
 new_ k = Opening k empty_head [] [] None false

@@ -1,4 +1,4 @@
--- The items of the parts of a page: one recursion over the parts, from the place where they begin.
+-- The items of the parts of a page: one recursion over the parts, from the byte where they begin.
 use Rattle.std.specs.Prelude.{ℕ, List, [], ◌∷◌, ◌++◌, Option, Some, None, false, chars}
 use Rattle.model_spelling.specs.Grammar.{Attr as Spelled, Comment, token_text, start_text, end_text}
 use Rattle.model_spelling.specs.Forest.{Forest, spelling}
@@ -8,7 +8,7 @@ use Rattle.ve_kinds.specs.declared.kind.Kind.TheVariants.{Ref}
 use Rattle.model_page.specs.Parts.{Parts, Ended, Words, Note, Group, Single, Parent, source_of}
 use Rattle.model_page.specs.Fit.{Around, Flow, Structural, Content, Fit, Annotation, Leaf, Branch, Whole, around_in, fit_of, group_kind, note_kind}
 use Rattle.model_page.specs.Heads.{characters, attrs_of, head_with, whole_head}
-use Rattle.model_page.specs.Pieces.{Made, Place, past, span_at, no_piece, node, chars_piece, with_white, run_closed, in_run, before_run, leaf_before}
+use Rattle.model_page.specs.Pieces.{Made, Progress, past, source_span, no_piece, node, chars_piece, with_white, run_closed, in_run, before_run, leaf_before}
 use Rattle.model_page.specs.ReferenceNodes.{RefNode, ref_of}
 
 -- ---- marks
@@ -27,12 +27,12 @@ marked_around around name attrs = Content (marks_at around ++ record { tag = cha
 abbrev pub element_source : List ℕ → List Spelled → Parts → List ℕ
 element_source name attrs children = start_text name attrs false ++ source_of children ++ end_text name
 
--- the place after a start tag
-abbrev pub inside_of : Place → List ℕ → List Spelled → Place
+-- after a start tag
+abbrev pub inside_of : Progress → List ℕ → List Spelled → Progress
 inside_of place name attrs = past place (start_text name attrs false) []
 
 -- what a branch holds, and the whitespace before its closing: content is a run without a paragraph
-abbrev pub inside_piece : Around → Place → Made → Made
+abbrev pub inside_piece : Around → Progress → Made → Made
 inside_piece (Content marks) place made = record made { later = made.run }
 inside_piece (Flow kind) place made = run_closed place made
 inside_piece (Structural kind) place made = made
@@ -45,46 +45,54 @@ words_before (Structural kind) text made = with_white (chars text) made
 words_before around text made = in_run (chars_piece (marks_at around) (characters text)) text [] made
 
 -- a group, where it is a reference and where it is not
-abbrev pub group_made : Around → Forest → (Place → Made) → Place → Option RefNode → Made
+abbrev pub group_made : Around → Forest → (Progress → Made) → Progress → Option RefNode → Made
 group_made around nodes later place (Some reference) =
-    leaf_before place Ref reference.head (marks_at around) (spelling nodes) reference.owners (later (past place (spelling nodes) reference.owners))
+    let after = past place (spelling nodes) reference.owners in
+    leaf_before place Ref reference.head (marks_at around) (spelling nodes) reference.owners (later after)
 group_made around nodes later place None =
-    leaf_before place (group_kind around nodes) (whole_head (spelling nodes)) (marks_at around) (spelling nodes) [] (later (past place (spelling nodes) []))
+    let source = spelling nodes in
+    leaf_before place (group_kind around nodes) (whole_head source) (marks_at around) source [] (later (past place source []))
 
 -- a leaf that keeps its source or, where it is br or img, its attributes
-abbrev pub leaf_made : Around → List Spelled → List ℕ → (Place → Made) → Place → Fit → Made
-leaf_made around attrs source later place (Leaf kind) = leaf_before place kind (head_with attrs) (marks_at around) source [] (later (past place source []))
-leaf_made around attrs source later place (Whole kind) = leaf_before place kind (whole_head source) (marks_at around) source [] (later (past place source []))
-leaf_made around attrs source later place Annotation = leaf_before place (note_kind around) (whole_head source) (marks_at around) source [] (later (past place source []))
-leaf_made around attrs source later place (Branch kind) = leaf_before place (note_kind around) (whole_head source) (marks_at around) source [] (later (past place source []))
+abbrev pub leaf_made : Around → List Spelled → List ℕ → (Progress → Made) → Progress → Fit → Made
+leaf_made around attrs source later place (Leaf kind) =
+    leaf_before place kind (head_with attrs) (marks_at around) source [] (later (past place source []))
+leaf_made around attrs source later place (Whole kind) =
+    leaf_before place kind (whole_head source) (marks_at around) source [] (later (past place source []))
+leaf_made around attrs source later place Annotation =
+    leaf_before place (note_kind around) (whole_head source) (marks_at around) source [] (later (past place source []))
+leaf_made around attrs source later place (Branch kind) =
+    leaf_before place (note_kind around) (whole_head source) (marks_at around) source [] (later (past place source []))
 
 -- an element by its fit, where `children` makes what is in it
-abbrev pub element_made : Around → List ℕ → List Spelled → List ℕ → (Around → Place → Made) → (Place → Made) → Place → Fit → Made
+abbrev pub element_made : Around → List ℕ → List Spelled → List ℕ → (Around → Progress → Made) → (Progress → Made) → Progress → Fit → Made
 element_made around name attrs source children later place Annotation =
     let inside = children (marked_around around name attrs) (inside_of place name attrs) in
     in_run inside.run source inside.owners (later (past place source inside.owners))
 element_made around name attrs source children later place (Branch kind) =
     let at = inside_of place name attrs in
     let inside = inside_piece (around_in kind) at (children (around_in kind) at) in
-    let suffix = past place source inside.owners in
-    before_run suffix (node kind (head_with attrs) [] false (span_at place source) inside.later inside.pre) inside.owners (later suffix)
+    let after = past place source inside.owners in
+    before_run after (node kind (head_with attrs) [] false (source_span place source) inside.later inside.pre) inside.owners (later after)
 element_made around name attrs source children later place (Leaf kind) = leaf_made around attrs source later place (Leaf kind)
 element_made around name attrs source children later place (Whole kind) = leaf_made around attrs source later place (Whole kind)
 
 -- ---- all parts
 
--- what the parts that stand around so become, where they begin at the place
-abbrev pub made_of : Around → Parts → Place → Made
+-- what the parts that stand around so become, where they begin there
+abbrev pub made_of : Around → Parts → Progress → Made
 made_of around Ended place = record { run = no_piece; source = []; later = no_piece; pre = []; owners = [] }
 made_of around (Words text later) place = words_before around text (made_of around later (past place text []))
 made_of around (Note text later) place =
     let source = token_text (Comment text) in
     leaf_made around [] source (made_of around later) place (Whole (note_kind around))
 made_of around (Group nodes later) place = group_made around nodes (made_of around later) place (ref_of place around nodes)
-made_of around (Single name attrs source later) place = leaf_made around attrs source (made_of around later) place (fit_of around name Ended)
+made_of around (Single name attrs source later) place =
+    leaf_made around attrs source (made_of around later) place (fit_of around name Ended)
 made_of around (Parent name attrs children later) place =
-    element_made around name attrs (element_source name attrs children) (λ a. made_of a children) (made_of around later) place (fit_of around name children)
+    let source = element_source name attrs children in
+    element_made around name attrs source (λ a. made_of a children) (made_of around later) place (fit_of around name children)
 
 -- what all that stands in a flow parent becomes
-abbrev pub in_flow : Kind → Parts → Place → Made
+abbrev pub in_flow : Kind → Parts → Progress → Made
 in_flow kind parts place = run_closed place (made_of (Flow kind) parts place)

@@ -12,9 +12,9 @@ abbrev pub is_white : List ℕ → Bool
 is_white text = list_all is_white_char text
 
 -- the decoded value of the attribute of this name
-abbrev pub value_of : List ℕ → List Attr → Option (List ℕ)
-value_of name [] = None
-value_of name (a ∷ attrs) = if bytes_eq a.name name then Some (decoded a.value) else value_of name attrs
+abbrev pub value_named : List ℕ → List Attr → Option (List ℕ)
+value_named name [] = None
+value_named name (a ∷ attrs) = if bytes_eq a.name name then Some (decoded a.value) else value_named name attrs
 
 abbrev pub with_letter : ℕ → List (List ℕ) → List (List ℕ)
 with_letter c [] = (c ∷ []) ∷ []
@@ -30,11 +30,11 @@ words_in None = []
 words_in (Some value) = words_of value
 
 abbrev pub about_of : List Attr → Option (List ℕ)
-about_of attrs = value_of (codes "about") attrs
+about_of attrs = value_named (codes "about") attrs
 
 -- some word of `typeof` passes the test
 abbrev pub has_type : (List ℕ → Bool) → List Attr → Bool
-has_type test attrs = list_any test (words_in (value_of (codes "typeof") attrs))
+has_type test attrs = list_any test (words_in (value_named (codes "typeof") attrs))
 
 -- the element is kept whole, alone or in a group: it has an `about`, or a type that begins `mw:`
 abbrev pub is_held : List Attr → Bool

@@ -32,7 +32,7 @@ abbrev pub has_child : Parts → Bool
 has_child Ended = false
 has_child _ = true
 
--- no child is a text that is not white, or an element of an inline tag that is not held
+-- no child is a text that is not whitespace, or an element of an inline tag that is not held
 abbrev pub has_blocks_alone : Parts → Bool
 has_blocks_alone Ended = true
 has_blocks_alone (Words text later) = is_white text && has_blocks_alone later

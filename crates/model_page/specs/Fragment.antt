@@ -13,7 +13,7 @@ use Rattle.ve_kinds.specs.Tags.{kind_of_tag}
 use Rattle.model_page.specs.Tags.{is_inline_tag}
 use Rattle.model_page.specs.Fit.{around_in, has_inline_tags}
 use Rattle.ve_base.specs.Empty.{empty_head}
-use Rattle.model_page.specs.Pieces.{Made, Place}
+use Rattle.model_page.specs.Pieces.{Made, Progress}
 use Rattle.model_page.specs.Convert.{made_of, inside_piece}
 
 -- all are texts, comments or inline-tag elements
@@ -56,11 +56,13 @@ item_unmade (Char c marks) = Char c marks
 
 -- what the parts become as children of k
 abbrev pub pieces_in : Kind → Parts → Made
-pieces_in k parts = let w : Place = record { at = 0; owners = []; editable = false } in inside_piece (around_in k) w (made_of (around_in k) parts w)
+pieces_in k parts =
+    let w : Progress = record { at = 0; owners = []; editable = false } in
+    inside_piece (around_in k) w (made_of (around_in k) parts w)
 
 -- the items of a fragment where these kinds are open, innermost first; whitespace alone is a paragraph where blocks may stand
-abbrev pub pieces_of : List Kind → Forest → List PlainItem
-pieces_of stack forest =
+abbrev pub fragment_items : List Kind → Forest → List PlainItem
+fragment_items stack forest =
     let parts = parts_of forest in
     let k = context_of parts stack in
     if is_flow k && is_white (source_of parts)

@@ -10,7 +10,7 @@ use Rattle.model_spelling.specs.Parsed.{forest_of}
 use Rattle.std.specs.Option.{option_or}
 use Rattle.model_page.specs.Parts.{Parts, Ended, Words, Note, Group, Single, Parent, parts_of}
 use Rattle.model_page.specs.Fit.{Around, Flow, Annotation, Branch, around_in, fit_of}
-use Rattle.model_page.specs.Pieces.{Span, Owner, Made}
+use Rattle.model_page.specs.Pieces.{SourceSpan, Owner, Made}
 use Rattle.model_page.specs.Convert.{marks_at, marked_around, element_source}
 use Rattle.model_page.specs.PageItems.{body_made, or_nothing, page_made}
 use Rattle.model_page.specs.Fragment.{context_of}
@@ -32,7 +32,7 @@ earlier (Some a) None = Some a
 earlier (Some a) (Some b) = if nat_lt (limit_at b) (limit_at a) then Some b else Some a
 
 -- the byte of the first opening inside of `max_open_kinds` kinds, where so many are open before, and these are the spans of the openings
-abbrev pub deep_at : ℕ → List PlainItem → List Span → Option ℕ
+abbrev pub deep_at : ℕ → List PlainItem → List SourceSpan → Option ℕ
 deep_at depth [] spans = None
 deep_at depth (Char c marks ∷ items) spans = deep_at depth items spans
 deep_at depth (Closing kind pre ∷ items) spans = deep_at (depth - 1) items spans
@@ -49,20 +49,22 @@ marked_at around (Group nodes later) at = marked_at around later (at + length (s
 marked_at around (Single name attrs source later) at = marked_at around later (at + length source)
 marked_at around (Parent name attrs children later) at =
     let inside = at + length (start_text name attrs false) in
-    let suffix = at + length (element_source name attrs children) in
+    let end = at + length (element_source name attrs children) in
     elim (fit_of around name children) [
       | Annotation ↦
           if nat_lt (length (marks_at around)) max_marks
-          then option_or (marked_at (marked_around around name attrs) children inside) (marked_at around later suffix)
+          then option_or (marked_at (marked_around around name attrs) children inside) (marked_at around later end)
           else Some at
-      | Branch kind ↦ option_or (marked_at (around_in kind) children inside) (marked_at around later suffix)
-      | _ ↦ marked_at around later suffix
+      | Branch kind ↦ option_or (marked_at (around_in kind) children inside) (marked_at around later end)
+      | _ ↦ marked_at around later end
     ]
 
 -- of what stands in a flow parent with so many kinds open
 abbrev pub limit_of : ℕ → Around → Parts → ℕ → Made → Option Limit
 limit_of depth around parts at m =
-    earlier (option_map (λ n. TooDeep n) (deep_at depth m.later.items m.later.spans)) (option_map (λ n. TooManyMarks n) (marked_at around parts at))
+    earlier
+    (option_map (λ n. TooDeep n) (deep_at depth m.later.items m.later.spans))
+    (option_map (λ n. TooManyMarks n) (marked_at around parts at))
 
 abbrev pub moved_to : ℕ → Limit → Limit
 moved_to at (TooDeep n) = TooDeep at

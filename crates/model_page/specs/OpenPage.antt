@@ -5,9 +5,9 @@ use Rattle.ve_base.specs.declared.value.Value.{Value}
 use Rattle.model_spelling.specs.declared.scan_fault.ScanFault.{ScanFault}
 use Rattle.model_spelling.specs.Faults.{ForestFault, Scan, fault_of}
 use Rattle.model_spelling.specs.Parsed.{forest_of}
-use Rattle.model_spelling.specs.Page.{body_at, moved}
+use Rattle.model_spelling.specs.Page.{body_at, fault_in_page}
 use Rattle.model_change.specs.Store.{cited, fill}
-use Rattle.model_page.specs.PageItems.{Opened, opened_with, page_made, slice, or_nothing}
+use Rattle.model_page.specs.PageItems.{Opened, page_opened, page_made, slice, or_nothing}
 use Rattle.model_page.specs.Limits.{Limit, page_limit}
 use Rattle.ve_base.specs.Limits.{max_page, max_items, max_values}
 
@@ -42,8 +42,8 @@ read_body page (Err f) = Err (BadPage (Scan f))
 read_body page (Ok body) =
     let text = slice page body.0 body.1 in
     elim (fault_of text) [
-      | Some f ↦ Err (BadPage (moved body.0 f))
-      | None ↦ if_within (opened_with page (record { from = body.0; to = body.1 }) (page_made body.0 (or_nothing (forest_of text))))
+      | Some f ↦ Err (BadPage (fault_in_page body.0 f))
+      | None ↦ if_within (page_opened page (record { from = body.0; to = body.1 }) (page_made body.0 (or_nothing (forest_of text))))
     ]
 
 -- a page, of at most 2^22 bytes

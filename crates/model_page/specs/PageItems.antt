@@ -11,13 +11,14 @@ use Rattle.model_items.specs.declared.plain_item.PlainItem.TheVariants.{Char, Op
 use Rattle.model_spelling.specs.Parsed.{forest_of}
 use Rattle.model_page.specs.Parts.{parts_of}
 use Rattle.ve_base.specs.Empty.{empty_head}
-use Rattle.model_page.specs.Pieces.{Span, Owner, Made}
+use Rattle.model_page.specs.Pieces.{SourceSpan, Owner, Made}
 use Rattle.model_page.specs.Convert.{in_flow}
 
 -- each opening has the next number
 abbrev pub with_origins : ℕ → List PlainItem → List PlainItem
 with_origins k [] = []
-with_origins k (Opening kind head marks pre origin generated ∷ items) = Opening kind head marks pre (Some k) generated ∷ with_origins (suc k) items
+with_origins k (Opening kind head marks pre origin generated ∷ items) =
+    Opening kind head marks pre (Some k) generated ∷ with_origins (suc k) items
 with_origins k (Closing kind pre ∷ items) = Closing kind pre ∷ with_origins k items
 with_origins k (Char c marks ∷ items) = Char c marks ∷ with_origins k items
 
@@ -49,8 +50,8 @@ abbrev pub page_made : ℕ → Forest → Made
 page_made at forest = in_flow Root (parts_of forest) (record { at = at; owners = []; editable = true })
 
 -- all items
-abbrev pub items_of : Made → List PlainItem
-items_of m = with_origins 0 m.later.items ++ internal_list m.pre m.owners
+abbrev pub items_of_page : Made → List PlainItem
+items_of_page m = with_origins 0 m.later.items ++ internal_list m.pre m.owners
 
 -- the bytes between two places
 abbrev pub slice : List ℕ → ℕ → ℕ → List ℕ
@@ -59,16 +60,16 @@ slice bytes from to = take (to - from) (drop from bytes)
 -- a page as it is first read: its bytes, the bytes of its body, its items, and the spans of the origins
 pub record Opened : Type 0 where
   pub page : List ℕ
-  pub body : Span
+  pub body : SourceSpan
   pub items : List PlainItem
-  pub spans : List Span
+  pub spans : List SourceSpan
 
-abbrev pub opened_with : List ℕ → Span → Made → Opened
-opened_with page body m = record { page = page; body = body; items = items_of m; spans = m.later.spans }
+abbrev pub page_opened : List ℕ → SourceSpan → Made → Opened
+page_opened page body m = record { page = page; body = body; items = items_of_page m; spans = m.later.spans }
 
-abbrev pub opened_forest : List ℕ → Span → Option Forest → Option Opened
+abbrev pub opened_forest : List ℕ → SourceSpan → Option Forest → Option Opened
 opened_forest page body None = None
-opened_forest page body (Some forest) = Some (opened_with page body (page_made body.from forest))
+opened_forest page body (Some forest) = Some (page_opened page body (page_made body.from forest))
 
 abbrev pub opened_body : List ℕ → Result (ℕ × ℕ) ScanFault → Option Opened
 opened_body page (Err f) = None

@@ -14,14 +14,14 @@ use Rattle.ve_kinds.specs.Table.{is_inline_leaf}
 -- ---- what conversion makes, and where it stands
 
 -- bytes of the page
-pub record Span : Type 0 where
+pub record SourceSpan : Type 0 where
   pub from : ℕ
   pub to : ℕ
 
 -- items, and the spans of their openings in order
 pub record Piece : Type 0 where
   pub items : List PlainItem
-  pub spans : List Span
+  pub spans : List SourceSpan
 
 -- a reference that owns its body: the byte where it starts, its key, and the text of its body
 pub record Owner : Type 0 where
@@ -38,18 +38,18 @@ pub record Made : Type 0 where
   pub pre : List ℕ
   pub owners : List Owner
 
--- Where conversion stands: the byte, the owners before it, and whether references are editable here.
-pub record Place : Type 0 where
+-- How far conversion is: the byte, the owners before it, and whether references are editable here.
+pub record Progress : Type 0 where
   pub at : ℕ
   pub owners : List Owner
   pub editable : Bool
 
--- the place after this source with these owners
-abbrev pub past : Place → List ℕ → List Owner → Place
+-- after this source with these owners
+abbrev pub past : Progress → List ℕ → List Owner → Progress
 past place source owners = record { at = place.at + length source; owners = place.owners ++ owners; editable = place.editable }
 
-abbrev pub span_at : Place → List ℕ → Span
-span_at place source = record { from = place.at; to = place.at + length source }
+abbrev pub source_span : Progress → List ℕ → SourceSpan
+source_span place source = record { from = place.at; to = place.at + length source }
 
 -- ---- pieces
 
@@ -60,13 +60,13 @@ abbrev pub joined_pieces : Piece → Piece → Piece
 joined_pieces a b = record { items = a.items ++ b.items; spans = a.spans ++ b.spans }
 
 -- a node: its opening, what is in it, and its closing after this whitespace
-abbrev pub node : Kind → Head → List Mark → Bool → Span → Piece → List ℕ → Piece
+abbrev pub node : Kind → Head → List Mark → Bool → SourceSpan → Piece → List ℕ → Piece
 node kind head marks generated span inside pre = record {
   items = Opening kind head marks [] None generated ∷ inside.items ++ Closing kind pre ∷ [];
   spans = span ∷ inside.spans;
 }
 
-abbrev pub leaf : Kind → Head → List Mark → Span → Piece
+abbrev pub leaf : Kind → Head → List Mark → SourceSpan → Piece
 leaf kind head marks span = node kind head marks false span no_piece []
 
 abbrev pub chars_piece : List Mark → List ℕ → Piece
@@ -101,7 +101,7 @@ abbrev pub run_dropped : Made → Made
 run_dropped made = record made { run = no_piece; source = [] }
 
 -- the run becomes a generated paragraph of this span
-abbrev pub paragraph_before : Span → Made → Made
+abbrev pub paragraph_before : SourceSpan → Made → Made
 paragraph_before span made = record made {
   run = no_piece;
   source = [];
@@ -109,15 +109,15 @@ paragraph_before span made = record made {
 }
 
 -- the run of this source is over: there was none, it was whitespace alone, or it becomes a paragraph
-abbrev pub run_ended : List ℕ → Place → Made → Made
+abbrev pub run_ended : List ℕ → Progress → Made → Made
 run_ended [] place made = run_dropped made
 run_ended (b ∷ bs) place made =
     if is_white (b ∷ bs)
     then with_white (chars (b ∷ bs)) (run_dropped made)
-    else paragraph_before (span_at place (b ∷ bs)) made
+    else paragraph_before (source_span place (b ∷ bs)) made
 
 -- a run that begins at the place is over
-abbrev pub run_closed : Place → Made → Made
+abbrev pub run_closed : Progress → Made → Made
 run_closed place made = run_ended made.source place made
 
 -- one more part of a run or of content before
@@ -129,14 +129,14 @@ in_run piece source owners made = record made {
 }
 
 -- a block before; the place is the one after it
-abbrev pub before_run : Place → Piece → List Owner → Made → Made
+abbrev pub before_run : Progress → Piece → List Owner → Made → Made
 before_run place piece owners made =
     let closed = run_closed place made in
     record closed { later = joined_pieces piece closed.later; owners = owners ++ closed.owners }
 
 -- a leaf before what is made after it
-abbrev pub leaf_before : Place → Kind → Head → List Mark → List ℕ → List Owner → Made → Made
+abbrev pub leaf_before : Progress → Kind → Head → List Mark → List ℕ → List Owner → Made → Made
 leaf_before place kind head marks source owners made =
     if is_inline_leaf kind
-    then in_run (leaf kind head marks (span_at place source)) source owners made
-    else before_run (past place source owners) (leaf kind head marks (span_at place source)) owners made
+    then in_run (leaf kind head marks (source_span place source)) source owners made
+    else before_run (past place source owners) (leaf kind head marks (source_span place source)) owners made

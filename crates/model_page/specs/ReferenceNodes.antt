@@ -11,11 +11,11 @@ use Rattle.ve_base.specs.declared.head.RefKey.{RefKey}
 use Rattle.ve_base.specs.declared.head.Head.{Head}
 use Rattle.model_items.specs.Same.{ref_key_same}
 use Rattle.ve_kinds.specs.Tags.{is_one_of}
-use Rattle.model_page.specs.Elements.{value_of, has_type, is_transclusion, is_reference_type}
+use Rattle.model_page.specs.Elements.{value_named, has_type, is_transclusion, is_reference_type}
 use Rattle.model_page.specs.DataMw.{RefRead, reference_of}
 use Rattle.model_page.specs.Fit.{Around, Structural}
 use Rattle.model_page.specs.Heads.{attrs_of}
-use Rattle.model_page.specs.Pieces.{Owner, Place}
+use Rattle.model_page.specs.Pieces.{Owner, Progress}
 
 -- ---- keys
 
@@ -57,7 +57,7 @@ abbrev pub owners_of : ℕ → RefKey → Option (List ℕ) → List Owner
 owners_of at key None = []
 owners_of at key (Some html) = record { at = at; key = key; html = html } ∷ []
 
-abbrev pub ref_node : Place → List ℕ → List Spelled → Forest → RefRead → RefNode
+abbrev pub ref_node : Progress → List ℕ → List Spelled → Forest → RefRead → RefNode
 ref_node place name attrs children reading = record {
   head = record {
     tag = chars name;
@@ -69,7 +69,7 @@ ref_node place name attrs children reading = record {
   owners = owners_of place.at (key_of place.owners reading) reading.html;
 }
 
-abbrev pub may_be_reference : Place → Around → List ℕ → List Spelled → Bool
+abbrev pub may_be_reference : Progress → Around → List ℕ → List Spelled → Bool
 may_be_reference place (Structural parent) name attrs = false
 may_be_reference place around name attrs =
     place.editable
@@ -78,10 +78,10 @@ may_be_reference place around name attrs =
     && not (has_type is_transclusion attrs)
 
 -- the reference that a group is, if it is one
-abbrev pub ref_of : Place → Around → Forest → Option RefNode
+abbrev pub ref_of : Progress → Around → Forest → Option RefNode
 ref_of place around (Element name attrs children Nothing) =
     if may_be_reference place around name attrs
-    then (elim (reference_in place.owners (value_of (codes "data-mw") attrs)) [
+    then (elim (reference_in place.owners (value_named (codes "data-mw") attrs)) [
       | None ↦ None
       | Some reading ↦ Some (ref_node place name attrs children reading)
     ])

@@ -36,13 +36,13 @@ refs_of items = refs_from 0 false items
 abbrev pub has_key : RefKey → RefAt → Bool
 has_key key r = ref_key_same r.key key
 
-abbrev pub first_place : List RefAt → Option ℕ
-first_place [] = None
-first_place (r ∷ refs) = Some r.at
+abbrev pub first_of_refs : List RefAt → Option ℕ
+first_of_refs [] = None
+first_of_refs (r ∷ refs) = Some r.at
 
 -- the place of the first owner of the key, else of its first reference
 abbrev pub carrier_of : RefKey → List RefAt → Option ℕ
-carrier_of key refs = option_or (first_place (filter (λ r. has_key key r && r.owner) refs)) (first_place (filter (has_key key) refs))
+carrier_of key refs = option_or (first_of_refs (filter (λ r. has_key key r && r.owner) refs)) (first_of_refs (filter (has_key key) refs))
 
 abbrev pub is_carrier : List RefAt → RefAt → Bool
 is_carrier refs r = option_same (λ m n. m == n) (carrier_of r.key refs) (Some r.at)
@@ -92,19 +92,25 @@ keys_after keys [] = keys
 keys_after keys (r ∷ refs) = keys_after (with_key r.key keys) refs
 
 -- the place of the key among those of its group, from 1
-abbrev pub number_in : RefKey → List RefKey → ℕ
-number_in key [] = 0
-number_in key (k ∷ keys) =
-    if ref_key_same k key then 1 else (if text_same k.group key.group then suc (number_in key keys) else number_in key keys)
+abbrev pub number_in_group : RefKey → List RefKey → ℕ
+number_in_group key [] = 0
+number_in_group key (k ∷ keys) =
+    if ref_key_same k key then 1 else (if text_same k.group key.group then suc (number_in_group key keys) else number_in_group key keys)
 
-abbrev pub place_of : Option Body → Option ℕ
-place_of None = None
-place_of (Some b) = Some b.at
+abbrev pub place_of_body : Option Body → Option ℕ
+place_of_body None = None
+place_of_body (Some b) = Some b.at
 
 -- the row of one reference
-abbrev pub row_of : List PlainItem → RefAt → RefRow
-row_of items r = record { at = r.at; key = r.key; number = number_in r.key (keys_after [] (refs_of items)); carrier = is_carrier (refs_of items) r; body_at = place_of (body_of r.key items) }
+abbrev pub ref_row : List PlainItem → RefAt → RefRow
+ref_row items r = record {
+  at = r.at;
+  key = r.key;
+  number = number_in_group r.key (keys_after [] (refs_of items));
+  carrier = is_carrier (refs_of items) r;
+  body_at = place_of_body (body_of r.key items);
+}
 
 -- a row for each reference, in order
 abbrev pub table : List PlainItem → List RefRow
-table items = map (row_of items) (refs_of items)
+table items = map (ref_row items) (refs_of items)

@@ -17,12 +17,12 @@ use Rattle.model_page.specs.Tags.{is_inline_tag, is_annotation_tag}
 use Rattle.model_page.specs.Fit.{Flow, Content, Fit, Annotation, Leaf, Branch, Whole, around_in, has_child, fit_of, fit_in_content, fit_in_block, whole_kind, is_generated, has_inline_tags, group_kind}
 use Rattle.ve_kinds.specs.Table.{is_inline_leaf}
 use Rattle.model_page.specs.Heads.{characters, attrs_of, head_with, whole_head}
-use Rattle.model_page.specs.Pieces.{Span, Piece, Owner, Made, Place, past, span_at, no_piece, joined_pieces, node, leaf, chars_piece, items_after, white_left, with_white, run_dropped, paragraph_before, run_ended, run_closed, in_run, before_run, leaf_before}
+use Rattle.model_page.specs.Pieces.{SourceSpan, Piece, Owner, Made, Progress, past, source_span, no_piece, joined_pieces, node, leaf, chars_piece, items_after, white_left, with_white, run_dropped, paragraph_before, run_ended, run_closed, in_run, before_run, leaf_before}
 use Rattle.model_page.specs.ReferenceNodes.{RefNode, ref_of}
 use Rattle.model_page.specs.Convert.{element_source, inside_of, inside_piece, group_made, leaf_made, element_made, made_of, in_flow}
 use Rattle.ve_base.specs.Empty.{empty_head}
 use Rattle.model_page.specs.References.{Body}
-use Rattle.model_page_write.specs.Nodes.{Start, Nodes, Empty, Letter, Node, nodes_of, carried_from}
+use Rattle.model_page_write.specs.Nodes.{Start, Nodes, Empty, Letter, Node, carried_nodes, carried_from}
 use Rattle.model_page_write.specs.Written.{is_empty, reads_inline, stays_inline, has_content, all_stay_inline, white_after, is_bare}
 use Rattle.model_page_law.proofs.NodesLemmas.{followed}
 use Rattle.model_page_law.proofs.ShapeLemmas.{plain, plain-followed, Shaped, letters, whitened, items_after-plain, Fine-made_of, Shaped-inside_piece}
@@ -123,8 +123,8 @@ paragraph-bare : (inside : Nodes) (after : List ℕ) → has_content inside ≡ 
     is_bare false (record { kind = P; head = empty_head; marks = []; pre = []; origin = None; generated = true; body = None }) inside after ≡ true
 paragraph-bare inside after h g e = λ i. h i && g i && is_empty (e i) && true
 
-Done-paragraph : (w : Place) (part : List ℕ) (m : Made) (run : Inline m.run part) → is_white part ≡ false → (n : Nodes) → m.later.items ≡ plain n →
-    Bared false m.pre n → white_after n m.pre ≡ [] → BeginsUnmade n → Done (paragraph_before (span_at w part) m)
+Done-paragraph : (w : Progress) (part : List ℕ) (m : Made) (run : Inline m.run part) → is_white part ≡ false → (n : Nodes) → m.later.items ≡ plain n →
+    Bared false m.pre n → white_after n m.pre ≡ [] → BeginsUnmade n → Done (paragraph_before (source_span w part) m)
 Done-paragraph w part m run h n e b calm u =
     let s : Start = record { kind = P; head = empty_head; marks = []; pre = []; origin = None; generated = true; body = None } in
     let bare = paragraph-bare run.nodes (white_after n m.pre) (run.content h) run.stays calm in
@@ -141,13 +141,13 @@ Done-chosen : (c : Bool) (a b : Made) → Done a → (c ≡ false → Done b) �
 Done-chosen true a b f g = f
 Done-chosen false a b f g = g refl
 
-Done-run_ended : (part : List ℕ) (w : Place) (m : Made) (run : Inline m.run part) (n : Nodes) → m.later.items ≡ plain n →
+Done-run_ended : (part : List ℕ) (w : Progress) (m : Made) (run : Inline m.run part) (n : Nodes) → m.later.items ≡ plain n →
     Bared false m.pre n → white_after n m.pre ≡ [] → BeginsUnmade n → Done (run_ended part w m)
 Done-run_ended [] w m run n e b calm u = record { later = n; items = e; bared = b }
 Done-run_ended (x ∷ xs) w m run n e b calm u =
     Done-chosen (is_white (x ∷ xs)) _ _ (Done-with_white (chars (x ∷ xs)) (run_dropped m) n e b u) (λ h. Done-paragraph w (x ∷ xs) m run h n e b calm u)
 
-pub Done-run_closed : (w : Place) (m : Made) → Ready m → Done (run_closed w m)
+pub Done-run_closed : (w : Progress) (m : Made) → Ready m → Done (run_closed w m)
 Done-run_closed w m r = Done-run_ended m.source w m r.run r.later r.items r.bared r.calm r.unmade
 
 Ready-in_run : (piece : Piece) (source : List ℕ) (owners : List Owner) (m : Made) → Inline piece source → Ready m → Ready (in_run piece source owners m)
@@ -160,15 +160,15 @@ Ready-in_run piece source owners m f r = record {
   unmade = r.unmade;
 }
 
-run_ended-run : (part : List ℕ) (w : Place) (m : Made) → Inline (run_ended part w m).run (run_ended part w m).source
+run_ended-run : (part : List ℕ) (w : Progress) (m : Made) → Inline (run_ended part w m).run (run_ended part w m).source
 run_ended-run [] w m = Inline-none
-run_ended-run (b ∷ bs) w m = chosen_run (is_white (b ∷ bs)) (with_white (chars (b ∷ bs)) (run_dropped m)) (paragraph_before (span_at w (b ∷ bs)) m) Inline-none Inline-none
+run_ended-run (b ∷ bs) w m = chosen_run (is_white (b ∷ bs)) (with_white (chars (b ∷ bs)) (run_dropped m)) (paragraph_before (source_span w (b ∷ bs)) m) Inline-none Inline-none
   where
     chosen_run : (c : Bool) (a b : Made) → Inline a.run a.source → Inline b.run b.source → Inline (if c then a else b).run (if c then a else b).source
     chosen_run true a b e f = e
     chosen_run false a b e f = f
 
-Ready-before_run : (w : Place) (kind : Kind) (head : Head) (marks : List Mark) (span : Span) (inside : Piece) (pre : List ℕ) (owners : List Owner) (m : Made) →
+Ready-before_run : (w : Progress) (kind : Kind) (head : Head) (marks : List Mark) (span : SourceSpan) (inside : Piece) (pre : List ℕ) (owners : List Owner) (m : Made) →
     Shaped inside → Ready m → Ready (before_run w (node kind head marks false span inside pre) owners m)
 Ready-before_run w kind head marks span inside pre owners m shape r =
     let d = Done-run_closed w m r in
@@ -194,7 +194,7 @@ Ready-chosen false a b f g = g
 abbrev pub Stays : Kind → Head → Type 0
 Stays kind head = is_inline_leaf kind ≡ true → stays_inline (record { kind = kind; head = head; marks = []; pre = []; origin = None; generated = false; body = None }) ≡ true
 
-Inline-leaf : (kind : Kind) (head : Head) (span : Span) (source : List ℕ) →
+Inline-leaf : (kind : Kind) (head : Head) (span : SourceSpan) (source : List ℕ) →
     stays_inline (record { kind = kind; head = head; marks = []; pre = []; origin = None; generated = false; body = None }) ≡ true → Inline (leaf kind head [] span) source
 Inline-leaf kind head span source h = record {
   nodes = Node (record { kind = kind; head = head; marks = []; pre = []; origin = None; generated = false; body = None }) Empty [] Empty;
@@ -203,12 +203,12 @@ Inline-leaf kind head span source h = record {
   stays = and_from _ true h refl;
 }
 
-Ready-leaf_before : (w : Place) (kind : Kind) (head : Head) (source : List ℕ) (owners : List Owner) (m : Made) →
+Ready-leaf_before : (w : Progress) (kind : Kind) (head : Head) (source : List ℕ) (owners : List Owner) (m : Made) →
     Stays kind head → Ready m → Ready (leaf_before w kind head [] source owners m)
 Ready-leaf_before w kind head source owners m h r =
     Ready-chosen (is_inline_leaf kind) _ _
-    (λ inline. Ready-in_run (leaf kind head [] (span_at w source)) source owners m (Inline-leaf kind head (span_at w source) source (h inline)) r)
-    (Ready-before_run (past w source owners) kind head [] (span_at w source) no_piece [] owners m (record { nodes = Empty; items = refl; count = refl }) r)
+    (λ inline. Ready-in_run (leaf kind head [] (source_span w source)) source owners m (Inline-leaf kind head (source_span w source) source (h inline)) r)
+    (Ready-before_run (past w source owners) kind head [] (source_span w source) no_piece [] owners m (record { nodes = Empty; items = refl; count = refl }) r)
 
 -- ---- parts of a flow parent
 
@@ -257,8 +257,8 @@ FitsFlow-fit_of parent name children attrs source h = chosen_fit (is_inline_tag 
 whole-Stays : (kind : Kind) (source : List ℕ) → (is_inline_leaf kind ≡ true → reads_inline (chars source) ≡ true) → Stays kind (whole_head source)
 whole-Stays kind source h g = or_right (not (kind_same kind TransInline || kind_same kind AlienInline) || false) (reads_inline (chars source)) (h g)
 
-Ready-leaf_made : (k : Kind) (attrs : List Spelled) (source : List ℕ) (later : Place → Made) (w : Place) (children : Parts) (fit : Fit) →
-    FitsFlow children attrs source fit → ((p : Place) → Ready (later p)) → Ready (leaf_made (Flow k) attrs source later w fit)
+Ready-leaf_made : (k : Kind) (attrs : List Spelled) (source : List ℕ) (later : Progress → Made) (w : Progress) (children : Parts) (fit : Fit) →
+    FitsFlow children attrs source fit → ((p : Progress) → Ready (later p)) → Ready (leaf_made (Flow k) attrs source later w fit)
 Ready-leaf_made k attrs source later w children (Leaf kind) f h = let p = past w source [] in Ready-leaf_before w kind (head_with attrs) source [] (later p) f (h p)
 Ready-leaf_made k attrs source later w children (Whole kind) f h =
     let p = past w source [] in Ready-leaf_before w kind (whole_head source) source [] (later p) (whole-Stays kind source f) (h p)
@@ -270,16 +270,16 @@ inline_from-whole_kind g true h = refl
 inline_from-whole_kind true false h = cc
 inline_from-whole_kind false false h = cc
 
-Ready-group_made : (k : Kind) (nodes : Forest) (later : Place → Made) (w : Place) (r : Option RefNode) → (has_inline_tags nodes ≡ true → reads_inline (chars (spelling nodes)) ≡ true) →
-    ((p : Place) → Ready (later p)) → Ready (group_made (Flow k) nodes later w r)
+Ready-group_made : (k : Kind) (nodes : Forest) (later : Progress → Made) (w : Progress) (r : Option RefNode) → (has_inline_tags nodes ≡ true → reads_inline (chars (spelling nodes)) ≡ true) →
+    ((p : Progress) → Ready (later p)) → Ready (group_made (Flow k) nodes later w r)
 Ready-group_made k nodes later w (Some r) f h = let p = past w (spelling nodes) r.owners in Ready-leaf_before w Ref r.head (spelling nodes) r.owners (later p) (λ e. refl) (h p)
 Ready-group_made k nodes later w None f h =
     let p = past w (spelling nodes) [] in
     Ready-leaf_before w (group_kind (Flow k) nodes) (whole_head (spelling nodes)) (spelling nodes) [] (later p)
     (whole-Stays (group_kind (Flow k) nodes) (spelling nodes) (λ e. f (inline_from-whole_kind (is_generated nodes) (has_inline_tags nodes) e))) (h p)
 
-Ready-element_made : (k : Kind) (name : List ℕ) (attrs : List Spelled) (source : List ℕ) (children : Parts) (later : Place → Made) (w : Place) (fit : Fit) →
-    FitsFlow children attrs source fit → Texted children → ((p : Place) → Ready (later p)) →
+Ready-element_made : (k : Kind) (name : List ℕ) (attrs : List Spelled) (source : List ℕ) (children : Parts) (later : Progress → Made) (w : Progress) (fit : Fit) →
+    FitsFlow children attrs source fit → Texted children → ((p : Progress) → Ready (later p)) →
     Ready (element_made (Flow k) name attrs source (λ a. made_of a children) later w fit)
 Ready-element_made k name attrs source children later w Annotation f t h =
     let n : Mark = record { tag = chars name; attrs = attrs_of attrs } in
@@ -290,13 +290,13 @@ Ready-element_made k name attrs source children later w Annotation f t h =
 Ready-element_made k name attrs source children later w (Branch kind) f t h =
     let at = inside_of w name attrs in
     let inside = inside_piece (around_in kind) at (made_of (around_in kind) children at) in
-    let suffix = past w source inside.owners in
-    Ready-before_run suffix kind (head_with attrs) [] (span_at w source) inside.later inside.pre inside.owners (later suffix)
-    (Shaped-inside_piece (around_in kind) at (made_of (around_in kind) children at) (Fine-made_of (around_in kind) children at)) (h suffix)
+    let after = past w source inside.owners in
+    Ready-before_run after kind (head_with attrs) [] (source_span w source) inside.later inside.pre inside.owners (later after)
+    (Shaped-inside_piece (around_in kind) at (made_of (around_in kind) children at) (Fine-made_of (around_in kind) children at)) (h after)
 Ready-element_made k name attrs source children later w (Leaf kind) f t h = Ready-leaf_made k attrs source later w children (Leaf kind) f h
 Ready-element_made k name attrs source children later w (Whole kind) f t h = Ready-leaf_made k attrs source later w children (Whole kind) f h
 
-pub Ready-made_of : (k : Kind) (parts : Parts) → Inlined parts → (w : Place) → Ready (made_of (Flow k) parts w)
+pub Ready-made_of : (k : Kind) (parts : Parts) → Inlined parts → (w : Progress) → Ready (made_of (Flow k) parts w)
 Ready-made_of k Ended t w = record { run = Inline-none; later = Empty; items = refl; bared = tt; calm = refl; unmade = tt }
 Ready-made_of k (Words text later) t w =
     let p = past w text [] in
@@ -361,10 +361,10 @@ Bared-from_bearing bodies before closing (Node s inside pre later) at b =
 pub Bared-same : (before : Bool) (closing : List ℕ) (n n2 : Nodes) → plain n ≡ plain n2 → Bared before closing n2 → Bared before closing n
 Bared-same before closing n n2 e b =
     let none : ℕ → Option Body = λ at. None in
-    let same : bearing none 0 n ≡ bearing none 0 n2 = sym (nodes_of-carried_items none 0 n) ∙ ap (λ xs. nodes_of (carried_from none 0 xs)) e ∙ nodes_of-carried_items none 0 n2 in
+    let same : bearing none 0 n ≡ bearing none 0 n2 = sym (nodes_of-carried_items none 0 n) ∙ ap (λ xs. carried_nodes (carried_from none 0 xs)) e ∙ nodes_of-carried_items none 0 n2 in
     Bared-from_bearing none before closing n 0 (subst (λ x. Bared before closing x) (sym same) (Bared-bearing none before closing n2 0 b))
 
-pub Bared-in_flow : (k : Kind) (parts : Parts) (w : Place) (n : Nodes) → Inlined parts → (in_flow k parts w).later.items ≡ plain n → Bared false (in_flow k parts w).pre n
+pub Bared-in_flow : (k : Kind) (parts : Parts) (w : Progress) (n : Nodes) → Inlined parts → (in_flow k parts w).later.items ≡ plain n → Bared false (in_flow k parts w).pre n
 Bared-in_flow k parts w n t e =
     let d = Done-run_closed w (made_of (Flow k) parts w) (Ready-made_of k parts t w) in
     Bared-same false (in_flow k parts w).pre n d.later (sym e ∙ d.items) d.bared

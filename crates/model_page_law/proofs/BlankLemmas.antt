@@ -16,7 +16,7 @@ use Rattle.model_page.specs.Parts.{Ended, Single, Parent, parts_of}
 use Rattle.model_page.specs.Fit.{Around, Flow, Structural, Content, Fit, Annotation, Leaf, Branch, Whole, around_in, note_kind, fit_of}
 use Rattle.ve_kinds.specs.Table.{is_inline_leaf}
 use Rattle.model_page.specs.Heads.{characters, head_with, whole_head}
-use Rattle.model_page.specs.Pieces.{Made, Place, past, span_at, leaf, in_run, before_run, run_dropped, with_white, paragraph_before, run_ended, leaf_before}
+use Rattle.model_page.specs.Pieces.{Made, Progress, past, source_span, leaf, in_run, before_run, run_dropped, with_white, paragraph_before, run_ended, leaf_before}
 use Rattle.model_page.specs.Convert.{leaf_made, element_source, element_made, inside_of, inside_piece, marked_around, words_before, marks_at, made_of}
 use Rattle.model_page_write.specs.Nodes.{Nodes, Empty, Letter, Node}
 use Rattle.model_page_write.specs.Written.{has_content}
@@ -57,11 +57,11 @@ decoded-blank (c ∷ cs) h =
 characters-blank : (text : List ℕ) → is_white text ≡ true → characters text ≡ text
 characters-blank text h = ap chars (decoded-blank text h) ∙ white_chars text h
 
-Blank-made_of : (k : Kind) (f : Forest) → Loose k f → is_white (spelling f) ≡ true → (w : Place) → Blank (made_of (Content []) (parts_of f) w).run.items
+Blank-made_of : (k : Kind) (f : Forest) → Loose k f → is_white (spelling f) ≡ true → (w : Progress) → Blank (made_of (Content []) (parts_of f) w).run.items
 Blank-made_of k Nothing l h w = tt
 Blank-made_of k (Text text rest) l h w =
     let p = is_white-parts text (spelling rest) h in
-    let after : Place = past w text [] in
+    let after : Progress = past w text [] in
     subst (λ cs. Blank (map (λ c. Char c []) cs ++ (made_of (Content []) (parts_of rest) after).run.items)) (sym (characters-blank text p.0))
     (Blank-letters text (made_of (Content []) (parts_of rest) after).run.items p.0 (Blank-made_of k rest l p.1 after))
 Blank-made_of k (Remark text rest) l h w = absurd l
@@ -75,7 +75,7 @@ content-not_white k n f l reads has =
     elim (cases_Bool (is_white (spelling f))) [
       | inr e ↦ e
       | inl e ↦
-          let w : Place = record { at = 0; owners = []; editable = false } in
+          let w : Progress = record { at = 0; owners = []; editable = false } in
           let none : has_content n ≡ false = has_content-Blank n (subst Blank (reads w) (Blank-made_of k f l e w)) in
           absurd (true_is_false (sym has ∙ none))
     ]
@@ -85,7 +85,7 @@ content-not_white k n f l reads has =
 
 -- ---- content leaves no whitespace
 
-pub Loose-pre : (k : Kind) (f : Forest) → Loose k f → (w : Place) → (made_of (Content []) (parts_of f) w).pre ≡ []
+pub Loose-pre : (k : Kind) (f : Forest) → Loose k f → (w : Progress) → (made_of (Content []) (parts_of f) w).pre ≡ []
 Loose-pre k Nothing l w = refl
 Loose-pre k (Text text rest) l w = Loose-pre k rest l (past w text [])
 Loose-pre k (Remark text rest) l w = absurd l
@@ -105,45 +105,45 @@ Loose-pre k (Element name attrs children rest) l w =
 
 -- ---- no owners
 
-pub run_ended-owners : (part : List ℕ) (w : Place) (m : Made) → (run_ended part w m).owners ≡ m.owners
+pub run_ended-owners : (part : List ℕ) (w : Progress) (m : Made) → (run_ended part w m).owners ≡ m.owners
 run_ended-owners [] w m = refl
-run_ended-owners (b ∷ bs) w m = chosen (is_white (b ∷ bs)) (with_white (chars (b ∷ bs)) (run_dropped m)) (paragraph_before (span_at w (b ∷ bs)) m) refl refl
+run_ended-owners (b ∷ bs) w m = chosen (is_white (b ∷ bs)) (with_white (chars (b ∷ bs)) (run_dropped m)) (paragraph_before (source_span w (b ∷ bs)) m) refl refl
   where
     chosen : (c : Bool) (x y : Made) → x.owners ≡ m.owners → y.owners ≡ m.owners → (if c then x else y).owners ≡ m.owners
     chosen true x y e f = e
     chosen false x y e f = f
 
-leaf_before-owners : (w : Place) (kind : Kind) (head : Head) (marks : List Mark) (part : List ℕ) (m : Made) → m.owners ≡ [] → (leaf_before w kind head marks part [] m).owners ≡ []
+leaf_before-owners : (w : Progress) (kind : Kind) (head : Head) (marks : List Mark) (part : List ℕ) (m : Made) → m.owners ≡ [] → (leaf_before w kind head marks part [] m).owners ≡ []
 leaf_before-owners w kind head marks part m e =
-    chosen (is_inline_leaf kind) (in_run (leaf kind head marks (span_at w part)) part [] m) (before_run (past w part []) (leaf kind head marks (span_at w part)) [] m)
+    chosen (is_inline_leaf kind) (in_run (leaf kind head marks (source_span w part)) part [] m) (before_run (past w part []) (leaf kind head marks (source_span w part)) [] m)
     e (run_ended-owners m.source (past w part []) m ∙ e)
   where
     chosen : (c : Bool) (x y : Made) → x.owners ≡ [] → y.owners ≡ [] → (if c then x else y).owners ≡ []
     chosen true x y e f = e
     chosen false x y e f = f
 
-leaf_made-owners : (around : Around) (attrs : List Spelled) (part : List ℕ) (later : Place → Made) (w : Place) (fit : Fit) → ((v : Place) → (later v).owners ≡ []) →
+leaf_made-owners : (around : Around) (attrs : List Spelled) (part : List ℕ) (later : Progress → Made) (w : Progress) (fit : Fit) → ((v : Progress) → (later v).owners ≡ []) →
     (leaf_made around attrs part later w fit).owners ≡ []
 leaf_made-owners around attrs part later w (Leaf kind) h = leaf_before-owners w kind (head_with attrs) (marks_at around) part (later (past w part [])) (h (past w part []))
 leaf_made-owners around attrs part later w (Whole kind) h = leaf_before-owners w kind (whole_head part) (marks_at around) part (later (past w part [])) (h (past w part []))
 leaf_made-owners around attrs part later w Annotation h = leaf_before-owners w (note_kind around) (whole_head part) (marks_at around) part (later (past w part [])) (h (past w part []))
 leaf_made-owners around attrs part later w (Branch kind) h = leaf_before-owners w (note_kind around) (whole_head part) (marks_at around) part (later (past w part [])) (h (past w part []))
 
-inside_piece-owners : (around : Around) (w : Place) (m : Made) → (inside_piece around w m).owners ≡ m.owners
+inside_piece-owners : (around : Around) (w : Progress) (m : Made) → (inside_piece around w m).owners ≡ m.owners
 inside_piece-owners (Content marks) w m = refl
 inside_piece-owners (Flow kind) w m = run_ended-owners m.source w m
 inside_piece-owners (Structural kind) w m = refl
 
-element_made-owners : (around : Around) (name : List ℕ) (attrs : List Spelled) (part : List ℕ) (children : Around → Place → Made) (later : Place → Made) (w : Place) (fit : Fit) →
-    ((a : Around) (v : Place) → (children a v).owners ≡ []) → ((v : Place) → (later v).owners ≡ []) → (element_made around name attrs part children later w fit).owners ≡ []
+element_made-owners : (around : Around) (name : List ℕ) (attrs : List Spelled) (part : List ℕ) (children : Around → Progress → Made) (later : Progress → Made) (w : Progress) (fit : Fit) →
+    ((a : Around) (v : Progress) → (children a v).owners ≡ []) → ((v : Progress) → (later v).owners ≡ []) → (element_made around name attrs part children later w fit).owners ≡ []
 element_made-owners around name attrs part children later w Annotation g h =
     let inside : Made = children (marked_around around name attrs) (inside_of w name attrs) in
     (λ i. g (marked_around around name attrs) (inside_of w name attrs) i ++ h (past w part inside.owners) i)
 element_made-owners around name attrs part children later w (Branch kind) g h =
-    let at : Place = inside_of w name attrs in
+    let at : Progress = inside_of w name attrs in
     let inside : Made = inside_piece (around_in kind) at (children (around_in kind) at) in
-    let suffix : Place = past w part inside.owners in
-    (λ i. (inside_piece-owners (around_in kind) at (children (around_in kind) at) ∙ g (around_in kind) at) i ++ (run_ended-owners (later suffix).source suffix (later suffix) ∙ h suffix) i)
+    let after : Progress = past w part inside.owners in
+    (λ i. (inside_piece-owners (around_in kind) at (children (around_in kind) at) ∙ g (around_in kind) at) i ++ (run_ended-owners (later after).source after (later after) ∙ h after) i)
 element_made-owners around name attrs part children later w (Leaf kind) g h = leaf_made-owners around attrs part later w (Leaf kind) h
 element_made-owners around name attrs part children later w (Whole kind) g h = leaf_made-owners around attrs part later w (Whole kind) h
 
@@ -152,7 +152,7 @@ words_before-owners (Content marks) text m = refl
 words_before-owners (Flow kind) text m = refl
 words_before-owners (Structural kind) text m = refl
 
-pub Clean-owners : (f : Forest) → Clean f → (around : Around) (w : Place) → (made_of around (parts_of f) w).owners ≡ []
+pub Clean-owners : (f : Forest) → Clean f → (around : Around) (w : Progress) → (made_of around (parts_of f) w).owners ≡ []
 Clean-owners Nothing c around w = refl
 Clean-owners (Text text rest) c around w =
     words_before-owners around text (made_of around (parts_of rest) (past w text [])) ∙ Clean-owners rest c.3 around (past w text [])

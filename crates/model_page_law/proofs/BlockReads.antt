@@ -17,7 +17,7 @@ use Rattle.ve_kinds.specs.Table.{is_inline_leaf}
 use Rattle.model_page.specs.Tags.{tag_of}
 use Rattle.model_page.specs.Fragment.{item_unmade}
 use Rattle.model_page.specs.Heads.{characters, head_with}
-use Rattle.model_page.specs.Pieces.{node, items_after, white_left, with_white, run_dropped, paragraph_before, run_ended, run_closed, Owner, Piece, Made, Place, past, span_at, leaf, chars_piece, in_run, before_run}
+use Rattle.model_page.specs.Pieces.{node, items_after, white_left, with_white, run_dropped, paragraph_before, run_ended, run_closed, Owner, Piece, Made, Progress, past, source_span, leaf, chars_piece, in_run, before_run}
 use Rattle.model_page.specs.Convert.{inside_piece, leaf_made, marks_at, marked_around, element_source, element_made, inside_of, made_of}
 use Rattle.ve_base.specs.Empty.{empty_head}
 use Rattle.model_page_law.proofs.SourceLemmas.{parts_of-source}
@@ -28,10 +28,10 @@ use Rattle.model_page_law.proofs.BlockText.{followed_by, white_before, block_ele
 
 -- where so placed, the forest makes no run before, these items (but for what is generated), and this whitespace after them
 pub record AtBlock (around : Around) (f : Forest) (items : List PlainItem) (pre : List ℕ) : Type 0 where
-  pub source : (w : Place) → (made_of around (parts_of f) w).source ≡ []
-  pub run : (w : Place) → (made_of around (parts_of f) w).run.items ≡ []
-  pub later : (w : Place) → map item_unmade (made_of around (parts_of f) w).later.items ≡ items
-  pub white : (w : Place) → (made_of around (parts_of f) w).pre ≡ pre
+  pub source : (w : Progress) → (made_of around (parts_of f) w).source ≡ []
+  pub run : (w : Progress) → (made_of around (parts_of f) w).run.items ≡ []
+  pub later : (w : Progress) → map item_unmade (made_of around (parts_of f) w).later.items ≡ items
+  pub white : (w : Progress) → (made_of around (parts_of f) w).pre ≡ pre
 
 -- texts, leaves br and img, and annotations, of which none is held
 abbrev pub Loose : Kind → Forest → Type 0
@@ -74,26 +74,26 @@ made_if_true : (c : Bool) (a b : Made) → c ≡ true → (if c then a else b) �
 made_if_true true a b e = refl
 made_if_true false a b e = cc
 
-pub leaf_made-inline : (around : Around) (attrs : List Spelled) (part : List ℕ) (later : Place → Made) (w : Place) (kind : Kind) (fit : Fit) → is_inline_leaf kind ≡ true → fit ≡ Leaf kind →
-    leaf_made around attrs part later w fit ≡ in_run (leaf kind (head_with attrs) (marks_at around) (span_at w part)) part [] (later (past w part []))
+pub leaf_made-inline : (around : Around) (attrs : List Spelled) (part : List ℕ) (later : Progress → Made) (w : Progress) (kind : Kind) (fit : Fit) → is_inline_leaf kind ≡ true → fit ≡ Leaf kind →
+    leaf_made around attrs part later w fit ≡ in_run (leaf kind (head_with attrs) (marks_at around) (source_span w part)) part [] (later (past w part []))
 leaf_made-inline around attrs part later w kind fit i e = ap (leaf_made around attrs part later w) e ∙ made_if_true (is_inline_leaf kind) _ _ i
 
-pub run-followed_by : (k : Kind) (f rest : Forest) (items : List PlainItem) (pre : List ℕ) → Loose k f → AtBlock (Flow k) rest items pre → (w : Place) →
+pub run-followed_by : (k : Kind) (f rest : Forest) (items : List PlainItem) (pre : List ℕ) → Loose k f → AtBlock (Flow k) rest items pre → (w : Progress) →
     RunBefore (made_of (Flow k) (parts_of (followed_by f rest)) w) (made_of (Content []) (parts_of f) w) (spelling f) items pre
 run-followed_by k Nothing rest items pre l b w = record { run = b.run w; source_is = b.source w; later = b.later w; white = b.white w }
 run-followed_by k (Text text more) rest items pre l b w =
-    let p : Place = past w text [] in
+    let p : Progress = past w text [] in
     RunBefore-in_run (chars_piece [] (characters text)) text [] (made_of (Flow k) (parts_of (followed_by more rest)) p) (made_of (Content []) (parts_of more) p) (spelling more) items pre
     (run-followed_by k more rest items pre l b p)
 run-followed_by k (Remark text more) rest items pre l b w = absurd l
 run-followed_by k (RawElement name attrs text more) rest items pre l b w = absurd l
 run-followed_by k (Void name attrs slash more) rest items pre l b w =
     let part : List ℕ = start_text name attrs slash in
-    let p : Place = past w part [] in
+    let p : Progress = past w part [] in
     let fit = l.1 in
-    let flow : Place → Made = made_of (Flow k) (parts_of (followed_by more rest)) in
-    let content : Place → Made = made_of (Content []) (parts_of more) in
-    let piece : Piece = leaf fit.0 (head_with attrs) [] (span_at w part) in
+    let flow : Progress → Made = made_of (Flow k) (parts_of (followed_by more rest)) in
+    let content : Progress → Made = made_of (Content []) (parts_of more) in
+    let piece : Piece = leaf fit.0 (head_with attrs) [] (source_span w part) in
     let e : made_of (Flow k) (parts_of (followed_by (Void name attrs slash more) rest)) w ≡ in_run piece part [] (flow p) =
     ap (λ x. made_of (Flow k) x w) (parts_if_false (is_held attrs) _ (Single name attrs part (parts_of (followed_by more rest))) l.0)
     ∙ leaf_made-inline (Flow k) attrs part flow w fit.0 (fit_of (Flow k) name Ended) fit.1 fit.2 in
@@ -106,9 +106,9 @@ run-followed_by k (Void name attrs slash more) rest items pre l b w =
 run-followed_by k (Element name attrs children more) rest items pre l b w =
     let part : List ℕ = element_source name attrs (parts_of children) in
     let inside : Made = made_of (marked_around (Flow k) name attrs) (parts_of children) (inside_of w name attrs) in
-    let p : Place = past w part inside.owners in
-    let flow : Place → Made = made_of (Flow k) (parts_of (followed_by more rest)) in
-    let content : Place → Made = made_of (Content []) (parts_of more) in
+    let p : Progress = past w part inside.owners in
+    let flow : Progress → Made = made_of (Flow k) (parts_of (followed_by more rest)) in
+    let content : Progress → Made = made_of (Content []) (parts_of more) in
     let e : made_of (Flow k) (parts_of (followed_by (Element name attrs children more) rest)) w ≡ in_run inside.run part inside.owners (flow p) =
     ap (λ x. made_of (Flow k) x w) (parts_if_false (is_held attrs) _ (Parent name attrs (parts_of children) (parts_of (followed_by more rest))) l.0)
     ∙ ap (element_made (Flow k) name attrs part (λ a. made_of a (parts_of children)) flow w) l.1 in
@@ -125,8 +125,8 @@ run-followed_by k (Element name attrs children more) rest items pre l b w =
 
 -- where so placed, the forest makes these items, its run closed, and leaves this whitespace
 pub record Closes (around : Around) (f : Forest) (items : List PlainItem) (pre : List ℕ) : Type 0 where
-  pub later : (w : Place) → map item_unmade (run_closed w (made_of around (parts_of f) w)).later.items ≡ items
-  pub white : (w : Place) → (run_closed w (made_of around (parts_of f) w)).pre ≡ pre
+  pub later : (w : Progress) → map item_unmade (run_closed w (made_of around (parts_of f) w)).later.items ≡ items
+  pub white : (w : Progress) → (run_closed w (made_of around (parts_of f) w)).pre ≡ pre
 
 pub Closes-AtBlock : (around : Around) (f : Forest) (items : List PlainItem) (pre : List ℕ) → AtBlock around f items pre → Closes around f items pre
 Closes-AtBlock around f items pre b = record {
@@ -137,9 +137,9 @@ Closes-AtBlock around f items pre b = record {
 pub AtBlock-nothing : (around : Around) → AtBlock around Nothing [] []
 AtBlock-nothing around = record { source = λ w. refl; run = λ w. refl; later = λ w. refl; white = λ w. refl }
 
-run_ended-run : (part : List ℕ) (w : Place) (m : Made) → (run_ended part w m).run.items ≡ []
+run_ended-run : (part : List ℕ) (w : Progress) (m : Made) → (run_ended part w m).run.items ≡ []
 run_ended-run [] w m = refl
-run_ended-run (b ∷ bs) w m = chosen_run (is_white (b ∷ bs)) (with_white (chars (b ∷ bs)) (run_dropped m)) (paragraph_before (span_at w (b ∷ bs)) m) refl refl
+run_ended-run (b ∷ bs) w m = chosen_run (is_white (b ∷ bs)) (with_white (chars (b ∷ bs)) (run_dropped m)) (paragraph_before (source_span w (b ∷ bs)) m) refl refl
   where
     chosen_run : (c : Bool) (a b : Made) → a.run.items ≡ [] → b.run.items ≡ [] → (if c then a else b).run.items ≡ []
     chosen_run true a b e f = e
@@ -147,8 +147,8 @@ run_ended-run (b ∷ bs) w m = chosen_run (is_white (b ∷ bs)) (with_white (cha
 
 -- what stands inside of a branch reads as these items, and this whitespace before its closing
 pub record Inside (kind : Kind) (f : Forest) (items : List PlainItem) (pre : List ℕ) : Type 0 where
-  pub later : (w : Place) → map item_unmade (inside_piece (around_in kind) w (made_of (around_in kind) (parts_of f) w)).later.items ≡ items
-  pub white : (w : Place) → (inside_piece (around_in kind) w (made_of (around_in kind) (parts_of f) w)).pre ≡ pre
+  pub later : (w : Progress) → map item_unmade (inside_piece (around_in kind) w (made_of (around_in kind) (parts_of f) w)).later.items ≡ items
+  pub white : (w : Progress) → (inside_piece (around_in kind) w (made_of (around_in kind) (parts_of f) w)).pre ≡ pre
 
 pub AtBlock-element : (around : Around) (s : Start) (inner rest : Forest) (xs ys : List PlainItem) (pre closing : List ℕ) →
     fit_of around (tag_of s.kind) (parts_of inner) ≡ Branch s.kind → is_held (canon_attrs (map attr_bytes s.head.attrs)) ≡ false → head_with (canon_attrs (map attr_bytes s.head.attrs)) ≡ s.head →
@@ -176,16 +176,16 @@ AtBlock-element around s inner rest xs ys pre closing fits free head i c =
     part : List ℕ
     part = element_source name attrs (parts_of inner)
 
-    at : Place → Place
+    at : Progress → Progress
     at w = inside_of w name attrs
 
-    inside : Place → Made
+    inside : Progress → Made
     inside w = inside_piece (around_in s.kind) (at w) (made_of (around_in s.kind) (parts_of inner) (at w))
 
-    suffix : Place → Place
+    suffix : Progress → Progress
     suffix w = past w part (inside w).owners
 
-    is : (w : Place) → made_of around (parts_of (block_element s inner rest)) w ≡ before_run (suffix w) (node s.kind (head_with attrs) [] false (span_at w part) (inside w).later (inside w).pre) (inside w).owners (made_of around (parts_of rest) (suffix w))
+    is : (w : Progress) → made_of around (parts_of (block_element s inner rest)) w ≡ before_run (suffix w) (node s.kind (head_with attrs) [] false (source_span w part) (inside w).later (inside w).pre) (inside w).owners (made_of around (parts_of rest) (suffix w))
     is w =
         ap (λ x. made_of around x w) (parts_if_false (is_held attrs) _ (Parent name attrs (parts_of inner) (parts_of rest)) free)
         ∙ ap (element_made around name attrs part (λ a. made_of a (parts_of inner)) (made_of around (parts_of rest)) w) fits
@@ -250,10 +250,10 @@ Closes-white k (c ∷ cs) f xs pre h b = record {
     t : List ℕ
     t = encode_utf8_all (c ∷ cs)
 
-    made : Place → Made
+    made : Progress → Made
     made w = in_run (chars_piece [] (characters t)) t [] (made_of (Flow k) (parts_of f) (past w t []))
 
-    is : (w : Place) → run_closed w (made w) ≡ with_white (chars (c ∷ cs)) (run_dropped (made w))
+    is : (w : Progress) → run_closed w (made w) ≡ with_white (chars (c ∷ cs)) (run_dropped (made w))
     is w =
         ap (λ s. run_ended s w (made w)) (ap (λ s. t ++ s) (b.source (past w t [])) ∙ append-nil t ∙ white_bytes (c ∷ cs) h)
         ∙ made_if_true (is_white (c ∷ cs)) _ _ h
@@ -264,7 +264,7 @@ made_if_false : (c : Bool) (a b : Made) → c ≡ false → (if c then a else b)
 made_if_false true a b e = cc
 made_if_false false a b e = refl
 
-run_ended-paragraph : (part : List ℕ) (w : Place) (m : Made) → is_white part ≡ false → run_ended part w m ≡ paragraph_before (span_at w part) m
+run_ended-paragraph : (part : List ℕ) (w : Progress) (m : Made) → is_white part ≡ false → run_ended part w m ≡ paragraph_before (source_span w part) m
 run_ended-paragraph [] w m h = cc
 run_ended-paragraph (b ∷ bs) w m h = made_if_false (is_white (b ∷ bs)) _ _ h
 
@@ -282,11 +282,11 @@ Closes-bare k f rest xs ys pre l h reads b = record {
   white = λ w. ap (λ n. n.pre) (is w) ∙ (before w).white;
 }
   where
-    made : Place → Made
+    made : Progress → Made
     made w = made_of (Flow k) (parts_of (followed_by f rest)) w
 
-    before : (w : Place) → RunBefore (made w) (made_of (Content []) (parts_of f) w) (spelling f) ys pre
+    before : (w : Progress) → RunBefore (made w) (made_of (Content []) (parts_of f) w) (spelling f) ys pre
     before w = run-followed_by k f rest ys pre l b w
 
-    is : (w : Place) → run_closed w (made w) ≡ paragraph_before (span_at w (spelling f)) (made w)
+    is : (w : Progress) → run_closed w (made w) ≡ paragraph_before (source_span w (spelling f)) (made w)
     is w = ap (λ s. run_ended s w (made w)) (before w).source_is ∙ run_ended-paragraph (spelling f) w (made w) h

@@ -16,8 +16,8 @@ use Rattle.model_spelling.proofs.Found.{ok_same}
 use Rattle.model_spelling.proofs.BodyPlace.{no_doctype}
 use Rattle.model_spelling.proofs.BodyOnly.{body_only}
 use Rattle.model_spelling.proofs.Proved.{law_body_inside, law_body_is_found}
-use Rattle.model_page.specs.PageItems.{slice, Opened, opened_with, opened_forest, opened_body, opened_page, page_made}
-use Rattle.model_page_law.specs.Replaced.{with_text, opened_again, BodyIsReplaced, WrittenOpens, WrittenIsReadBack}
+use Rattle.model_page.specs.PageItems.{slice, Opened, page_opened, opened_forest, opened_body, opened_page, page_made}
+use Rattle.model_page_law.specs.Replaced.{with_body_text, opened_again, BodyIsReplaced, WrittenOpens, WrittenIsReadBack}
 use Rattle.model_page_law.proofs.OneLemmas.{spelled-Neat}
 use Rattle.model_page_law.proofs.OpenLemmas.{opens_as_its_forest}
 use Rattle.model_page_law.proofs.FreshLemmas.{writes_fresh}
@@ -79,10 +79,10 @@ replaced-whole page from to text w b =
     let tail : List ℕ = close ++ b.after in
     let page_is : page ≡ head ++ (b.body ++ tail) = b.page_is ∙ append_assoc (head ++ b.body) close b.after ∙ append_assoc head b.body tail in
     let at : from ≡ length head = omega (arith, b.from_is, length-append b.before start) in
-    let prefix : take from page ≡ head = ap (λ n. take n page) at ∙ ap (take (length head)) page_is ∙ take-append_seam head (b.body ++ tail) in
+    let head_is : take from page ≡ head = ap (λ n. take n page) at ∙ ap (take (length head)) page_is ∙ take-append_seam head (b.body ++ tail) in
     let rest : drop to page ≡ tail = ap (drop to) page_is ∙ suffix head b.body tail to 0 (omega (arith, at, b.to_is)) in
     let new : List ℕ = take from page ++ text ++ drop to page in
-    let new_is : new ≡ head ++ (text ++ tail) = (λ i. prefix i ++ text ++ rest i) ∙ append_assoc head text tail in
+    let new_is : new ≡ head ++ (text ++ tail) = (λ i. head_is i ++ text ++ rest i) ∙ append_assoc head text tail in
     let still : is_whole (head ++ (b.body ++ tail)) ≡ true = ap is_whole (sym page_is) ∙ w in
     let three = late b.before b.attrs (b.body ++ tail) still in
     let long : 9 ≤ length head = omega (arith, three, start-long b.attrs, length-append b.before start) in
@@ -136,7 +136,7 @@ slice-new page text from to le =
     ∙ take-append_seam text (drop to page)
 
 replaced-opens : (page : List ℕ) (from to : ℕ) (f : Forest) → body_at page ≡ Ok (from, to) → is_forest 200 f ≡ true →
-    opened_page (take from page ++ spelling f ++ drop to page) ≡ Some (opened_with (take from page ++ spelling f ++ drop to page) (record { from = from; to = from + length (spelling f) }) (page_made from f))
+    opened_page (take from page ++ spelling f ++ drop to page) ≡ Some (page_opened (take from page ++ spelling f ++ drop to page) (record { from = from; to = from + length (spelling f) }) (page_made from f))
 replaced-opens page from to f e h =
     let text : List ℕ = spelling f in
     let inside = law_body_inside page from to e in
@@ -146,15 +146,15 @@ replaced-opens page from to f e h =
 
 -- of what was opened
 forest-replaced : (page : List ℕ) (from to : ℕ) → body_at page ≡ Ok (from, to) → (r : Option Forest) (o : Opened) (f : Forest) → opened_forest page (record { from = from; to = to }) r ≡ Some o → is_forest 200 f ≡ true →
-    opened_page (with_text o (spelling f)) ≡ Some (opened_again o f)
+    opened_page (with_body_text o (spelling f)) ≡ Some (opened_again o f)
 forest-replaced page from to e None o f h g = cc
 forest-replaced page from to e (Some first) o f h g =
-    let old : Opened = opened_with page (record { from = from; to = to }) (page_made from first) in
+    let old : Opened = page_opened page (record { from = from; to = to }) (page_made from first) in
     let is : old ≡ o = let p : ◌≡◌ {A = Option Opened} (Some old) (Some o) = h in ap (λ x. unwrap_or x old) p in
-    subst (λ x. opened_page (with_text x (spelling f)) ≡ Some (opened_again x f)) is (replaced-opens page from to f e g)
+    subst (λ x. opened_page (with_body_text x (spelling f)) ≡ Some (opened_again x f)) is (replaced-opens page from to f e g)
 
 body-replaced : (page : List ℕ) (body : Result (ℕ × ℕ) ScanFault) → body_at page ≡ body → (o : Opened) (f : Forest) → opened_body page body ≡ Some o → is_forest 200 f ≡ true →
-    opened_page (with_text o (spelling f)) ≡ Some (opened_again o f)
+    opened_page (with_body_text o (spelling f)) ≡ Some (opened_again o f)
 body-replaced page (Err x) b o f h g = cc
 body-replaced page (Ok body) b o f h g = forest-replaced page body.0 body.1 b (forest_of (slice page body.0 body.1)) o f h g
 
@@ -162,8 +162,8 @@ pub body_is_replaced : BodyIsReplaced
 body_is_replaced page o f h g = body-replaced page (body_at page) refl o f h g
 
 pub written_opens : WrittenOpens
-written_opens page o items f h g e = ap (λ text. opened_page (with_text o text)) (sym e) ∙ body_is_replaced page o f h g
+written_opens page o items f h g e = ap (λ text. opened_page (with_body_text o text)) (sym e) ∙ body_is_replaced page o f h g
 
 pub written_is_read_back : WrittenIsReadBack
 written_is_read_back page o items f h lawful formed none g e =
-    (ap opened_page (writes_fresh o items none ∙ ap (with_text o) (sym e)) ∙ body_is_replaced page o f h g, fresh_is_read_back items lawful formed f o.body.from g e)
+    (ap opened_page (writes_fresh o items none ∙ ap (with_body_text o) (sym e)) ∙ body_is_replaced page o f h g, fresh_is_read_back items lawful formed f o.body.from g e)

@@ -155,8 +155,8 @@ end-cut page at from to (Some p) u (prefix, rest, page_is, at_is, ends) e h =
     let same = ok_same {A = ℕ × ℕ} (at, p) (from, to) h in
     let a : length prefix ≡ from = sym at_is ∙ ap (λ (x : ℕ × ℕ). x.0) same in
     let b : p ≡ to = ap (λ (x : ℕ × ℕ). x.1) same in
-    let suffix : drop at page ≡ rest = ap (λ k. drop k page) at_is ∙ ap (drop (length prefix)) page_is ∙ drop-append_seam prefix rest in
-    let f = last_found ends_body at rest p (sym (ap (last_place ends_body at) suffix) ∙ e) in
+    let rest_is : drop at page ≡ rest = ap (λ k. drop k page) at_is ∙ ap (drop (length prefix)) page_is ∙ drop-append_seam prefix rest in
+    let f = last_found ends_body at rest p (sym (ap (last_place ends_body at) rest_is) ∙ e) in
     let whole : page ≡ (prefix ++ f.prefix) ++ f.rest = page_is ∙ ap (λ s. prefix ++ s) f.text_is ∙ sym (append_assoc prefix f.prefix f.rest) in
     let long : length (prefix ++ f.prefix) ≡ to = omega (arith, length-append prefix f.prefix, f.place_is, at_is, b) in
     (subst (IsCharBoundary page) a (after_tag page prefix rest u page_is ends), subst (IsCharBoundary page) long (before_tag page (prefix ++ f.prefix) f.rest whole (body-ends f.rest f.holds)))

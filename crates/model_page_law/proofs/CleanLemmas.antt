@@ -12,7 +12,7 @@ use Rattle.model_spelling.specs.Written.{decoded, escaped_byte, escaped, canon_a
 use Rattle.ve_kinds.specs.declared.kind.Kind.{Kind}
 use Rattle.ve_base.specs.declared.attrs.Attr.{Attr}
 use Rattle.ve_base.specs.declared.marks.Mark.{Mark}
-use Rattle.model_page.specs.Elements.{is_held, value_of, words_in}
+use Rattle.model_page.specs.Elements.{is_held, value_named, words_in}
 use Rattle.model_page.specs.Parts.{Parts, Single, parts_of}
 use Rattle.model_page.specs.Heads.{characters, attrs_of, head_with}
 use Rattle.model_page.specs.Fit.{Flow, Annotation, has_child, fit_of}
@@ -20,7 +20,7 @@ use Rattle.model_page.specs.Tags.{tag_of, is_inline_tag}
 use Rattle.model_page_write.specs.Nodes.{Start, Nodes, Empty, Letter, Node}
 use Rattle.model_page_write.specs.Written.{is_empty, letter, common_count, Writer}
 use Rattle.model_spelling.specs.Grammar.{start_text}
-use Rattle.model_page_law.specs.Formed.{said, AreNamed, ArePlain, IsMark, AreMarks, IsHead}
+use Rattle.model_page_law.specs.Formed.{said, AreNamed, ArePlain, IsPlainMark, ArePlainMarks, IsHead}
 use Rattle.model_page_law.proofs.FormedNodes.{IsLeaf, IsContent}
 use Rattle.model_page_law.proofs.NeatForests.{without, NeatAttrs, NeatTag, Neat}
 use Rattle.model_page_law.proofs.EscapeLemmas.{decoded-escaped, decoded-nil, pick_true, pick_false, ScalarAttrs, attrs_back, letters_back, annotation-fits}
@@ -109,7 +109,7 @@ attrs-ScalarAttrs (a ∷ attrs) n = (n.0, n.1, attrs-ScalarAttrs attrs n.3)
 decoded_value : (bs : List ℕ) → decoded (escaped true bs) ≡ bs
 decoded_value bs = ap decoded (sym (append-nil (escaped true bs))) ∙ decoded-escaped true bs [] ∙ ap (λ s. bs ++ s) decoded-nil ∙ append-nil bs
 
-value_of-said : (name : List ℕ) (attrs : List Attr) → value_of name (canon_attrs (map attr_bytes attrs)) ≡ said name attrs
+value_of-said : (name : List ℕ) (attrs : List Attr) → value_named name (canon_attrs (map attr_bytes attrs)) ≡ said name attrs
 value_of-said name [] = refl
 value_of-said name (a ∷ attrs) = (λ i. if bytes_eq (encode_utf8_all a.name) name then Some (decoded_value (encode_utf8_all a.value) i) else value_of-said name attrs i)
 
@@ -136,13 +136,13 @@ abbrev FineMarks : Kind → List Mark → Type 0
 FineMarks k [] = Unit {0}
 FineMarks k (m ∷ ms) = FineMark k m × FineMarks k ms
 
-mark_same_read : (m : Mark) → IsMark m → record { tag = chars (encode_utf8_all m.tag); attrs = attrs_of (canon_attrs (map attr_bytes m.attrs)) } ≡ m
+mark_same_read : (m : Mark) → IsPlainMark m → record { tag = chars (encode_utf8_all m.tag); attrs = attrs_of (canon_attrs (map attr_bytes m.attrs)) } ≡ m
 mark_same_read m h = (λ i. record { tag = chars-encodes m.tag h.chars i; attrs = attrs_back m.attrs (attrs-ScalarAttrs m.attrs h.attrs.named) i })
 
-good_mark : (m : Mark) → IsMark m → GoodMark m
+good_mark : (m : Mark) → IsPlainMark m → GoodMark m
 good_mark m h = record { fits = λ ms children child. annotation-fits (encode_utf8_all m.tag) h.tag ms children child; free = attrs_free m.attrs h.attrs; same = mark_same_read m h }
 
-fine_mark : (k : Kind) (m : Mark) → IsMark m → FineMark k m
+fine_mark : (k : Kind) (m : Mark) → IsPlainMark m → FineMark k m
 fine_mark k m h =
     let name : List ℕ = encode_utf8_all m.tag in
     let t = mark_tag name h.tag in
@@ -152,11 +152,11 @@ fine_mark k m h =
       tag = clean_tag false name m.attrs t.name_is t.void_is t.raw_is h.attrs;
     }
 
-fine_marks : (k : Kind) (ms : List Mark) → AreMarks ms → FineMarks k ms
+fine_marks : (k : Kind) (ms : List Mark) → ArePlainMarks ms → FineMarks k ms
 fine_marks k [] h = tt
 fine_marks k (m ∷ ms) h = (fine_mark k m h.0, fine_marks k ms h.1)
 
-good_marks : (ms : List Mark) → AreMarks ms → GoodMarks ms
+good_marks : (ms : List Mark) → ArePlainMarks ms → GoodMarks ms
 good_marks [] h = tt
 good_marks (m ∷ ms) h = (good_mark m h.0, good_marks ms h.1)
 

@@ -17,7 +17,7 @@ use Rattle.model_page.specs.Tags.{tag_of}
 use Rattle.model_page.specs.Fit.{Content, Annotation, Leaf, has_child, fit_of}
 use Rattle.ve_kinds.specs.Table.{is_inline_leaf}
 use Rattle.model_page.specs.Heads.{characters, attrs_of, head_with}
-use Rattle.model_page.specs.Pieces.{Place, past, leaf, span_at, in_run, Made}
+use Rattle.model_page.specs.Pieces.{Progress, past, leaf, source_span, in_run, Made}
 use Rattle.model_page.specs.Convert.{inside_of, element_source, element_made, leaf_made, made_of}
 use Rattle.model_page_write.specs.Nodes.{Start, Nodes, Empty, Letter, Node}
 use Rattle.model_page_write.specs.Written.{letter, common_count}
@@ -68,7 +68,7 @@ content_levels opened (Node s inside pre later) =
 
 -- the forest reads as these items, in content inside of these marks
 abbrev pub Reads : List Mark → Forest → List PlainItem → Type 0
-Reads ms f xs = (w : Place) → (made_of (Content ms) (parts_of f) w).run.items ≡ xs
+Reads ms f xs = (w : Progress) → (made_of (Content ms) (parts_of f) w).run.items ≡ xs
 
 -- what the proof needs of a mark: it is an annotation, it is not held, and its spelling reads as it
 pub record GoodMark (m : Mark) : Type 0 where
@@ -99,9 +99,9 @@ Reads-mark m ms inside rest xs ys g child f h w =
     let name : List ℕ = encode_utf8_all m.tag in
     let attrs = canon_attrs (map attr_bytes m.attrs) in
     let source : List ℕ = element_source name attrs (parts_of inside) in
-    let w1 : Place = inside_of w name attrs in
+    let w1 : Progress = inside_of w name attrs in
     let inner = made_of (Content (ms ++ record { tag = chars name; attrs = attrs_of attrs } ∷ [])) (parts_of inside) w1 in
-    let w2 : Place = past w source inner.owners in
+    let w2 : Progress = past w source inner.owners in
     ap (λ p. (made_of (Content ms) p w).run.items) (parts_of-mark m inside rest g)
     ∙ ap (λ t. (element_made (Content ms) name attrs source (λ a. made_of a (parts_of inside)) (made_of (Content ms) (parts_of rest)) w t).run.items) (g.fits ms (parts_of inside) child)
     ∙ ap (λ n. (made_of (Content (ms ++ n ∷ [])) (parts_of inside) w1).run.items ++ (made_of (Content ms) (parts_of rest) w2).run.items) g.same
@@ -118,7 +118,7 @@ characters-nil = refl
 letter-alone : LettersBack → (c : ℕ) → IsScalar c → characters (letter c) ≡ c ∷ []
 letter-alone suffix c is = ap characters (sym (append-nil (letter c))) ∙ suffix c [] is ∙ ap (λ cs. c ∷ cs) characters-nil
 
-same_place : (w : Place) (a t : List ℕ) → past (past w a []) t [] ≡ past w (a ++ t) []
+same_place : (w : Progress) (a t : List ℕ) → past (past w a []) t [] ≡ past w (a ++ t) []
 same_place w a t =
     let e : w.at + length a + length t ≡ w.at + length (a ++ t) = let l = length-append a t in omega (arith, l) in
     let f : w.owners ++ [] ++ [] ≡ w.owners ++ [] = append-nil (w.owners ++ []) in
@@ -153,11 +153,11 @@ Reads-leaf s f xs g h w =
     let name : List ℕ = tag_of s.kind in
     let attrs = canon_attrs (map attr_bytes s.head.attrs) in
     let source : List ℕ = start_text name attrs false in
-    let later : Place → Made = made_of (Content s.marks) (parts_of f) in
-    let beyond : Place = past w source [] in
+    let later : Progress → Made = made_of (Content s.marks) (parts_of f) in
+    let beyond : Progress = past w source [] in
     ap (λ p. (made_of (Content s.marks) p w).run.items) (parts_if_false (is_held attrs) _ (Single name attrs source (parts_of f)) g.free)
     ∙ ap (λ t. (leaf_made (Content s.marks) attrs source later w t).run.items) (g.fits s.marks)
-    ∙ ap (λ m. m.run.items) (made_if_true (is_inline_leaf s.kind) (in_run (leaf s.kind (head_with attrs) s.marks (span_at w source)) source [] (later beyond)) _ g.inline)
+    ∙ ap (λ m. m.run.items) (made_if_true (is_inline_leaf s.kind) (in_run (leaf s.kind (head_with attrs) s.marks (source_span w source)) source [] (later beyond)) _ g.inline)
     ∙ ap (λ k. Opening s.kind k s.marks [] None false ∷ Closing s.kind [] ∷ (later beyond).run.items) g.same
     ∙ ap (λ ys. leaf_items s ys) (h beyond)
 

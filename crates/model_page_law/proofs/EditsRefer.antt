@@ -19,7 +19,7 @@ use Rattle.model_change.proofs.Fits.{Fits, parts_of_Applies}
 use Rattle.model_page.specs.Elements.{is_white}
 use Rattle.model_page.specs.Parts.{Parts, parts_of, source_of}
 use Rattle.model_page.specs.Fit.{around_in}
-use Rattle.model_page.specs.Pieces.{Place}
+use Rattle.model_page.specs.Pieces.{Progress}
 use Rattle.model_page.specs.Convert.{made_of}
 use Rattle.model_page.specs.Fragment.{context_of, item_unmade, pieces_in}
 use Rattle.model_page.specs.Editable.{head_refers, item_refers, all_refer}
@@ -50,7 +50,7 @@ refers-unmade (Opening kind head marks pre origin generated ∷ items) = ap (λ 
 
 refers-pieces_in : (k : Kind) (parts : Parts) → all_refer (pieces_in k parts).later.items ≡ true
 refers-pieces_in k parts =
-    let w : Place = record { at = 0; owners = []; editable = false } in
+    let w : Progress = record { at = 0; owners = []; editable = false } in
     Refers-inside_piece (around_in k) w (made_of (around_in k) parts w) (Refers-made_of false (around_in k) parts (none-refer parts) w refl)
 
 chosen : (c : Bool) (xs ys : List PlainItem) → all_refer xs ≡ true → all_refer ys ≡ true → all_refer (if c then xs else ys) ≡ true

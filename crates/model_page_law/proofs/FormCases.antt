@@ -9,7 +9,7 @@ use Rattle.model_items.specs.Law.{Lawful}
 use Rattle.ve_base.specs.Empty.{empty_head}
 use Rattle.model_page.proofs.OnLiterals.{page_on_literals}
 use Rattle.model_page.specs.PageItems.{Opened}
-use Rattle.model_page_write.specs.Nodes.{nodes_of, carried_items}
+use Rattle.model_page_write.specs.Nodes.{carried_nodes, carried_items}
 use Rattle.model_page_write.specs.PageText.{fresh, page_writer}
 use Rattle.model_page_law.specs.Formed.{ArePlain, IsHead, AreFormed}
 use Rattle.model_page_law.specs.WritesFresh.{KeepsNoneOf}
@@ -85,5 +85,5 @@ unfolding page_on_literals
 spells = refl
 
 -- no node has an origin, so none is kept of any page
-none_kept : (o : Opened) → KeepsNoneOf (page_writer o) (nodes_of (carried_items some_items))
+none_kept : (o : Opened) → KeepsNoneOf (page_writer o) (carried_nodes (carried_items some_items))
 none_kept o = (refl, (refl, (refl, (refl, tt, tt), tt), tt), (refl, tt, tt))

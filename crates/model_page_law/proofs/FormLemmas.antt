@@ -18,8 +18,8 @@ use Rattle.model_items.specs.Law.{State, start, top, is_empty, is_over, may_open
 use Rattle.model_page.specs.Elements.{is_white}
 use Rattle.model_page.specs.References.{Body}
 use Rattle.ve_base.specs.Empty.{empty_head}
-use Rattle.model_page_write.specs.Nodes.{Carried, Start, Nodes, Empty, Letter, Node, items_of, opening_of, carried_from, body_carried}
-use Rattle.model_page_law.specs.Formed.{AreMarks, IsFormedOpening, IsFormedClosing, IsFormed, AreFormed}
+use Rattle.model_page_write.specs.Nodes.{Carried, Start, Nodes, Empty, Letter, Node, node_list_items, start_item, carried_from, body_carried}
+use Rattle.model_page_law.specs.Formed.{ArePlainMarks, IsFormedOpening, IsFormedClosing, IsFormed, AreFormed}
 use Rattle.model_page_law.proofs.FormedNodes.{IsLeaf, IsContent, IsBranch, AreBlocks, IsList, with_list, IsSuch}
 use Rattle.model_page_law.specs.ReadBack.{FreshIsReadBack}
 use Rattle.model_page_law.proofs.ReadLemmas.{is_read_back}
@@ -47,8 +47,8 @@ closing_of k pre = record { item = Closing k pre; body = None }
 
 abbrev Parsed : List Kind → Bool → List Carried → Type 0
 Parsed [] true cs = cs ≡ []
-Parsed [] false cs = (n : Nodes) × (l : Start) × (cs ≡ items_of (with_list n l)) × AreBlocks Root n × IsList l
-Parsed (k ∷ outer) seen cs = (n : Nodes) × (pre : List ℕ) × (rest : List Carried) × (cs ≡ items_of n ++ closing_of k pre ∷ rest) × Held k n pre × Parsed outer seen rest
+Parsed [] false cs = (n : Nodes) × (l : Start) × (cs ≡ node_list_items (with_list n l)) × AreBlocks Root n × IsList l
+Parsed (k ∷ outer) seen cs = (n : Nodes) × (pre : List ℕ) × (rest : List Carried) × (cs ≡ node_list_items n ++ closing_of k pre ∷ rest) × Held k n pre × Parsed outer seen rest
 
 prefix_char : (c : ℕ) (marks : List Mark) (stack : List Kind) (seen : Bool) (cs : List Carried) → is_content_branch (top stack) ≡ true → IsFormed (Char c marks) → Parsed stack seen cs →
     Parsed stack seen (record { item = Char c marks; body = None } ∷ cs)
@@ -122,7 +122,7 @@ start_of kind head marks pre origin generated body = record { kind = kind; head 
 
 -- an inline leaf in content
 as_leaf : (k : Kind) (s : Start) (n : Nodes) (pre : List ℕ) → is_content_branch k ≡ true → may_hold k s.kind ≡ true → IsFormedOpening s.kind s.head s.marks s.pre → Held s.kind n pre →
-    IsLeaf s n pre × AreMarks s.marks
+    IsLeaf s n pre × ArePlainMarks s.marks
 as_leaf k s n pre c h f held =
     let leaf : is_leaf s.kind ≡ true = later_of (is_among block_leaves s.kind) (is_among inline_leaves s.kind) (content_holds k s.kind c h) in
     let g = f.leaf leaf in
@@ -201,19 +201,19 @@ Held-node k s n later pre closing h l f held b = record {
 }
 
 -- the items of a node before more
-node_prefix : (s : Start) (n later : Nodes) (pre : List ℕ) (cs rest more : List Carried) → cs ≡ items_of n ++ closing_of s.kind pre ∷ rest → rest ≡ items_of later ++ more →
-    opening_of s ∷ cs ≡ items_of (Node s n pre later) ++ more
+node_prefix : (s : Start) (n later : Nodes) (pre : List ℕ) (cs rest more : List Carried) → cs ≡ node_list_items n ++ closing_of s.kind pre ∷ rest → rest ≡ node_list_items later ++ more →
+    start_item s ∷ cs ≡ node_list_items (Node s n pre later) ++ more
 node_prefix s n later pre cs rest more e r =
-    ap (λ xs. opening_of s ∷ xs) (e ∙ ap (λ xs. items_of n ++ closing_of s.kind pre ∷ xs) r ∙ sym (append_assoc (items_of n) (closing_of s.kind pre ∷ items_of later) more))
+    ap (λ xs. start_item s ∷ xs) (e ∙ ap (λ xs. node_list_items n ++ closing_of s.kind pre ∷ xs) r ∙ sym (append_assoc (node_list_items n) (closing_of s.kind pre ∷ node_list_items later) more))
 
 prefix_branch : (s : Start) (stack : List Kind) (seen : Bool) (cs : List Carried) → may_hold (top stack) s.kind ≡ true → kind_same s.kind InternalList ≡ false → (is_empty stack && seen) ≡ false →
-    IsFormedOpening s.kind s.head s.marks s.pre → Parsed (s.kind ∷ stack) seen cs → Parsed stack seen (opening_of s ∷ cs)
+    IsFormedOpening s.kind s.head s.marks s.pre → Parsed (s.kind ∷ stack) seen cs → Parsed stack seen (start_item s ∷ cs)
 prefix_branch s [] true cs h l o f p = cc
 prefix_branch s [] false cs h l o f p =
     let q = p.5 in (
       Node s p.0 p.1 q.0,
       q.1,
-      ap (λ xs. opening_of s ∷ xs) (p.3 ∙ ap (λ xs. items_of p.0 ++ closing_of s.kind p.1 ∷ xs) q.2),
+      ap (λ xs. start_item s ∷ xs) (p.3 ∙ ap (λ xs. node_list_items p.0 ++ closing_of s.kind p.1 ∷ xs) q.2),
       as_blocks Root s p.0 q.0 p.1 refl h l f p.4 q.3,
       q.4,
     )
@@ -229,7 +229,7 @@ prefix_branch s (k ∷ outer) seen cs h l o f p =
 
 -- the internal list
 prefix_list : (s : Start) (stack : List Kind) (seen : Bool) (cs : List Carried) → kind_same s.kind InternalList ≡ true → (is_empty stack && not seen) ≡ true → IsFormedOpening s.kind s.head s.marks s.pre →
-    Parsed (s.kind ∷ stack) true cs → Parsed stack seen (opening_of s ∷ cs)
+    Parsed (s.kind ∷ stack) true cs → Parsed stack seen (start_item s ∷ cs)
 prefix_list s (k ∷ outer) seen cs l o f p = cc
 prefix_list s [] true cs l o f p = cc
 prefix_list s [] false cs l o f p =
@@ -238,13 +238,13 @@ prefix_list s [] false cs l o f p =
     let head : s.head ≡ empty_head = f.head.alone ∙ ap (λ a. record { tag = []; attrs = a; raw = []; reference = None; owner = false }) (f.list l) in (
       Empty,
       s,
-      ap (λ xs. opening_of s ∷ xs) (p.3 ∙ (λ i. items_of (e.0 i) ++ closing_of s.kind (e.1 i) ∷ p.5 i)),
+      ap (λ xs. start_item s ∷ xs) (p.3 ∙ (λ i. node_list_items (e.0 i) ++ closing_of s.kind (e.1 i) ∷ p.5 i)),
       tt,
       record { kind = k; head = head; marks = f.branch (ap is_leaf k); before = f.white },
     )
 
 prefix_opening : (s : Start) (stack : List Kind) (seen : Bool) (t : State) (cs : List Carried) → opened (record { stack = stack; seen = seen }) s.kind ≡ Ok t → IsFormedOpening s.kind s.head s.marks s.pre →
-    Parsed t.stack t.seen cs → Parsed stack seen (opening_of s ∷ cs)
+    Parsed t.stack t.seen cs → Parsed stack seen (start_item s ∷ cs)
 prefix_opening s stack seen t cs e f p =
     let old : State = record { stack = stack; seen = seen } in
     let next : State = record { stack = s.kind ∷ stack; seen = seen || kind_same s.kind InternalList } in

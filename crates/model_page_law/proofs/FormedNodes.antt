@@ -10,11 +10,11 @@ use Rattle.ve_base.specs.Empty.{empty_head}
 use Rattle.model_items.specs.declared.plain_item.PlainItem.{PlainItem}
 use Rattle.model_items.specs.Same.{mark_same}
 use Rattle.model_page.specs.Elements.{is_white}
-use Rattle.model_page.specs.PageItems.{items_of as items_read, page_made}
-use Rattle.model_page_write.specs.Nodes.{Start, Nodes, Empty, Letter, Node, items_of, carried_items}
+use Rattle.model_page.specs.PageItems.{items_of_page as items_read, page_made}
+use Rattle.model_page_write.specs.Nodes.{Start, Nodes, Empty, Letter, Node, node_list_items, carried_items}
 use Rattle.model_page_write.specs.PageText.{fresh}
-use Rattle.model_page_law.specs.Formed.{AreMarks, IsHead}
-use Rattle.model_page_law.specs.ReadBack.{settled}
+use Rattle.model_page_law.specs.Formed.{ArePlainMarks, IsHead}
+use Rattle.model_page_law.specs.ReadBack.{without_origin}
 
 -- an inline leaf br or img
 pub record IsLeaf (s : Start) (inside : Nodes) (pre : List ℕ) : Type 0 where
@@ -26,8 +26,8 @@ pub record IsLeaf (s : Start) (inside : Nodes) (pre : List ℕ) : Type 0 where
 
 abbrev pub IsContent : Nodes → Type 0
 IsContent Empty = Unit {0}
-IsContent (Letter c marks later) = IsScalar c × AreMarks marks × IsContent later
-IsContent (Node s inside pre later) = IsLeaf s inside pre × AreMarks s.marks × IsContent later
+IsContent (Letter c marks later) = IsScalar c × ArePlainMarks marks × IsContent later
+IsContent (Node s inside pre later) = IsLeaf s inside pre × ArePlainMarks s.marks × IsContent later
 
 -- a branch that the parent may hold
 pub record IsBranch (parent : Kind) (s : Start) : Type 0 where
@@ -65,7 +65,7 @@ with_list (Node s inside pre later) list = Node s inside pre (with_list later li
 pub record IsSuch (items : List PlainItem) : Type 0 where
   pub nodes : Nodes
   pub list : Start
-  pub are : carried_items items ≡ items_of (with_list nodes list)
+  pub are : carried_items items ≡ node_list_items (with_list nodes list)
   pub blocks : AreBlocks Root nodes
   pub last : IsList list
 
@@ -75,4 +75,4 @@ MarksMean = (m n : Mark) → mark_same m n ≡ true → m ≡ n
 
 abbrev pub IsReadBack : Type 0
 IsReadBack = (items : List PlainItem) → IsSuch items →
-    (f : Forest) (at : ℕ) → is_forest 200 f ≡ true → spelling f ≡ fresh items → map settled (items_read (page_made at f)) ≡ map settled items
+    (f : Forest) (at : ℕ) → is_forest 200 f ≡ true → spelling f ≡ fresh items → map without_origin (items_read (page_made at f)) ≡ map without_origin items

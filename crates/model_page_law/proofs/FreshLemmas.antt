@@ -6,7 +6,7 @@ use Rattle.ve_kinds.specs.declared.kind.Kind.TheVariants.{Root, P, H1, H2, H3, H
 use Rattle.ve_base.specs.declared.marks.Mark.{Mark}
 use Rattle.ve_kinds.specs.Table.{kind_same}
 use Rattle.ve_kinds.specs.Table.{is_content_branch, is_leaf}
-use Rattle.model_page_write.specs.Nodes.{Carried, Start, Nodes, Empty, Letter, Node, node_items, nodes_of, carried_items}
+use Rattle.model_page_write.specs.Nodes.{Carried, Start, Nodes, Empty, Letter, Node, node_items, carried_nodes, carried_items}
 use Rattle.model_page_write.specs.Written.{letter, marks_changed, white_after, is_bare, Writer, leaf_text, fresh_text, element_text, original_of, content, blocks}
 use Rattle.model_page_write.specs.PageText.{html_of, page_writer}
 use Rattle.model_page_law.specs.WritesFresh.{KeepsNoneOf, WritesFresh}
@@ -86,4 +86,4 @@ blocks-fresh o before closing (Node s inside pre later) k =
 pub writes_fresh : WritesFresh
 writes_fresh o items k =
     let w : Writer = page_writer o in
-    ap (λ t. take o.body.from o.page ++ t ++ drop o.body.to o.page) (blocks-fresh w.original false [] (nodes_of (carried_items items)) k)
+    ap (λ t. take o.body.from o.page ++ t ++ drop o.body.to o.page) (blocks-fresh w.original false [] (carried_nodes (carried_items items)) k)

@@ -9,9 +9,9 @@ use Rattle.model_spelling.specs.Forest.{Forest, Nothing, Text, Remark, Void, Raw
 use Rattle.model_spelling.specs.Parsed.{forest_of}
 use Rattle.model_spelling.specs.Page.{is_whole, body_at}
 use Rattle.model_spelling.proofs.Proved.{law_reads_right}
-use Rattle.model_page.specs.PageItems.{slice, Opened, opened_with, opened_forest, opened_body, items_of, page_made}
+use Rattle.model_page.specs.PageItems.{slice, Opened, page_opened, opened_forest, opened_body, items_of_page, page_made}
 use Rattle.model_page_write.specs.PageText.{fresh}
-use Rattle.model_page_law.specs.ReadBack.{settled, FreshOpensAsItself}
+use Rattle.model_page_law.specs.ReadBack.{without_origin, FreshOpensAsItself}
 use Rattle.model_page_law.proofs.NeatForests.{Neat}
 use Rattle.model_page_law.proofs.OneLemmas.{class, code, class-neat}
 use Rattle.model_page_law.proofs.ReadLemmas.{fresh_is_spelled}
@@ -64,11 +64,11 @@ slice-all : (page : List ℕ) → slice page 0 (length page) ≡ page
 slice-all page = take_all (length page - 0) page (omega arith)
 
 opened_as_read : (page : List ℕ) (read : Option Forest) → forest_of page ≡ read → (o : Opened) → opened_forest page (record { from = 0; to = length page }) read ≡ Some o →
-    (f : Forest) × (spelling f ≡ page) × (is_forest 200 f ≡ true) × (o.items ≡ items_of (page_made 0 f))
+    (f : Forest) × (spelling f ≡ page) × (is_forest 200 f ≡ true) × (o.items ≡ items_of_page (page_made 0 f))
 opened_as_read page None e o h = cc
 opened_as_read page (Some f) e o h =
     let s = law_reads_right page f e in
-    let first : Opened = opened_with page (record { from = 0; to = length page }) (page_made 0 f) in
+    let first : Opened = page_opened page (record { from = 0; to = length page }) (page_made 0 f) in
     let is : first ≡ o = let p : ◌≡◌ {A = Option Opened} (Some first) (Some o) = h in ap (λ x. unwrap_or x first) p in
     (f, s.0, s.1, ap (λ x. x.items) (sym is))
 
@@ -82,4 +82,4 @@ fresh_opens_as_itself items lawful formed o h =
     ∙ sym (ap (opened_body page) (body-all page whole))
     ∙ h in
     let r = opened_as_read page (forest_of page) refl o opens in
-    ap (map settled) r.3 ∙ fresh_is_read_back items lawful formed r.0 0 r.2 r.1
+    ap (map without_origin) r.3 ∙ fresh_is_read_back items lawful formed r.0 0 r.2 r.1

@@ -8,8 +8,8 @@ use Rattle.model_spelling.specs.Parsed.{forest_of}
 use Rattle.model_spelling.proofs.Proved.{law_reads_back, law_reads_right, law_body_inside}
 use Rattle.ve_kinds.specs.declared.kind.Kind.TheVariants.{Root}
 use Rattle.model_page.specs.Parts.{parts_of}
-use Rattle.model_page.specs.Pieces.{Place}
-use Rattle.model_page.specs.PageItems.{slice, Opened, opened_with, opened_forest, opened_body, page_made}
+use Rattle.model_page.specs.Pieces.{Progress}
+use Rattle.model_page.specs.PageItems.{slice, Opened, page_opened, opened_forest, opened_body, page_made}
 use Rattle.model_page_write.specs.PageText.{write}
 use Rattle.model_page_law.specs.WrittenBack.{opened_as, OpenedIsWrittenBack, SpelledIsWrittenBack}
 use Rattle.model_page_law.proofs.PartsUtf8.{all_utf8}
@@ -21,7 +21,7 @@ use Rattle.model_page_law.proofs.InlinedLemmas.{Inlined-parts_of}
 
 pub spelled_is_written_back : SpelledIsWrittenBack
 spelled_is_written_back head tail f h u =
-    let w : Place = record { at = length head; owners = []; editable = true } in
+    let w : Progress = record { at = length head; owners = []; editable = true } in
     let c = Closed-in_flow Root (parts_of f) w in
     write-opened head tail f (length head + length (spelling f)) refl (Bared-in_flow Root (parts_of f) w c.nodes (Inlined-parts_of law_reads_back f h (all_utf8 f h u)) c.items)
 
@@ -43,8 +43,8 @@ written_forest page from to le fits u (Some f) e o h =
     let at : length head ≡ from = length-take-le from page (omega (arith, le, fits)) in
     let long : length (slice page from to) ≡ to - from = length-take-le (to - from) (drop from page) (let d = length-drop from page in omega (arith, d, le, fits)) in
     let end : length head + length (spelling f) ≡ to = let l = ap length spells.0 in omega (arith, at, l, long, le) in
-    let first : Opened = opened_with page (record { from = from; to = to }) (page_made from f) in
-    let same : opened_as head f tail ≡ first = (λ i. opened_with (whole i) (record { from = at i; to = end i }) (page_made (at i) f)) in
+    let first : Opened = page_opened page (record { from = from; to = to }) (page_made from f) in
+    let same : opened_as head f tail ≡ first = (λ i. page_opened (whole i) (record { from = at i; to = end i }) (page_made (at i) f)) in
     let is : first ≡ o = let s : ◌≡◌ {A = Option Opened} (Some first) (Some o) = h in ap (λ x. unwrap_or x first) s in
     ap (λ x. write x x.items) (sym is ∙ sym same) ∙ spelled_is_written_back head tail f spells.1 (subst IsUtf8 (sym spells.0) u) ∙ whole
 

@@ -11,7 +11,7 @@ use Rattle.model_page.specs.Tags.{is_annotation_tag, is_inline_tag}
 use Rattle.model_page.specs.Parts.{Parts}
 use Rattle.model_page.specs.Fit.{Around, Flow, Structural, Content, Fit, Annotation, Leaf, Branch, Whole, around_in, has_child, is_convertible, fit_in_content, fit_in_block, fit_of, whole_kind, is_generated, has_inline_tags, is_inline_at, group_kind, note_kind}
 use Rattle.ve_kinds.specs.Table.{is_inline_leaf}
-use Rattle.model_page.specs.Pieces.{Place}
+use Rattle.model_page.specs.Pieces.{Progress}
 use Rattle.model_page.specs.ReferenceNodes.{ref_of}
 
 -- ---- kinds
@@ -356,7 +356,7 @@ pub note_fits : (around : Around) → Sane around → LeafFits around (note_kind
 note_fits around s = whole_fits around s false false
 
 -- in a structural parent no group is a reference
-pub no_reference : (place : Place) (k : Kind) (nodes : Forest) → ref_of place (Structural k) nodes ≡ None
+pub no_reference : (place : Progress) (k : Kind) (nodes : Forest) → ref_of place (Structural k) nodes ≡ None
 no_reference place k Nothing = refl
 no_reference place k (Text text rest) = refl
 no_reference place k (Remark text rest) = refl

@@ -14,11 +14,11 @@ use Rattle.model_spelling.specs.Parsed.{forest_of}
 use Rattle.model_page.specs.Parts.{parts_of}
 use Rattle.model_page.specs.References.{Body}
 use Rattle.ve_base.specs.Empty.{empty_head}
-use Rattle.model_page.specs.Pieces.{Span, Owner, Made, Place}
+use Rattle.model_page.specs.Pieces.{SourceSpan, Owner, Made, Progress}
 use Rattle.model_page.specs.Convert.{made_of}
 use Rattle.model_page.specs.Fit.{Flow}
-use Rattle.model_page.specs.PageItems.{with_origins, item_head, body_made, or_nothing, internal_item, internal_list, page_made, items_of as page_items, slice, Opened, opened_with}
-use Rattle.model_page_write.specs.Nodes.{Carried, body_carried, carried_from, carried_items, Start, Nodes, Empty, Letter, Node, nodes_of, opening_of, items_of, node_items}
+use Rattle.model_page.specs.PageItems.{with_origins, item_head, body_made, or_nothing, internal_item, internal_list, page_made, items_of_page as page_items, slice, Opened, page_opened}
+use Rattle.model_page_write.specs.Nodes.{Carried, body_carried, carried_from, carried_items, Start, Nodes, Empty, Letter, Node, carried_nodes, start_item, node_list_items, node_items}
 use Rattle.model_page_write.specs.Written.{is_empty, stays_inline, has_content, all_stay_inline, white_after, is_bare, Writer, fresh_text, original_of, content, blocks}
 use Rattle.model_page_write.specs.PageText.{node_with, without_pre, carried_same, is_kept, part_at, original_at, page_writer, write}
 use Rattle.model_page_law.proofs.SourceLemmas.{parts_of-source}
@@ -102,7 +102,7 @@ kept-itself : (first : List Carried) (k : ℕ) (items : List Carried) → node_w
 kept-itself first k items e =
     ap (λ xs. list_same carried_same (without_pre items) (without_pre xs)) e ∙ Itself-list carried_same Itself-carried_items (without_pre items)
 
-original-kept : (o : Opened) (first : List Carried) (k : ℕ) (items : List Carried) (part : List ℕ) (s : Span) → node_with k first ≡ items →
+original-kept : (o : Opened) (first : List Carried) (k : ℕ) (items : List Carried) (part : List ℕ) (s : SourceSpan) → node_with k first ≡ items →
     slice_get o.spans k ≡ Some s → slice o.page s.from s.to ≡ part → original_at o first (Some k) items ≡ Some part
 original-kept o first k items part s e f g =
     if_true (is_kept first k items) _ _ (kept-itself first k items e) ∙ ap (λ m. Some (part_at o.page m)) f ∙ ap (λ b. Some b) g
@@ -113,11 +113,11 @@ unwrapped o x d e = ap (λ p. unwrap_or p d) e
 -- ---- the page is written
 
 -- What stands from a node on: the first list, the spans, and the bytes of the page, each in two parts, the second of which begins there.
-pub record Standing (o : Opened) (items : List Carried) (k at : ℕ) (spans : List Span) (source : List ℕ) : Type 0 where
+pub record Standing (o : Opened) (items : List Carried) (k at : ℕ) (spans : List SourceSpan) (source : List ℕ) : Type 0 where
   pub before : List Carried
   pub first : carried_items o.items ≡ before ++ items
   pub below : Below k before
-  pub done : List Span
+  pub done : List SourceSpan
   pub all_spans : o.spans ≡ done ++ spans
   pub count : length done ≡ k
   pub prefix : List ℕ
@@ -125,8 +125,8 @@ pub record Standing (o : Opened) (items : List Carried) (k at : ℕ) (spans : Li
   pub page : o.page ≡ prefix ++ (source ++ suffix)
   pub byte : length prefix ≡ at
 
-pub blocks-Tiles : (o : Opened) (bodies : ℕ → Option Body) (last : List ℕ) (x : Nodes) (n : Nodes) (k place at : ℕ) (before : Bool) (spans : List Span) (source : List ℕ) →
-    Standing o (items_of (placed bodies place k (last_node last x) n)) k at spans source →
+pub blocks-Tiles : (o : Opened) (bodies : ℕ → Option Body) (last : List ℕ) (x : Nodes) (n : Nodes) (k place at : ℕ) (before : Bool) (spans : List SourceSpan) (source : List ℕ) →
+    Standing o (node_list_items (placed bodies place k (last_node last x) n)) k at spans source →
     Tiles at spans source n → Bared before last n →
     blocks (page_writer o) before [] (placed bodies place k (last_node last x) n) ≡ source ++ encode_utf8_all last
 blocks-Tiles o bodies last x Empty k place at before spans source st t b =
@@ -136,8 +136,8 @@ blocks-Tiles o bodies last x (Node s inside pre later) k place at before spans s
     let w : Writer = page_writer o in
     let part : List ℕ = t.0 in
     let rest : List ℕ = t.1 in
-    let inner : List Span = t.2 in
-    let after : List Span = t.3 in
+    let inner : List SourceSpan = t.2 in
+    let after : List SourceSpan = t.3 in
     let white : List ℕ = white_of s in
     let k2 : ℕ = suc k + openings inside in
     let inside2 : Nodes = bearing bodies (suc place) (numbered_nodes (suc k) inside) in
@@ -148,7 +148,7 @@ blocks-Tiles o bodies last x (Node s inside pre later) k place at before spans s
     let bare : Bool = is_bare before s inside (white_after later last) in
     let bare2 : Bool = is_bare before s2 inside2 (white_after later2 []) in
     let same_bare : bare2 ≡ bare = is_bare-placed bodies place place2 k k2 last x before s inside later in
-    let span : Span = record { from = at + length white; to = at + length white + length part } in
+    let span : SourceSpan = record { from = at + length white; to = at + length white + length part } in
     let closing : Carried = record { item = Closing s.kind pre; body = None } in
     let is_first : node_with k (carried_items o.items) ≡ items =
     ap (node_with k) st.first ∙ node_with-node k st.before s2 inside2 pre later2 st.below refl in
@@ -165,12 +165,12 @@ blocks-Tiles o bodies last x (Node s inside pre later) k place at before spans s
     if_false (s.generated && not bare2) _ _ (not_unbare s.generated bare2 (λ g. same_bare ∙ b.0 g))
     ∙ original-kept o (carried_items o.items) k items part span is_first (ap (λ xs. slice_get xs k) all_spans ∙ slice_get-append st.done (inner ++ after) span k st.count) is_part in
     let fresh : List ℕ = fresh_text w bare2 s2 (if is_content_branch s.kind then content w [] inside2 else blocks w false pre inside2) pre in
-    let next : Standing o (items_of later2) k2 (at + length white + length part) after rest = record {
+    let next : Standing o (node_list_items later2) k2 (at + length white + length part) after rest = record {
       before = st.before ++ items;
       first =
           st.first
-          ∙ ap (λ ys. st.before ++ opening_of s2 ∷ ys) (sym (append_assoc (items_of inside2) (closing ∷ []) (items_of later2)))
-          ∙ sym (append_assoc st.before items (items_of later2));
+          ∙ ap (λ ys. st.before ++ start_item s2 ∷ ys) (sym (append_assoc (node_list_items inside2) (closing ∷ []) (node_list_items later2)))
+          ∙ sym (append_assoc st.before items (node_list_items later2));
       below =
           Below-append k2 st.before items (Below-more k k2 st.before (omega arith) st.below)
           (Below-more (k + suc (openings inside + 0)) k2 items (omega arith) (Below-with_origins bodies place k (Node s inside pre Empty)));
@@ -194,7 +194,7 @@ pub record Listed (items : List PlainItem) : Type 0 where
   pub nodes : Nodes
   pub are : items ≡ plain nodes
 
-abbrev body_place : Place
+abbrev body_place : Progress
 body_place = record { at = 0; owners = []; editable = false }
 
 Shaped-body_made : (f : Forest) → Shaped (body_made f).later
@@ -243,21 +243,21 @@ nodes_made at f = (Closed-in_flow Root (parts_of f) (record { at = at; owners = 
 pub write-opened : (head tail : List ℕ) (f : Forest) (to : ℕ) → length head + length (spelling f) ≡ to →
     Bared false (page_made (length head) f).pre (nodes_made (length head) f) →
     let page : List ℕ = head ++ (spelling f ++ tail) in
-    let o : Opened = opened_with page (record { from = length head; to = to }) (page_made (length head) f) in
+    let o : Opened = page_opened page (record { from = length head; to = to }) (page_made (length head) f) in
     write o o.items ≡ page
 write-opened head tail f to at_end bare =
     let page : List ℕ = head ++ (spelling f ++ tail) in
-    let w : Place = record { at = length head; owners = []; editable = true } in
+    let w : Progress = record { at = length head; owners = []; editable = true } in
     let m : Made = page_made (length head) f in
     let c = Closed-in_flow Root (parts_of f) w in
-    let o : Opened = opened_with page (record { from = length head; to = to }) m in
+    let o : Opened = page_opened page (record { from = length head; to = to }) m in
     let p = items-nodes m c.nodes c.items in
     let bodies : ℕ → Option Body = body_carried o.items in
     let all : Nodes = placed bodies 0 0 (last_node m.pre p.inside) c.nodes in
     let source : c.rest ++ encode_utf8_all m.pre ≡ spelling f = c.spelled ∙ parts_of-source f in
-    let are : carried_items o.items ≡ items_of all =
+    let are : carried_items o.items ≡ node_list_items all =
     ap (carried_from bodies 0) p.are ∙ carried_from-plain bodies 0 (followed (numbered_nodes 0 c.nodes) (last_node m.pre p.inside)) in
-    let standing : Standing o (items_of all) 0 (length head) m.later.spans c.rest = record {
+    let standing : Standing o (node_list_items all) 0 (length head) m.later.spans c.rest = record {
       before = [];
       first = are;
       below = tt;
@@ -269,8 +269,8 @@ write-opened head tail f to at_end bare =
       page = ap (λ s. head ++ (s ++ tail)) (sym source) ∙ ap (λ s. head ++ s) (append_assoc c.rest (encode_utf8_all m.pre) tail);
       byte = refl;
     } in
-    let body : blocks (page_writer o) false [] (nodes_of (carried_items o.items)) ≡ spelling f =
-    ap (λ xs. blocks (page_writer o) false [] (nodes_of xs)) (ap (carried_from bodies 0) p.are)
+    let body : blocks (page_writer o) false [] (carried_nodes (carried_items o.items)) ≡ spelling f =
+    ap (λ xs. blocks (page_writer o) false [] (carried_nodes xs)) (ap (carried_from bodies 0) p.are)
     ∙ ap (blocks (page_writer o) false []) (nodes_of-carried_items bodies 0 (followed (numbered_nodes 0 c.nodes) (last_node m.pre p.inside)))
     ∙ blocks-Tiles o bodies m.pre p.inside c.nodes 0 0 (length head) false m.later.spans c.rest standing c.tiles bare
     ∙ source in

@@ -17,9 +17,9 @@ use Rattle.model_items.proofs.SameLemmas.{Means-kind_same}
 use Rattle.std.specs.Option.{option_or}
 use Rattle.model_page.specs.Parts.{Parts, parts_of}
 use Rattle.model_page.specs.Fit.{Around, Flow}
-use Rattle.model_page.specs.Pieces.{Span, Owner, Made, Place}
+use Rattle.model_page.specs.Pieces.{SourceSpan, Owner, Made, Progress}
 use Rattle.model_page.specs.Convert.{made_of, in_flow}
-use Rattle.model_page.specs.PageItems.{with_origins, item_head, body_made, or_nothing, internal_item, internal_list, page_made, items_of}
+use Rattle.model_page.specs.PageItems.{with_origins, item_head, body_made, or_nothing, internal_item, internal_list, page_made, items_of_page}
 use Rattle.model_page.specs.Limits.{Limit, TooDeep, TooManyMarks, limit_at, earlier, deep_at, marked_at, limit_of, moved_to, body_limit, first_body_limit}
 use Rattle.model_page_write.specs.Nodes.{Nodes, Empty, Letter, Node}
 use Rattle.model_page_law.specs.Lawful.{LimitedIsLawful}
@@ -105,7 +105,7 @@ abbrev Runs : List Kind → Bool → List PlainItem → List Kind → Type 0
 Runs s seen items t = after (state s seen) items ≡ Ok (state t seen)
 
 -- a closing of the innermost kind, and then what the rest does
-closing_runs : (s base t : List Kind) (seen : Bool) (kind : Kind) (pre : List ℕ) (items : List PlainItem) (spans : List Span) (nests : List Kind → Type 0) → Closes s kind nests →
+closing_runs : (s base t : List Kind) (seen : Bool) (kind : Kind) (pre : List ℕ) (items : List PlainItem) (spans : List SourceSpan) (nests : List Kind → Type 0) → Closes s kind nests →
     deep_at (length (s ++ base) - 1) items spans ≡ None →
     ((outer : List Kind) → nests outer → deep_at (length (outer ++ base)) items spans ≡ None → Runs (outer ++ base) seen items (t ++ base)) →
     Runs (s ++ base) seen (Closing kind pre ∷ items) (t ++ base)
@@ -117,7 +117,7 @@ closing_runs (k ∷ outer) base t seen kind pre items spans nests h d rest =
     (rest outer h.1 (ap (λ n. deep_at n items spans) (sym depth) ∙ d))
 
 pub runs : (parent : Kind) (base : List Kind) (seen : Bool) → top base ≡ parent → (is_empty base && seen) ≡ false →
-    (items : List PlainItem) (spans : List Span) (s t : List Kind) → Nests parent s items t → opening_count items ≤ length spans → deep_at (length (s ++ base)) items spans ≡ None →
+    (items : List PlainItem) (spans : List SourceSpan) (s t : List Kind) → Nests parent s items t → opening_count items ≤ length spans → deep_at (length (s ++ base)) items spans ≡ None →
     Runs (s ++ base) seen items (t ++ base)
 runs parent base seen e o [] spans s t h c d = ap (λ x. Ok (state (x ++ base) seen)) h
 runs parent base seen e o (Char ch marks ∷ items) spans s t h c d =
@@ -144,15 +144,15 @@ after-with_origins (Opening kind head marks pre origin generated ∷ items) k s 
     (λ i. followed 1 (step s (Opening kind head marks pre origin generated)) (λ next. after-with_origins items (suc k) next i))
 
 -- what stands in a flow parent nests there, with a span for each opening
-pub flow_holds : (kind : Kind) → Sane (Flow kind) → (parts : Parts) (w : Place) → Holds kind (in_flow kind parts w).later.items
+pub flow_holds : (kind : Kind) → Sane (Flow kind) → (parts : Parts) (w : Progress) → Holds kind (in_flow kind parts w).later.items
 flow_holds kind s parts w = (Meets-run_closed (Flow kind) s w (made_of (Flow kind) parts w) (Meets-made_of (Flow kind) s parts w)).later
 
-pub flow_counted : (kind : Kind) (parts : Parts) (w : Place) → opening_count (in_flow kind parts w).later.items ≡ length (in_flow kind parts w).later.spans
+pub flow_counted : (kind : Kind) (parts : Parts) (w : Progress) → opening_count (in_flow kind parts w).later.items ≡ length (in_flow kind parts w).later.spans
 flow_counted kind parts w =
     let s = (Fine-run_closed w (made_of (Flow kind) parts w) (Fine-made_of (Flow kind) parts w)).later in
     ap opening_count s.items ∙ opening_count-plain s.nodes ∙ sym s.count
 
-flow_runs : (kind : Kind) → Sane (Flow kind) → (base : List Kind) (seen : Bool) → top base ≡ kind → (is_empty base && seen) ≡ false → (parts : Parts) (w : Place) →
+flow_runs : (kind : Kind) → Sane (Flow kind) → (base : List Kind) (seen : Bool) → top base ≡ kind → (is_empty base && seen) ≡ false → (parts : Parts) (w : Progress) →
     deep_at (length base) (in_flow kind parts w).later.items (in_flow kind parts w).later.spans ≡ None → Runs base seen (in_flow kind parts w).later.items base
 flow_runs kind s base seen e o parts w d =
     runs kind base seen e o (in_flow kind parts w).later.items (in_flow kind parts w).later.spans [] [] (flow_holds kind s parts w) (let c = flow_counted kind parts w in omega (arith, c)) d
@@ -195,7 +195,7 @@ list_stack = InternalList ∷ []
 body_runs : (o : Owner) → body_limit o ≡ None → Runs list_stack true (internal_item o) list_stack
 body_runs o e =
     let f : Forest = or_nothing (forest_of o.html) in
-    let w : Place = record { at = 0; owners = []; editable = false } in
+    let w : Progress = record { at = 0; owners = []; editable = false } in
     let d = limit_none 2 (Flow InternalItem) (parts_of f) 0 (body_made f) (moved_none o.at (limit_of 2 (Flow InternalItem) (parts_of f) 0 (body_made f)) e) in
     first_step (state list_stack true) (state item_stack true) (state list_stack true) (Opening InternalItem (item_head o.key) [] [] None false) ((body_made f).later.items ++ Closing InternalItem (body_made f).pre ∷ []) refl
     (after_whole (body_made f).later.items (Closing InternalItem (body_made f).pre ∷ []) (state item_stack true) (state item_stack true) (state list_stack true)
@@ -214,11 +214,11 @@ list_runs pre owners e =
 
 pub limited_is_lawful : LimitedIsLawful
 limited_is_lawful at f e =
-    let w : Place = record { at = at; owners = []; editable = true } in
+    let w : Progress = record { at = at; owners = []; editable = true } in
     let m : Made = page_made at f in
     let p = or_none (limit_of 0 (Flow Root) (parts_of f) at m) (first_body_limit m.owners) e in
     let d = limit_none 0 (Flow Root) (parts_of f) at m p.0 in
-    Lawful_from_after (items_of m)
+    Lawful_from_after (items_of_page m)
     (after_whole (with_origins 0 m.later.items) (internal_list m.pre m.owners) start start finish
     (after-with_origins m.later.items 0 start ∙ flow_runs Root (refl, refl, refl, refl) [] false refl refl (parts_of f) w d)
     (list_runs m.pre m.owners p.1))

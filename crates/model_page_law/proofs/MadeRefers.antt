@@ -19,7 +19,7 @@ use Rattle.model_page.specs.Parts.{Parts, Ended, Words, Note, Group, Single, Par
 use Rattle.model_page.specs.Editable.{is_editable_ref, head_refers, item_refers, all_refer}
 use Rattle.model_page.specs.Fit.{Around, Flow, Structural, Content, Fit, Annotation, Leaf, Branch, Whole, around_in, has_child, is_convertible, fit_in_content, fit_in_block, fit_of, whole_kind, is_generated, has_inline_tags, is_inline_at, group_kind, note_kind}
 use Rattle.model_page.specs.Heads.{characters, head_with, whole_head}
-use Rattle.model_page.specs.Pieces.{Span, Piece, Owner, Made, Place, past, span_at, no_piece, node, leaf, chars_piece, items_after, with_white, run_dropped, run_ended, run_closed, in_run, before_run, leaf_before}
+use Rattle.model_page.specs.Pieces.{SourceSpan, Piece, Owner, Made, Progress, past, source_span, no_piece, node, leaf, chars_piece, items_after, with_white, run_dropped, run_ended, run_closed, in_run, before_run, leaf_before}
 use Rattle.model_page.specs.ReferenceNodes.{RefNode, ref_of}
 use Rattle.model_page.specs.Convert.{marks_at, marked_around, element_source, inside_of, inside_piece, words_before, group_made, leaf_made, element_made, made_of}
 use Rattle.model_page_law.proofs.KindFits.{element_of_tag}
@@ -150,7 +150,7 @@ pub refers-chars : (marks : List Mark) (text : List ℕ) → all_refer (map (λ 
 refers-chars marks [] = refl
 refers-chars marks (c ∷ cs) = refers-chars marks cs
 
-refers-node : (kind : Kind) (head : Head) (marks : List Mark) (generated : Bool) (span : Span) (inside : Piece) (pre : List ℕ) → head_refers kind head ≡ true → all_refer inside.items ≡ true → all_refer (node kind head marks generated span inside pre).items ≡ true
+refers-node : (kind : Kind) (head : Head) (marks : List Mark) (generated : Bool) (span : SourceSpan) (inside : Piece) (pre : List ℕ) → head_refers kind head ≡ true → all_refer inside.items ≡ true → all_refer (node kind head marks generated span inside pre).items ≡ true
 refers-node kind head marks generated span inside pre h g = and_from (head_refers kind head) (all_refer (inside.items ++ Closing kind pre ∷ [])) h (refers-append inside.items (Closing kind pre ∷ []) g refl)
 
 refers-items_after : (white : List ℕ) (items : List PlainItem) → all_refer items ≡ true → all_refer (items_after white items) ≡ true
@@ -170,43 +170,43 @@ Refers-chosen : (c : Bool) (a b : Made) → Refers a → Refers b → Refers (if
 Refers-chosen true a b f g = f
 Refers-chosen false a b f g = g
 
-Refers-run_ended : (source : List ℕ) (w : Place) (m : Made) → Refers m → Refers (run_ended source w m)
+Refers-run_ended : (source : List ℕ) (w : Progress) (m : Made) → Refers m → Refers (run_ended source w m)
 Refers-run_ended [] w m h = record { run = refl; later = h.later }
 Refers-run_ended (b ∷ bs) w m h =
     Refers-chosen (is_white (b ∷ bs)) _ _ (Refers-with_white (chars (b ∷ bs)) (run_dropped m) (record { run = refl; later = h.later })) (record {
       run = refl;
-      later = refers-append (node P empty_head [] true (span_at w (b ∷ bs)) m.run []).items m.later.items (refers-node P empty_head [] true (span_at w (b ∷ bs)) m.run [] refl h.run) h.later;
+      later = refers-append (node P empty_head [] true (source_span w (b ∷ bs)) m.run []).items m.later.items (refers-node P empty_head [] true (source_span w (b ∷ bs)) m.run [] refl h.run) h.later;
     })
 
-pub Refers-run_closed : (w : Place) (m : Made) → Refers m → Refers (run_closed w m)
+pub Refers-run_closed : (w : Progress) (m : Made) → Refers m → Refers (run_closed w m)
 Refers-run_closed w m h = Refers-run_ended m.source w m h
 
 Refers-in_run : (piece : Piece) (source : List ℕ) (owners : List Owner) (m : Made) → all_refer piece.items ≡ true → Refers m → Refers (in_run piece source owners m)
 Refers-in_run piece source owners m p h = record { run = refers-append piece.items m.run.items p h.run; later = h.later }
 
-Refers-before_run : (w : Place) (piece : Piece) (owners : List Owner) (m : Made) → all_refer piece.items ≡ true → Refers m → Refers (before_run w piece owners m)
+Refers-before_run : (w : Progress) (piece : Piece) (owners : List Owner) (m : Made) → all_refer piece.items ≡ true → Refers m → Refers (before_run w piece owners m)
 Refers-before_run w piece owners m p h =
     let g = Refers-run_closed w m h in
     record { run = g.run; later = refers-append piece.items (run_closed w m).later.items p g.later }
 
-Refers-leaf_before : (w : Place) (kind : Kind) (head : Head) (marks : List Mark) (source : List ℕ) (owners : List Owner) (m : Made) → head_refers kind head ≡ true → Refers m → Refers (leaf_before w kind head marks source owners m)
+Refers-leaf_before : (w : Progress) (kind : Kind) (head : Head) (marks : List Mark) (source : List ℕ) (owners : List Owner) (m : Made) → head_refers kind head ≡ true → Refers m → Refers (leaf_before w kind head marks source owners m)
 Refers-leaf_before w kind head marks source owners m s h =
-    let p = refers-node kind head marks false (span_at w source) no_piece [] s refl in
-    Refers-chosen (is_inline_leaf kind) _ _ (Refers-in_run (leaf kind head marks (span_at w source)) source owners m p h) (Refers-before_run (past w source owners) (leaf kind head marks (span_at w source)) owners m p h)
+    let p = refers-node kind head marks false (source_span w source) no_piece [] s refl in
+    Refers-chosen (is_inline_leaf kind) _ _ (Refers-in_run (leaf kind head marks (source_span w source)) source owners m p h) (Refers-before_run (past w source owners) (leaf kind head marks (source_span w source)) owners m p h)
 
 Refers-words_before : (around : Around) (text : List ℕ) (m : Made) → Refers m → Refers (words_before around text m)
 Refers-words_before (Structural kind) text m h = Refers-with_white (chars text) m h
 Refers-words_before (Flow kind) text m h = Refers-in_run (chars_piece [] (characters text)) text [] m (refers-chars [] (characters text)) h
 Refers-words_before (Content marks) text m h = Refers-in_run (chars_piece marks (characters text)) text [] m (refers-chars marks (characters text)) h
 
-pub Refers-inside_piece : (around : Around) (w : Place) (m : Made) → Refers m → all_refer (inside_piece around w m).later.items ≡ true
+pub Refers-inside_piece : (around : Around) (w : Progress) (m : Made) → Refers m → all_refer (inside_piece around w m).later.items ≡ true
 Refers-inside_piece (Content marks) w m h = h.run
 Refers-inside_piece (Flow kind) w m h = (Refers-run_closed w m h).later
 Refers-inside_piece (Structural kind) w m h = h.later
 
 -- a group that is a reference has an editable head
 abbrev pub GroupRefers : Bool → Forest → Type 0
-GroupRefers editable nodes = (w : Place) (around : Around) (r : RefNode) → w.editable ≡ editable → ref_of w around nodes ≡ Some r → is_editable_ref r.head ≡ true
+GroupRefers editable nodes = (w : Progress) (around : Around) (r : RefNode) → w.editable ≡ editable → ref_of w around nodes ≡ Some r → is_editable_ref r.head ≡ true
 
 abbrev pub GroupsRefer : Bool → Parts → Type 0
 GroupsRefer editable Ended = Unit {0}
@@ -217,23 +217,23 @@ GroupsRefer editable (Single name attrs source later) = GroupsRefer editable lat
 GroupsRefer editable (Parent name attrs children later) = GroupsRefer editable children × GroupsRefer editable later
 
 -- what a place leads to is editable alike
-abbrev pub From : Bool → (Place → Made) → Type 0
-From editable f = (p : Place) → p.editable ≡ editable → Refers (f p)
+abbrev pub From : Bool → (Progress → Made) → Type 0
+From editable f = (p : Progress) → p.editable ≡ editable → Refers (f p)
 
-Refers-group_made : (editable : Bool) (around : Around) (nodes : Forest) (later : Place → Made) (w : Place) (r : Option RefNode) → ref_of w around nodes ≡ r → GroupRefers editable nodes → w.editable ≡ editable → From editable later → Refers (group_made around nodes later w r)
+Refers-group_made : (editable : Bool) (around : Around) (nodes : Forest) (later : Progress → Made) (w : Progress) (r : Option RefNode) → ref_of w around nodes ≡ r → GroupRefers editable nodes → w.editable ≡ editable → From editable later → Refers (group_made around nodes later w r)
 Refers-group_made editable around nodes later w (Some r) e g s h =
     Refers-leaf_before w Ref r.head (marks_at around) (spelling nodes) r.owners (later (past w (spelling nodes) r.owners)) (g w around r s e) (h (past w (spelling nodes) r.owners) s)
 Refers-group_made editable around nodes later w None e g s h =
     Refers-leaf_before w (group_kind around nodes) (whole_head (spelling nodes)) (marks_at around) (spelling nodes) [] (later (past w (spelling nodes) []))
     (other_refers (group_kind around nodes) (group-other around nodes) (whole_head (spelling nodes))) (h (past w (spelling nodes) []) s)
 
-Refers-leaf_made : (editable : Bool) (around : Around) (attrs : List Spelled) (source : List ℕ) (later : Place → Made) (w : Place) (fit : Fit) → FitOther fit → w.editable ≡ editable → From editable later → Refers (leaf_made around attrs source later w fit)
+Refers-leaf_made : (editable : Bool) (around : Around) (attrs : List Spelled) (source : List ℕ) (later : Progress → Made) (w : Progress) (fit : Fit) → FitOther fit → w.editable ≡ editable → From editable later → Refers (leaf_made around attrs source later w fit)
 Refers-leaf_made editable around attrs source later w (Leaf kind) f s h = Refers-leaf_before w kind (head_with attrs) (marks_at around) source [] (later (past w source [])) (other_refers kind f (head_with attrs)) (h (past w source []) s)
 Refers-leaf_made editable around attrs source later w (Whole kind) f s h = Refers-leaf_before w kind (whole_head source) (marks_at around) source [] (later (past w source [])) (other_refers kind f (whole_head source)) (h (past w source []) s)
 Refers-leaf_made editable around attrs source later w Annotation f s h = Refers-leaf_before w (note_kind around) (whole_head source) (marks_at around) source [] (later (past w source [])) (other_refers (note_kind around) (note-other around) (whole_head source)) (h (past w source []) s)
 Refers-leaf_made editable around attrs source later w (Branch kind) f s h = Refers-leaf_before w (note_kind around) (whole_head source) (marks_at around) source [] (later (past w source [])) (other_refers (note_kind around) (note-other around) (whole_head source)) (h (past w source []) s)
 
-Refers-element_made : (editable : Bool) (around : Around) (name : List ℕ) (attrs : List Spelled) (source : List ℕ) (children : Around → Place → Made) (later : Place → Made) (w : Place) (fit : Fit) → FitOther fit → w.editable ≡ editable →
+Refers-element_made : (editable : Bool) (around : Around) (name : List ℕ) (attrs : List Spelled) (source : List ℕ) (children : Around → Progress → Made) (later : Progress → Made) (w : Progress) (fit : Fit) → FitOther fit → w.editable ≡ editable →
     ((a : Around) → From editable (children a)) → From editable later → Refers (element_made around name attrs source children later w fit)
 Refers-element_made editable around name attrs source children later w Annotation f s g h =
     let inside = children (marked_around around name attrs) (inside_of w name attrs) in
@@ -241,10 +241,10 @@ Refers-element_made editable around name attrs source children later w Annotatio
 Refers-element_made editable around name attrs source children later w (Branch kind) f s g h =
     let at = inside_of w name attrs in
     let inside = inside_piece (around_in kind) at (children (around_in kind) at) in
-    let suffix = past w source inside.owners in
-    Refers-before_run suffix (node kind (head_with attrs) [] false (span_at w source) inside.later inside.pre) inside.owners (later suffix)
-    (refers-node kind (head_with attrs) [] false (span_at w source) inside.later inside.pre (other_refers kind f (head_with attrs)) (Refers-inside_piece (around_in kind) at (children (around_in kind) at) (g (around_in kind) at s)))
-    (h suffix s)
+    let after = past w source inside.owners in
+    Refers-before_run after (node kind (head_with attrs) [] false (source_span w source) inside.later inside.pre) inside.owners (later after)
+    (refers-node kind (head_with attrs) [] false (source_span w source) inside.later inside.pre (other_refers kind f (head_with attrs)) (Refers-inside_piece (around_in kind) at (children (around_in kind) at) (g (around_in kind) at s)))
+    (h after s)
 Refers-element_made editable around name attrs source children later w (Leaf kind) f s g h = Refers-leaf_made editable around attrs source later w (Leaf kind) f s h
 Refers-element_made editable around name attrs source children later w (Whole kind) f s g h = Refers-leaf_made editable around attrs source later w (Whole kind) f s h
 

@@ -16,7 +16,7 @@ use Rattle.model_page.specs.Tags.{is_annotation_tag}
 use Rattle.model_page.specs.Fit.{Around, Content, Fit, Annotation, Leaf, Branch, Whole, has_child, fit_of, fit_in_content, whole_kind, is_generated, group_kind}
 use Rattle.ve_kinds.specs.Table.{is_inline_leaf}
 use Rattle.model_page.specs.Heads.{characters, attrs_of, head_with, whole_head}
-use Rattle.model_page.specs.Pieces.{Span, Piece, Owner, Made, Place, past, span_at, joined_pieces, leaf, chars_piece, in_run, leaf_before}
+use Rattle.model_page.specs.Pieces.{SourceSpan, Piece, Owner, Made, Progress, past, source_span, joined_pieces, leaf, chars_piece, in_run, leaf_before}
 use Rattle.model_page.specs.ReferenceNodes.{RefNode, ref_of}
 use Rattle.model_page.specs.Convert.{element_source, inside_of, group_made, leaf_made, element_made, made_of}
 use Rattle.model_page_write.specs.Nodes.{Start, Nodes, Empty, Node}
@@ -62,7 +62,7 @@ Marked-chars m ms (c ∷ cs) h = record {
   stays = all_stay_inline-letters (m ∷ ms) (c ∷ cs);
 }
 
-pub Marked-leaf : (m : Mark) (ms : List Mark) (kind : Kind) (head : Head) (span : Span) → Marked true (leaf kind head (m ∷ ms) span)
+pub Marked-leaf : (m : Mark) (ms : List Mark) (kind : Kind) (head : Head) (span : SourceSpan) → Marked true (leaf kind head (m ∷ ms) span)
 Marked-leaf m ms kind head span =
     let s : Start = record { kind = kind; head = head; marks = m ∷ ms; pre = []; origin = None; generated = false; body = None } in
     record {
@@ -76,11 +76,11 @@ pub Marked-chosen : (child c : Bool) (a b : Made) → c ≡ true → Marked chil
 Marked-chosen child true a b h f = f
 Marked-chosen child false a b h f = cc
 
-pub Marked-leaf_before : (m : Mark) (ms : List Mark) (w : Place) (kind : Kind) (head : Head) (source : List ℕ) (owners : List Owner) (child : Bool) (made : Made) →
+pub Marked-leaf_before : (m : Mark) (ms : List Mark) (w : Progress) (kind : Kind) (head : Head) (source : List ℕ) (owners : List Owner) (child : Bool) (made : Made) →
     is_inline_leaf kind ≡ true → Marked child made.run → Marked true (leaf_before w kind head (m ∷ ms) source owners made).run
 Marked-leaf_before m ms w kind head source owners child made h f =
-    Marked-chosen true (is_inline_leaf kind) (in_run (leaf kind head (m ∷ ms) (span_at w source)) source owners made) _ h
-    (Marked-joined_pieces child (leaf kind head (m ∷ ms) (span_at w source)) made.run (Marked-leaf m ms kind head (span_at w source)) f)
+    Marked-chosen true (is_inline_leaf kind) (in_run (leaf kind head (m ∷ ms) (source_span w source)) source owners made) _ h
+    (Marked-joined_pieces child (leaf kind head (m ∷ ms) (source_span w source)) made.run (Marked-leaf m ms kind head (source_span w source)) f)
 
 -- what an element in content becomes
 abbrev pub FitsContent : Parts → Fit → Type 0
@@ -105,16 +105,16 @@ pub inline-whole_kind : (g : Bool) → is_inline_leaf (whole_kind g true) ≡ tr
 inline-whole_kind true = refl
 inline-whole_kind false = refl
 
-pub Marked-group_made : (m : Mark) (ms : List Mark) (nodes : Forest) (later : Place → Made) (w : Place) (r : Option RefNode) (child : Bool) →
-    ((p : Place) → Marked child (later p).run) → Marked true (group_made (Content (m ∷ ms)) nodes later w r).run
+pub Marked-group_made : (m : Mark) (ms : List Mark) (nodes : Forest) (later : Progress → Made) (w : Progress) (r : Option RefNode) (child : Bool) →
+    ((p : Progress) → Marked child (later p).run) → Marked true (group_made (Content (m ∷ ms)) nodes later w r).run
 Marked-group_made m ms nodes later w (Some r) child h =
     let p = past w (spelling nodes) r.owners in Marked-leaf_before m ms w Ref r.head (spelling nodes) r.owners child (later p) refl (h p)
 Marked-group_made m ms nodes later w None child h =
     let p = past w (spelling nodes) [] in
     Marked-leaf_before m ms w (group_kind (Content (m ∷ ms)) nodes) (whole_head (spelling nodes)) (spelling nodes) [] child (later p) (inline-whole_kind (is_generated nodes)) (h p)
 
-pub Marked-leaf_made : (m : Mark) (ms : List Mark) (attrs : List Spelled) (source : List ℕ) (later : Place → Made) (w : Place) (children : Parts) (fit : Fit) (child : Bool) →
-    FitsContent children fit → ((p : Place) → Marked child (later p).run) → Marked true (leaf_made (Content (m ∷ ms)) attrs source later w fit).run
+pub Marked-leaf_made : (m : Mark) (ms : List Mark) (attrs : List Spelled) (source : List ℕ) (later : Progress → Made) (w : Progress) (children : Parts) (fit : Fit) (child : Bool) →
+    FitsContent children fit → ((p : Progress) → Marked child (later p).run) → Marked true (leaf_made (Content (m ∷ ms)) attrs source later w fit).run
 Marked-leaf_made m ms attrs source later w children (Leaf kind) child f h =
     let p = past w source [] in Marked-leaf_before m ms w kind (head_with attrs) source [] child (later p) f (h p)
 Marked-leaf_made m ms attrs source later w children (Whole kind) child f h =
@@ -123,8 +123,8 @@ Marked-leaf_made m ms attrs source later w children Annotation child f h =
     let p = past w source [] in Marked-leaf_before m ms w AlienInline (whole_head source) source [] child (later p) refl (h p)
 Marked-leaf_made m ms attrs source later w children (Branch kind) child f h = absurd f
 
-pub Marked-element_made : (m : Mark) (ms : List Mark) (name : List ℕ) (attrs : List Spelled) (source : List ℕ) (made : Around → Place → Made) (later : Place → Made) (w : Place) (children : Parts) (fit : Fit) (child : Bool) →
-    FitsContent children fit → ((n : Mark) (ns : List Mark) (p : Place) → Marked (has_child children) (made (Content (n ∷ ns)) p).run) → ((p : Place) → Marked child (later p).run) →
+pub Marked-element_made : (m : Mark) (ms : List Mark) (name : List ℕ) (attrs : List Spelled) (source : List ℕ) (made : Around → Progress → Made) (later : Progress → Made) (w : Progress) (children : Parts) (fit : Fit) (child : Bool) →
+    FitsContent children fit → ((n : Mark) (ns : List Mark) (p : Progress) → Marked (has_child children) (made (Content (n ∷ ns)) p).run) → ((p : Progress) → Marked child (later p).run) →
     Marked true (element_made (Content (m ∷ ms)) name attrs source made later w fit).run
 Marked-element_made m ms name attrs source made later w children Annotation child f g h =
     let n : Mark = record { tag = chars name; attrs = attrs_of attrs } in
@@ -136,7 +136,7 @@ Marked-element_made m ms name attrs source made later w children (Branch kind) c
 Marked-element_made m ms name attrs source made later w children (Leaf kind) child f g h = Marked-leaf_made m ms attrs source later w children (Leaf kind) child f h
 Marked-element_made m ms name attrs source made later w children (Whole kind) child f g h = Marked-leaf_made m ms attrs source later w children (Whole kind) child f h
 
-pub Marked-made_of : (parts : Parts) → Texted parts → (m : Mark) (ms : List Mark) (w : Place) → Marked (has_child parts) (made_of (Content (m ∷ ms)) parts w).run
+pub Marked-made_of : (parts : Parts) → Texted parts → (m : Mark) (ms : List Mark) (w : Progress) → Marked (has_child parts) (made_of (Content (m ∷ ms)) parts w).run
 Marked-made_of Ended t m ms w = record { nodes = Empty; items = refl; content = λ h. cc; stays = refl }
 Marked-made_of (Words text later) t m ms w =
     Marked-joined_pieces (has_child later) (chars_piece (m ∷ ms) (characters text)) (made_of (Content (m ∷ ms)) later (past w text [])).run

@@ -16,7 +16,7 @@ use Rattle.model_page.specs.Parts.{Parts, Ended, Words, Note, Group, Single, Par
 use Rattle.model_page.specs.Fit.{Around, Flow, Structural, Content, Fit, Annotation, Leaf, Branch, Whole, around_in, fit_of, group_kind, note_kind}
 use Rattle.ve_kinds.specs.Table.{is_inline_leaf}
 use Rattle.model_page.specs.Heads.{characters, head_with, whole_head}
-use Rattle.model_page.specs.Pieces.{Span, Piece, Owner, Made, Place, past, span_at, no_piece, node, leaf, chars_piece, items_after, with_white, run_dropped, run_ended, run_closed, in_run, before_run, leaf_before}
+use Rattle.model_page.specs.Pieces.{SourceSpan, Piece, Owner, Made, Progress, past, source_span, no_piece, node, leaf, chars_piece, items_after, with_white, run_dropped, run_ended, run_closed, in_run, before_run, leaf_before}
 use Rattle.model_page.specs.ReferenceNodes.{RefNode, ref_of}
 use Rattle.model_page.specs.Convert.{marks_at, marked_around, element_source, inside_of, inside_piece, words_before, group_made, leaf_made, element_made, made_of}
 use Rattle.model_page_law.specs.Origins.{origin_before, origins_of}
@@ -145,7 +145,7 @@ Blocks-append (Content marks) xs ys h g = tt
 Blocks-append (Flow k) xs ys h g = Holds-append k xs ys h g
 Blocks-append (Structural k) xs ys h g = Holds-append k xs ys h g
 
-Blocks-node : (around : Around) (kind : Kind) (head : Head) (marks : List Mark) (generated : Bool) (span : Span) (inside : Piece) (pre : List ℕ) →
+Blocks-node : (around : Around) (kind : Kind) (head : Head) (marks : List Mark) (generated : Bool) (span : SourceSpan) (inside : Piece) (pre : List ℕ) →
     Held around kind → kind_same kind InternalList ≡ false → Holds kind inside.items → Blocks around (node kind head marks generated span inside pre).items
 Blocks-node (Content m) kind head marks generated span inside pre may other h = tt
 Blocks-node (Flow k) kind head marks generated span inside pre may other h = Holds-node k kind head marks [] generated inside.items pre may other h
@@ -162,21 +162,21 @@ Meets-chosen around true a b f g = f
 Meets-chosen around false a b f g = g
 
 -- a run becomes a paragraph in a flow parent alone
-Blocks-paragraph : (around : Around) → Sane around → (b : ℕ) (bs : List ℕ) → Unsourced around (b ∷ bs) → (span : Span) (run : Piece) → Inline run.items → Blocks around (node P empty_head [] true span run []).items
+Blocks-paragraph : (around : Around) → Sane around → (b : ℕ) (bs : List ℕ) → Unsourced around (b ∷ bs) → (span : SourceSpan) (run : Piece) → Inline run.items → Blocks around (node P empty_head [] true span run []).items
 Blocks-paragraph (Content marks) s b bs u span run h = tt
 Blocks-paragraph (Flow k) s b bs u span run h = Blocks-node (Flow k) P empty_head [] true span run [] s.1 refl (h P refl)
 Blocks-paragraph (Structural k) s b bs u span run h = cc
 
-Meets-run_ended : (around : Around) → Sane around → (source : List ℕ) → Unsourced around source → (w : Place) (m : Made) → Meets around m → Meets around (run_ended source w m)
+Meets-run_ended : (around : Around) → Sane around → (source : List ℕ) → Unsourced around source → (w : Progress) (m : Made) → Meets around m → Meets around (run_ended source w m)
 Meets-run_ended around s [] u w m h = Meets-run_dropped around m h
 Meets-run_ended around s (b ∷ bs) u w m h =
     Meets-chosen around (is_white (b ∷ bs)) _ _ (Meets-with_white around (chars (b ∷ bs)) (run_dropped m) (Meets-run_dropped around m h)) (record {
       run = λ parent e. refl;
-      later = Blocks-append around (node P empty_head [] true (span_at w (b ∷ bs)) m.run []).items m.later.items (Blocks-paragraph around s b bs u (span_at w (b ∷ bs)) m.run h.run) h.later;
+      later = Blocks-append around (node P empty_head [] true (source_span w (b ∷ bs)) m.run []).items m.later.items (Blocks-paragraph around s b bs u (source_span w (b ∷ bs)) m.run h.run) h.later;
       source = none_unsourced around;
     })
 
-pub Meets-run_closed : (around : Around) → Sane around → (w : Place) (m : Made) → Meets around m → Meets around (run_closed w m)
+pub Meets-run_closed : (around : Around) → Sane around → (w : Progress) (m : Made) → Meets around m → Meets around (run_closed w m)
 Meets-run_closed around s w m h = Meets-run_ended around s m.source h.source w m h
 
 Meets-in_run : (around : Around) → HoldsRuns around → (piece : Piece) (source : List ℕ) (owners : List Owner) (m : Made) → Inline piece.items → Meets around m → Meets around (in_run piece source owners m)
@@ -184,14 +184,14 @@ Meets-in_run (Content marks) r piece source owners m p h = record { run = Inline
 Meets-in_run (Flow k) r piece source owners m p h = record { run = Inline-append piece.items m.run.items p h.run; later = h.later; source = tt }
 Meets-in_run (Structural k) r piece source owners m p h = absurd r
 
-Meets-before_run : (around : Around) → Sane around → (w : Place) (piece : Piece) (owners : List Owner) (m : Made) → Blocks around piece.items → Meets around m → Meets around (before_run w piece owners m)
+Meets-before_run : (around : Around) → Sane around → (w : Progress) (piece : Piece) (owners : List Owner) (m : Made) → Blocks around piece.items → Meets around m → Meets around (before_run w piece owners m)
 Meets-before_run around s w piece owners m p h =
     let g = Meets-run_closed around s w m h in
     record { run = g.run; later = Blocks-append around piece.items (run_closed w m).later.items p g.later; source = g.source }
 
 -- ---- leaves
 
-Inline-leaf : (kind : Kind) (head : Head) (marks : List Mark) (span : Span) → is_inline_leaf kind ≡ true → kind_same kind InternalList ≡ false → Inline (leaf kind head marks span).items
+Inline-leaf : (kind : Kind) (head : Head) (marks : List Mark) (span : SourceSpan) → is_inline_leaf kind ≡ true → kind_same kind InternalList ≡ false → Inline (leaf kind head marks span).items
 Inline-leaf kind head marks span i other parent e = Holds-node parent kind head marks [] false [] [] (inline_held parent kind e i) other refl
 
 stands_in : (around : Around) (kind : Kind) → Stands around kind true → HoldsRuns around
@@ -204,18 +204,18 @@ stands_held (Content marks) kind h = tt
 stands_held (Flow k) kind h = h
 stands_held (Structural k) kind h = h
 
-Meets-leaf_before : (around : Around) → Sane around → (w : Place) (kind : Kind) (head : Head) (marks : List Mark) (source : List ℕ) (owners : List Owner) (m : Made) →
+Meets-leaf_before : (around : Around) → Sane around → (w : Progress) (kind : Kind) (head : Head) (marks : List Mark) (source : List ℕ) (owners : List Owner) (m : Made) →
     LeafFits around kind → Meets around m → Meets around (leaf_before w kind head marks source owners m)
 Meets-leaf_before around s w kind head marks source owners m f h = by (is_inline_leaf kind) refl f.1
   where
     by : (c : Bool) → is_inline_leaf kind ≡ c → Stands around kind c → Meets around (
         if c
-        then in_run (leaf kind head marks (span_at w source)) source owners m
-        else before_run (past w source owners) (leaf kind head marks (span_at w source)) owners m)
-    by true e g = Meets-in_run around (stands_in around kind g) (leaf kind head marks (span_at w source)) source owners m (Inline-leaf kind head marks (span_at w source) e f.0) h
+        then in_run (leaf kind head marks (source_span w source)) source owners m
+        else before_run (past w source owners) (leaf kind head marks (source_span w source)) owners m)
+    by true e g = Meets-in_run around (stands_in around kind g) (leaf kind head marks (source_span w source)) source owners m (Inline-leaf kind head marks (source_span w source) e f.0) h
     by false e g =
-        Meets-before_run around s (past w source owners) (leaf kind head marks (span_at w source)) owners m
-        (Blocks-node around kind head marks false (span_at w source) no_piece [] (stands_held around kind g) f.0 refl) h
+        Meets-before_run around s (past w source owners) (leaf kind head marks (source_span w source)) owners m
+        (Blocks-node around kind head marks false (source_span w source) no_piece [] (stands_held around kind g) f.0 refl) h
 
 -- ---- each part
 
@@ -224,8 +224,8 @@ Meets-words_before (Structural k) text m h = Meets-with_white (Structural k) (ch
 Meets-words_before (Flow k) text m h = Meets-in_run (Flow k) tt (chars_piece [] (characters text)) text [] m (Inline-chars [] (characters text)) h
 Meets-words_before (Content marks) text m h = Meets-in_run (Content marks) tt (chars_piece marks (characters text)) text [] m (Inline-chars marks (characters text)) h
 
-Meets-group_made : (around : Around) → Sane around → (nodes : Forest) (later : Place → Made) (w : Place) (r : Option RefNode) → ref_of w around nodes ≡ r →
-    ((p : Place) → Meets around (later p)) → Meets around (group_made around nodes later w r)
+Meets-group_made : (around : Around) → Sane around → (nodes : Forest) (later : Progress → Made) (w : Progress) (r : Option RefNode) → ref_of w around nodes ≡ r →
+    ((p : Progress) → Meets around (later p)) → Meets around (group_made around nodes later w r)
 Meets-group_made around s nodes later w None e h =
     Meets-leaf_before around s w (group_kind around nodes) (whole_head (spelling nodes)) (marks_at around) (spelling nodes) [] (later (past w (spelling nodes) [])) (group_fits around s nodes) (h (past w (spelling nodes) []))
 Meets-group_made (Content marks) s nodes later w (Some r) e h =
@@ -237,8 +237,8 @@ Meets-group_made (Structural k) s nodes later w (Some r) e h = absurd (none_some
     none_some : (r : RefNode) → None ≡ Some r → ⊥
     none_some r e = cc
 
-Meets-leaf_made : (around : Around) → Sane around → (attrs : List Spelled) (source : List ℕ) (later : Place → Made) (w : Place) (fit : Fit) → FitStands around fit →
-    ((p : Place) → Meets around (later p)) → Meets around (leaf_made around attrs source later w fit)
+Meets-leaf_made : (around : Around) → Sane around → (attrs : List Spelled) (source : List ℕ) (later : Progress → Made) (w : Progress) (fit : Fit) → FitStands around fit →
+    ((p : Progress) → Meets around (later p)) → Meets around (leaf_made around attrs source later w fit)
 Meets-leaf_made around s attrs source later w (Leaf kind) f h = Meets-leaf_before around s w kind (head_with attrs) (marks_at around) source [] (later (past w source [])) f (h (past w source []))
 Meets-leaf_made around s attrs source later w (Whole kind) f h = Meets-leaf_before around s w kind (whole_head source) (marks_at around) source [] (later (past w source [])) f (h (past w source []))
 Meets-leaf_made around s attrs source later w Annotation f h =
@@ -247,27 +247,27 @@ Meets-leaf_made around s attrs source later w (Branch kind) f h =
     Meets-leaf_before around s w (note_kind around) (whole_head source) (marks_at around) source [] (later (past w source [])) (note_fits around s) (h (past w source []))
 
 -- what is inside of a branch
-Holds-inside : (k : Kind) (around : Around) → Matches k around → Sane around → (w : Place) (m : Made) → Meets around m → Holds k (inside_piece around w m).later.items
+Holds-inside : (k : Kind) (around : Around) → Matches k around → Sane around → (w : Progress) (m : Made) → Meets around m → Holds k (inside_piece around w m).later.items
 Holds-inside k (Content marks) e s w m h = h.run k e
 Holds-inside k (Flow j) e s w m h = subst (λ i. Holds i (run_closed w m).later.items) e (Meets-run_closed (Flow j) s w m h).later
 Holds-inside k (Structural j) e s w m h = subst (λ i. Holds i m.later.items) e h.later
 
-Meets-element_made : (around : Around) → Sane around → (name : List ℕ) (attrs : List Spelled) (source : List ℕ) (children : Around → Place → Made) (later : Place → Made) (w : Place) (fit : Fit) → FitStands around fit →
-    ((a : Around) → Sane a → (p : Place) → Meets a (children a p)) → ((p : Place) → Meets around (later p)) → Meets around (element_made around name attrs source children later w fit)
+Meets-element_made : (around : Around) → Sane around → (name : List ℕ) (attrs : List Spelled) (source : List ℕ) (children : Around → Progress → Made) (later : Progress → Made) (w : Progress) (fit : Fit) → FitStands around fit →
+    ((a : Around) → Sane a → (p : Progress) → Meets a (children a p)) → ((p : Progress) → Meets around (later p)) → Meets around (element_made around name attrs source children later w fit)
 Meets-element_made around s name attrs source children later w Annotation f g h =
     let inside = children (marked_around around name attrs) (inside_of w name attrs) in
     Meets-in_run around f inside.run source inside.owners (later (past w source inside.owners)) (g (marked_around around name attrs) tt (inside_of w name attrs)).run (h (past w source inside.owners))
 Meets-element_made around s name attrs source children later w (Branch kind) f g h =
     let at = inside_of w name attrs in
     let inside = inside_piece (around_in kind) at (children (around_in kind) at) in
-    let suffix = past w source inside.owners in
-    Meets-before_run around s suffix (node kind (head_with attrs) [] false (span_at w source) inside.later inside.pre) inside.owners (later suffix)
-    (Blocks-node around kind (head_with attrs) [] false (span_at w source) inside.later inside.pre f.1 f.0 (Holds-inside kind (around_in kind) (matches kind) f.2 at (children (around_in kind) at) (g (around_in kind) f.2 at)))
-    (h suffix)
+    let after = past w source inside.owners in
+    Meets-before_run around s after (node kind (head_with attrs) [] false (source_span w source) inside.later inside.pre) inside.owners (later after)
+    (Blocks-node around kind (head_with attrs) [] false (source_span w source) inside.later inside.pre f.1 f.0 (Holds-inside kind (around_in kind) (matches kind) f.2 at (children (around_in kind) at) (g (around_in kind) f.2 at)))
+    (h after)
 Meets-element_made around s name attrs source children later w (Leaf kind) f g h = Meets-leaf_made around s attrs source later w (Leaf kind) f h
 Meets-element_made around s name attrs source children later w (Whole kind) f g h = Meets-leaf_made around s attrs source later w (Whole kind) f h
 
-pub Meets-made_of : (around : Around) → Sane around → (parts : Parts) (w : Place) → Meets around (made_of around parts w)
+pub Meets-made_of : (around : Around) → Sane around → (parts : Parts) (w : Progress) → Meets around (made_of around parts w)
 Meets-made_of around s Ended w = record { run = λ parent e. refl; later = none around; source = none_unsourced around }
   where
     none : (a : Around) → Blocks a []

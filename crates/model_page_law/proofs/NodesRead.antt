@@ -16,7 +16,7 @@ use Rattle.model_page.specs.Fragment.{item_unmade}
 use Rattle.ve_kinds.specs.Tags.{kind_of_tag}
 use Rattle.model_page.specs.Tags.{tag_of, is_inline_tag}
 use Rattle.ve_base.specs.Empty.{empty_head}
-use Rattle.model_page.specs.Pieces.{Place}
+use Rattle.model_page.specs.Pieces.{Progress}
 use Rattle.model_page.specs.Convert.{inside_piece, made_of}
 use Rattle.model_page_write.specs.Nodes.{Start, Nodes, Empty, Letter, Node}
 use Rattle.model_page_write.specs.Written.{is_empty, white_after, is_bare}
@@ -70,8 +70,8 @@ block_same around f xs ys pre e c = subst (λ zs. AtBlock around f zs pre) e c
 -- what stands inside of a node
 abbrev InsideAt : Around → Forest → List PlainItem → List ℕ → Type 0
 InsideAt around f items pre =
-    ((w : Place) → map item_unmade (inside_piece around w (made_of around (parts_of f) w)).later.items ≡ items)
-    × ((w : Place) → (inside_piece around w (made_of around (parts_of f) w)).pre ≡ pre)
+    ((w : Progress) → map item_unmade (inside_piece around w (made_of around (parts_of f) w)).later.items ≡ items)
+    × ((w : Progress) → (inside_piece around w (made_of around (parts_of f) w)).pre ≡ pre)
 
 inside_at : MarksMean → (s : Start) (inside : Nodes) (pre : List ℕ) → BranchTag s.kind → (is_content_branch s.kind ≡ true → IsContent inside × (pre ≡ [])) →
     (is_content_branch s.kind ≡ false → BlocksRead s.kind false pre (white_after inside pre) (blocks_forest false pre inside) (said_items inside)) →

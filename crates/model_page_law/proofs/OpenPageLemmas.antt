@@ -5,10 +5,10 @@ use Rattle.model_spelling.specs.declared.scan_fault.ScanFault.{ScanFault}
 use Rattle.model_spelling.specs.Forest.{Forest, Spells}
 use Rattle.model_spelling.specs.Faults.{ForestFault, Scan, fault_of}
 use Rattle.model_spelling.specs.Parsed.{forest_of}
-use Rattle.model_spelling.specs.Page.{body_at, moved, moved_some, page_fault, fault_between}
+use Rattle.model_spelling.specs.Page.{body_at, fault_in_page, fault_in_page_if_any, page_fault, fault_between}
 use Rattle.model_spelling.proofs.Proved.{law_found, law_only, law_reads_right}
 use Rattle.model_items.specs.Law.{Lawful}
-use Rattle.model_page.specs.PageItems.{Opened, opened_with, opened_forest, opened_body, opened_page, slice, or_nothing, page_made}
+use Rattle.model_page.specs.PageItems.{Opened, page_opened, opened_forest, opened_body, opened_page, slice, or_nothing, page_made}
 use Rattle.model_page.specs.Limits.{Limit, page_limit}
 use Rattle.model_page.specs.OpenPage.{OpenFault, PageTooLong, BadPage, OverLimit, TooManyItems, StoreFull, values_of, limit_in, if_small, if_within, read_body}
 use Rattle.model_page_law.specs.Lawful.{IsWithin, ReadIsWithin, ReadIsLawful, WithinIsRead, BadPageHasFault}
@@ -56,12 +56,12 @@ within_by o p None h e =
 -- ---- the body
 
 abbrev spanned : List ℕ → ℕ → ℕ → Forest → Opened
-spanned page from to f = opened_with page (record { from = from; to = to }) (page_made from f)
+spanned page from to f = page_opened page (record { from = from; to = to }) (page_made from f)
 
 -- what is read where the fault of the body is this
 abbrev body_read : List ℕ → ℕ → ℕ → Option ForestFault → Read
 body_read page from to fault = elim fault [
-  | Some f ↦ Err (BadPage (moved from f))
+  | Some f ↦ Err (BadPage (fault_in_page from f))
   | None ↦ if_within (spanned page from to (or_nothing (forest_of (slice page from to))))
 ]
 
@@ -81,7 +81,7 @@ spanned_opens page from to f e =
 
 body_within : (page : List ℕ) (from to : ℕ) (p : Opened) (fault : Option ForestFault) → fault_of (slice page from to) ≡ fault → body_at page ≡ Ok (from, to) → length page ≤ 4194304 →
     body_read page from to fault ≡ read p → IsWithin page p
-body_within page from to p (Some f) h b le e = absurd (no_read (BadPage (moved from f)) p e)
+body_within page from to p (Some f) h b le e = absurd (no_read (BadPage (fault_in_page from f)) p e)
 body_within page from to p None h b le e =
     let o : Opened = spanned page from to (or_nothing (forest_of (slice page from to))) in
     let w = within_by o p (limit_in o) refl e in
@@ -179,7 +179,7 @@ limited_has_none : (o : Opened) (limit : Option Limit) → fault_in (limited o l
 limited_has_none o (Some l) = refl
 limited_has_none o None = small_has_none o (nat_lt 4194304 (length o.items)) (nat_lt 1048576 (length (values_of o)))
 
-body_fault : (page : List ℕ) (from to : ℕ) (fault : Option ForestFault) → fault_in (body_read page from to fault) ≡ moved_some from fault
+body_fault : (page : List ℕ) (from to : ℕ) (fault : Option ForestFault) → fault_in (body_read page from to fault) ≡ fault_in_page_if_any from fault
 body_fault page from to (Some f) = refl
 body_fault page from to None = limited_has_none (spanned page from to (or_nothing (forest_of (slice page from to)))) (limit_in (spanned page from to (or_nothing (forest_of (slice page from to)))))
 

@@ -11,9 +11,9 @@ use Rattle.model_items.specs.declared.plain_item.PlainItem.TheVariants.{Char, Op
 use Rattle.model_page.specs.References.{inside_from}
 use Rattle.model_page.specs.Parts.{parts_of}
 use Rattle.model_page.specs.Fit.{Flow}
-use Rattle.model_page.specs.Pieces.{Made, Place}
+use Rattle.model_page.specs.Pieces.{Made, Progress}
 use Rattle.model_page.specs.Convert.{made_of}
-use Rattle.model_page.specs.PageItems.{with_origins, internal_list, page_made, items_of, slice, Opened, opened_with, opened_forest, opened_body}
+use Rattle.model_page.specs.PageItems.{with_origins, internal_list, page_made, items_of_page, slice, Opened, page_opened, opened_forest, opened_body}
 use Rattle.model_page_write.specs.Nodes.{Nodes, Empty, Letter, Node}
 use Rattle.model_page_law.specs.Spans.{NodeAt, OriginsStand}
 use Rattle.model_page_law.proofs.ShapeLemmas.{plain, openings, Fine-run_closed, Fine-made_of}
@@ -121,21 +121,21 @@ stands-in (Node s inside pre later) k (suc i) rest l =
 
 -- ---- the page
 
-made-stands : (at : ℕ) (f : Forest) (k : ℕ) → k < length (page_made at f).later.spans → Stands (items_of (page_made at f)) k
+made-stands : (at : ℕ) (f : Forest) (k : ℕ) → k < length (page_made at f).later.spans → Stands (items_of_page (page_made at f)) k
 made-stands at f k l =
     let m : Made = page_made at f in
-    let w : Place = record { at = at; owners = []; editable = true } in
+    let w : Progress = record { at = at; owners = []; editable = true } in
     let s = (Fine-run_closed w (made_of (Flow Root) (parts_of f) w) (Fine-made_of (Flow Root) (parts_of f) w)).later in
     let rest : List PlainItem = internal_list m.pre m.owners in
     let named : with_origins 0 m.later.items ≡ plain (numbered_nodes 0 s.nodes) = ap (with_origins 0) s.items ∙ with_origins-nodes 0 s.nodes in
     let c = s.count in
-    stands-same (plain (numbered_nodes 0 s.nodes) ++ rest) (items_of m) (0 + k) k (ap (λ xs. xs ++ rest) (sym named)) (omega arith)
+    stands-same (plain (numbered_nodes 0 s.nodes) ++ rest) (items_of_page m) (0 + k) k (ap (λ xs. xs ++ rest) (sym named)) (omega arith)
     (stands-in s.nodes 0 k rest (omega (arith, l, c)))
 
 forest-stands : (page : List ℕ) (from to : ℕ) (r : Option Forest) (o : Opened) → opened_forest page (record { from = from; to = to }) r ≡ Some o → (k : ℕ) → k < length o.spans → Stands o.items k
 forest-stands page from to None o h = cc
 forest-stands page from to (Some f) o h =
-    let first : Opened = opened_with page (record { from = from; to = to }) (page_made from f) in
+    let first : Opened = page_opened page (record { from = from; to = to }) (page_made from f) in
     let is : first ≡ o = let s : ◌≡◌ {A = Option Opened} (Some first) (Some o) = h in ap (λ x. unwrap_or x first) s in
     subst (λ x. (k : ℕ) → k < length x.spans → Stands x.items k) is (λ k l. made-stands from f k l)
 

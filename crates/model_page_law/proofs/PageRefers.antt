@@ -17,16 +17,16 @@ use Rattle.model_spelling.proofs.Proved.{law_decodes_utf8, law_reads_right}
 use Rattle.ve_kinds.specs.declared.kind.Kind.TheVariants.{Root, InternalList, InternalItem}
 use Rattle.model_items.specs.declared.plain_item.PlainItem.{PlainItem}
 use Rattle.model_items.specs.declared.plain_item.PlainItem.TheVariants.{Char, Opening, Closing}
-use Rattle.model_page.specs.Elements.{value_of}
+use Rattle.model_page.specs.Elements.{value_named}
 use Rattle.model_page.specs.Parts.{Parts, Ended, Words, Note, Group, Single, Parent, parts_of}
 use Rattle.model_page.specs.DataMw.{RefRead, reference_of}
 use Rattle.model_page.specs.Editable.{data_mw, is_editable_ref, head_refers, all_refer}
 use Rattle.model_page.specs.Fit.{Around, Flow, Structural, Content}
 use Rattle.model_page.specs.Heads.{attrs_of}
-use Rattle.model_page.specs.Pieces.{Owner, Made, Place}
+use Rattle.model_page.specs.Pieces.{Owner, Made, Progress}
 use Rattle.model_page.specs.ReferenceNodes.{RefNode, reference_in, unless_owned, ref_node, may_be_reference}
 use Rattle.model_page.specs.Convert.{made_of}
-use Rattle.model_page.specs.PageItems.{with_origins, body_made, or_nothing, internal_item, internal_list, page_made, slice, Opened, opened_with, opened_forest, opened_body}
+use Rattle.model_page.specs.PageItems.{with_origins, body_made, or_nothing, internal_item, internal_list, page_made, slice, Opened, page_opened, opened_forest, opened_body}
 use Rattle.model_page_law.specs.Referring.{OpenedRefers, SpelledRefers}
 use Rattle.model_page_law.proofs.Premises.{AllUtf8}
 use Rattle.model_page_law.proofs.PartsUtf8.{all_utf8}
@@ -88,7 +88,7 @@ attrs_utf8 (a ∷ attrs) before rest h u =
     )
 
 -- what the head keeps of a `data-mw` is its decoded value
-data_mw-attrs_of : (attrs : List Spelled) → AttrsUtf8 attrs → data_mw (attrs_of attrs) ≡ value_of (codes "data-mw") attrs
+data_mw-attrs_of : (attrs : List Spelled) → AttrsUtf8 attrs → data_mw (attrs_of attrs) ≡ value_named (codes "data-mw") attrs
 data_mw-attrs_of [] u = refl
 data_mw-attrs_of (a ∷ attrs) u =
     (λ i. if bytes_eq (encodes-chars a.name u.0 i) (codes "data-mw") then Some (encodes-chars (decoded a.value) (law_decodes_utf8 a.value u.1) i) else data_mw-attrs_of attrs u.2 i)
@@ -103,7 +103,7 @@ reference-some owners (Some mw) reading e = by (reference_of mw) e
     by None e = cc
     by (Some x) e = refl
 
-made-ref : (w : Place) (name : List ℕ) (attrs : List Spelled) (children : Forest) (r : RefNode) → AttrsUtf8 attrs → (may : Bool) (found : Option RefRead) → reference_in w.owners (value_of (codes "data-mw") attrs) ≡ found →
+made-ref : (w : Progress) (name : List ℕ) (attrs : List Spelled) (children : Forest) (r : RefNode) → AttrsUtf8 attrs → (may : Bool) (found : Option RefRead) → reference_in w.owners (value_named (codes "data-mw") attrs) ≡ found →
     (if may then (elim found [ None ↦ None | Some reading ↦ Some (ref_node w name attrs children reading) ]) else None) ≡ Some r → is_editable_ref r.head ≡ true
 made-ref w name attrs children r u false found e h = cc
 made-ref w name attrs children r u true None e h = cc
@@ -112,7 +112,7 @@ made-ref w name attrs children r u true (Some reading) e h =
     let is : first ≡ r = let s : ◌≡◌ {A = Option RefNode} (Some first) (Some r) = h in ap (λ x. unwrap_or x first) s in
     ap (λ x. is_editable_ref x.head) (sym is)
     ∙ ap (λ v. is_some (option_and_then reference_of v)) (data_mw-attrs_of attrs u)
-    ∙ reference-some w.owners (value_of (codes "data-mw") attrs) reading e
+    ∙ reference-some w.owners (value_named (codes "data-mw") attrs) reading e
 
 group-refers : (nodes : Forest) → ((name : List ℕ) (attrs : List Spelled) (children : Forest) → nodes ≡ Element name attrs children Nothing → AttrsUtf8 attrs) → GroupRefers true nodes
 group-refers Nothing u w around r s e = cc
@@ -121,7 +121,7 @@ group-refers (Remark text rest) u w around r s e = cc
 group-refers (Void name attrs slash rest) u w around r s e = cc
 group-refers (RawElement name attrs text rest) u w around r s e = cc
 group-refers (Element name attrs children Nothing) u w around r s e =
-    made-ref w name attrs children r (u name attrs children refl) (may_be_reference w around name attrs) (reference_in w.owners (value_of (codes "data-mw") attrs)) refl e
+    made-ref w name attrs children r (u name attrs children refl) (may_be_reference w around name attrs) (reference_in w.owners (value_named (codes "data-mw") attrs)) refl e
 group-refers (Element name attrs children (Text text rest)) u w around r s e = cc
 group-refers (Element name attrs children (Remark text rest)) u w around r s e = cc
 group-refers (Element name attrs children (Void n a slash rest)) u w around r s e = cc
@@ -155,7 +155,7 @@ groups-refer room (Single name attrs source later) f u = groups-refer room later
 groups-refer room (Parent name attrs children later) f u = (groups-refer (room - 1) children f.1 u.1, groups-refer room later f.2 u.2)
 
 -- where no reference is editable there is none
-may_not : (w : Place) (around : Around) (name : List ℕ) (attrs : List Spelled) → w.editable ≡ false → may_be_reference w around name attrs ≡ false
+may_not : (w : Progress) (around : Around) (name : List ℕ) (attrs : List Spelled) → w.editable ≡ false → may_be_reference w around name attrs ≡ false
 may_not w (Structural k) name attrs e = refl
 may_not w (Flow k) name attrs e = off w.editable _ _ _ e
   where
@@ -204,7 +204,7 @@ refers-with_origins (Opening kind head marks pre origin generated ∷ items) k =
 item_refers-body : (o : Owner) → all_refer (internal_item o) ≡ true
 item_refers-body o =
     let f : Forest = or_nothing (forest_of o.html) in
-    let w : Place = record { at = 0; owners = []; editable = false } in
+    let w : Progress = record { at = 0; owners = []; editable = false } in
     refers-append (body_made f).later.items (Closing InternalItem (body_made f).pre ∷ [])
     (Refers-run_closed w (made_of (Flow InternalItem) (parts_of f) w) (Refers-made_of false (Flow InternalItem) (parts_of f) (none-refer (parts_of f)) w refl)).later refl
 
@@ -214,7 +214,7 @@ items_refer (o ∷ owners) = refers-append (internal_item o) (flat_map internal_
 
 pub spelled_refers : SpelledRefers
 spelled_refers at f h u =
-    let w : Place = record { at = at; owners = []; editable = true } in
+    let w : Progress = record { at = at; owners = []; editable = true } in
     let m : Made = page_made at f in
     let groups = groups-refer 200 (parts_of f) (Faithful-parts_of 200 f h) (all_utf8 f h u) in
     refers-append (with_origins 0 m.later.items) (internal_list m.pre m.owners)
@@ -225,7 +225,7 @@ forest_refers : (page : List ℕ) (from to : ℕ) → IsUtf8 (slice page from to
 forest_refers page from to u None e o h = cc
 forest_refers page from to u (Some f) e o h =
     let s = law_reads_right (slice page from to) f e in
-    let first : Opened = opened_with page (record { from = from; to = to }) (page_made from f) in
+    let first : Opened = page_opened page (record { from = from; to = to }) (page_made from f) in
     let is : first ≡ o = let p : ◌≡◌ {A = Option Opened} (Some first) (Some o) = h in ap (λ x. unwrap_or x first) p in
     ap (λ x. all_refer x.items) (sym is) ∙ spelled_refers from f s.1 (subst IsUtf8 (sym s.0) u)
 

@@ -7,7 +7,7 @@ use Rattle.model_items.specs.declared.plain_item.PlainItem.TheVariants.{Char, Op
 use Rattle.model_items.specs.Same.{option_same}
 use Rattle.model_page.specs.References.{Body}
 use Rattle.model_page.specs.PageItems.{with_origins}
-use Rattle.model_page_write.specs.Nodes.{Carried, carried_from, Start, Nodes, Empty, Letter, Node, nodes_of, opening_of, items_of, node_items}
+use Rattle.model_page_write.specs.Nodes.{Carried, carried_from, Start, Nodes, Empty, Letter, Node, carried_nodes, start_item, node_list_items, node_items}
 use Rattle.model_page_write.specs.PageText.{has_origin, node_from, node_with}
 use Rattle.model_page_law.proofs.NodesLemmas.{nodes_of-items_of}
 use Rattle.model_page_law.proofs.ShapeLemmas.{plain, openings}
@@ -62,30 +62,30 @@ carried_from-append bodies at (Opening kind head marks pre origin generated ∷ 
     ap (λ zs. record { item = Opening kind head marks pre origin generated; body = bodies at } ∷ zs) (carried_from-append bodies (suc at) xs ys)
     ∙ ap (λ n. record { item = Opening kind head marks pre origin generated; body = bodies at } ∷ carried_from bodies (suc at) xs ++ carried_from bodies n ys) (omega arith)
 
-pub carried_from-plain : (bodies : ℕ → Option Body) (at : ℕ) (n : Nodes) → carried_from bodies at (plain n) ≡ items_of (bearing bodies at n)
+pub carried_from-plain : (bodies : ℕ → Option Body) (at : ℕ) (n : Nodes) → carried_from bodies at (plain n) ≡ node_list_items (bearing bodies at n)
 carried_from-plain bodies at Empty = refl
 carried_from-plain bodies at (Letter c marks later) = ap (λ xs. record { item = Char c marks; body = None } ∷ xs) (carried_from-plain bodies (suc at) later)
 carried_from-plain bodies at (Node s inside pre later) =
-    let opening : Carried = opening_of (with_body (bodies at) s) in
+    let opening : Carried = start_item (with_body (bodies at) s) in
     let closing : Carried = record { item = Closing s.kind pre; body = None } in
     ap (λ xs. opening ∷ xs) (carried_from-append bodies (suc at) (plain inside) (Closing s.kind pre ∷ plain later))
     ∙ ap (λ xs. opening ∷ xs ++ closing ∷ carried_from bodies (suc (suc at + length (plain inside))) (plain later)) (carried_from-plain bodies (suc at) inside)
-    ∙ ap (λ xs. opening ∷ items_of (bearing bodies (suc at) inside) ++ closing ∷ xs) (carried_from-plain bodies (suc (suc at + length (plain inside))) later)
+    ∙ ap (λ xs. opening ∷ node_list_items (bearing bodies (suc at) inside) ++ closing ∷ xs) (carried_from-plain bodies (suc (suc at + length (plain inside))) later)
 
-pub nodes_of-carried_items : (bodies : ℕ → Option Body) (at : ℕ) (n : Nodes) → nodes_of (carried_from bodies at (plain n)) ≡ bearing bodies at n
-nodes_of-carried_items bodies at n = ap nodes_of (carried_from-plain bodies at n) ∙ nodes_of-items_of (bearing bodies at n)
+pub nodes_of-carried_items : (bodies : ℕ → Option Body) (at : ℕ) (n : Nodes) → carried_nodes (carried_from bodies at (plain n)) ≡ bearing bodies at n
+nodes_of-carried_items bodies at n = ap carried_nodes (carried_from-plain bodies at n) ∙ nodes_of-items_of (bearing bodies at n)
 
 -- ---- the node of an origin
 
-node_from-items_of : (n : Nodes) (rest : List Carried) (depth : ℕ) → node_from (items_of n ++ rest) depth ≡ items_of n ++ node_from rest depth
+node_from-items_of : (n : Nodes) (rest : List Carried) (depth : ℕ) → node_from (node_list_items n ++ rest) depth ≡ node_list_items n ++ node_from rest depth
 node_from-items_of Empty rest depth = refl
 node_from-items_of (Letter c marks later) rest depth = ap (λ xs. record { item = Char c marks; body = None } ∷ xs) (node_from-items_of later rest depth)
 node_from-items_of (Node s inside pre later) rest depth =
     let closing : Carried = record { item = Closing s.kind pre; body = None } in
-    ap (λ xs. opening_of s ∷ node_from xs (suc depth)) (append_assoc (items_of inside) (closing ∷ items_of later) rest)
-    ∙ ap (λ xs. opening_of s ∷ xs) (node_from-items_of inside (closing ∷ items_of later ++ rest) (suc depth))
-    ∙ ap (λ xs. opening_of s ∷ items_of inside ++ closing ∷ xs) (node_from-items_of later rest depth)
-    ∙ ap (λ xs. opening_of s ∷ xs) (sym (append_assoc (items_of inside) (closing ∷ items_of later) (node_from rest depth)))
+    ap (λ xs. start_item s ∷ node_from xs (suc depth)) (append_assoc (node_list_items inside) (closing ∷ node_list_items later) rest)
+    ∙ ap (λ xs. start_item s ∷ xs) (node_from-items_of inside (closing ∷ node_list_items later ++ rest) (suc depth))
+    ∙ ap (λ xs. start_item s ∷ node_list_items inside ++ closing ∷ xs) (node_from-items_of later rest depth)
+    ∙ ap (λ xs. start_item s ∷ xs) (sym (append_assoc (node_list_items inside) (closing ∷ node_list_items later) (node_from rest depth)))
 
 -- no item has the origin k or a greater one
 abbrev pub Below : ℕ → List Carried → Type 0
@@ -103,15 +103,15 @@ Below-more k m (x ∷ xs) l h = ((λ j g. h.0 j (omega (arith, l, g))), Below-mo
 pub other_origin : (k j : ℕ) → k < j → option_same (λ m n. m == n) (Some k) (Some j) ≡ false
 other_origin k j l = grind (arith, common_steps)
 
-pub Below-with_origins : (bodies : ℕ → Option Body) (at k : ℕ) (n : Nodes) → Below (k + openings n) (items_of (bearing bodies at (numbered_nodes k n)))
+pub Below-with_origins : (bodies : ℕ → Option Body) (at k : ℕ) (n : Nodes) → Below (k + openings n) (node_list_items (bearing bodies at (numbered_nodes k n)))
 Below-with_origins bodies at k Empty = tt
 Below-with_origins bodies at k (Letter c marks later) = ((λ j l. refl), Below-with_origins bodies (suc at) k later)
 Below-with_origins bodies at k (Node s inside pre later) =
     let k2 : ℕ = suc k + openings inside in
     let all : ℕ = k + suc (openings inside + openings later) in
-    let inner : List Carried = items_of (bearing bodies (suc at) (numbered_nodes (suc k) inside)) in
+    let inner : List Carried = node_list_items (bearing bodies (suc at) (numbered_nodes (suc k) inside)) in
     let place : ℕ = suc (suc at + length (plain (numbered_nodes (suc k) inside))) in
-    let outer : List Carried = items_of (bearing bodies place (numbered_nodes k2 later)) in (
+    let outer : List Carried = node_list_items (bearing bodies place (numbered_nodes k2 later)) in (
       (λ j l. other_origin k j (omega (arith, l))),
       Below-append all inner (record { item = Closing s.kind pre; body = None } ∷ outer)
           (Below-more k2 all inner (omega arith) (Below-with_origins bodies (suc at) (suc k) inside))
@@ -135,9 +135,9 @@ has_origin-itself k = grind (arith, common_steps)
 
 -- the node of the origin k, where no item before it has that origin or a greater one
 pub node_with-node : (k : ℕ) (xs : List Carried) (s : Start) (inside : Nodes) (pre : List ℕ) (later : Nodes) → Below k xs → s.origin ≡ Some k →
-    node_with k (xs ++ items_of (Node s inside pre later)) ≡ node_items s inside pre
+    node_with k (xs ++ node_list_items (Node s inside pre later)) ≡ node_items s inside pre
 node_with-node k xs s inside pre later h e =
     let closing : Carried = record { item = Closing s.kind pre; body = None } in
-    node_with-append k xs (items_of (Node s inside pre later)) h
-    ∙ chosen_list (has_origin k (opening_of s).item) _ _ (ap (λ o. option_same (λ m n. m == n) o (Some k)) e ∙ has_origin-itself k)
-    ∙ ap (λ ys. opening_of s ∷ ys) (node_from-items_of inside (closing ∷ items_of later) 0)
+    node_with-append k xs (node_list_items (Node s inside pre later)) h
+    ∙ chosen_list (has_origin k (start_item s).item) _ _ (ap (λ o. option_same (λ m n. m == n) o (Some k)) e ∙ has_origin-itself k)
+    ∙ ap (λ ys. start_item s ∷ ys) (node_from-items_of inside (closing ∷ node_list_items later) 0)

@@ -6,7 +6,7 @@ use Rattle.model_items.specs.declared.plain_item.PlainItem.TheVariants.{Char, Op
 use Rattle.model_page.specs.References.{Body, inside_from}
 use Rattle.model_page_write.specs.Nodes.{Carried, body_carried, carried_from}
 use Rattle.model_page_write.specs.PageText.{node_from, node_with}
-use Rattle.model_page_law.specs.Origins.{origins_of, numbers_from}
+use Rattle.model_page_law.specs.Origins.{origins_of, counted_from}
 use Rattle.model_page_law.specs.Spans.{NodeAt, RangesAreCompared}
 use Rattle.model_page_law.proofs.OriginLemmas.{origins_of-append, origins_number_spans}
 use Rattle.model_page_law.proofs.PlaceLemmas.{carried_from-append, other_origin, has_origin-itself, chosen_list, other_list}
@@ -18,18 +18,18 @@ AllBelow k [] = Unit {0}
 AllBelow k (n ∷ ns) = (n < k) × AllBelow k ns
 
 -- what stands in rising numbers is not below the first
-not_before : (xs ys : List ℕ) (k a n : ℕ) → xs ++ (k ∷ ys) ≡ numbers_from a n → a < suc k
+not_before : (xs ys : List ℕ) (k a n : ℕ) → xs ++ (k ∷ ys) ≡ counted_from a n → a < suc k
 not_before [] ys k a zero e = cc
 not_before [] ys k a (suc n) e = let same : k ≡ a = cc in omega (arith, same)
 not_before (x ∷ xs) ys k a zero e = cc
-not_before (x ∷ xs) ys k a (suc n) e = let rest : xs ++ (k ∷ ys) ≡ numbers_from (suc a) n = cc in omega (arith, not_before xs ys k (suc a) n rest)
+not_before (x ∷ xs) ys k a (suc n) e = let rest : xs ++ (k ∷ ys) ≡ counted_from (suc a) n = cc in omega (arith, not_before xs ys k (suc a) n rest)
 
-before-below : (xs ys : List ℕ) (k a n : ℕ) → xs ++ (k ∷ ys) ≡ numbers_from a n → AllBelow k xs
+before-below : (xs ys : List ℕ) (k a n : ℕ) → xs ++ (k ∷ ys) ≡ counted_from a n → AllBelow k xs
 before-below [] ys k a n e = tt
 before-below (x ∷ xs) ys k a zero e = cc
 before-below (x ∷ xs) ys k a (suc n) e =
     let same : x ≡ a = cc in
-    let rest : xs ++ (k ∷ ys) ≡ numbers_from (suc a) n = cc in
+    let rest : xs ++ (k ∷ ys) ≡ counted_from (suc a) n = cc in
     (omega (arith, same, not_before xs ys k (suc a) n rest), before-below xs ys k (suc a) n rest)
 
 -- ---- the node of a number
@@ -58,7 +58,7 @@ length-carried bodies at (Char c marks ∷ items) = ap suc (length-carried bodie
 length-carried bodies at (Closing kind pre ∷ items) = ap suc (length-carried bodies (suc at) items)
 length-carried bodies at (Opening kind head marks pre origin generated ∷ items) = ap suc (length-carried bodies (suc at) items)
 
-compared : (bodies : ℕ → Option Body) (items : List PlainItem) (k from to count : ℕ) → origins_of items ≡ numbers_from 0 count → NodeAt items k from to →
+compared : (bodies : ℕ → Option Body) (items : List PlainItem) (k from to count : ℕ) → origins_of items ≡ counted_from 0 count → NodeAt items k from to →
     node_with k (carried_from bodies 0 items) ≡ take (to - from) (drop from (carried_from bodies 0 items))
 compared bodies items k from to count e n =
     let opening : PlainItem = Opening n.kind n.head n.marks n.pre (Some k) n.generated in
@@ -67,7 +67,7 @@ compared bodies items k from to count e n =
     let prefix : List Carried = carried_from bodies 0 n.before in
     let rest : List Carried = carried_from bodies at (opening ∷ more) in
     let split : carried_from bodies 0 items ≡ prefix ++ rest = ap (carried_from bodies 0) n.items_are ∙ carried_from-append bodies 0 n.before (opening ∷ more) in
-    let numbers : origins_of n.before ++ (k ∷ origins_of more) ≡ numbers_from 0 count = sym (origins_of-append n.before (opening ∷ more)) ∙ ap origins_of (sym n.items_are) ∙ e in
+    let numbers : origins_of n.before ++ (k ∷ origins_of more) ≡ counted_from 0 count = sym (origins_of-append n.before (opening ∷ more)) ∙ ap origins_of (sym n.items_are) ∙ e in
     let long : suc (length (inside_from 0 more).0) ≡ suc (length n.inside) = ap (λ r. suc (length r.0)) n.closes in
     let count_is : suc (suc (length n.inside)) ≡ to - from = omega (arith, n.to_is) in
     let from_is : length prefix ≡ from = length-carried bodies 0 n.before ∙ sym n.from_is in

@@ -13,15 +13,15 @@ use Rattle.model_page.specs.Parts.{parts_of}
 use Rattle.model_page.specs.Fit.{Flow}
 use Rattle.model_page.specs.Fragment.{item_unmade}
 use Rattle.ve_base.specs.Empty.{empty_head}
-use Rattle.model_page.specs.Pieces.{Made, Place}
+use Rattle.model_page.specs.Pieces.{Made, Progress}
 use Rattle.model_page.specs.Convert.{made_of}
-use Rattle.model_page.specs.PageItems.{with_origins, internal_list, items_of as items_read, page_made}
+use Rattle.model_page.specs.PageItems.{with_origins, internal_list, items_of_page as items_read, page_made}
 use Rattle.model_page.specs.References.{Body}
-use Rattle.model_page_write.specs.Nodes.{Carried, Start, Nodes, Empty, Letter, Node, items_of, nodes_of, carried_from, body_carried, node_items}
+use Rattle.model_page_write.specs.Nodes.{Carried, Start, Nodes, Empty, Letter, Node, node_list_items, carried_nodes, carried_from, body_carried, node_items}
 use Rattle.model_page_write.specs.Written.{white_after, is_bare, Writer, fresh_text, original_of, content, blocks}
 use Rattle.model_page_write.specs.PageText.{fresh_writer, fresh}
 use Rattle.model_page_law.proofs.FormedNodes.{IsReadBack, IsSuch, IsList, AreBlocks, with_list}
-use Rattle.model_page_law.specs.ReadBack.{settled}
+use Rattle.model_page_law.specs.ReadBack.{without_origin}
 use Rattle.model_page_law.proofs.NodesLemmas.{nodes_of-items_of}
 use Rattle.model_page_law.proofs.ContentText.{KeepsNone}
 use Rattle.model_page_law.proofs.BlockText.{blocks_forest, blocks-spelling, original-none, pick_true}
@@ -71,35 +71,35 @@ blocks-with_list w none (Node s inside pre later) before k list e b =
 
 -- ---- up to origins and the flag
 
-settled-with_origins : (items : List PlainItem) (k : ℕ) → map settled (with_origins k items) ≡ map settled items
+settled-with_origins : (items : List PlainItem) (k : ℕ) → map without_origin (with_origins k items) ≡ map without_origin items
 settled-with_origins [] k = refl
 settled-with_origins (Opening kind head marks pre origin generated ∷ items) k = ap (λ xs. Opening kind head marks pre None false ∷ xs) (settled-with_origins items (suc k))
 settled-with_origins (Closing kind pre ∷ items) k = ap (λ xs. Closing kind pre ∷ xs) (settled-with_origins items k)
 settled-with_origins (Char c marks ∷ items) k = ap (λ xs. Char c marks ∷ xs) (settled-with_origins items k)
 
-settled-unmade : (items : List PlainItem) → map settled items ≡ map settled (map item_unmade items)
+settled-unmade : (items : List PlainItem) → map without_origin items ≡ map without_origin (map item_unmade items)
 settled-unmade [] = refl
 settled-unmade (Opening kind head marks pre origin generated ∷ items) = ap (λ xs. Opening kind head marks pre None false ∷ xs) (settled-unmade items)
 settled-unmade (Closing kind pre ∷ items) = ap (λ xs. Closing kind pre ∷ xs) (settled-unmade items)
 settled-unmade (Char c marks ∷ items) = ap (λ xs. Char c marks ∷ xs) (settled-unmade items)
 
-settled-said : (n : Nodes) → map settled (said_items n) ≡ said_items n
+settled-said : (n : Nodes) → map without_origin (said_items n) ≡ said_items n
 settled-said Empty = refl
 settled-said (Letter c marks later) = ap (λ xs. Char c marks ∷ xs) (settled-said later)
 settled-said (Node s inside pre later) =
     ap (λ xs. Opening s.kind s.head s.marks s.pre None false ∷ xs)
-    (map-append settled (said_items inside) (Closing s.kind pre ∷ said_items later) ∙ (λ i. settled-said inside i ++ Closing s.kind pre ∷ settled-said later i))
+    (map-append without_origin (said_items inside) (Closing s.kind pre ∷ said_items later) ∙ (λ i. settled-said inside i ++ Closing s.kind pre ∷ settled-said later i))
 
 abbrev plain : List Carried → List PlainItem
 plain items = map (λ c. c.item) items
 
-settled-items_of : (n : Nodes) → map settled (plain (items_of n)) ≡ said_items n
+settled-items_of : (n : Nodes) → map without_origin (plain (node_list_items n)) ≡ said_items n
 settled-items_of Empty = refl
 settled-items_of (Letter c marks later) = ap (λ xs. Char c marks ∷ xs) (settled-items_of later)
 settled-items_of (Node s inside pre later) =
-    ap (λ xs. Opening s.kind s.head s.marks s.pre None false ∷ map settled xs) (map-append (λ c. c.item) (items_of inside) (record { item = Closing s.kind pre; body = None } ∷ items_of later))
+    ap (λ xs. Opening s.kind s.head s.marks s.pre None false ∷ map without_origin xs) (map-append (λ c. c.item) (node_list_items inside) (record { item = Closing s.kind pre; body = None } ∷ node_list_items later))
     ∙ ap (λ xs. Opening s.kind s.head s.marks s.pre None false ∷ xs)
-    (map-append settled (plain (items_of inside)) (Closing s.kind pre ∷ plain (items_of later)) ∙ (λ i. settled-items_of inside i ++ Closing s.kind pre ∷ settled-items_of later i))
+    (map-append without_origin (plain (node_list_items inside)) (Closing s.kind pre ∷ plain (node_list_items later)) ∙ (λ i. settled-items_of inside i ++ Closing s.kind pre ∷ settled-items_of later i))
 
 plain-carried : (bodies : ℕ → Option Body) (at : ℕ) (items : List PlainItem) → plain (carried_from bodies at items) ≡ items
 plain-carried bodies at [] = refl
@@ -116,14 +116,14 @@ said-with_list (Node s inside pre later) list l =
 
 -- ---- the law
 
-page_settled : (at : ℕ) (f : Forest) (xs : List PlainItem) (pre : List ℕ) → Closes (Flow Root) f xs pre → map settled xs ≡ xs → (page_made at f).owners ≡ [] →
-    map settled (items_read (page_made at f)) ≡ xs ++ Opening InternalList empty_head [] pre None false ∷ Closing InternalList [] ∷ []
+page_settled : (at : ℕ) (f : Forest) (xs : List PlainItem) (pre : List ℕ) → Closes (Flow Root) f xs pre → map without_origin xs ≡ xs → (page_made at f).owners ≡ [] →
+    map without_origin (items_read (page_made at f)) ≡ xs ++ Opening InternalList empty_head [] pre None false ∷ Closing InternalList [] ∷ []
 page_settled at f xs pre c same none =
-    let w : Place = record { at = at; owners = []; editable = true } in
+    let w : Progress = record { at = at; owners = []; editable = true } in
     let m : Made = page_made at f in
-    map-append settled (with_origins 0 m.later.items) (internal_list m.pre m.owners)
-    ∙ (λ i. settled-with_origins m.later.items 0 i ++ map settled (internal_list (c.white w i) (none i)))
-    ∙ ap (λ ys. ys ++ Opening InternalList empty_head [] pre None false ∷ Closing InternalList [] ∷ []) (settled-unmade m.later.items ∙ ap (map settled) (c.later w) ∙ same)
+    map-append without_origin (with_origins 0 m.later.items) (internal_list m.pre m.owners)
+    ∙ (λ i. settled-with_origins m.later.items 0 i ++ map without_origin (internal_list (c.white w i) (none i)))
+    ∙ ap (λ ys. ys ++ Opening InternalList empty_head [] pre None false ∷ Closing InternalList [] ∷ []) (settled-unmade m.later.items ∙ ap (map without_origin) (c.later w) ∙ same)
 
 keeps_none : KeepsNone fresh_writer
 keeps_none s items = refl
@@ -139,7 +139,7 @@ fresh_is_spelled items such =
     let n : Nodes = such.nodes in
     let list : Start = such.list in
     let written : fresh items ≡ spelling (blocks_forest false list.pre n) =
-    ap (λ x. blocks fresh_writer false [] (nodes_of x)) such.are
+    ap (λ x. blocks fresh_writer false [] (carried_nodes x)) such.are
     ∙ ap (blocks fresh_writer false []) (nodes_of-items_of (with_list n list))
     ∙ blocks-with_list fresh_writer keeps_none n false Root list such.last.kind such.blocks
     ∙ sym (blocks-spelling marks_mean fresh_writer keeps_none n false list.pre (text_blocks fresh_writer Root n such.blocks)) in
@@ -152,18 +152,18 @@ is_read_back items such f at h e =
     let list : Start = such.list in
     let g : Forest = blocks_forest false list.pre n in
     let written : fresh items ≡ spelling g =
-    ap (λ x. blocks fresh_writer false [] (nodes_of x)) such.are
+    ap (λ x. blocks fresh_writer false [] (carried_nodes x)) such.are
     ∙ ap (blocks fresh_writer false []) (nodes_of-items_of (with_list n list))
     ∙ blocks-with_list fresh_writer keeps_none n false Root list such.last.kind such.blocks
     ∙ sym (blocks-spelling marks_mean fresh_writer keeps_none n false list.pre (text_blocks fresh_writer Root n such.blocks)) in
     let clean = blocks-Clean Root n false list.pre such.blocks such.last.before in
     let is : g ≡ f = sym (one_forest f g h (Clean-Neat g clean.clean) (e ∙ written)) in
-    let w : Place = record { at = at; owners = []; editable = true } in
+    let w : Progress = record { at = at; owners = []; editable = true } in
     let r = blocks_read marks_mean n Root false list.pre such.blocks such.last.before in
     let m : Made = made_of (Flow Root) (parts_of g) w in
     let owners : (page_made at g).owners ≡ [] = run_ended-owners m.source w m ∙ Clean-owners g clean.clean (Flow Root) w in
-    let read : map settled (items_read (page_made at g)) ≡ said_items n ++ Opening InternalList empty_head [] list.pre None false ∷ Closing InternalList [] ∷ [] =
+    let read : map without_origin (items_read (page_made at g)) ≡ said_items n ++ Opening InternalList empty_head [] list.pre None false ∷ Closing InternalList [] ∷ [] =
     page_settled at g (said_items n) list.pre r.closes (settled-said n) owners in
-    let meant : map settled items ≡ said_items (with_list n list) =
-    ap (map settled) (sym (plain-carried (body_carried items) 0 items)) ∙ ap (λ x. map settled (plain x)) such.are ∙ settled-items_of (with_list n list) in
-    ap (λ x. map settled (items_read (page_made at x))) (sym is) ∙ read ∙ sym (said-with_list n list such.last) ∙ sym meant
+    let meant : map without_origin items ≡ said_items (with_list n list) =
+    ap (map without_origin) (sym (plain-carried (body_carried items) 0 items)) ∙ ap (λ x. map without_origin (plain x)) such.are ∙ settled-items_of (with_list n list) in
+    ap (λ x. map without_origin (items_read (page_made at x))) (sym is) ∙ read ∙ sym (said-with_list n list such.last) ∙ sym meant

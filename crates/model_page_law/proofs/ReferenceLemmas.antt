@@ -6,7 +6,7 @@ use Rattle.model_spelling.specs.Grammar.{Attr as Spelled, start_text, end_text}
 use Rattle.model_spelling.specs.Forest.{spelling}
 use Rattle.model_spelling.specs.Written.{decoded, escaped, canon_attr, canon_attrs, attr_bytes}
 use Rattle.ve_base.specs.declared.attrs.Attr.{Attr}
-use Rattle.model_page.specs.Elements.{value_of}
+use Rattle.model_page.specs.Elements.{value_named}
 use Rattle.model_page.specs.DataMw.{reference_of, composed_mw}
 use Rattle.model_page.specs.Editable.{data_mw}
 use Rattle.model_page_write.specs.Written.{with_mw}
@@ -23,28 +23,28 @@ value-back v = ap decoded (sym (append-nil (escaped true v))) ∙ decoded-escape
 abbrev written_attrs : Option (List ℕ) → List Attr → List Spelled
 written_attrs html attrs = canon_attrs (map (λ a. with_mw (attr_bytes a) html) attrs)
 
-mw-back : (html : Option (List ℕ)) (attrs : List Attr) → value_of (codes "data-mw") (written_attrs html attrs) ≡ option_map (λ mw. composed_mw mw html) (data_mw attrs)
+mw-back : (html : Option (List ℕ)) (attrs : List Attr) → value_named (codes "data-mw") (written_attrs html attrs) ≡ option_map (λ mw. composed_mw mw html) (data_mw attrs)
 mw-back html [] = refl
 mw-back html (a ∷ attrs) = by (bytes_eq (encode_utf8_all a.name) (codes "data-mw")) refl (mw-back html attrs)
   where
-    by : (c : Bool) → bytes_eq (encode_utf8_all a.name) (codes "data-mw") ≡ c → value_of (codes "data-mw") (written_attrs html attrs) ≡ option_map (λ mw. composed_mw mw html) (data_mw attrs) →
-        value_of (codes "data-mw") (canon_attr (if c then (encode_utf8_all a.name, composed_mw (encode_utf8_all a.value) html) else attr_bytes a) ∷ written_attrs html attrs)
+    by : (c : Bool) → bytes_eq (encode_utf8_all a.name) (codes "data-mw") ≡ c → value_named (codes "data-mw") (written_attrs html attrs) ≡ option_map (λ mw. composed_mw mw html) (data_mw attrs) →
+        value_named (codes "data-mw") (canon_attr (if c then (encode_utf8_all a.name, composed_mw (encode_utf8_all a.value) html) else attr_bytes a) ∷ written_attrs html attrs)
         ≡ option_map (λ mw. composed_mw mw html) (if c then Some (encode_utf8_all a.value) else data_mw attrs)
     by true e rec =
-        ap (λ c. if c then Some (decoded (escaped true (composed_mw (encode_utf8_all a.value) html))) else value_of (codes "data-mw") (written_attrs html attrs)) e
+        ap (λ c. if c then Some (decoded (escaped true (composed_mw (encode_utf8_all a.value) html))) else value_named (codes "data-mw") (written_attrs html attrs)) e
         ∙ ap (λ v. Some v) (value-back (composed_mw (encode_utf8_all a.value) html))
-    by false e rec = ap (λ c. if c then Some (decoded (escaped true (encode_utf8_all a.value))) else value_of (codes "data-mw") (written_attrs html attrs)) e ∙ rec
+    by false e rec = ap (λ c. if c then Some (decoded (escaped true (encode_utf8_all a.value))) else value_named (codes "data-mw") (written_attrs html attrs)) e ∙ rec
 
-other-back : (html : Option (List ℕ)) (q : List ℕ) → (q ≡ codes "data-mw" → ⊥) → (attrs : List Attr) → value_of q (written_attrs html attrs) ≡ said q attrs
+other-back : (html : Option (List ℕ)) (q : List ℕ) → (q ≡ codes "data-mw" → ⊥) → (attrs : List Attr) → value_named q (written_attrs html attrs) ≡ said q attrs
 other-back html q other [] = refl
 other-back html q other (a ∷ attrs) = by (bytes_eq (encode_utf8_all a.name) (codes "data-mw")) refl (other-back html q other attrs)
   where
-    by : (c : Bool) → bytes_eq (encode_utf8_all a.name) (codes "data-mw") ≡ c → value_of q (written_attrs html attrs) ≡ said q attrs →
-        value_of q (canon_attr (if c then (encode_utf8_all a.name, composed_mw (encode_utf8_all a.value) html) else attr_bytes a) ∷ written_attrs html attrs)
+    by : (c : Bool) → bytes_eq (encode_utf8_all a.name) (codes "data-mw") ≡ c → value_named q (written_attrs html attrs) ≡ said q attrs →
+        value_named q (canon_attr (if c then (encode_utf8_all a.name, composed_mw (encode_utf8_all a.value) html) else attr_bytes a) ∷ written_attrs html attrs)
         ≡ (if bytes_eq (encode_utf8_all a.name) q then Some (encode_utf8_all a.value) else said q attrs)
     by true e rec =
         let apart = differ (encode_utf8_all a.name) q (bytes_eq (encode_utf8_all a.name) q) refl (λ same. other (sym same ∙ (bytes_eq-Decides (encode_utf8_all a.name) (codes "data-mw")).0 e)) in
-        ap (λ c. if c then Some (decoded (escaped true (composed_mw (encode_utf8_all a.value) html))) else value_of q (written_attrs html attrs)) apart
+        ap (λ c. if c then Some (decoded (escaped true (composed_mw (encode_utf8_all a.value) html))) else value_named q (written_attrs html attrs)) apart
         ∙ rec
         ∙ ap (λ c. if c then Some (encode_utf8_all a.value) else said q attrs) (sym apart)
     by false e rec = (λ i. if bytes_eq (encode_utf8_all a.name) q then Some (value-back (encode_utf8_all a.value) i) else rec i)

@@ -14,7 +14,7 @@ use Rattle.model_page.specs.Parts.{Parts, Ended, Words, Note, Group, Single, Par
 use Rattle.model_page.specs.Fit.{Around, Flow, Structural, Content, Fit, Annotation, Leaf, Branch, Whole, around_in, fit_of, group_kind, note_kind}
 use Rattle.ve_kinds.specs.Table.{is_inline_leaf}
 use Rattle.model_page.specs.Heads.{characters, head_with, whole_head}
-use Rattle.model_page.specs.Pieces.{Span, Piece, Owner, Made, Place, past, span_at, no_piece, joined_pieces, node, leaf, chars_piece, items_after, with_white, run_dropped, paragraph_before, run_ended, run_closed, in_run, before_run, leaf_before}
+use Rattle.model_page.specs.Pieces.{SourceSpan, Piece, Owner, Made, Progress, past, source_span, no_piece, joined_pieces, node, leaf, chars_piece, items_after, with_white, run_dropped, paragraph_before, run_ended, run_closed, in_run, before_run, leaf_before}
 use Rattle.model_page.specs.ReferenceNodes.{RefNode, ref_of}
 use Rattle.model_page.specs.Convert.{marks_at, marked_around, element_source, inside_of, inside_piece, words_before, group_made, leaf_made, element_made, made_of}
 use Rattle.ve_base.specs.Empty.{empty_head}
@@ -60,7 +60,7 @@ Shaped-joined_pieces a b s t = record {
   count = let e = length-append a.spans b.spans in let f = openings-followed s.nodes t.nodes in let g = s.count in let h = t.count in omega (arith, e, f, g, h);
 }
 
-pub Shaped-node : (kind : Kind) (head : Head) (marks : List Mark) (generated : Bool) (span : Span) (inside : Piece) (pre : List ℕ) →
+pub Shaped-node : (kind : Kind) (head : Head) (marks : List Mark) (generated : Bool) (span : SourceSpan) (inside : Piece) (pre : List ℕ) →
     Shaped inside → Shaped (node kind head marks generated span inside pre)
 Shaped-node kind head marks generated span inside pre s = record {
   nodes = Node (record { kind = kind; head = head; marks = marks; pre = []; origin = None; generated = generated; body = None }) s.nodes pre Empty;
@@ -113,38 +113,38 @@ Fine-with_white white m f = record {
   };
 }
 
-Fine-paragraph_before : (span : Span) (m : Made) → Fine m → Fine (paragraph_before span m)
+Fine-paragraph_before : (span : SourceSpan) (m : Made) → Fine m → Fine (paragraph_before span m)
 Fine-paragraph_before span m f = record { run = Shaped-none; later = Shaped-joined_pieces (node P empty_head [] true span m.run []) m.later (Shaped-node P empty_head [] true span m.run [] f.run) f.later }
 
 Fine-chosen : (c : Bool) (a b : Made) → Fine a → Fine b → Fine (if c then a else b)
 Fine-chosen true a b f g = f
 Fine-chosen false a b f g = g
 
-Fine-run_ended : (source : List ℕ) (w : Place) (m : Made) → Fine m → Fine (run_ended source w m)
+Fine-run_ended : (source : List ℕ) (w : Progress) (m : Made) → Fine m → Fine (run_ended source w m)
 Fine-run_ended [] w m f = record { run = Shaped-none; later = f.later }
 Fine-run_ended (b ∷ bs) w m f =
-    Fine-chosen (is_white (b ∷ bs)) _ _ (Fine-with_white (chars (b ∷ bs)) (run_dropped m) (record { run = Shaped-none; later = f.later })) (Fine-paragraph_before (span_at w (b ∷ bs)) m f)
+    Fine-chosen (is_white (b ∷ bs)) _ _ (Fine-with_white (chars (b ∷ bs)) (run_dropped m) (record { run = Shaped-none; later = f.later })) (Fine-paragraph_before (source_span w (b ∷ bs)) m f)
 
-pub Fine-run_closed : (w : Place) (m : Made) → Fine m → Fine (run_closed w m)
+pub Fine-run_closed : (w : Progress) (m : Made) → Fine m → Fine (run_closed w m)
 Fine-run_closed w m f = Fine-run_ended m.source w m f
 
 pub Fine-in_run : (piece : Piece) (source : List ℕ) (owners : List Owner) (m : Made) → Shaped piece → Fine m → Fine (in_run piece source owners m)
 Fine-in_run piece source owners m s f = record { run = Shaped-joined_pieces piece m.run s f.run; later = f.later }
 
-pub Fine-before_run : (w : Place) (piece : Piece) (owners : List Owner) (m : Made) → Shaped piece → Fine m → Fine (before_run w piece owners m)
+pub Fine-before_run : (w : Progress) (piece : Piece) (owners : List Owner) (m : Made) → Shaped piece → Fine m → Fine (before_run w piece owners m)
 Fine-before_run w piece owners m s f =
     let g = Fine-run_closed w m f in
     record { run = g.run; later = Shaped-joined_pieces piece (run_closed w m).later s g.later }
 
-pub Fine-leaf_before : (w : Place) (kind : Kind) (head : Head) (marks : List Mark) (source : List ℕ) (owners : List Owner) (m : Made) →
+pub Fine-leaf_before : (w : Progress) (kind : Kind) (head : Head) (marks : List Mark) (source : List ℕ) (owners : List Owner) (m : Made) →
     Fine m → Fine (leaf_before w kind head marks source owners m)
 Fine-leaf_before w kind head marks source owners m h =
-    let s = Shaped-node kind head marks false (span_at w source) no_piece [] Shaped-none in
+    let s = Shaped-node kind head marks false (source_span w source) no_piece [] Shaped-none in
     Fine-chosen (is_inline_leaf kind) _ _
-    (Fine-in_run (leaf kind head marks (span_at w source)) source owners m s h)
-    (Fine-before_run (past w source owners) (leaf kind head marks (span_at w source)) owners m s h)
+    (Fine-in_run (leaf kind head marks (source_span w source)) source owners m s h)
+    (Fine-before_run (past w source owners) (leaf kind head marks (source_span w source)) owners m s h)
 
-pub Shaped-inside_piece : (around : Around) (w : Place) (m : Made) → Fine m → Shaped (inside_piece around w m).later
+pub Shaped-inside_piece : (around : Around) (w : Progress) (m : Made) → Fine m → Shaped (inside_piece around w m).later
 Shaped-inside_piece (Content marks) w m f = f.run
 Shaped-inside_piece (Flow kind) w m f = (Fine-run_closed w m f).later
 Shaped-inside_piece (Structural kind) w m f = f.later
@@ -154,34 +154,34 @@ Fine-words_before (Structural kind) text m f = Fine-with_white (chars text) m f
 Fine-words_before (Flow kind) text m f = Fine-in_run (chars_piece [] (characters text)) text [] m (Shaped-chars [] (characters text)) f
 Fine-words_before (Content marks) text m f = Fine-in_run (chars_piece marks (characters text)) text [] m (Shaped-chars marks (characters text)) f
 
-Fine-group_made : (around : Around) (nodes : Forest) (later : Place → Made) (w : Place) (r : Option RefNode) →
-    ((p : Place) → Fine (later p)) → Fine (group_made around nodes later w r)
+Fine-group_made : (around : Around) (nodes : Forest) (later : Progress → Made) (w : Progress) (r : Option RefNode) →
+    ((p : Progress) → Fine (later p)) → Fine (group_made around nodes later w r)
 Fine-group_made around nodes later w (Some r) h = Fine-leaf_before w Ref r.head (marks_at around) (spelling nodes) r.owners (later (past w (spelling nodes) r.owners)) (h (past w (spelling nodes) r.owners))
 Fine-group_made around nodes later w None h = Fine-leaf_before w (group_kind around nodes) (whole_head (spelling nodes)) (marks_at around) (spelling nodes) [] (later (past w (spelling nodes) [])) (h (past w (spelling nodes) []))
 
-Fine-leaf_made : (around : Around) (attrs : List Spelled) (source : List ℕ) (later : Place → Made) (w : Place) (fit : Fit) →
-    ((p : Place) → Fine (later p)) → Fine (leaf_made around attrs source later w fit)
+Fine-leaf_made : (around : Around) (attrs : List Spelled) (source : List ℕ) (later : Progress → Made) (w : Progress) (fit : Fit) →
+    ((p : Progress) → Fine (later p)) → Fine (leaf_made around attrs source later w fit)
 Fine-leaf_made around attrs source later w (Leaf kind) h = Fine-leaf_before w kind (head_with attrs) (marks_at around) source [] (later (past w source [])) (h (past w source []))
 Fine-leaf_made around attrs source later w (Whole kind) h = Fine-leaf_before w kind (whole_head source) (marks_at around) source [] (later (past w source [])) (h (past w source []))
 Fine-leaf_made around attrs source later w Annotation h = Fine-leaf_before w (note_kind around) (whole_head source) (marks_at around) source [] (later (past w source [])) (h (past w source []))
 Fine-leaf_made around attrs source later w (Branch kind) h = Fine-leaf_before w (note_kind around) (whole_head source) (marks_at around) source [] (later (past w source [])) (h (past w source []))
 
-Fine-element_made : (around : Around) (name : List ℕ) (attrs : List Spelled) (source : List ℕ) (children : Around → Place → Made) (later : Place → Made) (w : Place) (fit : Fit) →
-    ((a : Around) (p : Place) → Fine (children a p)) → ((p : Place) → Fine (later p)) → Fine (element_made around name attrs source children later w fit)
+Fine-element_made : (around : Around) (name : List ℕ) (attrs : List Spelled) (source : List ℕ) (children : Around → Progress → Made) (later : Progress → Made) (w : Progress) (fit : Fit) →
+    ((a : Around) (p : Progress) → Fine (children a p)) → ((p : Progress) → Fine (later p)) → Fine (element_made around name attrs source children later w fit)
 Fine-element_made around name attrs source children later w Annotation g h =
     let inside = children (marked_around around name attrs) (inside_of w name attrs) in
     Fine-in_run inside.run source inside.owners (later (past w source inside.owners)) (g (marked_around around name attrs) (inside_of w name attrs)).run (h (past w source inside.owners))
 Fine-element_made around name attrs source children later w (Branch kind) g h =
     let at = inside_of w name attrs in
     let inside = inside_piece (around_in kind) at (children (around_in kind) at) in
-    let suffix = past w source inside.owners in
-    Fine-before_run suffix (node kind (head_with attrs) [] false (span_at w source) inside.later inside.pre) inside.owners (later suffix)
-    (Shaped-node kind (head_with attrs) [] false (span_at w source) inside.later inside.pre (Shaped-inside_piece (around_in kind) at (children (around_in kind) at) (g (around_in kind) at)))
-    (h suffix)
+    let after = past w source inside.owners in
+    Fine-before_run after (node kind (head_with attrs) [] false (source_span w source) inside.later inside.pre) inside.owners (later after)
+    (Shaped-node kind (head_with attrs) [] false (source_span w source) inside.later inside.pre (Shaped-inside_piece (around_in kind) at (children (around_in kind) at) (g (around_in kind) at)))
+    (h after)
 Fine-element_made around name attrs source children later w (Leaf kind) g h = Fine-leaf_made around attrs source later w (Leaf kind) h
 Fine-element_made around name attrs source children later w (Whole kind) g h = Fine-leaf_made around attrs source later w (Whole kind) h
 
-pub Fine-made_of : (around : Around) (parts : Parts) (w : Place) → Fine (made_of around parts w)
+pub Fine-made_of : (around : Around) (parts : Parts) (w : Progress) → Fine (made_of around parts w)
 Fine-made_of around Ended w = record { run = Shaped-none; later = Shaped-none }
 Fine-made_of around (Words text later) w = Fine-words_before around text (made_of around later (past w text [])) (Fine-made_of around later (past w text []))
 Fine-made_of around (Note text later) w = Fine-leaf_made around [] (token_text (Comment text)) (made_of around later) w (Whole (note_kind around)) (λ p. Fine-made_of around later p)

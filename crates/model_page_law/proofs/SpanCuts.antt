@@ -12,10 +12,10 @@ use Rattle.model_spelling.proofs.Proved.{law_body_inside, law_reads_right, law_f
 use Rattle.ve_kinds.specs.declared.kind.Kind.TheVariants.{Root}
 use Rattle.model_page.specs.Elements.{is_white, about_of, is_held}
 use Rattle.model_page.specs.Parts.{Parts, Ended, Words, Note, Group, Single, Parent, about_in, is_shared, with_held, parts_of, source_of}
-use Rattle.model_page.specs.Pieces.{Span}
+use Rattle.model_page.specs.Pieces.{SourceSpan}
 use Rattle.model_page.specs.Convert.{element_source}
-use Rattle.model_page.specs.PageItems.{slice, Opened, opened_with, opened_forest, opened_body, page_made}
-use Rattle.model_page_law.specs.Spans.{IsCut, IsPart, BodyIsCut, SpansAreParts}
+use Rattle.model_page.specs.PageItems.{slice, Opened, page_opened, opened_forest, opened_body, page_made}
+use Rattle.model_page_law.specs.Spans.{IsWholeChars, IsPart, BodyIsCut, SpansAreParts}
 use Rattle.model_page_law.proofs.SourceLemmas.{Prefix, parts_of-source}
 use Rattle.model_page_law.proofs.PartsUtf8.{PartsUtf8, PartsUtf8-parts_of}
 use Rattle.model_page_law.proofs.PageRefers.{after_byte}
@@ -161,10 +161,10 @@ AreCut-from page suffix (Parent name attrs children later) p s u prefix e =
 
 -- ---- an opened page
 
-part_of : (page : List ℕ) (body s : Span) → IsBetween (IsCharBoundary page) body.from body.to s → IsPart page body s
+part_of : (page : List ℕ) (body s : SourceSpan) → IsBetween (IsCharBoundary page) body.from body.to s → IsPart page body s
 part_of page body s b = record { cut = record { rises = omega (arith, b.some); first = b.first; last = b.last }; some = b.some; from = b.from; to = b.to }
 
-parts_of_body : (page : List ℕ) (body : Span) (spans : List Span) → AreBetween (IsCharBoundary page) body.from body.to spans → All (IsPart page body) spans
+parts_of_body : (page : List ℕ) (body : SourceSpan) (spans : List SourceSpan) → AreBetween (IsCharBoundary page) body.from body.to spans → All (IsPart page body) spans
 parts_of_body page body [] h k d l = absurd (omega arith)
 parts_of_body page body (s ∷ spans) h zero d l = part_of page body s h.0
 parts_of_body page body (s ∷ spans) h (suc k) d l = parts_of_body page body spans h.1 k d (omega (arith, l))
@@ -185,7 +185,7 @@ made-between page from to f u first last le fits e h =
 
 -- what is said of an opened page
 record Cutting (o : Opened) : Type 0 where
-  body : IsCut o.page o.body
+  body : IsWholeChars o.page o.body
   spans : All (IsPart o.page o.body) o.spans
 
 forest-cutting : (page : List ℕ) (from to : ℕ) → IsUtf8 page → body_at page ≡ Ok (from, to) → (r : Option Forest) → forest_of (slice page from to) ≡ r → (o : Opened) →
@@ -195,8 +195,8 @@ forest-cutting page from to u b (Some f) e o h =
     let inside = law_body_inside page from to b in
     let c = body_cut page from to u b in
     let s = law_reads_right (slice page from to) f e in
-    let body : Span = record { from = from; to = to } in
-    let first : Opened = opened_with page body (page_made from f) in
+    let body : SourceSpan = record { from = from; to = to } in
+    let first : Opened = page_opened page body (page_made from f) in
     let is : first ≡ o = let p : ◌≡◌ {A = Option Opened} (Some first) (Some o) = h in ap (λ x. unwrap_or x first) p in
     subst Cutting is (record {
       body = record { rises = inside.0; first = c.0; last = c.1 };

@@ -13,7 +13,7 @@ use Rattle.model_page.specs.Elements.{is_white}
 use Rattle.model_page.specs.Parts.{Parts, Ended, Words, Note, Group, Single, Parent, source_of}
 use Rattle.model_page.specs.Fit.{Around, Flow, Structural, Content, Fit, Annotation, Leaf, Branch, Whole, around_in, fit_of, group_kind, note_kind}
 use Rattle.model_page.specs.Heads.{characters, head_with, whole_head}
-use Rattle.model_page.specs.Pieces.{Span, Piece, Owner, Made, Place, past, span_at, leaf, node, chars_piece, with_white, run_dropped, run_ended, run_closed, in_run, before_run, leaf_before}
+use Rattle.model_page.specs.Pieces.{SourceSpan, Piece, Owner, Made, Progress, past, source_span, leaf, node, chars_piece, with_white, run_dropped, run_ended, run_closed, in_run, before_run, leaf_before}
 use Rattle.model_page.specs.ReferenceNodes.{RefNode, ref_of}
 use Rattle.model_page.specs.Convert.{marks_at, marked_around, element_source, inside_of, inside_piece, words_before, group_made, leaf_made, element_made, made_of, in_flow}
 use Rattle.model_page_law.proofs.KindFits.{Sane, FitStands, fit_stands}
@@ -27,22 +27,22 @@ abbrev pub Cuts : Type 1
 Cuts = ℕ → Type 0
 
 -- from one cut to a later one, within these bounds
-pub record IsBetween (B : Cuts) (low high : ℕ) (s : Span) : Type 0 where
+pub record IsBetween (B : Cuts) (low high : ℕ) (s : SourceSpan) : Type 0 where
   pub from : low ≤ s.from
   pub some : s.from < s.to
   pub to : s.to ≤ high
   pub first : B s.from
   pub last : B s.to
 
-abbrev pub AreBetween : Cuts → ℕ → ℕ → List Span → Type 0
+abbrev pub AreBetween : Cuts → ℕ → ℕ → List SourceSpan → Type 0
 AreBetween B low high spans = AllByRecursion (IsBetween B low high) spans
 
-wider : (B : Cuts) (low lower high : ℕ) → lower ≤ low → (spans : List Span) → AreBetween B low high spans → AreBetween B lower high spans
+wider : (B : Cuts) (low lower high : ℕ) → lower ≤ low → (spans : List SourceSpan) → AreBetween B low high spans → AreBetween B lower high spans
 wider B low lower high l [] h = tt
 wider B low lower high l (s ∷ spans) h =
     (record { from = omega (arith, l, h.0.from); some = h.0.some; to = h.0.to; first = h.0.first; last = h.0.last }, wider B low lower high l spans h.1)
 
-both : (B : Cuts) (low high : ℕ) (xs ys : List Span) → AreBetween B low high xs → AreBetween B low high ys → AreBetween B low high (xs ++ ys)
+both : (B : Cuts) (low high : ℕ) (xs ys : List SourceSpan) → AreBetween B low high xs → AreBetween B low high ys → AreBetween B low high (xs ++ ys)
 both B low high [] ys h g = g
 both B low high (x ∷ xs) ys h g = (h.0, both B low high xs ys h.1 g)
 
@@ -68,7 +68,7 @@ pub record Ranged (B : Cuts) (low high : ℕ) (m : Made) : Type 0 where
 at_moved : (B : Cuts) (a b : ℕ) → a ≡ b → B a → B b
 at_moved B a b e h = subst B e h
 
-spanned : (B : Cuts) (high : ℕ) (w : Place) (source : List ℕ) → B w.at → B (w.at + length source) → 0 < length source → w.at + length source ≤ high → IsBetween B w.at high (span_at w source)
+spanned : (B : Cuts) (high : ℕ) (w : Progress) (source : List ℕ) → B w.at → B (w.at + length source) → 0 < length source → w.at + length source ≤ high → IsBetween B w.at high (source_span w source)
 spanned B high w source first last some le = record { from = omega arith; some = omega (arith, some); to = le; first = first; last = last }
 
 -- ---- runs
@@ -89,7 +89,7 @@ Ranged-run_dropped B low high m r = record {
   ends = at_moved B low (low + 0) (omega arith) r.begins;
 }
 
-Ranged-run_ended : (B : Cuts) (high : ℕ) (source : List ℕ) (w : Place) (m : Made) → m.source ≡ source → Ranged B w.at high m → Ranged B w.at high (run_ended source w m)
+Ranged-run_ended : (B : Cuts) (high : ℕ) (source : List ℕ) (w : Progress) (m : Made) → m.source ≡ source → Ranged B w.at high m → Ranged B w.at high (run_ended source w m)
 Ranged-run_ended B high [] w m e r = Ranged-run_dropped B w.at high m r
 Ranged-run_ended B high (b ∷ bs) w m e r =
     let dropped = Ranged-run_dropped B w.at high m r in
@@ -98,14 +98,14 @@ Ranged-run_ended B high (b ∷ bs) w m e r =
       begins = r.begins;
       run = tt;
       later =
-          both B w.at high (span_at w (b ∷ bs) ∷ m.run.spans) m.later.spans
+          both B w.at high (source_span w (b ∷ bs) ∷ m.run.spans) m.later.spans
           (spanned B high w (b ∷ bs) r.begins (at_moved B (w.at + length m.source) (w.at + length (b ∷ bs)) (omega (arith, l)) r.ends) (omega arith) (omega (arith, l, r.within)), r.run)
           r.later;
       within = dropped.within;
       ends = dropped.ends;
     })
 
-Ranged-run_closed : (B : Cuts) (high : ℕ) (w : Place) (m : Made) → Ranged B w.at high m → Ranged B w.at high (run_closed w m)
+Ranged-run_closed : (B : Cuts) (high : ℕ) (w : Progress) (m : Made) → Ranged B w.at high m → Ranged B w.at high (run_closed w m)
 Ranged-run_closed B high w m r = Ranged-run_ended B high m.source w m refl r
 
 -- one more part in the run
@@ -123,50 +123,50 @@ Ranged-in_run B low high piece source owners m b p r =
     }
 
 -- a block before
-Ranged-before_run : (B : Cuts) (high : ℕ) (w : Place) (piece : Piece) (source : List ℕ) (added owners : List Owner) (m : Made) → B w.at → AreBetween B w.at high piece.spans →
+Ranged-before_run : (B : Cuts) (high : ℕ) (w : Progress) (piece : Piece) (source : List ℕ) (added owners : List Owner) (m : Made) → B w.at → AreBetween B w.at high piece.spans →
     Ranged B (w.at + length source) high m → Ranged B w.at high (before_run (past w source added) piece owners m)
 Ranged-before_run B high w piece source added owners m b p r =
-    let suffix = past w source added in
-    let closed = run_closed suffix m in
-    let c : Ranged B suffix.at high closed = Ranged-run_closed B high suffix m r in
-    let none : length closed.source ≡ 0 = ap length (run_ended-source m.source suffix m) in
+    let after = past w source added in
+    let closed = run_closed after m in
+    let c : Ranged B after.at high closed = Ranged-run_closed B high after m r in
+    let none : length closed.source ≡ 0 = ap length (run_ended-source m.source after m) in
     let le : w.at ≤ w.at + length source = omega arith in
     record {
       begins = b;
-      run = wider B suffix.at w.at high le closed.run.spans c.run;
-      later = both B w.at high piece.spans closed.later.spans p (wider B suffix.at w.at high le closed.later.spans c.later);
+      run = wider B after.at w.at high le closed.run.spans c.run;
+      later = both B w.at high piece.spans closed.later.spans p (wider B after.at w.at high le closed.later.spans c.later);
       within = let f = c.within in omega (arith, f);
       ends = at_moved B w.at (w.at + length closed.source) (omega (arith, none)) b;
     }
 
 -- ---- parts, where `later` makes the ones after them
 
-abbrev Following : Cuts → ℕ → ℕ → (Place → Made) → Type 0
-Following B at high later = (p : Place) → p.at ≡ at → Ranged B at high (later p)
+abbrev Following : Cuts → ℕ → ℕ → (Progress → Made) → Type 0
+Following B at high later = (p : Progress) → p.at ≡ at → Ranged B at high (later p)
 
 -- a part of this source, which is cut on both sides
-record Ahead (B : Cuts) (high : ℕ) (w : Place) (source : List ℕ) : Type 0 where
+record Ahead (B : Cuts) (high : ℕ) (w : Progress) (source : List ℕ) : Type 0 where
   begins : B w.at
   ends : B (w.at + length source)
   some : 0 < length source
   within : w.at + length source ≤ high
 
-Ranged-leaf_before : (B : Cuts) (high : ℕ) (w : Place) (kind : Kind) (head : Head) (marks : List Mark) (source : List ℕ) (owners : List Owner) (later : Place → Made) → Ahead B high w source →
+Ranged-leaf_before : (B : Cuts) (high : ℕ) (w : Progress) (kind : Kind) (head : Head) (marks : List Mark) (source : List ℕ) (owners : List Owner) (later : Progress → Made) → Ahead B high w source →
     Following B (w.at + length source) high later → Ranged B w.at high (leaf_before w kind head marks source owners (later (past w source owners)))
 Ranged-leaf_before B high w kind head marks source owners later a f =
-    let suffix = past w source owners in
-    let piece : Piece = leaf kind head marks (span_at w source) in
+    let after = past w source owners in
+    let piece : Piece = leaf kind head marks (source_span w source) in
     let p : AreBetween B w.at high piece.spans = (spanned B high w source a.begins a.ends a.some a.within, tt) in
     Ranged-chosen B w.at high (is_inline_leaf kind) _ _
-    (Ranged-in_run B w.at high piece source owners (later suffix) a.begins p (f suffix refl))
-    (Ranged-before_run B high w piece source owners owners (later suffix) a.begins p (f suffix refl))
+    (Ranged-in_run B w.at high piece source owners (later after) a.begins p (f after refl))
+    (Ranged-before_run B high w piece source owners owners (later after) a.begins p (f after refl))
 
-Ranged-group_made : (B : Cuts) (high : ℕ) (around : Around) (nodes : Forest) (later : Place → Made) (w : Place) (r : Option RefNode) → Ahead B high w (spelling nodes) →
+Ranged-group_made : (B : Cuts) (high : ℕ) (around : Around) (nodes : Forest) (later : Progress → Made) (w : Progress) (r : Option RefNode) → Ahead B high w (spelling nodes) →
     Following B (w.at + length (spelling nodes)) high later → Ranged B w.at high (group_made around nodes later w r)
 Ranged-group_made B high around nodes later w (Some r) a f = Ranged-leaf_before B high w Ref r.head (marks_at around) (spelling nodes) r.owners later a f
 Ranged-group_made B high around nodes later w None a f = Ranged-leaf_before B high w (group_kind around nodes) (whole_head (spelling nodes)) (marks_at around) (spelling nodes) [] later a f
 
-Ranged-leaf_made : (B : Cuts) (high : ℕ) (around : Around) (attrs : List Spelled) (source : List ℕ) (later : Place → Made) (w : Place) (fit : Fit) → Ahead B high w source →
+Ranged-leaf_made : (B : Cuts) (high : ℕ) (around : Around) (attrs : List Spelled) (source : List ℕ) (later : Progress → Made) (w : Progress) (fit : Fit) → Ahead B high w source →
     Following B (w.at + length source) high later → Ranged B w.at high (leaf_made around attrs source later w fit)
 Ranged-leaf_made B high around attrs source later w (Leaf kind) a f = Ranged-leaf_before B high w kind (head_with attrs) (marks_at around) source [] later a f
 Ranged-leaf_made B high around attrs source later w (Whole kind) a f = Ranged-leaf_before B high w kind (whole_head source) (marks_at around) source [] later a f
@@ -174,12 +174,12 @@ Ranged-leaf_made B high around attrs source later w Annotation a f = Ranged-leaf
 Ranged-leaf_made B high around attrs source later w (Branch kind) a f = Ranged-leaf_before B high w (note_kind around) (whole_head source) (marks_at around) source [] later a f
 
 -- what a branch holds
-Ranged-inside_piece : (B : Cuts) (high : ℕ) (around : Around) (w : Place) (m : Made) → Ranged B w.at high m → AreBetween B w.at high (inside_piece around w m).later.spans
+Ranged-inside_piece : (B : Cuts) (high : ℕ) (around : Around) (w : Progress) (m : Made) → Ranged B w.at high m → AreBetween B w.at high (inside_piece around w m).later.spans
 Ranged-inside_piece B high (Content marks) w m r = r.run
 Ranged-inside_piece B high (Flow kind) w m r = (Ranged-run_closed B high w m r).later
 Ranged-inside_piece B high (Structural kind) w m r = r.later
 
-Ranged-element_made : (B : Cuts) (high : ℕ) (around : Around) (name : List ℕ) (attrs : List Spelled) (source : List ℕ) (children : Around → Place → Made) (later : Place → Made) (w : Place) (fit : Fit) →
+Ranged-element_made : (B : Cuts) (high : ℕ) (around : Around) (name : List ℕ) (attrs : List Spelled) (source : List ℕ) (children : Around → Progress → Made) (later : Progress → Made) (w : Progress) (fit : Fit) →
     FitStands around fit → Ahead B high w source →
     ((a : Around) → Sane a → Following B (w.at + length (start_text name attrs false)) high (children a)) →
     Following B (w.at + length source) high later → Ranged B w.at high (element_made around name attrs source children later w fit)
@@ -193,13 +193,13 @@ Ranged-element_made B high around name attrs source children later w Annotation 
 Ranged-element_made B high around name attrs source children later w (Branch kind) s a g f =
     let at = inside_of w name attrs in
     let inside = inside_piece (around_in kind) at (children (around_in kind) at) in
-    let suffix = past w source inside.owners in
+    let after = past w source inside.owners in
     let le : w.at ≤ at.at = omega arith in
-    Ranged-before_run B high w (node kind (head_with attrs) [] false (span_at w source) inside.later inside.pre) source inside.owners inside.owners (later suffix) a.begins (
+    Ranged-before_run B high w (node kind (head_with attrs) [] false (source_span w source) inside.later inside.pre) source inside.owners inside.owners (later after) a.begins (
       spanned B high w source a.begins a.ends a.some a.within,
       wider B at.at w.at high le inside.later.spans (Ranged-inside_piece B high (around_in kind) at (children (around_in kind) at) (g (around_in kind) s.2 at refl)),
     )
-    (f suffix refl)
+    (f after refl)
 Ranged-element_made B high around name attrs source children later w (Leaf kind) s a g f = Ranged-leaf_made B high around attrs source later w (Leaf kind) a f
 Ranged-element_made B high around name attrs source children later w (Whole kind) s a g f = Ranged-leaf_made B high around attrs source later w (Whole kind) a f
 
@@ -226,7 +226,7 @@ fits : (at high : ℕ) (source rest : List ℕ) → at + length (source ++ rest)
 fits at high source rest h = let l = length-append source rest in (omega (arith, l, h), omega (arith, l, h))
 
 abbrev RangedFrom : Cuts → ℕ → Around → Parts → Type 0
-RangedFrom B high around parts = (w : Place) → w.at + length (source_of parts) ≤ high → B w.at → AreCut B w.at parts → Ranged B w.at high (made_of around parts w)
+RangedFrom B high around parts = (w : Progress) → w.at + length (source_of parts) ≤ high → B w.at → AreCut B w.at parts → Ranged B w.at high (made_of around parts w)
 
 following : (B : Cuts) (high : ℕ) (around : Around) (parts : Parts) (at : ℕ) → RangedFrom B high around parts → at + length (source_of parts) ≤ high → B at → AreCut B at parts →
     Following B at high (made_of around parts)
@@ -268,6 +268,6 @@ Ranged-made_of B high around s (Parent name attrs children later) w le b c =
     (following B high around later (w.at + length source) (λ p. Ranged-made_of B high around s later p) f.1 c.2 c.3)
 
 -- what stands in a flow parent
-pub Ranged-in_flow : (B : Cuts) (high : ℕ) (kind : Kind) → Sane (Flow kind) → (parts : Parts) (w : Place) → w.at + length (source_of parts) ≤ high → B w.at → AreCut B w.at parts →
+pub Ranged-in_flow : (B : Cuts) (high : ℕ) (kind : Kind) → Sane (Flow kind) → (parts : Parts) (w : Progress) → w.at + length (source_of parts) ≤ high → B w.at → AreCut B w.at parts →
     AreBetween B w.at high (in_flow kind parts w).later.spans
 Ranged-in_flow B high kind s parts w le b c = (Ranged-run_closed B high w (made_of (Flow kind) parts w) (Ranged-made_of B high (Flow kind) s parts w le b c)).later

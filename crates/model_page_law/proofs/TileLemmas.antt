@@ -17,7 +17,7 @@ use Rattle.model_page.specs.Parts.{Parts, Ended, Words, Note, Group, Single, Par
 use Rattle.model_page.specs.Fit.{Around, Flow, Fit, Annotation, Leaf, Branch, Whole, around_in, fit_of, group_kind, note_kind}
 use Rattle.ve_kinds.specs.Table.{is_inline_leaf}
 use Rattle.model_page.specs.Heads.{characters, head_with, whole_head}
-use Rattle.model_page.specs.Pieces.{Span, Piece, Owner, Made, Place, past, span_at, no_piece, node, leaf, chars_piece, items_after, white_left, with_white, run_dropped, paragraph_before, run_ended, run_closed, in_run, before_run, leaf_before}
+use Rattle.model_page.specs.Pieces.{SourceSpan, Piece, Owner, Made, Progress, past, source_span, no_piece, node, leaf, chars_piece, items_after, white_left, with_white, run_dropped, paragraph_before, run_ended, run_closed, in_run, before_run, leaf_before}
 use Rattle.model_page.specs.ReferenceNodes.{RefNode, ref_of}
 use Rattle.model_page.specs.Convert.{marked_around, element_source, inside_of, inside_piece, group_made, leaf_made, element_made, made_of, in_flow}
 use Rattle.ve_base.specs.Empty.{empty_head}
@@ -43,11 +43,11 @@ abbrev pub white_of : Start → List ℕ
 white_of s = encode_utf8_all s.pre
 
 -- The source is the nodes' white texts and sources in turn, and begins at the byte `at`; the spans are those of their openings.
-abbrev pub Tiles : ℕ → List Span → List ℕ → Nodes → Type 0
+abbrev pub Tiles : ℕ → List SourceSpan → List ℕ → Nodes → Type 0
 Tiles at spans source Empty = (source ≡ []) × (spans ≡ [])
 Tiles at spans source (Letter c marks later) = ⊥
 Tiles at spans source (Node s inside pre later) =
-    (part : List ℕ) × (rest : List ℕ) × (inner : List Span) × (after : List Span)
+    (part : List ℕ) × (rest : List ℕ) × (inner : List SourceSpan) × (after : List SourceSpan)
     × (source ≡ white_of s ++ (part ++ rest))
     × (spans ≡ record { from = at + length (white_of s); to = at + length (white_of s) + length part } ∷ (inner ++ after))
     × (length inner ≡ openings inside)
@@ -61,7 +61,7 @@ pub record Tiled (at : ℕ) (source : List ℕ) (m : Made) : Type 0 where
   pub tiles : Tiles (at + length m.source) m.later.spans rest nodes
   pub spelled : m.source ++ (rest ++ encode_utf8_all m.pre) ≡ source
 
-at_moved : (a b : ℕ) (spans : List Span) (source : List ℕ) (n : Nodes) → a ≡ b → Tiles a spans source n → Tiles b spans source n
+at_moved : (a b : ℕ) (spans : List SourceSpan) (source : List ℕ) (n : Nodes) → a ≡ b → Tiles a spans source n → Tiles b spans source n
 at_moved a b spans source n e t = subst (λ at. Tiles at spans source n) e t
 
 -- one more part in the run
@@ -80,7 +80,7 @@ Tiled-in_run at piece source owners m suffix t = record {
 utf8-whitened : (white pre : List ℕ) → is_white white ≡ true → encode_utf8_all (chars white ++ pre) ≡ white ++ encode_utf8_all pre
 utf8-whitened white pre h = encodes-append (chars white) pre ∙ ap (λ s. s ++ encode_utf8_all pre) (white-kept white h)
 
-same_spans : (spans : List Span) (a b c d : ℕ) (later : List Span) → a ≡ b → c ≡ d →
+same_spans : (spans : List SourceSpan) (a b c d : ℕ) (later : List SourceSpan) → a ≡ b → c ≡ d →
     spans ≡ record { from = a; to = c } ∷ later → spans ≡ record { from = b; to = d } ∷ later
 same_spans spans a b c d later e f h = h ∙ (λ i. record { from = e i; to = f i } ∷ later)
 
@@ -133,9 +133,9 @@ Closed-with_white at white source rest m (Node s inside pre later) h items t e =
           ∙ ap (λ s. white ++ s) e;
     }
 
-Closed-paragraph : (w : Place) (part source rest : List ℕ) (m : Made) (n : Nodes) (run : Shaped m.run) →
+Closed-paragraph : (w : Progress) (part source rest : List ℕ) (m : Made) (n : Nodes) (run : Shaped m.run) →
     m.later.items ≡ plain n → Tiles (w.at + length part) m.later.spans rest n → rest ++ encode_utf8_all m.pre ≡ source →
-    Closed w.at (part ++ source) (paragraph_before (span_at w part) m)
+    Closed w.at (part ++ source) (paragraph_before (source_span w part) m)
 Closed-paragraph w part source rest m n run items t e =
     let s : Start = record { kind = P; head = empty_head; marks = []; pre = []; origin = None; generated = true; body = None } in
     record {
@@ -151,7 +151,7 @@ Closed-paragraph w part source rest m n run items t e =
         m.run.spans,
         m.later.spans,
         refl,
-        same_spans (span_at w part ∷ m.run.spans ++ m.later.spans) w.at (w.at + 0) (w.at + length part) (w.at + 0 + length part) (m.run.spans ++ m.later.spans)
+        same_spans (source_span w part ∷ m.run.spans ++ m.later.spans) w.at (w.at + 0) (w.at + length part) (w.at + 0 + length part) (m.run.spans ++ m.later.spans)
             (omega arith) (omega arith) refl,
         run.count,
         at_moved (w.at + length part) (w.at + 0 + length part) m.later.spans rest n (omega arith) t,
@@ -163,7 +163,7 @@ Closed-chosen : (at : ℕ) (source : List ℕ) (c : Bool) (a b : Made) → (c �
 Closed-chosen at source true a b f g = f refl
 Closed-chosen at source false a b f g = g
 
-Closed-run_ended : (w : Place) (part source rest : List ℕ) (m : Made) (n : Nodes) (run : Shaped m.run) →
+Closed-run_ended : (w : Progress) (part source rest : List ℕ) (m : Made) (n : Nodes) (run : Shaped m.run) →
     m.later.items ≡ plain n → Tiles (w.at + length part) m.later.spans rest n → rest ++ encode_utf8_all m.pre ≡ source →
     Closed w.at (part ++ source) (run_ended part w m)
 Closed-run_ended w [] source rest m n run items t e = record {
@@ -178,28 +178,28 @@ Closed-run_ended w (b ∷ bs) source rest m n run items t e =
     (λ h. Closed-with_white w.at (b ∷ bs) source rest (run_dropped m) n h items t e)
     (Closed-paragraph w (b ∷ bs) source rest m n run items t e)
 
-pub Closed-run_closed : (w : Place) (source : List ℕ) (m : Made) → Shaped m.run → Tiled w.at source m → Closed w.at source (run_closed w m)
+pub Closed-run_closed : (w : Progress) (source : List ℕ) (m : Made) → Shaped m.run → Tiled w.at source m → Closed w.at source (run_closed w m)
 Closed-run_closed w source m run t =
     subst (λ s. Closed w.at s (run_closed w m)) t.spelled (Closed-run_ended w m.source (t.rest ++ encode_utf8_all m.pre) t.rest m t.nodes run t.items t.tiles refl)
 
-pub run_ended-source : (part : List ℕ) (w : Place) (m : Made) → (run_ended part w m).source ≡ []
+pub run_ended-source : (part : List ℕ) (w : Progress) (m : Made) → (run_ended part w m).source ≡ []
 run_ended-source [] w m = refl
-run_ended-source (b ∷ bs) w m = chosen_source (is_white (b ∷ bs)) (with_white (chars (b ∷ bs)) (run_dropped m)) (paragraph_before (span_at w (b ∷ bs)) m) refl refl
+run_ended-source (b ∷ bs) w m = chosen_source (is_white (b ∷ bs)) (with_white (chars (b ∷ bs)) (run_dropped m)) (paragraph_before (source_span w (b ∷ bs)) m) refl refl
   where
     chosen_source : (c : Bool) (a b : Made) → a.source ≡ [] → b.source ≡ [] → (if c then a else b).source ≡ []
     chosen_source true a b e f = e
     chosen_source false a b e f = f
 
 -- a block before
-Tiled-before_run : (w : Place) (part source : List ℕ) (kind : Kind) (head : Head) (marks : List Mark) (inside : Piece) (pre : List ℕ) (owners added : List Owner) (m : Made) →
+Tiled-before_run : (w : Progress) (part source : List ℕ) (kind : Kind) (head : Head) (marks : List Mark) (inside : Piece) (pre : List ℕ) (owners added : List Owner) (m : Made) →
     Shaped inside → Shaped m.run → Tiled (w.at + length part) source m →
-    Tiled w.at (part ++ source) (before_run (past w part added) (node kind head marks false (span_at w part) inside pre) owners m)
+    Tiled w.at (part ++ source) (before_run (past w part added) (node kind head marks false (source_span w part) inside pre) owners m)
 Tiled-before_run w part source kind head marks inside pre owners added m shape run t =
-    let suffix = past w part added in
-    let c = Closed-run_closed suffix source m run t in
-    let closed = run_closed suffix m in
+    let after = past w part added in
+    let c = Closed-run_closed after source m run t in
+    let closed = run_closed after m in
     let s : Start = record { kind = kind; head = head; marks = marks; pre = []; origin = None; generated = false; body = None } in
-    let z : closed.source ≡ [] = run_ended-source m.source suffix m in
+    let z : closed.source ≡ [] = run_ended-source m.source after m in
     record {
       nodes = Node s shape.nodes pre c.nodes;
       items =
@@ -214,7 +214,7 @@ Tiled-before_run w part source kind head marks inside pre owners added m shape r
             inside.spans,
             closed.later.spans,
             refl,
-            same_spans (span_at w part ∷ inside.spans ++ closed.later.spans) w.at (w.at + length closed.source + 0) (w.at + length part) (w.at + length closed.source + 0 + length part) (inside.spans ++ closed.later.spans)
+            same_spans (source_span w part ∷ inside.spans ++ closed.later.spans) w.at (w.at + length closed.source + 0) (w.at + length part) (w.at + length closed.source + 0 + length part) (inside.spans ++ closed.later.spans)
                 (omega (arith, l)) (omega (arith, l)) refl,
             shape.count,
             at_moved (w.at + length part) (w.at + length closed.source + 0 + length part) closed.later.spans c.rest c.nodes (omega (arith, l)) c.tiles,
@@ -230,54 +230,54 @@ Tiled-chosen at source true a b f g = f
 Tiled-chosen at source false a b f g = g
 
 -- later parts: what they make is nodes and tiles, from any place at that byte
-pub record Following (at : ℕ) (source : List ℕ) (later : Place → Made) : Type 0 where
-  pub fine : (p : Place) → Fine (later p)
-  pub tiled : (p : Place) → p.at ≡ at → Tiled at source (later p)
+pub record Following (at : ℕ) (source : List ℕ) (later : Progress → Made) : Type 0 where
+  pub fine : (p : Progress) → Fine (later p)
+  pub tiled : (p : Progress) → p.at ≡ at → Tiled at source (later p)
 
-Tiled-leaf_before : (w : Place) (kind : Kind) (head : Head) (marks : List Mark) (part source : List ℕ) (owners : List Owner) (later : Place → Made) →
+Tiled-leaf_before : (w : Progress) (kind : Kind) (head : Head) (marks : List Mark) (part source : List ℕ) (owners : List Owner) (later : Progress → Made) →
     Following (w.at + length part) source later → Tiled w.at (part ++ source) (leaf_before w kind head marks part owners (later (past w part owners)))
 Tiled-leaf_before w kind head marks part source owners later f =
-    let suffix = past w part owners in
+    let after = past w part owners in
     Tiled-chosen w.at (part ++ source) (is_inline_leaf kind) _ _
-    (Tiled-in_run w.at (leaf kind head marks (span_at w part)) part owners (later suffix) source (f.tiled suffix refl))
-    (Tiled-before_run w part source kind head marks no_piece [] owners owners (later suffix) Shaped-none (f.fine suffix).run (f.tiled suffix refl))
+    (Tiled-in_run w.at (leaf kind head marks (source_span w part)) part owners (later after) source (f.tiled after refl))
+    (Tiled-before_run w part source kind head marks no_piece [] owners owners (later after) Shaped-none (f.fine after).run (f.tiled after refl))
 
-Tiled-group_made : (k : Kind) (nodes : Forest) (source : List ℕ) (later : Place → Made) (w : Place) (r : Option RefNode) →
+Tiled-group_made : (k : Kind) (nodes : Forest) (source : List ℕ) (later : Progress → Made) (w : Progress) (r : Option RefNode) →
     Following (w.at + length (spelling nodes)) source later → Tiled w.at (spelling nodes ++ source) (group_made (Flow k) nodes later w r)
 Tiled-group_made k nodes source later w (Some r) f = Tiled-leaf_before w Ref r.head [] (spelling nodes) source r.owners later f
 Tiled-group_made k nodes source later w None f = Tiled-leaf_before w (group_kind (Flow k) nodes) (whole_head (spelling nodes)) [] (spelling nodes) source [] later f
 
-Tiled-leaf_made : (k : Kind) (attrs : List Spelled) (part source : List ℕ) (later : Place → Made) (w : Place) (fit : Fit) →
+Tiled-leaf_made : (k : Kind) (attrs : List Spelled) (part source : List ℕ) (later : Progress → Made) (w : Progress) (fit : Fit) →
     Following (w.at + length part) source later → Tiled w.at (part ++ source) (leaf_made (Flow k) attrs part later w fit)
 Tiled-leaf_made k attrs part source later w (Leaf kind) f = Tiled-leaf_before w kind (head_with attrs) [] part source [] later f
 Tiled-leaf_made k attrs part source later w (Whole kind) f = Tiled-leaf_before w kind (whole_head part) [] part source [] later f
 Tiled-leaf_made k attrs part source later w Annotation f = Tiled-leaf_before w (note_kind (Flow k)) (whole_head part) [] part source [] later f
 Tiled-leaf_made k attrs part source later w (Branch kind) f = Tiled-leaf_before w (note_kind (Flow k)) (whole_head part) [] part source [] later f
 
-Tiled-element_made : (k : Kind) (name : List ℕ) (attrs : List Spelled) (part source : List ℕ) (children : Around → Place → Made) (later : Place → Made) (w : Place) (fit : Fit) →
-    ((a : Around) (p : Place) → Fine (children a p)) → Following (w.at + length part) source later →
+Tiled-element_made : (k : Kind) (name : List ℕ) (attrs : List Spelled) (part source : List ℕ) (children : Around → Progress → Made) (later : Progress → Made) (w : Progress) (fit : Fit) →
+    ((a : Around) (p : Progress) → Fine (children a p)) → Following (w.at + length part) source later →
     Tiled w.at (part ++ source) (element_made (Flow k) name attrs part children later w fit)
 Tiled-element_made k name attrs part source children later w Annotation g f =
     let inside = children (marked_around (Flow k) name attrs) (inside_of w name attrs) in
-    let suffix = past w part inside.owners in
-    Tiled-in_run w.at inside.run part inside.owners (later suffix) source (f.tiled suffix refl)
+    let after = past w part inside.owners in
+    Tiled-in_run w.at inside.run part inside.owners (later after) source (f.tiled after refl)
 Tiled-element_made k name attrs part source children later w (Branch kind) g f =
     let at = inside_of w name attrs in
     let inside = inside_piece (around_in kind) at (children (around_in kind) at) in
-    let suffix = past w part inside.owners in
-    Tiled-before_run w part source kind (head_with attrs) [] inside.later inside.pre inside.owners inside.owners (later suffix)
-    (Shaped-inside_piece (around_in kind) at (children (around_in kind) at) (g (around_in kind) at)) (f.fine suffix).run (f.tiled suffix refl)
+    let after = past w part inside.owners in
+    Tiled-before_run w part source kind (head_with attrs) [] inside.later inside.pre inside.owners inside.owners (later after)
+    (Shaped-inside_piece (around_in kind) at (children (around_in kind) at) (g (around_in kind) at)) (f.fine after).run (f.tiled after refl)
 Tiled-element_made k name attrs part source children later w (Leaf kind) g f = Tiled-leaf_made k attrs part source later w (Leaf kind) f
 Tiled-element_made k name attrs part source children later w (Whole kind) g f = Tiled-leaf_made k attrs part source later w (Whole kind) f
 
-following : (k : Kind) (parts : Parts) (at : ℕ) → ((p : Place) → Tiled p.at (source_of parts) (made_of (Flow k) parts p)) →
+following : (k : Kind) (parts : Parts) (at : ℕ) → ((p : Progress) → Tiled p.at (source_of parts) (made_of (Flow k) parts p)) →
     Following at (source_of parts) (made_of (Flow k) parts)
 following k parts at h = record {
   fine = λ p. Fine-made_of (Flow k) parts p;
   tiled = λ p e. subst (λ n. Tiled n (source_of parts) (made_of (Flow k) parts p)) e (h p);
 }
 
-pub Tiled-made_of : (k : Kind) (parts : Parts) (w : Place) → Tiled w.at (source_of parts) (made_of (Flow k) parts w)
+pub Tiled-made_of : (k : Kind) (parts : Parts) (w : Progress) → Tiled w.at (source_of parts) (made_of (Flow k) parts w)
 Tiled-made_of k Ended w = record { nodes = Empty; items = refl; rest = []; tiles = (refl, refl); spelled = refl }
 Tiled-made_of k (Words text later) w =
     Tiled-in_run w.at (chars_piece [] (characters text)) text [] (made_of (Flow k) later (past w text [])) (source_of later) (Tiled-made_of k later (past w text []))
@@ -298,5 +298,5 @@ Tiled-made_of k (Parent name attrs children later) w =
     (following k later (w.at + length part) (λ p. Tiled-made_of k later p))
 
 -- what stands in a flow parent lies in its source from w on
-pub Closed-in_flow : (k : Kind) (parts : Parts) (w : Place) → Closed w.at (source_of parts) (in_flow k parts w)
+pub Closed-in_flow : (k : Kind) (parts : Parts) (w : Progress) → Closed w.at (source_of parts) (in_flow k parts w)
 Closed-in_flow k parts w = Closed-run_closed w (source_of parts) (made_of (Flow k) parts w) (Fine-made_of (Flow k) parts w).run (Tiled-made_of k parts w)

@@ -34,7 +34,9 @@ ComposedKeepsBody = (mw html : List ℕ) (r : RefRead) → reference_of mw ≡ S
 
 -- Of two bodies that are put in, the second stays, and nothing of the first one's text.
 abbrev pub ComposedTwice : Type 0
-ComposedTwice = (mw first second : List ℕ) (r : RefRead) → reference_of mw ≡ Some r → composed_mw (composed_mw mw (Some first)) (Some second) ≡ composed_mw mw (Some second)
+ComposedTwice =
+    (mw first second : List ℕ) (r : RefRead) → reference_of mw ≡ Some r →
+    composed_mw (composed_mw mw (Some first)) (Some second) ≡ composed_mw mw (Some second)
 
 -- ---- as a reference
 
@@ -45,12 +47,17 @@ ComposedOwns = (mw html : List ℕ) (r : RefRead) (f : Forest) → reference_of 
 
 -- With the body that it has it says what it said.
 abbrev pub ComposedIsSame : Type 0
-ComposedIsSame = (mw : List ℕ) (r : RefRead) (html : List ℕ) → reference_of mw ≡ Some r → r.html ≡ Some html → reference_of (composed_mw mw (Some html)) ≡ Some r
+ComposedIsSame =
+    (mw : List ℕ) (r : RefRead) (html : List ℕ) → reference_of mw ≡ Some r → r.html ≡ Some html →
+    reference_of (composed_mw mw (Some html)) ≡ Some r
 
 -- With a text that no forest spells it is not editable.
 abbrev pub ComposedIsBarred : Type 0
-ComposedIsBarred = (mw html : List ℕ) (r : RefRead) → reference_of mw ≡ Some r → forest_of html ≡ None → reference_of (composed_mw mw (Some html)) ≡ None
+ComposedIsBarred =
+    (mw html : List ℕ) (r : RefRead) → reference_of mw ≡ Some r → forest_of html ≡ None → reference_of (composed_mw mw (Some html)) ≡ None
 
 -- Without a body it uses one by its name, where it has a name, and is not editable where it has none.
 abbrev pub ComposedReuses : Type 0
-ComposedReuses = (mw : List ℕ) (r : RefRead) → reference_of mw ≡ Some r → reference_of (composed_mw mw None) ≡ if_owner_or_named (record { group = r.group; name = r.name; html = None })
+ComposedReuses =
+    (mw : List ℕ) (r : RefRead) → reference_of mw ≡ Some r →
+    reference_of (composed_mw mw None) ≡ if_owner_or_named (record { group = r.group; name = r.name; html = None })

@@ -25,26 +25,27 @@ said name [] = None
 said name (a ∷ attrs) = if bytes_eq (encode_utf8_all a.name) name then Some (encode_utf8_all a.value) else said name attrs
 
 -- there is an `about`, or a word of `typeof` that begins `mw:`
-abbrev pub holds : List Attr → Bool
-holds attrs = is_some (said (codes "about") attrs) || list_any (begins_with (codes "mw:")) (words_in (said (codes "typeof") attrs))
+abbrev pub says_held : List Attr → Bool
+says_held attrs = is_some (said (codes "about") attrs) || list_any (begins_with (codes "mw:")) (words_in (said (codes "typeof") attrs))
 
 -- names and values are characters, and each name may be spelled
 abbrev pub AreNamed : List Attr → Type 0
 AreNamed [] = Unit {0}
-AreNamed (a ∷ attrs) = (all_scalars a.name ≡ true) × (all_scalars a.value ≡ true) × (is_attr_name (encode_utf8_all a.name) ≡ true) × AreNamed attrs
+AreNamed (a ∷ attrs) =
+    (all_scalars a.name ≡ true) × (all_scalars a.value ≡ true) × (is_attr_name (encode_utf8_all a.name) ≡ true) × AreNamed attrs
 
 pub record ArePlain (attrs : List Attr) : Type 0 where
   pub named : AreNamed attrs
-  pub free : holds attrs ≡ false
+  pub free : says_held attrs ≡ false
 
-pub record IsMark (m : Mark) : Type 0 where
+pub record IsPlainMark (m : Mark) : Type 0 where
   pub tag : is_annotation_tag (encode_utf8_all m.tag) ≡ true
   pub chars : all_scalars m.tag ≡ true
   pub attrs : ArePlain m.attrs
 
-abbrev pub AreMarks : List Mark → Type 0
-AreMarks [] = Unit {0}
-AreMarks (m ∷ ms) = IsMark m × AreMarks ms
+abbrev pub ArePlainMarks : List Mark → Type 0
+ArePlainMarks [] = Unit {0}
+ArePlainMarks (m ∷ ms) = IsPlainMark m × ArePlainMarks ms
 
 -- a head that holds attributes alone
 pub record IsHead (h : Head) : Type 0 where
@@ -57,7 +58,7 @@ pub record IsHead (h : Head) : Type 0 where
 pub record IsFormedOpening (kind : Kind) (h : Head) (marks : List Mark) (pre : List ℕ) : Type 0 where
   pub head : IsHead h
   pub white : is_white pre ≡ true
-  pub leaf : is_leaf kind ≡ true → ((kind_same kind Br || kind_same kind Img) ≡ true) × AreMarks marks × (pre ≡ [])
+  pub leaf : is_leaf kind ≡ true → ((kind_same kind Br || kind_same kind Img) ≡ true) × ArePlainMarks marks × (pre ≡ [])
   pub branch : is_leaf kind ≡ false → marks ≡ []
   pub item : kind_same kind InternalItem ≡ false
   pub list : kind_same kind InternalList ≡ true → h.attrs ≡ []
@@ -68,7 +69,7 @@ pub record IsFormedClosing (kind : Kind) (pre : List ℕ) : Type 0 where
   pub none : (is_leaf kind || is_content_branch kind || kind_same kind InternalList) ≡ true → pre ≡ []
 
 abbrev pub IsFormed : PlainItem → Type 0
-IsFormed (Char c marks) = IsScalar c × AreMarks marks
+IsFormed (Char c marks) = IsScalar c × ArePlainMarks marks
 IsFormed (Opening kind head marks pre origin generated) = IsFormedOpening kind head marks pre
 IsFormed (Closing kind pre) = IsFormedClosing kind pre
 

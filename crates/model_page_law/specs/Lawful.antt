@@ -4,14 +4,14 @@ use Rattle.model_spelling.specs.Forest.{Forest}
 use Rattle.model_spelling.specs.Faults.{ForestFault}
 use Rattle.model_spelling.specs.Page.{page_fault}
 use Rattle.model_items.specs.Law.{Lawful}
-use Rattle.model_page.specs.PageItems.{Opened, opened_page, page_made, items_of}
+use Rattle.model_page.specs.PageItems.{Opened, opened_page, page_made, items_of_page}
 use Rattle.model_page.specs.Limits.{page_limit}
 use Rattle.model_page.specs.OpenPage.{BadPage, values_of, limit_in, read_page}
 use Rattle.ve_base.specs.Limits.{max_page, max_items, max_values}
 
 -- The items of a forest that is within the limits are a lawful list, wherever the body begins.
 abbrev pub LimitedIsLawful : Type 0
-LimitedIsLawful = (at : ℕ) (f : Forest) → page_limit at f ≡ None → Lawful (items_of (page_made at f))
+LimitedIsLawful = (at : ℕ) (f : Forest) → page_limit at f ≡ None → Lawful (items_of_page (page_made at f))
 
 -- A page opens within all limits.
 pub record IsWithin (page : List ℕ) (o : Opened) : Type 0 where

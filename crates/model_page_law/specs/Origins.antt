@@ -16,10 +16,10 @@ origins_of (Closing kind pre ∷ items) = origins_of items
 origins_of (Opening kind head marks pre origin generated ∷ items) = origin_before origin (origins_of items)
 
 -- so many numbers, from k up
-abbrev pub numbers_from : ℕ → ℕ → List ℕ
-numbers_from k zero = []
-numbers_from k (suc count) = k ∷ numbers_from (suc k) count
+abbrev pub counted_from : ℕ → ℕ → List ℕ
+counted_from k zero = []
+counted_from k (suc count) = k ∷ counted_from (suc k) count
 
 -- In an opened page each origin stands once, in order, and the page has a span for each. Reference bodies have none.
 abbrev pub OriginsNumberSpans : Type 0
-OriginsNumberSpans = (page : List ℕ) (o : Opened) → opened_page page ≡ Some o → origins_of o.items ≡ numbers_from 0 (length o.spans)
+OriginsNumberSpans = (page : List ℕ) (o : Opened) → opened_page page ≡ Some o → origins_of o.items ≡ counted_from 0 (length o.spans)

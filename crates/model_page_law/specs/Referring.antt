@@ -9,8 +9,8 @@ use Rattle.model_change.specs.Fault.{Applies}
 use Rattle.model_change.specs.Inverse.{inverse}
 use Rattle.model_change.specs.Join.{join, join_list}
 use Rattle.model_change.specs.Replay.{replay, reversal, flattened, revoke, AllRun}
-use Rattle.model_page.specs.PageItems.{Opened, opened_page, page_made, items_of}
-use Rattle.model_page.specs.Fragment.{pieces_of}
+use Rattle.model_page.specs.PageItems.{Opened, opened_page, page_made, items_of_page}
+use Rattle.model_page.specs.Fragment.{fragment_items}
 use Rattle.model_page.specs.Editable.{all_refer}
 use Rattle.ve_base.specs.Limits.{max_open_elements}
 
@@ -22,11 +22,12 @@ OpenedRefers = (page : List ℕ) (o : Opened) → IsUtf8 page → opened_page pa
 
 -- The same of the items of every forest that may be spelled.
 abbrev pub SpelledRefers : Type 0
-SpelledRefers = (at : ℕ) (f : Forest) → is_forest max_open_elements f ≡ true → IsUtf8 (spelling f) → all_refer (items_of (page_made at f)) ≡ true
+SpelledRefers =
+    (at : ℕ) (f : Forest) → is_forest max_open_elements f ≡ true → IsUtf8 (spelling f) → all_refer (items_of_page (page_made at f)) ≡ true
 
 -- A fragment has neither references nor internal items, so the same holds of it, wherever it goes.
 abbrev pub FragmentsRefer : Type 0
-FragmentsRefer = (stack : List Kind) (f : Forest) → all_refer (pieces_of stack f) ≡ true
+FragmentsRefer = (stack : List Kind) (f : Forest) → all_refer (fragment_items stack f) ≡ true
 
 -- ---- one transaction
 
@@ -36,7 +37,9 @@ inserts_referring t = all_refer (all_inserted t)
 
 -- It keeps this of the list, whatever attributes it sets: it may set those of element kinds alone, and a reference is none of them.
 abbrev pub EditsRefer : Type 0
-EditsRefer = (t : Transaction) (items : List PlainItem) → Applies t items → inserts_referring t ≡ true → all_refer items ≡ true → all_refer (edited t items) ≡ true
+EditsRefer =
+    (t : Transaction) (items : List PlainItem) → Applies t items → inserts_referring t ≡ true → all_refer items ≡ true →
+    all_refer (edited t items) ≡ true
 
 -- What undoes it inserts what it removed, which refers where the list does.
 abbrev pub InversesRefer : Type 0
@@ -53,10 +56,14 @@ abbrev pub all_insert_referring : List Transaction → Bool
 all_insert_referring ts = list_all inserts_referring ts
 
 abbrev pub ReplaysRefer : Type 0
-ReplaysRefer = (ts : List Transaction) (items : List PlainItem) → AllRun ts items → all_insert_referring ts ≡ true → all_refer items ≡ true → all_refer (replay ts items) ≡ true
+ReplaysRefer =
+    (ts : List Transaction) (items : List PlainItem) → AllRun ts items → all_insert_referring ts ≡ true → all_refer items ≡ true →
+    all_refer (replay ts items) ≡ true
 
 abbrev pub ReversalsRefer : Type 0
-ReversalsRefer = (ts : List Transaction) (items : List PlainItem) → AllRun ts items → all_insert_referring ts ≡ true → all_refer items ≡ true → all_insert_referring (reversal ts) ≡ true
+ReversalsRefer =
+    (ts : List Transaction) (items : List PlainItem) → AllRun ts items → all_insert_referring ts ≡ true → all_refer items ≡ true →
+    all_insert_referring (reversal ts) ≡ true
 
 abbrev pub JoinListsRefer : Type 0
 JoinListsRefer = (committed mine : List Transaction) (joined : List Transaction × List Transaction) → join_list committed mine ≡ Ok joined →
@@ -66,4 +73,5 @@ JoinListsRefer = (committed mine : List Transaction) (joined : List Transaction 
 -- What takes an entry of a history back inserts what the entry removed, and nothing else.
 abbrev pub RevokesRefer : Type 0
 RevokesRefer = (entries : List (List Transaction)) (i : ℕ) (back : List Transaction) (base : List PlainItem) → i < length entries →
-    AllRun (flattened entries) base → all_insert_referring (flattened entries) ≡ true → all_refer base ≡ true → revoke entries i ≡ Ok back → all_insert_referring back ≡ true
+    AllRun (flattened entries) base → all_insert_referring (flattened entries) ≡ true → all_refer base ≡ true → revoke entries i ≡ Ok back →
+    all_insert_referring back ≡ true

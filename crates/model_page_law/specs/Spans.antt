@@ -6,7 +6,7 @@ use Rattle.ve_base.specs.declared.head.Head.{Head}
 use Rattle.model_items.specs.declared.plain_item.PlainItem.{PlainItem}
 use Rattle.model_items.specs.declared.plain_item.PlainItem.TheVariants.{Opening, Closing}
 use Rattle.model_page.specs.References.{inside_from}
-use Rattle.model_page.specs.Pieces.{Span}
+use Rattle.model_page.specs.Pieces.{SourceSpan}
 use Rattle.model_page.specs.PageItems.{Opened, opened_page}
 use Rattle.model_page_write.specs.Nodes.{carried_items}
 use Rattle.model_page_write.specs.PageText.{node_with}
@@ -14,21 +14,21 @@ use Rattle.model_page_write.specs.PageText.{node_with}
 -- ---- in the page
 
 -- A range of a page that is cut between characters.
-pub record IsCut (page : List ℕ) (s : Span) : Type 0 where
+pub record IsWholeChars (page : List ℕ) (s : SourceSpan) : Type 0 where
   pub rises : s.from ≤ s.to
   pub first : IsCharBoundary page s.from
   pub last : IsCharBoundary page s.to
 
 -- A part of a body: a range within it of one or more whole characters.
-pub record IsPart (page : List ℕ) (body s : Span) : Type 0 where
-  pub cut : IsCut page s
+pub record IsPart (page : List ℕ) (body s : SourceSpan) : Type 0 where
+  pub cut : IsWholeChars page s
   pub some : s.from < s.to
   pub from : body.from ≤ s.from
   pub to : s.to ≤ body.to
 
 -- The body of an opened page is cut between characters,
 abbrev pub BodyIsCut : Type 0
-BodyIsCut = (page : List ℕ) (o : Opened) → IsUtf8 page → opened_page page ≡ Some o → IsCut o.page o.body
+BodyIsCut = (page : List ℕ) (o : Opened) → IsUtf8 page → opened_page page ≡ Some o → IsWholeChars o.page o.body
 
 -- and each origin has its part of the body.
 abbrev pub SpansAreParts : Type 0
@@ -54,7 +54,9 @@ pub record NodeAt (items : List PlainItem) (k from to : ℕ) : Type 0 where
 
 -- The node of each origin stands in the list of the opened page, at a range of its places.
 abbrev pub OriginsStand : Type 0
-OriginsStand = (page : List ℕ) (o : Opened) → opened_page page ≡ Some o → (k : ℕ) → k < length o.spans → (from : ℕ) × (to : ℕ) × (to ≤ length o.items) × NodeAt o.items k from to
+OriginsStand =
+    (page : List ℕ) (o : Opened) → opened_page page ≡ Some o → (k : ℕ) → k < length o.spans →
+    (from : ℕ) × (to : ℕ) × (to ≤ length o.items) × NodeAt o.items k from to
 
 -- So what a node of the origin k is compared with, where it may be kept, are the items at that range, with what they carry.
 abbrev pub RangesAreCompared : Type 0

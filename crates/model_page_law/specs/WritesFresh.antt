@@ -2,7 +2,7 @@
 use Rattle.std.specs.Prelude.{◌≡◌, List, ◌++◌, take, drop, None}
 use Rattle.model_items.specs.declared.plain_item.PlainItem.{PlainItem}
 use Rattle.model_page.specs.PageItems.{Opened}
-use Rattle.model_page_write.specs.Nodes.{Nodes, Empty, Letter, Node, node_items, nodes_of, carried_items}
+use Rattle.model_page_write.specs.Nodes.{Nodes, Empty, Letter, Node, node_items, carried_nodes, carried_items}
 use Rattle.model_page_write.specs.Written.{Writer}
 use Rattle.model_page_write.specs.PageText.{fresh, page_writer, write}
 
@@ -12,7 +12,7 @@ KeepsNoneOf w Empty = Unit {0}
 KeepsNoneOf w (Letter c marks later) = KeepsNoneOf w later
 KeepsNoneOf w (Node s inside pre later) = (w.original s (node_items s inside pre) ≡ None) × KeepsNoneOf w inside × KeepsNoneOf w later
 
--- The page is then the head, the fresh text and the tail, whatever the list holds.
+-- The page is then its prefix, the fresh text and its suffix, whatever the list holds.
 abbrev pub WritesFresh : Type 0
-WritesFresh = (o : Opened) (items : List PlainItem) → KeepsNoneOf (page_writer o) (nodes_of (carried_items items)) →
+WritesFresh = (o : Opened) (items : List PlainItem) → KeepsNoneOf (page_writer o) (carried_nodes (carried_items items)) →
     write o items ≡ take o.body.from o.page ++ fresh items ++ drop o.body.to o.page

@@ -1,114 +1,21 @@
-//! The laws of pages: what a page opens as, where its nodes come from, what its references say, and what is written of it. Definitions of these laws
-//! stand in specs/; each public function here does nothing, and its contract is a law that is proved of every page and every list.
+//! The laws of pages: what a page opens as, where its nodes come from, what its references say, and what is written of it. It knows the definitions of
+//! `model_spelling`, `model_page` and `model_page_write`, and proves laws of every page and every list; there is no code that runs. It doesn't know how a
+//! session edits pages: that is `model_world_law`'s.
+//!
+//! Each law is a definition in specs/ and the contract of a function in `laws`. In reading order:
+//!
+//! - `WrittenBack` (`page_opens`, `page_is_written_back`): which pages open, and that each is written as itself;
+//! - `Lawful` (`page_is_read`): what opens within the limits is a lawful list;
+//! - `Origins`, `Spans` (`origins_number_spans`, `spans_are_parts`, `origins_stand`): where nodes come from, in the page and in the list;
+//! - `Referring`, `Composed`, `WrittenReference` (`references_are_editable`, `edits_keep_references`, `composed_reads_back`, `reference_is_written`):
+//!   references stay editable, and are written as what they say;
+//! - `Formed`, `ReadBack`, `WritesFresh`, `Replaced` (`fresh_is_read_back`, `writes_fresh`, `written_page_opens`): what is written anew is read back.
 #![tactic(auto)]
 
-ghost use Rattle.model_page_law.specs.Composed.{ComposedIsBarred, ComposedIsRead, ComposedIsSame, ComposedKeepsBody, ComposedKeepsMembers, ComposedOwns, ComposedReuses, ComposedTwice};
-ghost use Rattle.model_page_law.specs.Lawful.{BadPageHasFault, LimitedIsLawful, ReadIsLawful, ReadIsWithin, WithinIsRead};
-ghost use Rattle.model_page_law.specs.Origins.{OriginsNumberSpans};
-ghost use Rattle.model_page_law.specs.ReadBack.{FreshIsReadBack, FreshOpensAsItself};
-ghost use Rattle.model_page_law.specs.Referring.{EditsRefer, FragmentsRefer, InversesRefer, JoinListsRefer, JoinsRefer, OpenedRefers, ReplaysRefer, ReversalsRefer, RevokesRefer, SpelledRefers};
-ghost use Rattle.model_page_law.specs.Replaced.{BodyIsReplaced, WrittenIsReadBack, WrittenOpens};
-ghost use Rattle.model_page_law.specs.Spans.{BodyIsCut, OriginsStand, RangesAreCompared, SpansAreParts};
-ghost use Rattle.model_page_law.specs.WritesFresh.{WritesFresh};
-ghost use Rattle.model_page_law.specs.WrittenReference.{ReferenceHasBody, ReferenceIsWritten};
-ghost use Rattle.model_page_law.specs.WrittenBack.{FaultlessOpens, OpenedIsFaultless, OpenedIsWrittenBack, OpensAsItsForest, SpelledIsWrittenBack};
+mod laws;
 
-/// A page opens exactly where it has no fault, and then as what its forest is converted to.
-#[tactic(auto, using(crate::proofs::OpenLemmas::faultless_opens, crate::proofs::OpenLemmas::opened_is_faultless, crate::proofs::OpenLemmas::opens_as_its_forest))]
-pub fn page_opens()
-    ensures faultless { FaultlessOpens }
-    ensures opened { OpenedIsFaultless }
-    ensures forest { OpensAsItsForest }
-{}
-
-/// A page is read exactly where it opens within all limits, and then as a lawful list. One that is refused for its spelling is refused with its first fault.
-#[tactic(auto, using(crate::proofs::OpenPageLemmas::read_is_within, crate::proofs::OpenPageLemmas::read_is_lawful, crate::proofs::OpenPageLemmas::within_is_read, crate::proofs::OpenPageLemmas::bad_page_has_fault, crate::proofs::LawfulLemmas::limited_is_lawful))]
-pub fn page_is_read()
-    ensures within { ReadIsWithin }
-    ensures lawful { ReadIsLawful }
-    ensures complete { WithinIsRead }
-    ensures fault { BadPageHasFault }
-    ensures forest { LimitedIsLawful }
-{}
-
-/// The origins of an opened page are the numbers of its spans, each once and in order.
-#[tactic(auto, using(crate::proofs::OriginLemmas::origins_number_spans))]
-pub fn origins_number_spans()
-    ensures { OriginsNumberSpans }
-{}
-
-/// The body of an opened page is a range of its whole characters, and so is the span of each origin: a part of the body that is not empty.
-pub fn spans_are_parts()
-    ensures body { BodyIsCut }
-    ensures spans { SpansAreParts }
-{}
-
-/// The node of each origin stands in the list of the opened page, from its opening to the closing of that; and what stands there is what a node of that origin is compared with, where it may be kept.
-pub fn origins_stand()
-    ensures stands { OriginsStand }
-    ensures compared { RangesAreCompared }
-{}
-
-/// Each reference of an opened page has its key and an editable `data-mw`, and each internal item has its key.
-#[tactic(auto, using(crate::proofs::PageRefers::opened_refers, crate::proofs::PageRefers::spelled_refers))]
-pub fn references_are_editable()
-    ensures opened { OpenedRefers }
-    ensures spelled { SpelledRefers }
-{}
-
-/// Edits keep this: a transaction that inserts only such items keeps it of every list, whatever attributes it sets, and where it is undone, joined with others or taken back under later ones, only such items are inserted. Fragments are such items.
-pub fn edits_keep_references()
-    ensures edited { EditsRefer }
-    ensures undone { InversesRefer }
-    ensures joined { JoinsRefer }
-    ensures replayed { ReplaysRefer }
-    ensures reversed { ReversalsRefer }
-    ensures lists { JoinListsRefer }
-    ensures revoked { RevokesRefer }
-    ensures fragments { FragmentsRefer }
-{}
-
-/// A `data-mw` that is composed with another body is read as what it was with that body; so it is editable, of the same group and name, and has that body, where a forest spells the body's text.
-pub fn composed_reads_back()
-    ensures value { ComposedIsRead }
-    ensures members { ComposedKeepsMembers }
-    ensures body { ComposedKeepsBody }
-    ensures twice { ComposedTwice }
-    ensures owns { ComposedOwns }
-    ensures same { ComposedIsSame }
-    ensures barred { ComposedIsBarred }
-    ensures reuses { ComposedReuses }
-{}
-
-/// A reference is written as an element of its tag and its source, with the attributes of its head but for the composed `data-mw`; so the element is editable, of the same group and name, and has the body that the reference carries.
-pub fn reference_is_written()
-    ensures written { ReferenceIsWritten }
-    ensures body { ReferenceHasBody }
-{}
-
-/// A page that opens, and is written with the items that it has, is that page, byte for byte.
-#[tactic(auto, using(crate::proofs::KeptLemmas::opened_is_written_back, crate::proofs::KeptLemmas::spelled_is_written_back))]
-pub fn page_is_written_back()
-    ensures opened { OpenedIsWrittenBack }
-    ensures spelled { SpelledIsWrittenBack }
-{}
-
-/// A lawful list that was written fresh is read back, up to origins and the flag generated, where it has nothing that is kept whole.
-#[tactic(auto, using(crate::proofs::FormLemmas::fresh_is_read_back, crate::proofs::FreshOpens::fresh_opens_as_itself))]
-pub fn fresh_is_read_back()
-    ensures forest { FreshIsReadBack }
-    ensures page { FreshOpensAsItself }
-{}
-
-/// Where no node is kept, the page is its head, the fresh text and its tail.
-#[tactic(auto, using(crate::proofs::FreshLemmas::writes_fresh))]
-pub fn writes_fresh()
-    ensures { WritesFresh }
-{}
-
-/// A page with another body that a forest spells opens with that body: head and tail are found again. So does the page that is written of any list; and where the list is of the form above, and no node of it is kept, the whole page is read back as the list.
-pub fn written_page_opens()
-    ensures replaced { BodyIsReplaced }
-    ensures opens { WrittenOpens }
-    ensures read_back { WrittenIsReadBack }
-{}
+pub use laws::{
+    composed_reads_back, edits_keep_references, fresh_is_read_back, origins_number_spans,
+    origins_stand, page_is_read, page_is_written_back, page_opens, reference_is_written,
+    references_are_editable, spans_are_parts, writes_fresh, written_page_opens,
+};

@@ -53,37 +53,37 @@ pub record Outer : Type 0 where
   pub later : Nodes
 
 -- What the items of a list's end spell: the siblings that they begin with, and then, from the inside out, what follows each node which they close.
-pub record Ending : Type 0 where
+pub record NodesEnding : Type 0 where
   pub here : Nodes
   pub outer : List Outer
 
-abbrev pub first_of : List Outer → Outer
-first_of [] = record { pre = []; later = Empty }
-first_of (o ∷ outer) = o
+abbrev pub first_outer : List Outer → Outer
+first_outer [] = record { pre = []; later = Empty }
+first_outer (o ∷ outer) = o
 
-abbrev pub ending_with : Option Body → PlainItem → Ending → Ending
-ending_with body (Char c marks) e = record { here = Letter c marks e.here; outer = e.outer }
-ending_with body (Closing kind pre) e = record { here = Empty; outer = record { pre = pre; later = e.here } ∷ e.outer }
-ending_with body (Opening kind head marks pre origin generated) e =
+abbrev pub nodes_ending_with : Option Body → PlainItem → NodesEnding → NodesEnding
+nodes_ending_with body (Char c marks) e = record { here = Letter c marks e.here; outer = e.outer }
+nodes_ending_with body (Closing kind pre) e = record { here = Empty; outer = record { pre = pre; later = e.here } ∷ e.outer }
+nodes_ending_with body (Opening kind head marks pre origin generated) e =
     let start : Start = record { kind = kind; head = head; marks = marks; pre = pre; origin = origin; generated = generated; body = body } in
-    record { here = Node start e.here (first_of e.outer).pre (first_of e.outer).later; outer = drop 1 e.outer }
+    record { here = Node start e.here (first_outer e.outer).pre (first_outer e.outer).later; outer = drop 1 e.outer }
 
-abbrev pub ending : List Carried → Ending
-ending [] = record { here = Empty; outer = [] }
-ending (c ∷ cs) = ending_with c.body c.item (ending cs)
+abbrev pub nodes_ending : List Carried → NodesEnding
+nodes_ending [] = record { here = Empty; outer = [] }
+nodes_ending (c ∷ cs) = nodes_ending_with c.body c.item (nodes_ending cs)
 
-abbrev pub nodes_of : List Carried → Nodes
-nodes_of items = (ending items).here
+abbrev pub carried_nodes : List Carried → Nodes
+carried_nodes items = (nodes_ending items).here
 
-abbrev pub opening_of : Start → Carried
-opening_of s = record { item = Opening s.kind s.head s.marks s.pre s.origin s.generated; body = s.body }
+abbrev pub start_item : Start → Carried
+start_item s = record { item = Opening s.kind s.head s.marks s.pre s.origin s.generated; body = s.body }
 
 -- the items of the nodes
-abbrev pub items_of : Nodes → List Carried
-items_of Empty = []
-items_of (Letter c marks later) = record { item = Char c marks; body = None } ∷ items_of later
-items_of (Node start inside pre later) =
-    opening_of start ∷ items_of inside ++ record { item = Closing start.kind pre; body = None } ∷ items_of later
+abbrev pub node_list_items : Nodes → List Carried
+node_list_items Empty = []
+node_list_items (Letter c marks later) = record { item = Char c marks; body = None } ∷ node_list_items later
+node_list_items (Node start inside pre later) =
+    start_item start ∷ node_list_items inside ++ record { item = Closing start.kind pre; body = None } ∷ node_list_items later
 
 abbrev pub node_items : Start → Nodes → List ℕ → List Carried
-node_items start inside pre = items_of (Node start inside pre Empty)
+node_items start inside pre = node_list_items (Node start inside pre Empty)

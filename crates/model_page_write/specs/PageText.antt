@@ -4,9 +4,9 @@ use Rattle.model_items.specs.declared.plain_item.PlainItem.{PlainItem}
 use Rattle.model_items.specs.declared.plain_item.PlainItem.TheVariants.{Char, Opening, Closing}
 use Rattle.model_items.specs.Same.{list_same, option_same, item_same}
 use Rattle.model_page.specs.References.{Body}
-use Rattle.model_page.specs.Pieces.{Span}
+use Rattle.model_page.specs.Pieces.{SourceSpan}
 use Rattle.model_page.specs.PageItems.{Opened, slice}
-use Rattle.model_page_write.specs.Nodes.{Carried, carried_items, carrying_nothing, nodes_of}
+use Rattle.model_page_write.specs.Nodes.{Carried, carried_items, carrying_nothing, carried_nodes}
 use Rattle.model_page_write.specs.Written.{Writer, blocks}
 
 -- ---- fresh text
@@ -17,15 +17,15 @@ bare_writer = record { original = λ start items. None; html = λ body. [] }
 
 -- the text of a body: its items fresh, and the whitespace before the closing of its internal item
 abbrev pub html_of : Body → List ℕ
-html_of b = blocks bare_writer false b.pre (nodes_of (carrying_nothing b.items)) ++ encode_utf8_all b.pre
+html_of b = blocks bare_writer false b.pre (carried_nodes (carrying_nothing b.items)) ++ encode_utf8_all b.pre
 
 -- no original bytes
 abbrev pub fresh_writer : Writer
 fresh_writer = record { original = λ start items. None; html = html_of }
 
--- the text of all items, without the head and the tail of a page
+-- the text of all items, without the prefix and the suffix of a page
 abbrev pub fresh : List PlainItem → List ℕ
-fresh items = blocks fresh_writer false [] (nodes_of (carried_items items))
+fresh items = blocks fresh_writer false [] (carried_nodes (carried_items items))
 
 -- ---- what is kept
 
@@ -71,7 +71,7 @@ carried_same a b = item_same a.item b.item && option_same body_same a.body b.bod
 abbrev pub is_kept : List Carried → ℕ → List Carried → Bool
 is_kept first k items = list_same carried_same (without_pre items) (without_pre (node_with k first))
 
-abbrev pub part_at : List ℕ → Option Span → List ℕ
+abbrev pub part_at : List ℕ → Option SourceSpan → List ℕ
 part_at page None = []
 part_at page (Some s) = slice page s.from s.to
 
@@ -82,9 +82,11 @@ original_at o first (Some k) items = if is_kept first k items then Some (part_at
 -- ---- the page
 
 abbrev pub page_writer : Opened → Writer
-page_writer o = let first = carried_items o.items in record { original = λ start items. original_at o first start.origin items; html = html_of }
+page_writer o =
+    let first = carried_items o.items in
+    record { original = λ start items. original_at o first start.origin items; html = html_of }
 
--- the head, the items and the tail: a node with an origin has its original bytes where it is kept
+-- the prefix before the body, the items and the suffix after the body: a node with an origin has its original bytes where it is kept
 abbrev pub write : Opened → List PlainItem → List ℕ
 write o items =
-    take o.body.from o.page ++ blocks (page_writer o) false [] (nodes_of (carried_items items)) ++ drop o.body.to o.page
+    take o.body.from o.page ++ blocks (page_writer o) false [] (carried_nodes (carried_items items)) ++ drop o.body.to o.page

@@ -68,7 +68,7 @@ abbrev pub stays_inline : Start → Bool
 stays_inline s =
     not (kind_same s.kind TransInline || kind_same s.kind AlienInline) || not (is_empty s.marks) || reads_inline s.head.raw
 
--- some node is a leaf, or a character that is not white or has marks: the tags of marks are no whitespace
+-- some node is a leaf, or a character that is not whitespace or has marks: the tags of marks are no whitespace
 abbrev pub has_content : Nodes → Bool
 has_content Empty = false
 has_content (Letter c marks later) = not (is_white_char c) || not (is_empty marks) || has_content later
@@ -85,8 +85,8 @@ white_after Empty closing = closing
 white_after (Letter c marks later) closing = []
 white_after (Node start inside pre later) closing = start.pre
 
--- A node is written without its tags where it would be read as that paragraph again: it is generated and has no attributes, there is no white
--- text on either side, it holds something, its leaves stay in the run, and the sibling before it has its tags; `before` says whether that one
+-- A node is written without its tags where it would be read as that paragraph again: it is generated and has no attributes, there is no
+-- whitespace on either side, it holds something, its leaves stay in the run, and the sibling before it has its tags; `before` says whether that one
 -- is bare.
 abbrev pub is_bare : Bool → Start → Nodes → List ℕ → Bool
 is_bare before start inside after =

@@ -6,10 +6,10 @@ use Rattle.model_spelling.specs.declared.scan_fault.ScanFault.{ScanFault}
 use Rattle.model_spelling.specs.Grammar.{is_tag_name, is_text, is_verbatim, are_attrs, is_start, Attr, Token, Start, End, Chars, Raw, Comment, token_text, start_text, end_text, comment_close}
 use Rattle.ve_kinds.specs.Tags.{is_void, is_raw}
 use Rattle.model_spelling.specs.Reading.{token_at, between_at, Mode, Between, After, mode_after}
-use Rattle.model_spelling.specs.Tokens.{Placed, Tokens, with_placed, tokens_by, tokens_from, tokens_of, BeginsTag, Runs}
+use Rattle.model_spelling.specs.Tokens.{Placed, Tokens, with_placed, tokens_by, tokens_from, tokens_of, BeginsTag, ReadsTokens}
 use Rattle.model_spelling.specs.Forest.{Forest, Nothing, Text, Remark, Void, RawElement, Element, starts_with_text, spelling, is_forest}
 use Rattle.model_spelling.specs.Faults.{fault_in, fault_of}
-use Rattle.model_spelling.specs.Parsed.{Ending, first_of, with_token, ending, forest_of}
+use Rattle.model_spelling.specs.Parsed.{Ending, first_forest, with_token, ending, forest_of}
 use Rattle.model_spelling.proofs.AttrReading.{and_left, and_right}
 use Rattle.model_spelling.proofs.ForestLaws.{then_forest, placed, tokens_in, fault_free, raw_not_void, not_true}
 use Rattle.model_spelling.proofs.Only.{token_only, raw_only, raw_none, and_both}
@@ -37,7 +37,7 @@ pub stop_at_fault : (n at : ℕ) (m : Mode) (text : List ℕ) (f : ScanFault) �
 unfolding tokens_from
 stop_at_fault n at m text f e = ap (tokens_by at (on n at text)) e
 
-runs_are : (ts : List Placed) (last : Option ScanFault) (m : Mode) (at n : ℕ) (text : List ℕ) → Runs m at text ts last → length text ≤ n → tokens_from (suc n) m at text ≡ record { tokens = ts; fault = last }
+runs_are : (ts : List Placed) (last : Option ScanFault) (m : Mode) (at n : ℕ) (text : List ℕ) → ReadsTokens m at text ts last → length text ≤ n → tokens_from (suc n) m at text ≡ record { tokens = ts; fault = last }
 runs_are [] None m at n text r le = stop_at_end n at m text r
 runs_are [] (Some f) m at n text r le = stop_at_fault n at m text f r
 runs_are (t ∷ ts) last m at zero text (e, from, rest, some, parts, to, lt, r) le = absurd (omega (arith, ap length parts, length-append some rest))
@@ -45,7 +45,7 @@ runs_are (t ∷ ts) last m at (suc n) text (e, from, rest, some, parts, to, lt, 
     step_on (suc n) at m text rest some t e from parts to
     ∙ ap (with_placed t) (runs_are ts last (mode_after t.token) t.to n rest r (omega (arith, ap length parts, length-append some rest)))
 
-pub runs_all : (text : List ℕ) (ts : List Placed) (last : Option ScanFault) → Runs Between 0 text ts last → tokens_of text ≡ record { tokens = ts; fault = last }
+pub runs_all : (text : List ℕ) (ts : List Placed) (last : Option ScanFault) → ReadsTokens Between 0 text ts last → tokens_of text ≡ record { tokens = ts; fault = last }
 runs_all text ts last r =
     let n : length text + 1 ≡ suc (length text) = omega arith in
     ap (λ (k : ℕ). tokens_from k Between 0 text) n ∙ runs_are ts last Between 0 (length text) text r (omega arith)
@@ -53,20 +53,20 @@ runs_all text ts last r =
 -- ---- the tokens of a forest come
 
 comes : (m : Mode) (at : ℕ) (t : Token) (rest : List ℕ) (ts : List Placed) (last : Option ScanFault) → token_at m at (token_text t ++ rest) ≡ Ok (Some (t, at + length (token_text t))) → 0 < length (token_text t)
-    → Runs (mode_after t) (at + length (token_text t)) rest ts last → Runs m at (token_text t ++ rest) (placed t at ∷ ts) last
+    → ReadsTokens (mode_after t) (at + length (token_text t)) rest ts last → ReadsTokens m at (token_text t ++ rest) (placed t at ∷ ts) last
 comes m at t rest ts last e lt r = (e, refl, rest, token_text t, refl, refl, lt, r)
 
-moved : (m : Mode) (at to : ℕ) (text : List ℕ) (ts : List Placed) (last : Option ScanFault) → at ≡ to → Runs m at text ts last → Runs m to text ts last
-moved m at to text ts last e r = subst (λ (k : ℕ). Runs m k text ts last) e r
+moved : (m : Mode) (at to : ℕ) (text : List ℕ) (ts : List Placed) (last : Option ScanFault) → at ≡ to → ReadsTokens m at text ts last → ReadsTokens m to text ts last
+moved m at to text ts last e r = subst (λ (k : ℕ). ReadsTokens m k text ts last) e r
 
-same_text : (m : Mode) (at : ℕ) (text other : List ℕ) (ts : List Placed) (last : Option ScanFault) → text ≡ other → Runs m at other ts last → Runs m at text ts last
-same_text m at text other ts last e r = subst (λ (l : List ℕ). Runs m at l ts last) (sym e) r
+same_text : (m : Mode) (at : ℕ) (text other : List ℕ) (ts : List Placed) (last : Option ScanFault) → text ≡ other → ReadsTokens m at other ts last → ReadsTokens m at text ts last
+same_text m at text other ts last e r = subst (λ (l : List ℕ). ReadsTokens m at l ts last) (sym e) r
 
-same_mode : (m n : Mode) (at : ℕ) (text : List ℕ) (ts : List Placed) (last : Option ScanFault) → m ≡ n → Runs n at text ts last → Runs m at text ts last
-same_mode m n at text ts last e r = subst (λ (l : Mode). Runs l at text ts last) (sym e) r
+same_mode : (m n : Mode) (at : ℕ) (text : List ℕ) (ts : List Placed) (last : Option ScanFault) → m ≡ n → ReadsTokens n at text ts last → ReadsTokens m at text ts last
+same_mode m n at text ts last e r = subst (λ (l : Mode). ReadsTokens l at text ts last) (sym e) r
 
-same_tokens : (m : Mode) (at : ℕ) (text : List ℕ) (ts us : List Placed) (last : Option ScanFault) → ts ≡ us → Runs m at text us last → Runs m at text ts last
-same_tokens m at text ts us last e r = subst (λ (l : List Placed). Runs m at text l last) (sym e) r
+same_tokens : (m : Mode) (at : ℕ) (text : List ℕ) (ts us : List Placed) (last : Option ScanFault) → ts ≡ us → ReadsTokens m at text us last → ReadsTokens m at text ts last
+same_tokens m at text ts us last e r = subst (λ (l : List Placed). ReadsTokens m at text l last) (sym e) r
 
 plain_mode : (name : List ℕ) (attrs : List Attr) (slash : Bool) → is_raw name ≡ false → mode_after (Start name attrs slash) ≡ Between
 plain_mode name attrs slash e = rw e refl
@@ -148,7 +148,7 @@ text_some [] e = absurd cc
 text_some (b ∷ bs) e = omega arith
 
 pub runs_forest : (f : Forest) (room at : ℕ) (rest : List ℕ) (ts : List Placed) (last : Option ScanFault) → is_forest room f ≡ true → BeginsTag rest
-    → Runs Between (at + length (spelling f)) rest ts last → Runs Between at (spelling f ++ rest) (tokens_in at f ++ ts) last
+    → ReadsTokens Between (at + length (spelling f)) rest ts last → ReadsTokens Between at (spelling f ++ rest) (tokens_in at f ++ ts) last
 runs_forest Nothing room at rest ts last e b r = moved Between (at + 0) at rest ts last (add-zero at) r
 runs_forest (Text text f) room at rest ts last e b r =
     let p = and_left (is_text text && not (starts_with_text f)) (is_forest room f) e in
@@ -225,11 +225,11 @@ record Becomes (e : Ending) (f : Forest) (g : Ending) : Type 0 where
   pub outer : e.outer ≡ g.outer
 
 pub element_made : (name : List ℕ) (attrs : List Attr) (slash : Bool) (e : Ending) → is_void name ≡ false → is_raw name ≡ false
-    → with_token (Start name attrs slash) e ≡ record { raw = []; here = Element name attrs e.here (first_of e.outer); outer = drop 1 e.outer }
+    → with_token (Start name attrs slash) e ≡ record { raw = []; here = Element name attrs e.here (first_forest e.outer); outer = drop 1 e.outer }
 element_made name attrs slash e v r = rw (v, r) refl
 
 pub raw_made : (name : List ℕ) (attrs : List Attr) (slash : Bool) (e : Ending) → is_void name ≡ false → is_raw name ≡ true
-    → with_token (Start name attrs slash) e ≡ record { raw = []; here = RawElement name attrs e.raw (first_of e.outer); outer = drop 1 e.outer }
+    → with_token (Start name attrs slash) e ≡ record { raw = []; here = RawElement name attrs e.raw (first_forest e.outer); outer = drop 1 e.outer }
 raw_made name attrs slash e v r = rw (v, r) refl
 
 pub void_made : (name : List ℕ) (attrs : List Attr) (slash : Bool) (e : Ending) → is_void name ≡ true
@@ -285,7 +285,7 @@ becomes (Element name attrs children f) (suc room) at ts e =
     let regrouped : (tokens_in from children ++ placed (End name) end ∷ tokens_in (end + length (end_text name)) f) ++ ts ≡ tokens_in from children ++ (placed (End name) end ∷ after) = append_assoc (tokens_in from children) (placed (End name) end ∷ tokens_in (end + length (end_text name)) f) ts in
     let made = ap (λ (l : List Placed). with_token (Start name attrs false) (ending l)) regrouped ∙ element_made name attrs false whole p.not_void p.not_raw in
     record {
-      here = ap (λ (x : Ending). x.here) made ∙ (λ i. Element name attrs ((inner.here ∙ then_nothing children) i) (first_of (inner.outer i))) ∙ ap (Element name attrs children) more.here;
+      here = ap (λ (x : Ending). x.here) made ∙ (λ i. Element name attrs ((inner.here ∙ then_nothing children) i) (first_forest (inner.outer i))) ∙ ap (Element name attrs children) more.here;
       outer = ap (λ (x : Ending). x.outer) made ∙ ap (drop 1) inner.outer ∙ more.outer;
     }
 
@@ -304,15 +304,15 @@ more_room (RawElement name attrs text f) (suc room) (suc more) le e = and_both (
 more_room (Element name attrs children f) zero more le e = absurd cc
 more_room (Element name attrs children f) (suc room) zero le e = absurd (omega arith)
 more_room (Element name attrs children f) (suc room) (suc more) le e =
-    let prefix = not (is_void name) && not (is_raw name) && is_start name attrs false in
-    let p4 = and_left (prefix && is_forest room children) (is_forest (suc room) f) e in
-    and_both (prefix && is_forest more children) (is_forest (suc more) f)
-    (and_both prefix (is_forest more children) (and_left prefix (is_forest room children) p4) (more_room children room more (omega arith) (and_right prefix (is_forest room children) p4)))
-    (more_room f (suc room) (suc more) le (and_right (prefix && is_forest room children) (is_forest (suc room) f) e))
+    let named = not (is_void name) && not (is_raw name) && is_start name attrs false in
+    let p4 = and_left (named && is_forest room children) (is_forest (suc room) f) e in
+    and_both (named && is_forest more children) (is_forest (suc more) f)
+    (and_both named (is_forest more children) (and_left named (is_forest room children) p4) (more_room children room more (omega arith) (and_right named (is_forest room children) p4)))
+    (more_room f (suc room) (suc more) le (and_right (named && is_forest room children) (is_forest (suc room) f) e))
 
 -- ---- read back
 
-at_end : (at : ℕ) → Runs Between at [] [] None
+at_end : (at : ℕ) → ReadsTokens Between at [] [] None
 unfolding token_at between_at
 at_end at = refl
 

@@ -9,7 +9,7 @@ use Rattle.model_spelling.specs.declared.scan_fault.ScanWhat.TheVariants.{NoBody
 use Rattle.model_spelling.specs.Grammar.{Attr, Token, attr_text, start_text, begins_with, is_letter, is_plaintext, name_same, is_start, are_attrs}
 use Rattle.ve_kinds.specs.Tags.{is_void}
 use Rattle.model_spelling.specs.Reading.{◌>>=◌, fault, start_at, start_after, tag_at}
-use Rattle.model_spelling.specs.Page.{is_whole, first_place, last_place, starts_body, ends_body, or_no_body, body_at, parts_at, Parts, parts, IsBody}
+use Rattle.model_spelling.specs.Page.{is_whole, first_place, last_place, starts_body, ends_body, or_no_body, body_at, page_parts_at, PageParts, page_parts, IsBody}
 use Rattle.std.specs.Option.{option_or}
 use Rattle.model_spelling.proofs.TokenRuns.{begins_parts}
 use Rattle.model_spelling.proofs.Found.{ok, ok_same, not_ok}
@@ -279,15 +279,15 @@ body_is_found page from to whole e =
     body_made page from to w f prefix (after_by_name w.tag (w.tag + 1 + 4) (codes "body") (prefix.c ∷ prefix.more) (name_ends w.tag (codes "body") (w.tag + 1 + 4) (prefix.c ∷ prefix.more)) w.token from refl read)
     (last_found ends_body from (drop from page) to nothing_ends w.last)
 
-parts_by : (page : List ℕ) (b : Result (ℕ × ℕ) ScanFault) (p : Parts) → body_at page ≡ b → (b >>= λ x. Ok (parts_at x.0 x.1 page)) ≡ ok p → p.head ++ p.body ++ p.tail ≡ page
-parts_by page (Err f) p e h = absurd (not_ok (Err f >>= λ (x : ℕ × ℕ). Ok (parts_at x.0 x.1 page)) f p refl h)
+parts_by : (page : List ℕ) (b : Result (ℕ × ℕ) ScanFault) (p : PageParts) → body_at page ≡ b → (b >>= λ x. Ok (page_parts_at x.0 x.1 page)) ≡ ok p → p.prefix ++ p.body ++ p.suffix ≡ page
+parts_by page (Err f) p e h = absurd (not_ok (Err f >>= λ (x : ℕ × ℕ). Ok (page_parts_at x.0 x.1 page)) f p refl h)
 parts_by page (Ok (from, to)) p e h =
-    let same : parts_at from to page ≡ p = ok_same (parts_at from to page) p h in
+    let same : page_parts_at from to page ≡ p = ok_same (page_parts_at from to page) p h in
     let within = body_inside page from to e in
     let place : from + (to - from) ≡ to = omega (arith, within.0) in
     let tail : drop (to - from) (drop from page) ≡ drop to page = drop-drop (to - from) from page ∙ ap (λ (k : ℕ). drop k page) place in
     let body : take (to - from) (drop from page) ++ drop to page ≡ drop from page = ap (λ (l : List ℕ). take (to - from) (drop from page) ++ l) (sym tail) ∙ take-append-drop (to - from) (drop from page) in
-    ap (λ (q : Parts). q.head ++ q.body ++ q.tail) (sym same) ∙ append_assoc (take from page) (take (to - from) (drop from page)) (drop to page) ∙ ap (λ (l : List ℕ). take from page ++ l) body ∙ take-append-drop from page
+    ap (λ (q : PageParts). q.prefix ++ q.body ++ q.suffix) (sym same) ∙ append_assoc (take from page) (take (to - from) (drop from page)) (drop to page) ∙ ap (λ (l : List ℕ). take from page ++ l) body ∙ take-append-drop from page
 
-pub parts_are_the_page : (page : List ℕ) (p : Parts) → parts page ≡ Ok p → p.head ++ p.body ++ p.tail ≡ page
+pub parts_are_the_page : (page : List ℕ) (p : PageParts) → page_parts page ≡ Ok p → p.prefix ++ p.body ++ p.suffix ≡ page
 parts_are_the_page page p e = parts_by page (body_at page) p refl e

@@ -10,7 +10,7 @@ use Rattle.model_spelling.specs.declared.scan_fault.ScanFault.{ScanFault}
 use Rattle.model_spelling.specs.declared.scan_fault.ScanWhat.TheVariants.{BadChar, BadTag, BadAttribute, BadReference, Doctype, UnclosedComment, UnclosedTag, TooManyAttributes, DuplicateAttribute}
 use Rattle.model_spelling.specs.Grammar.{is_barred, is_letter, is_name_byte, is_plaintext, begins_with, references, starts_reference, has_name, is_attr, is_attr_name, is_run, is_verbatim, Attr, attr_text, Token, Start, End, Comment, comment_close}
 use Rattle.ve_kinds.specs.Tags.{is_void}
-use Rattle.model_spelling.specs.Reading.{◌>>=◌, fault, refused, longest_prefix, after_prefix, reference_fault, run_end, value_end, verbatim_end, name_len_at, quote_at, head_at, attr_at, attrs_at, name_ends, tag_close, start_after, with_name, start_at, end_after, end_at, comment_at, is_doctype, dash_at, markup_at, tag_at}
+use Rattle.model_spelling.specs.Reading.{◌>>=◌, fault, byte_fault, longest_prefix, after_prefix, reference_fault, run_end, value_end, verbatim_end, name_len_at, quote_at, head_at, attr_at, attrs_at, name_ends, tag_close, start_after, with_name, start_at, end_after, end_at, comment_at, is_doctype, dash_at, markup_at, tag_at}
 use Rattle.model_spelling.specs.Canonical.{are_chars}
 use Rattle.model_spelling.specs.Standing.{is_open}
 use Rattle.model_spelling.proofs.AttrReading.{and_left, and_right, attr_head_fault, attr_many, attr_twice, attr_value_fault, attr_whole, attrs_stop, attrs_fault, attrs_more}
@@ -27,7 +27,7 @@ shut : (r : Bool) (at : ℕ) (f : ScanFault) → is_open f.what ≡ false → is
 shut true at f n e = absurd cc
 shut false at f n e = both (is_open f.what) n e
 
-refused_shut : (at c : ℕ) (f g : ScanFault) → is_open f.what ≡ false → refused at c f ≡ g → is_open g.what ≡ true → ⊥
+refused_shut : (at c : ℕ) (f g : ScanFault) → is_open f.what ≡ false → byte_fault at c f ≡ g → is_open g.what ≡ true → ⊥
 refused_shut at c f g n e h = shut (is_barred c) at f n (ap (λ (x : ScanFault). is_open x.what) e ∙ h)
 
 pub fault_shut : (f g : ScanFault) → is_open f.what ≡ false → f ≡ g → is_open g.what ≡ true → ⊥
@@ -136,30 +136,30 @@ quote_clean : (tag place at k c : ℕ) (cs : List ℕ) (f : ScanFault) → is_op
 quote_clean tag place at k c [] f h e =
     elim (cases_Bool (c == 61)) [
       | inl equals ↦ (eqb-true c 61 equals, refl)
-      | inr other ↦ absurd (refused_shut at c (fault place BadAttribute) f refl (err_same (quote_at tag place at (c ∷ []) >>= pair_of k) (refused at c (fault place BadAttribute)) f (rw other refl) e) h)
+      | inr other ↦ absurd (refused_shut at c (fault place BadAttribute) f refl (err_same (quote_at tag place at (c ∷ []) >>= pair_of k) (byte_fault at c (fault place BadAttribute)) f (rw other refl) e) h)
     ]
 quote_clean tag place at k c (q ∷ rest) f h e =
     elim (cases_Bool (c == 61)) [
       | inl equals ↦
           elim (cases_Bool (q == 34 || q == 39)) [
             | inl quote ↦ absurd (not_ok (quote_at tag place at (c ∷ (q ∷ rest)) >>= pair_of k) f (k, q) e (rw (equals, quote) refl))
-            | inr other ↦ absurd (refused_shut (at + 1) q (fault place BadAttribute) f refl (err_same (quote_at tag place at (c ∷ (q ∷ rest)) >>= pair_of k) (refused (at + 1) q (fault place BadAttribute)) f (rw (equals, other) refl) e) h)
+            | inr other ↦ absurd (refused_shut (at + 1) q (fault place BadAttribute) f refl (err_same (quote_at tag place at (c ∷ (q ∷ rest)) >>= pair_of k) (byte_fault (at + 1) q (fault place BadAttribute)) f (rw (equals, other) refl) e) h)
           ]
-      | inr other ↦ absurd (refused_shut at c (fault place BadAttribute) f refl (err_same (quote_at tag place at (c ∷ (q ∷ rest)) >>= pair_of k) (refused at c (fault place BadAttribute)) f (rw other refl) e) h)
+      | inr other ↦ absurd (refused_shut at c (fault place BadAttribute) f refl (err_same (quote_at tag place at (c ∷ (q ∷ rest)) >>= pair_of k) (byte_fault at c (fault place BadAttribute)) f (rw other refl) e) h)
     ]
 
 head_clean_by : (tag place : ℕ) (text prefix suffix : List ℕ) (f : ScanFault) → text ≡ prefix ++ suffix → prefix_len is_name_byte text ≡ length prefix → list_all is_name_byte prefix ≡ true → is_open f.what ≡ true → head_at tag place text ≡ Err f → are_chars text ≡ true
 head_clean_by tag place text prefix [] f t len all h e = ap are_chars t ∙ chars_append prefix [] (name_chars prefix all) refl
 head_clean_by tag place text [] (c ∷ cs) f t len all h e =
     let read : (name_len_at tag place 0 (c ∷ cs) >>= quoted tag place (c ∷ cs)) ≡ Err f = ap (λ (l : List ℕ). name_len_at tag place 0 l >>= quoted tag place l) (sym t) ∙ sym (head_as tag place 0 text len) ∙ e in
-    absurd (refused_shut (place + 1) c (fault place BadAttribute) f refl (err_same (name_len_at tag place 0 (c ∷ cs) >>= quoted tag place (c ∷ cs)) (refused (place + 1) c (fault place BadAttribute)) f refl read) h)
+    absurd (refused_shut (place + 1) c (fault place BadAttribute) f refl (err_same (name_len_at tag place 0 (c ∷ cs) >>= quoted tag place (c ∷ cs)) (byte_fault (place + 1) c (fault place BadAttribute)) f refl read) h)
 head_clean_by tag place text (b ∷ bs) (c ∷ cs) f t len all h e =
     let n : ℕ = length (b ∷ bs) in
     let left : drop n text ≡ c ∷ cs = ap (drop n) t ∙ drop-append_seam (b ∷ bs) (c ∷ cs) in
     let read : (quote_at tag place (place + 1 + n) (c ∷ cs) >>= pair_of n) ≡ Err f = ap (λ (l : List ℕ). quote_at tag place (place + 1 + n) l >>= pair_of n) (sym left) ∙ sym (head_as tag place n text len) ∙ e in
     let q = quote_clean tag place (place + 1 + n) n c cs f h read in
-    let suffix : c ∷ cs ≡ 61 ∷ [] = (λ i. q.0 i ∷ q.1 i) in
-    ap are_chars t ∙ chars_append (b ∷ bs) (c ∷ cs) (name_chars (b ∷ bs) all) (ap are_chars suffix ∙ ascii_chars.0)
+    let equals : c ∷ cs ≡ 61 ∷ [] = (λ i. q.0 i ∷ q.1 i) in
+    ap are_chars t ∙ chars_append (b ∷ bs) (c ∷ cs) (name_chars (b ∷ bs) all) (ap are_chars equals ∙ ascii_chars.0)
 
 head_clean : (tag place : ℕ) (text : List ℕ) (f : ScanFault) → is_open f.what ≡ true → head_at tag place text ≡ Err f → are_chars text ≡ true
 head_clean tag place text f h e = let s = split is_name_byte text in head_clean_by tag place text s.prefix s.suffix f s.text_is s.len s.all h e
@@ -245,7 +245,7 @@ close_clean tag at void (c ∷ []) f o e =
       | inr other ↦
           elim (cases_Bool (c == 47 && void)) [
             | inl slash ↦ ap (λ (x : ℕ). are_chars (x ∷ [])) (eqb-true c 47 (and_left (c == 47) void slash)) ∙ ascii_chars.1
-            | inr neither ↦ absurd (refused_shut at c (fault at BadAttribute) f refl (err_same (tag_close tag void at (c ∷ [])) (refused at c (fault at BadAttribute)) f (rw (other, neither) refl) e) o)
+            | inr neither ↦ absurd (refused_shut at c (fault at BadAttribute) f refl (err_same (tag_close tag void at (c ∷ [])) (byte_fault at c (fault at BadAttribute)) f (rw (other, neither) refl) e) o)
           ]
     ]
 close_clean tag at void (c ∷ d ∷ rest) f o e =
@@ -256,9 +256,9 @@ close_clean tag at void (c ∷ d ∷ rest) f o e =
             | inl slash ↦
                 elim (cases_Bool (d == 62)) [
                   | inl close ↦ absurd (not_ok (tag_close tag void at (c ∷ (d ∷ rest))) f (true, at + 2) e (rw (other, slash, close) refl))
-                  | inr bad ↦ absurd (refused_shut (at + 1) d (fault at BadAttribute) f refl (err_same (tag_close tag void at (c ∷ (d ∷ rest))) (refused (at + 1) d (fault at BadAttribute)) f (rw (other, slash, bad) refl) e) o)
+                  | inr bad ↦ absurd (refused_shut (at + 1) d (fault at BadAttribute) f refl (err_same (tag_close tag void at (c ∷ (d ∷ rest))) (byte_fault (at + 1) d (fault at BadAttribute)) f (rw (other, slash, bad) refl) e) o)
                 ]
-            | inr neither ↦ absurd (refused_shut at c (fault at BadAttribute) f refl (err_same (tag_close tag void at (c ∷ (d ∷ rest))) (refused at c (fault at BadAttribute)) f (rw (other, neither) refl) e) o)
+            | inr neither ↦ absurd (refused_shut at c (fault at BadAttribute) f refl (err_same (tag_close tag void at (c ∷ (d ∷ rest))) (byte_fault at c (fault at BadAttribute)) f (rw (other, neither) refl) e) o)
           ]
     ]
 
@@ -280,7 +280,7 @@ ends_clean : (tag at : ℕ) (name text : List ℕ) (f : ScanFault) → is_open f
 ends_clean tag at name [] f o e = refl
 ends_clean tag at name (c ∷ rest) f o e =
     elim (cases_Bool (is_plaintext name)) [
-      | inl plain ↦ absurd (refused_shut at c (fault tag BadTag) f refl (err_same (name_ends tag name at (c ∷ rest)) (refused at c (fault tag BadTag)) f (rw plain refl) e) o)
+      | inl plain ↦ absurd (refused_shut at c (fault tag BadTag) f refl (err_same (name_ends tag name at (c ∷ rest)) (byte_fault at c (fault tag BadTag)) f (rw plain refl) e) o)
       | inr other ↦ absurd (not_ok (name_ends tag name at (c ∷ rest)) f tt e (rw other refl))
     ]
 
@@ -292,15 +292,15 @@ start_clean : (tag : ℕ) (text : List ℕ) (f : ScanFault) → is_open f.what �
 start_clean tag text f o e =
     let s = split is_name_byte text in
     let at : ℕ = tag + 1 + length s.prefix in
-    let suffix = after_clean_name tag at s.prefix s.suffix f (name_ends tag s.prefix at s.suffix) o refl (sym (start_is tag text ∙ named_as (start_after tag) (tag + 1) text s) ∙ e) in
-    ap are_chars s.text_is ∙ chars_append s.prefix s.suffix (name_chars s.prefix s.all) suffix
+    let clean = after_clean_name tag at s.prefix s.suffix f (name_ends tag s.prefix at s.suffix) o refl (sym (start_is tag text ∙ named_as (start_after tag) (tag + 1) text s) ∙ e) in
+    ap are_chars s.text_is ∙ chars_append s.prefix s.suffix (name_chars s.prefix s.all) clean
 
 end_after_clean : (tag at : ℕ) (name text : List ℕ) (f : ScanFault) → is_open f.what ≡ true → end_after tag name at text ≡ Err f → are_chars text ≡ true
 end_after_clean tag at name [] f o e = refl
 end_after_clean tag at name (c ∷ cs) f o e =
     elim (cases_Bool (c == 62 && not (is_plaintext name))) [
       | inl good ↦ absurd (not_ok (end_after tag name at (c ∷ cs)) f (End name, at + 1) e (rw good refl))
-      | inr bad ↦ absurd (refused_shut at c (fault tag BadTag) f refl (err_same (end_after tag name at (c ∷ cs)) (refused at c (fault tag BadTag)) f (rw bad refl) e) o)
+      | inr bad ↦ absurd (refused_shut at c (fault tag BadTag) f refl (err_same (end_after tag name at (c ∷ cs)) (byte_fault at c (fault tag BadTag)) f (rw bad refl) e) o)
     ]
 
 end_clean : (tag : ℕ) (text : List ℕ) (f : ScanFault) → is_open f.what ≡ true → end_at tag text ≡ Err f → are_chars text ≡ true
@@ -311,11 +311,11 @@ end_clean tag (c ∷ cs) f o e =
       | inl letter ↦
           let h : with_name (end_after tag) (tag + 2) (c ∷ cs) ≡ Err f = rw letter at e in
           let s = split is_name_byte (c ∷ cs) in
-          let suffix = end_after_clean tag (tag + 2 + length s.prefix) s.prefix s.suffix f o (sym (named_as (end_after tag) (tag + 2) (c ∷ cs) s) ∙ h) in
-          ap are_chars s.text_is ∙ chars_append s.prefix s.suffix (name_chars s.prefix s.all) suffix
+          let clean = end_after_clean tag (tag + 2 + length s.prefix) s.prefix s.suffix f o (sym (named_as (end_after tag) (tag + 2) (c ∷ cs) s) ∙ h) in
+          ap are_chars s.text_is ∙ chars_append s.prefix s.suffix (name_chars s.prefix s.all) clean
       | inr other ↦
-          let h : err {A = Token × ℕ} (refused (tag + 2) c (fault tag BadTag)) ≡ Err f = rw other at e in
-          absurd (refused_shut (tag + 2) c (fault tag BadTag) f refl (err_same (err {A = Token × ℕ} (refused (tag + 2) c (fault tag BadTag))) (refused (tag + 2) c (fault tag BadTag)) f refl h) o)
+          let h : err {A = Token × ℕ} (byte_fault (tag + 2) c (fault tag BadTag)) ≡ Err f = rw other at e in
+          absurd (refused_shut (tag + 2) c (fault tag BadTag) f refl (err_same (err {A = Token × ℕ} (byte_fault (tag + 2) c (fault tag BadTag))) (byte_fault (tag + 2) c (fault tag BadTag)) f refl h) o)
     ]
 
 comment_clean_by : (tag : ℕ) (text : List ℕ) (f : ScanFault) (r : Result ℕ ScanFault) → is_open f.what ≡ true → verbatim_end comment_close (fault tag UnclosedComment) (tag + 4) text ≡ r → comment_at tag text ≡ Err f → are_chars text ≡ true
@@ -334,8 +334,8 @@ dash_clean tag (d ∷ ds) f o e =
           let h : comment_at tag ds ≡ Err f = rw dash at e in
           dashed ds d (eqb-true d 45 dash) (comment_clean_by tag ds f (verbatim_end comment_close (fault tag UnclosedComment) (tag + 4) ds) o refl h)
       | inr other ↦
-          let h : err {A = Token × ℕ} (refused (tag + 3) d (fault tag BadTag)) ≡ Err f = rw other at e in
-          absurd (refused_shut (tag + 3) d (fault tag BadTag) f refl (err_same (err {A = Token × ℕ} (refused (tag + 3) d (fault tag BadTag))) (refused (tag + 3) d (fault tag BadTag)) f refl h) o)
+          let h : err {A = Token × ℕ} (byte_fault (tag + 3) d (fault tag BadTag)) ≡ Err f = rw other at e in
+          absurd (refused_shut (tag + 3) d (fault tag BadTag) f refl (err_same (err {A = Token × ℕ} (byte_fault (tag + 3) d (fault tag BadTag))) (byte_fault (tag + 3) d (fault tag BadTag)) f refl h) o)
     ]
 
 markup_shut : (tag : ℕ) (b : Bool) → is_open (fault tag (cond b Doctype BadTag)).what ≡ false
@@ -350,7 +350,7 @@ markup_clean tag (c ∷ cs) f o e =
       | inl dash ↦ let h : dash_at tag cs ≡ Err f = rw dash at e in dashed cs c (eqb-true c 45 dash) (dash_clean tag cs f o h)
       | inr other ↦
           let g : ScanFault = fault tag (cond (is_doctype (c ∷ cs)) Doctype BadTag) in
-          absurd (refused_shut (tag + 2) c g f (markup_shut tag (is_doctype (c ∷ cs))) (err_same (markup_at tag (c ∷ cs)) (refused (tag + 2) c g) f (rw other refl) e) o)
+          absurd (refused_shut (tag + 2) c g f (markup_shut tag (is_doctype (c ∷ cs))) (err_same (markup_at tag (c ∷ cs)) (byte_fault (tag + 2) c g) f (rw other refl) e) o)
     ]
 
 pub with_byte : (text : List ℕ) (c k : ℕ) → c ≡ k → are_chars (k ∷ []) ≡ true → are_chars text ≡ true → are_chars (c ∷ text) ≡ true
@@ -373,8 +373,8 @@ tag_clean tag (c ∷ cs) f o e =
                 elim (cases_Bool (c == 33)) [
                   | inl bang ↦ let h : markup_at tag cs ≡ Err f = rw (no_letter, no_slash, bang) at e in with_byte cs c 33 (eqb-true c 33 bang) bang_char (markup_clean tag cs f o h)
                   | inr no_bang ↦
-                      let h : err {A = Token × ℕ} (refused (tag + 1) c (fault tag BadTag)) ≡ Err f = rw (no_letter, no_slash, no_bang) at e in
-                      absurd (refused_shut (tag + 1) c (fault tag BadTag) f refl (err_same (err {A = Token × ℕ} (refused (tag + 1) c (fault tag BadTag))) (refused (tag + 1) c (fault tag BadTag)) f refl h) o)
+                      let h : err {A = Token × ℕ} (byte_fault (tag + 1) c (fault tag BadTag)) ≡ Err f = rw (no_letter, no_slash, no_bang) at e in
+                      absurd (refused_shut (tag + 1) c (fault tag BadTag) f refl (err_same (err {A = Token × ℕ} (byte_fault (tag + 1) c (fault tag BadTag))) (byte_fault (tag + 1) c (fault tag BadTag)) f refl h) o)
                 ]
           ]
     ]

@@ -8,8 +8,8 @@ use Rattle.model_spelling.specs.declared.scan_fault.ScanWhat.TheVariants.{Unclos
 use Rattle.model_spelling.specs.Grammar.{is_barred, is_tag_name, is_start, Token, Start, End, Chars, Raw, Comment, token_text, start_text, end_text, attr_text, Attr, are_attrs, are_distinct, is_attr, is_text, name_same, comment_open, comment_close}
 use Rattle.ve_kinds.specs.Tags.{is_raw, is_void}
 use Rattle.model_spelling.specs.Reading.{◌>>=◌, fault, run_end, verbatim_end, some_token, tag_at, between_at, token_at, Mode, Between, After, Failed, Step, mode_after}
-use Rattle.model_spelling.specs.Tokens.{Placed, tokens_of, is_token, Inner, Closing, Runs}
-use Rattle.model_spelling.specs.Faults.{Open, ForestFault, Scan, Mismatched, Stray, TooDeep, fault_in, fault_of, after_token}
+use Rattle.model_spelling.specs.Tokens.{Placed, tokens_of, is_token, Inner, Closing, ReadsTokens}
+use Rattle.model_spelling.specs.Faults.{OpenElement, ForestFault, Scan, Mismatched, Stray, TooDeep, fault_in, fault_of, after_token}
 use Rattle.model_spelling.specs.Canonical.{are_chars}
 use Rattle.model_spelling.specs.Standing.{is_open, is_unclosed}
 use Rattle.model_spelling.proofs.AttrReading.{and_left, and_right}
@@ -138,7 +138,7 @@ abbrev LastOpen : Option ScanFault → Type 0
 LastOpen None = Unit {0}
 LastOpen (Some f) = is_open f.what ≡ true
 
-runs_clean : (ts : List Placed) (last : Option ScanFault) (m : Mode) (at : ℕ) (text : List ℕ) → Live m → LastOpen last → Runs m at text ts last → are_chars text ≡ true
+runs_clean : (ts : List Placed) (last : Option ScanFault) (m : Mode) (at : ℕ) (text : List ℕ) → Live m → LastOpen last → ReadsTokens m at text ts last → are_chars text ≡ true
 runs_clean [] None m at text l o r = none_clean m at text l r
 runs_clean [] (Some f) m at text l o r = step_clean m at text f l o r
 runs_clean (t ∷ ts) last m at text l o (read, from, rest, some, parts, to, lt, r) =
@@ -147,21 +147,21 @@ runs_clean (t ∷ ts) last m at text l o (read, from, rest, some, parts, to, lt,
 
 -- ---- forests
 
-err_or : ForestFault → Result (List Open) ForestFault → ForestFault
+err_or : ForestFault → Result (List OpenElement) ForestFault → ForestFault
 err_or d (Ok os) = d
 err_or d (Err f) = f
 
-shut_by : (a b c : Bool) (at : ℕ) (os : List Open) (name : List ℕ) (f : ForestFault) → cond a (Err (TooDeep at)) (cond b (Ok os) (Ok (record { name = name; at = at } ∷ os))) ≡ Err f → is_unclosed f ≡ true → ⊥
+shut_by : (a b c : Bool) (at : ℕ) (os : List OpenElement) (name : List ℕ) (f : ForestFault) → cond a (Err (TooDeep at)) (cond b (Ok os) (Ok (record { name = name; at = at } ∷ os))) ≡ Err f → is_unclosed f ≡ true → ⊥
 shut_by true b c at os name f e h = let same : TooDeep at ≡ f = cc in both (is_unclosed f) (ap is_unclosed (sym same)) h
 shut_by false true c at os name f e h = let g : Ok os ≡ Err f = e in cc
 shut_by false false c at os name f e h = let g : Ok (record { name = name; at = at } ∷ os) ≡ Err f = e in cc
 
-end_shut_by : (a b : Bool) (at : ℕ) (os : List Open) (f : ForestFault) → cond a (Err (Stray at)) (cond b (Ok os) (Err (Mismatched at))) ≡ Err f → is_unclosed f ≡ true → ⊥
+end_shut_by : (a b : Bool) (at : ℕ) (os : List OpenElement) (f : ForestFault) → cond a (Err (Stray at)) (cond b (Ok os) (Err (Mismatched at))) ≡ Err f → is_unclosed f ≡ true → ⊥
 end_shut_by true b at os f e h = let same : Stray at ≡ f = cc in both (is_unclosed f) (ap is_unclosed (sym same)) h
 end_shut_by false true at os f e h = let g : Ok os ≡ Err f = e in cc
 end_shut_by false false at os f e h = let same : Mismatched at ≡ f = cc in both (is_unclosed f) (ap is_unclosed (sym same)) h
 
-own_shut : (t : Token) (at : ℕ) (os : List Open) (f : ForestFault) → after_token t at os ≡ Err f → is_unclosed f ≡ true → ⊥
+own_shut : (t : Token) (at : ℕ) (os : List OpenElement) (f : ForestFault) → after_token t at os ≡ Err f → is_unclosed f ≡ true → ⊥
 own_shut (Start name attrs slash) at os f e h = shut_by (length os == 200) (is_void name) true at os name f e h
 own_shut (End name) at [] f e h = let same : Stray at ≡ f = cc in both (is_unclosed f) (ap is_unclosed (sym same)) h
 own_shut (End name) at (o ∷ os) f e h = end_shut_by (is_void name) (name_same o.name name) at os f e h
@@ -169,7 +169,7 @@ own_shut (Chars text) at os f e h = let g : Ok os ≡ Err f = e in cc
 own_shut (Raw text) at os f e h = let g : Ok os ≡ Err f = e in cc
 own_shut (Comment text) at os f e h = let g : Ok os ≡ Err f = e in cc
 
-last_open : (ts : List Placed) (last : Option ScanFault) (os : List Open) (f : ForestFault) → fault_in last os ts ≡ Some f → is_unclosed f ≡ true → LastOpen last
+last_open : (ts : List Placed) (last : Option ScanFault) (os : List OpenElement) (f : ForestFault) → fault_in last os ts ≡ Some f → is_unclosed f ≡ true → LastOpen last
 last_open ts None os f e h = tt
 last_open [] (Some g) os f e h =
     let same : Scan g ≡ f = fault_same (Scan g) f (sym (scan_at_end os g) ∙ e) in

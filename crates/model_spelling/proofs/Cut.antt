@@ -9,7 +9,7 @@ use Rattle.std.specs.List.{common_prefix_len, list_all, list_any}
 use Rattle.model_spelling.specs.declared.scan_fault.ScanFault.{ScanFault}
 use Rattle.model_spelling.specs.declared.scan_fault.ScanWhat.TheVariants.{BadChar, BadTag, BadReference, Doctype, UnclosedComment, UnclosedTag, UnclosedRaw}
 use Rattle.model_spelling.specs.Grammar.{is_barred, is_letter, is_tag_name, name_same, begins_with, references, starts_reference, is_run, end_text}
-use Rattle.model_spelling.specs.Reading.{◌>>=◌, fault, refused, longest_prefix, after_prefix, reference_fault, run_end, verbatim_end, start_at, end_at, is_doctype, dash_at, markup_at, tag_at, some_token, between_at, token_at, Between, After}
+use Rattle.model_spelling.specs.Reading.{◌>>=◌, fault, byte_fault, longest_prefix, after_prefix, reference_fault, run_end, verbatim_end, start_at, end_at, is_doctype, dash_at, markup_at, tag_at, some_token, between_at, token_at, Between, After}
 use Rattle.model_spelling.specs.Standing.{is_doctype_prefix}
 use Rattle.model_spelling.proofs.AttrReading.{and_left, and_right}
 use Rattle.model_spelling.proofs.TokenRuns.{begins_parts, begins_from_parts, reference_more, or_right}
@@ -156,16 +156,16 @@ completed_markup tag c cs dash plain prefix =
     ∙ ap err (refused_plain (tag + 2) c (markup_fault tag (c ∷ (cs ++ rest_of (c ∷ cs)))) plain ∙ ap (λ (x : Bool). fault tag (cond x Doctype BadTag)) (doctype_whole (c ∷ cs) prefix)) in
     bang_first tag (c ∷ (cs ++ rest_of (c ∷ cs))) ∙ ap some_token read
 
-bad_markup : (tag c : ℕ) (cs : List ℕ) (f : ScanFault) → is_barred c ≡ false → is_doctype (c ∷ cs) ≡ false → refused (tag + 2) c (markup_fault tag (c ∷ cs)) ≡ f → fault tag BadTag ≡ f
+bad_markup : (tag c : ℕ) (cs : List ℕ) (f : ScanFault) → is_barred c ≡ false → is_doctype (c ∷ cs) ≡ false → byte_fault (tag + 2) c (markup_fault tag (c ∷ cs)) ≡ f → fault tag BadTag ≡ f
 bad_markup tag c cs f plain no_doctype e = ap (λ (x : Bool). fault tag (cond x Doctype BadTag)) (sym no_doctype) ∙ sym (refused_plain (tag + 2) c (markup_fault tag (c ∷ cs)) plain) ∙ e
 
-refused_barred : (at c : ℕ) (f : ScanFault) → is_barred c ≡ true → refused at c f ≡ fault at BadChar
+refused_barred : (at c : ℕ) (f : ScanFault) → is_barred c ≡ true → byte_fault at c f ≡ fault at BadChar
 refused_barred at c f e = rw e refl
 
 doctype_fault : (whole : List ℕ) (tag : ℕ) (b : Bool) (f : ScanFault) → b ≡ true → fault tag (cond b Doctype BadTag) ≡ f → settled whole f ≡ true
 doctype_fault whole tag b f is e = as_settled whole (fault tag Doctype) f refl (ap (λ (x : Bool). fault tag (cond x Doctype BadTag)) (sym is) ∙ e)
 
-named_markup : (tag c : ℕ) (cs whole : List ℕ) (f : ScanFault) → drop tag whole ≡ 60 ∷ (33 ∷ (c ∷ cs)) → (c == 45) ≡ false → refused (tag + 2) c (markup_fault tag (c ∷ cs)) ≡ f → (settled whole f ≡ true) ⊎ CutMarkup tag (60 ∷ (33 ∷ (c ∷ cs))) f
+named_markup : (tag c : ℕ) (cs whole : List ℕ) (f : ScanFault) → drop tag whole ≡ 60 ∷ (33 ∷ (c ∷ cs)) → (c == 45) ≡ false → byte_fault (tag + 2) c (markup_fault tag (c ∷ cs)) ≡ f → (settled whole f ≡ true) ⊎ CutMarkup tag (60 ∷ (33 ∷ (c ∷ cs))) f
 named_markup tag c cs whole f here dash e =
     elim (cases_Bool (is_barred c)) [
       | inl barred ↦ inl (as_settled whole (fault (tag + 2) BadChar) f refl (sym (refused_barred (tag + 2) c (markup_fault tag (c ∷ cs)) barred) ∙ e))
@@ -195,7 +195,7 @@ markup_cut tag (c ∷ cs) whole f here e =
           let is : c ≡ 45 = eqb-true c 45 dash in
           let other : is_doctype_prefix (drop tag whole) ≡ false = ap is_doctype_prefix here ∙ prefix_is (c ∷ cs) ∙ ap (λ (x : ℕ). begins_with (map to_ascii_lowercase (x ∷ cs)) (codes "doctype")) is ∙ no_dash cs in
           inl (dash_settled whole tag cs f (ap (λ (x : Bool). not x) other) h)
-      | inr other ↦ named_markup tag c cs whole f here other (err_same (markup_at tag (c ∷ cs)) (refused (tag + 2) c (markup_fault tag (c ∷ cs))) f (markup_is tag c cs other) e)
+      | inr other ↦ named_markup tag c cs whole f here other (err_same (markup_at tag (c ∷ cs)) (byte_fault (tag + 2) c (markup_fault tag (c ∷ cs))) f (markup_is tag c cs other) e)
     ]
 
 -- ---- tags

@@ -1,4 +1,4 @@
--- A forest, its spelling and its rows, and what is decoded and written, by computation.
+-- A forest, its spelling and its nodes, and what is decoded and written, by computation.
 use Rattle.std.proofs.Common.{◌≡◌, [], ◌∷◌, Some, refl, true, false, map}
 use Rattle.std.specs.Prelude.{codes}
 use Rattle.model_spelling.specs.Grammar.{is_letter, is_plaintext, name_same, is_barred, begins_with, starts_reference}
@@ -7,7 +7,7 @@ use Rattle.model_spelling.specs.Reading.{reference_fault, run_end, verbatim_end,
 use Rattle.model_spelling.specs.Tokens.{tokens_from}
 use Rattle.model_spelling.specs.Faults.{fault_of}
 use Rattle.model_spelling.specs.Forest.{Forest, Nothing, Text, Void, RawElement, Element, spelling, is_forest}
-use Rattle.model_spelling.specs.Rows.{Row, rows}
+use Rattle.model_spelling.specs.ForestNodes.{ForestNode, forest_nodes}
 use Rattle.model_spelling.specs.Parsed.{forest_of}
 use Rattle.model_spelling.specs.Written.{decoded, decoded_from, escaped, canon_start}
 
@@ -26,11 +26,11 @@ unfolding fault_of tokens_from token_at between_at tag_at start_at markup_at das
 sample_is_read = refl
 
 -- the number past each node's subtree
-sample_nexts : map (λ (r : Row). r.next) (rows 0 0 sample) ≡ 3 ∷ 2 ∷ 3 ∷ 5 ∷ 5 ∷ []
+sample_nexts : map (λ (r : ForestNode). r.next) (forest_nodes 0 0 sample) ≡ 3 ∷ 2 ∷ 3 ∷ 5 ∷ 5 ∷ []
 sample_nexts = refl
 
 -- where each node begins and ends, and its content
-sample_spans : map (λ (r : Row). r.from ∷ r.inner_from ∷ r.inner_to ∷ r.to ∷ []) (rows 0 0 sample) ≡ (0 ∷ 10 ∷ 22 ∷ 26 ∷ []) ∷ (10 ∷ 10 ∷ 17 ∷ 17 ∷ []) ∷ (17 ∷ 22 ∷ 22 ∷ 22 ∷ []) ∷ (26 ∷ 33 ∷ 34 ∷ 42 ∷ []) ∷ (33 ∷ 33 ∷ 34 ∷ 34 ∷ []) ∷ []
+sample_spans : map (λ (r : ForestNode). r.from ∷ r.inner_from ∷ r.inner_to ∷ r.to ∷ []) (forest_nodes 0 0 sample) ≡ (0 ∷ 10 ∷ 22 ∷ 26 ∷ []) ∷ (10 ∷ 10 ∷ 17 ∷ 17 ∷ []) ∷ (17 ∷ 22 ∷ 22 ∷ 22 ∷ []) ∷ (26 ∷ 33 ∷ 34 ∷ 42 ∷ []) ∷ (33 ∷ 33 ∷ 34 ∷ 34 ∷ []) ∷ []
 sample_spans = refl
 
 -- the bytes 194 and 160 are U+00A0; what a reference gives is not read again

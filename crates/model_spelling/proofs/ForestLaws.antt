@@ -9,8 +9,8 @@ use Rattle.model_spelling.specs.Grammar.{Attr, Token, Start, End, Chars, Raw, Co
 use Rattle.ve_kinds.specs.Tags.{raw_tags, is_void, is_raw}
 use Rattle.model_spelling.specs.Tokens.{Placed}
 use Rattle.model_spelling.specs.Forest.{Forest, Nothing, Text, Remark, Void, RawElement, Element, starts_with_text, spelling, is_forest}
-use Rattle.model_spelling.specs.Rows.{count, rows}
-use Rattle.model_spelling.specs.Faults.{Open, fault_in}
+use Rattle.model_spelling.specs.ForestNodes.{forest_size, forest_nodes}
+use Rattle.model_spelling.specs.Faults.{OpenElement, fault_in}
 use Rattle.model_spelling.proofs.AttrReading.{and_left, and_right}
 
 -- one forest and then another
@@ -33,7 +33,7 @@ spelling_then (Void name attrs slash rest) g = after_part (start_text name attrs
 spelling_then (RawElement name attrs text rest) g = after_part (start_text name attrs false ++ text ++ end_text name) rest g (spelling_then rest g)
 spelling_then (Element name attrs children rest) g = after_part (start_text name attrs false ++ spelling children ++ end_text name) rest g (spelling_then rest g)
 
-pub count_then : (f g : Forest) → count (then_forest f g) ≡ count f + count g
+pub count_then : (f g : Forest) → forest_size (then_forest f g) ≡ forest_size f + forest_size g
 count_then Nothing g = omega arith
 count_then (Text text rest) g = omega (arith, count_then rest g)
 count_then (Remark text rest) g = omega (arith, count_then rest g)
@@ -42,20 +42,20 @@ count_then (RawElement name attrs [] rest) g = omega (arith, count_then rest g)
 count_then (RawElement name attrs (b ∷ bs) rest) g = omega (arith, count_then rest g)
 count_then (Element name attrs children rest) g = omega (arith, count_then rest g)
 
--- as many rows as nodes
-pub length_rows : (n at : ℕ) (f : Forest) → length (rows n at f) ≡ count f
-length_rows n at Nothing = refl
-length_rows n at (Text text rest) = omega (arith, length_rows (n + 1) (at + length text) rest)
-length_rows n at (Remark text rest) = omega (arith, length_rows (n + 1) (at + length (token_text (Comment text))) rest)
-length_rows n at (Void name attrs slash rest) = omega (arith, length_rows (n + 1) (at + length (start_text name attrs slash)) rest)
-length_rows n at (RawElement name attrs [] rest) = omega (arith, length_rows (n + 1) (at + length (start_text name attrs false) + length (end_text name)) rest)
-length_rows n at (RawElement name attrs (b ∷ bs) rest) = omega (arith, length_rows (n + 2) (at + length (start_text name attrs false) + length (b ∷ bs) + length (end_text name)) rest)
-length_rows n at (Element name attrs children rest) =
+-- there are as many as the forest has
+pub length_forest_nodes : (n at : ℕ) (f : Forest) → length (forest_nodes n at f) ≡ forest_size f
+length_forest_nodes n at Nothing = refl
+length_forest_nodes n at (Text text rest) = omega (arith, length_forest_nodes (n + 1) (at + length text) rest)
+length_forest_nodes n at (Remark text rest) = omega (arith, length_forest_nodes (n + 1) (at + length (token_text (Comment text))) rest)
+length_forest_nodes n at (Void name attrs slash rest) = omega (arith, length_forest_nodes (n + 1) (at + length (start_text name attrs slash)) rest)
+length_forest_nodes n at (RawElement name attrs [] rest) = omega (arith, length_forest_nodes (n + 1) (at + length (start_text name attrs false) + length (end_text name)) rest)
+length_forest_nodes n at (RawElement name attrs (b ∷ bs) rest) = omega (arith, length_forest_nodes (n + 2) (at + length (start_text name attrs false) + length (b ∷ bs) + length (end_text name)) rest)
+length_forest_nodes n at (Element name attrs children rest) =
     omega (
       arith,
-      length_rows (n + 1) (at + length (start_text name attrs false)) children,
-      length_rows (n + 1 + count children) (at + length (start_text name attrs false) + length (spelling children) + length (end_text name)) rest,
-      length-append (rows (n + 1) (at + length (start_text name attrs false)) children) (rows (n + 1 + count children) (at + length (start_text name attrs false) + length (spelling children) + length (end_text name)) rest),
+      length_forest_nodes (n + 1) (at + length (start_text name attrs false)) children,
+      length_forest_nodes (n + 1 + forest_size children) (at + length (start_text name attrs false) + length (spelling children) + length (end_text name)) rest,
+      length-append (forest_nodes (n + 1) (at + length (start_text name attrs false)) children) (forest_nodes (n + 1 + forest_size children) (at + length (start_text name attrs false) + length (spelling children) + length (end_text name)) rest),
     )
 
 -- ---- the tokens of a forest have no fault
@@ -85,15 +85,15 @@ pub same_bytes : (name : List ℕ) → name_same name name ≡ true
 unfolding name_same
 same_bytes name = (bytes_eq-Decides name name).1 refl
 
-opens_void : (last : Option ScanFault) (os : List Open) (name : List ℕ) (attrs : List Attr) (slash : Bool) (at : ℕ) (ts : List Placed) → length os ≢ 200 → is_void name ≡ true
+opens_void : (last : Option ScanFault) (os : List OpenElement) (name : List ℕ) (attrs : List Attr) (slash : Bool) (at : ℕ) (ts : List Placed) → length os ≢ 200 → is_void name ≡ true
     → fault_in last os (placed (Start name attrs slash) at ∷ ts) ≡ fault_in last os ts
 opens_void last os name attrs slash at ts n v = rw (ne_eqb _ _ n, v) refl
 
-opens : (last : Option ScanFault) (os : List Open) (name : List ℕ) (attrs : List Attr) (slash : Bool) (at : ℕ) (ts : List Placed) → length os ≢ 200 → is_void name ≡ false
+opens : (last : Option ScanFault) (os : List OpenElement) (name : List ℕ) (attrs : List Attr) (slash : Bool) (at : ℕ) (ts : List Placed) → length os ≢ 200 → is_void name ≡ false
     → fault_in last os (placed (Start name attrs slash) at ∷ ts) ≡ fault_in last (record { name = name; at = at } ∷ os) ts
 opens last os name attrs slash at ts n v = rw (ne_eqb _ _ n, v) refl
 
-closes : (last : Option ScanFault) (os : List Open) (name : List ℕ) (from at : ℕ) (ts : List Placed) → is_void name ≡ false
+closes : (last : Option ScanFault) (os : List OpenElement) (name : List ℕ) (from at : ℕ) (ts : List Placed) → is_void name ≡ false
     → fault_in last (record { name = name; at = from } ∷ os) (placed (End name) at ∷ ts) ≡ fault_in last os ts
 closes last os name from at ts v = rw (v, same_bytes name) refl
 
@@ -131,7 +131,7 @@ raw_not_void name e =
     ap is_void (sym (equal_names found.0 name found.1)) ∙ not_true (is_void found.0) found.2
 
 -- A forest that may be spelled, with these elements open around it, has no fault of a forest.
-pub fault_free : (last : Option ScanFault) (room : ℕ) (os : List Open) (at : ℕ) (f : Forest) (ts : List Placed) → is_forest room f ≡ true → length os + room ≡ 200
+pub fault_free : (last : Option ScanFault) (room : ℕ) (os : List OpenElement) (at : ℕ) (f : Forest) (ts : List Placed) → is_forest room f ≡ true → length os + room ≡ 200
     → fault_in last os (tokens_in at f ++ ts) ≡ fault_in last os ts
 fault_free last room os at Nothing ts e n = refl
 fault_free last room os at (Text text rest) ts e n = fault_free last room os (at + length text) rest ts (and_right (is_text text && not (starts_with_text rest)) (is_forest room rest) e) n

@@ -8,7 +8,7 @@ use Rattle.std.specs.List.{prefix_len, flat_map, list_all}
 use Rattle.model_spelling.specs.declared.scan_fault.ScanFault.{ScanFault}
 use Rattle.model_spelling.specs.declared.scan_fault.ScanWhat.TheVariants.{BadChar, UnclosedTag}
 use Rattle.model_spelling.specs.Grammar.{is_barred, is_name_byte, is_attr_name, is_run, is_attr, has_name, starts_reference, Attr, attr_text}
-use Rattle.model_spelling.specs.Reading.{◌>>=◌, fault, refused, reference_fault, run_end, value_end, name_len_at, quote_at, head_at, attr_at, attrs_at, with_name}
+use Rattle.model_spelling.specs.Reading.{◌>>=◌, fault, byte_fault, reference_fault, run_end, value_end, name_len_at, quote_at, head_at, attr_at, attrs_at, with_name}
 use Rattle.model_spelling.proofs.AttrReading.{four_ways, attr_head_fault, attr_many, attr_twice, attr_value_fault, attr_whole, attrs_stop, attrs_fault, attrs_more}
 use Rattle.model_spelling.proofs.TokenRuns.{or_parts, run_le, run_found, PartsReferences, double_parts, single_parts, Follows}
 use Rattle.model_spelling.proofs.Only.{NoSpace, attr_regrouped, attr_length, flat_length, Apart, and_both}
@@ -153,7 +153,7 @@ only_equals false n q f g k e = not_ok (Err g) g (n, q) refl e
 
 quote_found : (tag place at k n q : ℕ) (suffix : List ℕ) → (quote_at tag place at suffix >>= pair_of k) ≡ Ok (n, q) → (rest : List ℕ) × (suffix ≡ 61 ∷ (q ∷ rest)) × ((q == 34 || q == 39) ≡ true) × (k ≡ n)
 quote_found tag place at k n q [] e = absurd (not_ok (Err (fault tag UnclosedTag)) (fault tag UnclosedTag) (n, q) refl e)
-quote_found tag place at k n q (c ∷ []) e = absurd (only_equals (c == 61) n q (fault tag UnclosedTag) (refused at c (fault place _)) k e)
+quote_found tag place at k n q (c ∷ []) e = absurd (only_equals (c == 61) n q (fault tag UnclosedTag) (byte_fault at c (fault place _)) k e)
 quote_found tag place at k n q (c ∷ d ∷ rest) e =
     let p = quote_by (c == 61) (d == 34 || d == 39) d k n q _ _ e in
     (rest, (λ i. eqb-true c 61 p.0 i ∷ p.3 i ∷ rest), subst (λ (x : ℕ). (x == 34 || x == 39) ≡ true) p.3 p.1, p.2)

@@ -9,8 +9,8 @@ use Rattle.model_spelling.specs.declared.scan_fault.ScanFault.{ScanFault}
 use Rattle.model_spelling.specs.declared.scan_fault.ScanWhat.TheVariants.{BadTag, BadAttribute, Doctype, UnclosedComment, UnclosedTag, UnclosedRaw}
 use Rattle.model_spelling.specs.Grammar.{is_letter, is_name_byte, is_tag_name, is_plaintext, name_same, is_run, is_text, is_verbatim, is_attr, has_name, are_distinct, are_attrs, Attr, attr_text, Token, Start, End, Chars, Raw, Comment, end_text, comment_open, comment_close}
 use Rattle.ve_kinds.specs.Tags.{is_void}
-use Rattle.model_spelling.specs.Reading.{◌>>=◌, is_doctype, fault, refused, run_end, verbatim_end, attrs_at, name_ends, slash_at, tag_close, start_after, with_name, start_at, end_after, end_at, comment_at, dash_at, markup_at, some_token, tag_at, between_at, token_at, Between, After, Step}
-use Rattle.model_spelling.specs.Tokens.{BeginsTag, IsRead, RawRead, Inner, Closing}
+use Rattle.model_spelling.specs.Reading.{◌>>=◌, is_doctype, fault, byte_fault, run_end, verbatim_end, attrs_at, name_ends, slash_at, tag_close, start_after, with_name, start_at, end_after, end_at, comment_at, dash_at, markup_at, some_token, tag_at, between_at, token_at, Between, After, Step}
+use Rattle.model_spelling.specs.Tokens.{BeginsTag, IsTokenRead, RawRead, Inner, Closing}
 use Rattle.model_spelling.proofs.AttrReading.{and_left, and_right}
 use Rattle.model_spelling.proofs.TokenRuns.{not_false, letter_names, text_parts, same_step, verbatim_found, Follows}
 use Rattle.model_spelling.proofs.Only.{Apart, none_in, same_turned, close_text, and_both, not_true, both, or_first, or_second, start_length, start_regrouped, end_length, comment_length, raw_by, none_by, end_tag_only}
@@ -71,7 +71,7 @@ slash_found tag at void (d ∷ rest) slash to v e =
       | inl close ↦
           let h : ok {A = Bool × ℕ} (true, at + 2) ≡ ok (slash, to) = rw close at e in
           close_by at (47 ∷ (d ∷ rest)) rest slash true to (at + 2) void (ap (λ (x : ℕ). 47 ∷ (x ∷ rest)) (eqb-true d 62 close)) refl v h
-      | inr other ↦ absurd (not_ok (slash_at tag at (d ∷ rest)) (refused (at + 1) d (fault at BadAttribute)) (slash, to) (rw other refl) e)
+      | inr other ↦ absurd (not_ok (slash_at tag at (d ∷ rest)) (byte_fault (at + 1) d (fault at BadAttribute)) (slash, to) (rw other refl) e)
     ]
 
 close_found : (tag at : ℕ) (void : Bool) (text : List ℕ) (slash : Bool) (to : ℕ) → tag_close tag void at text ≡ ok (slash, to) → CloseFound void at text slash to
@@ -87,7 +87,7 @@ close_found tag at void (c ∷ rest) slash to e =
                 let h : slash_at tag at rest ≡ ok (slash, to) = rw (other, both) at e in
                 let f = slash_found tag at void rest slash to (and_right (c == 47) void both) h in
                 record { rest = f.rest; text_is = ap (λ (x : ℕ). x ∷ rest) (eqb-true c 47 (and_left (c == 47) void both)) ∙ f.text_is; to_is = f.to_is; may = f.may }
-            | inr neither ↦ absurd (not_ok (tag_close tag void at (c ∷ rest)) (refused at c (fault at BadAttribute)) (slash, to) (rw (other, neither) refl) e)
+            | inr neither ↦ absurd (not_ok (tag_close tag void at (c ∷ rest)) (byte_fault at c (fault at BadAttribute)) (slash, to) (rw (other, neither) refl) e)
           ]
     ]
 
@@ -123,7 +123,7 @@ ends_plain : (tag at : ℕ) (name text : List ℕ) → name_ends tag name at tex
 ends_plain tag at name [] e = absurd (not_ok (name_ends tag name at []) (fault tag UnclosedTag) tt refl e)
 ends_plain tag at name (c ∷ rest) e =
     elim (cases_Bool (is_plaintext name)) [
-      | inl plain ↦ absurd (not_ok (name_ends tag name at (c ∷ rest)) (refused at c (fault tag BadTag)) tt (rw plain refl) e)
+      | inl plain ↦ absurd (not_ok (name_ends tag name at (c ∷ rest)) (byte_fault at c (fault tag BadTag)) tt (rw plain refl) e)
       | inr other ↦ other
     ]
 
@@ -182,20 +182,20 @@ pub start_is : (tag : ℕ) (text : List ℕ) → start_at tag text ≡ with_name
 unfolding start_at
 start_is tag text = refl
 
-pub start_found : (tag b : ℕ) (bs : List ℕ) (t : Token) (to : ℕ) → is_letter b ≡ true → start_at tag (b ∷ bs) ≡ ok (t, to) → IsRead tag (60 ∷ (b ∷ bs)) t to
+pub start_found : (tag b : ℕ) (bs : List ℕ) (t : Token) (to : ℕ) → is_letter b ≡ true → start_at tag (b ∷ bs) ≡ ok (t, to) → IsTokenRead tag (60 ∷ (b ∷ bs)) t to
 start_found tag b bs t to l e =
     let s = split is_name_byte (b ∷ bs) in
     let read = sym (start_is tag (b ∷ bs) ∙ named_as (start_after tag) (tag + 1) (b ∷ bs) s) ∙ e in
     let f = after_by_name tag (tag + 1 + length s.prefix) s.prefix s.suffix (name_ends tag s.prefix (tag + 1 + length s.prefix) s.suffix) t to refl read in
     let named = split_named b bs s l f.plain in
-    let made : IsRead tag (60 ∷ (b ∷ bs)) (Start s.prefix f.attrs f.slash) to = record {
+    let made : IsTokenRead tag (60 ∷ (b ∷ bs)) (Start s.prefix f.attrs f.slash) to = record {
       rest = f.rest;
       text_is = ap (λ (l : List ℕ). 60 ∷ l) (s.text_is ∙ ap (λ (l : List ℕ). s.prefix ++ l) f.text_is) ∙ sym (start_regrouped s.prefix f.attrs f.slash f.rest);
       to_is = omega (arith, f.to_is, start_length s.prefix f.attrs f.slash);
       allowed = and_both (is_tag_name s.prefix && are_attrs f.attrs) (not f.slash || is_void s.prefix) (and_both (is_tag_name s.prefix) (are_attrs f.attrs) named f.fit) f.may;
       follows = tt;
     } in
-    subst (λ (x : Token). IsRead tag (60 ∷ (b ∷ bs)) x to) (sym f.is) made
+    subst (λ (x : Token). IsTokenRead tag (60 ∷ (b ∷ bs)) x to) (sym f.is) made
 
 -- ---- end tags
 
@@ -207,23 +207,23 @@ end_by tag at name (c ∷ rest) t to e =
           let h : ok {A = Token × ℕ} (End name, at + 1) ≡ ok (t, to) = rw good at e in
           let same = ok_same (End name, at + 1) (t, to) h in
           (rest, ap (λ (x : ℕ). x ∷ rest) (eqb-true c 62 (and_left (c == 62) (not (is_plaintext name)) good)), sym (ap (λ (p : Token × ℕ). p.0) same), sym (ap (λ (p : Token × ℕ). p.1) same), not_false (is_plaintext name) (and_right (c == 62) (not (is_plaintext name)) good))
-      | inr bad ↦ absurd (not_ok (end_after tag name at (c ∷ rest)) (refused at c (fault tag BadTag)) (t, to) (rw bad refl) e)
+      | inr bad ↦ absurd (not_ok (end_after tag name at (c ∷ rest)) (byte_fault at c (fault tag BadTag)) (t, to) (rw bad refl) e)
     ]
 
-end_named : (tag b : ℕ) (bs : List ℕ) (t : Token) (to : ℕ) → is_letter b ≡ true → with_name (end_after tag) (tag + 2) (b ∷ bs) ≡ ok (t, to) → IsRead tag (60 ∷ (47 ∷ (b ∷ bs))) t to
+end_named : (tag b : ℕ) (bs : List ℕ) (t : Token) (to : ℕ) → is_letter b ≡ true → with_name (end_after tag) (tag + 2) (b ∷ bs) ≡ ok (t, to) → IsTokenRead tag (60 ∷ (47 ∷ (b ∷ bs))) t to
 end_named tag b bs t to l e =
     let s = split is_name_byte (b ∷ bs) in
     let f = end_by tag (tag + 2 + length s.prefix) s.prefix s.suffix t to (sym (named_as (end_after tag) (tag + 2) (b ∷ bs) s) ∙ e) in
-    let made : IsRead tag (60 ∷ (47 ∷ (b ∷ bs))) (End s.prefix) to = record {
+    let made : IsTokenRead tag (60 ∷ (47 ∷ (b ∷ bs))) (End s.prefix) to = record {
       rest = f.0;
       text_is = ap (λ (l : List ℕ). 60 ∷ (47 ∷ l)) (s.text_is ∙ ap (λ (l : List ℕ). s.prefix ++ l) f.1) ∙ sym (append_assoc (60 ∷ 47 ∷ s.prefix) (62 ∷ []) f.0);
       to_is = omega (arith, f.3, end_length s.prefix);
       allowed = split_named b bs s l f.4;
       follows = tt;
     } in
-    subst (λ (x : Token). IsRead tag (60 ∷ (47 ∷ (b ∷ bs))) x to) (sym f.2) made
+    subst (λ (x : Token). IsTokenRead tag (60 ∷ (47 ∷ (b ∷ bs))) x to) (sym f.2) made
 
-end_found : (tag : ℕ) (text : List ℕ) (t : Token) (to : ℕ) → end_at tag text ≡ ok (t, to) → IsRead tag (60 ∷ (47 ∷ text)) t to
+end_found : (tag : ℕ) (text : List ℕ) (t : Token) (to : ℕ) → end_at tag text ≡ ok (t, to) → IsTokenRead tag (60 ∷ (47 ∷ text)) t to
 unfolding end_at
 end_found tag [] t to e = absurd (not_ok (Err (fault tag UnclosedTag)) (fault tag UnclosedTag) (t, to) refl e)
 end_found tag (b ∷ bs) t to e =
@@ -232,8 +232,8 @@ end_found tag (b ∷ bs) t to e =
           let h : with_name (end_after tag) (tag + 2) (b ∷ bs) ≡ ok (t, to) = rw letter at e in
           end_named tag b bs t to letter h
       | inr other ↦
-          let h : Err (refused (tag + 2) b (fault tag BadTag)) ≡ ok (t, to) = rw other at e in
-          absurd (not_ok (Err (refused (tag + 2) b (fault tag BadTag))) (refused (tag + 2) b (fault tag BadTag)) (t, to) refl h)
+          let h : Err (byte_fault (tag + 2) b (fault tag BadTag)) ≡ ok (t, to) = rw other at e in
+          absurd (not_ok (Err (byte_fault (tag + 2) b (fault tag BadTag))) (byte_fault (tag + 2) b (fault tag BadTag)) (t, to) refl h)
     ]
 
 -- ---- comments
@@ -269,12 +269,12 @@ verbatim_parts close unclosed at to text some e =
       fits = c.fits;
     }
 
-comment_by : (tag : ℕ) (text : List ℕ) (r : Result ℕ ScanFault) (t : Token) (to : ℕ) → verbatim_end comment_close (fault tag UnclosedComment) (tag + 4) text ≡ r → comment_at tag text ≡ ok (t, to) → IsRead tag (60 ∷ (33 ∷ (45 ∷ (45 ∷ text)))) t to
+comment_by : (tag : ℕ) (text : List ℕ) (r : Result ℕ ScanFault) (t : Token) (to : ℕ) → verbatim_end comment_close (fault tag UnclosedComment) (tag + 4) text ≡ r → comment_at tag text ≡ ok (t, to) → IsTokenRead tag (60 ∷ (33 ∷ (45 ∷ (45 ∷ text)))) t to
 comment_by tag text (Err f) t to e h = absurd (not_ok (comment_at tag text) f (t, to) (comment_fails tag text f e) h)
 comment_by tag text (Ok x) t to e h =
     let same = ok_same (Comment (take (x - (tag + 4)) text), x + 3) (t, to) (sym (comment_is tag x text e) ∙ h) in
     let v = verbatim_parts comment_close (fault tag UnclosedComment) (tag + 4) x text (omega arith) e in
-    let made : IsRead tag (60 ∷ (33 ∷ (45 ∷ (45 ∷ text)))) (Comment v.inner) (x + 3) = record {
+    let made : IsTokenRead tag (60 ∷ (33 ∷ (45 ∷ (45 ∷ text)))) (Comment v.inner) (x + 3) = record {
       rest = v.rest;
       text_is = ap (λ (l : List ℕ). 60 ∷ (33 ∷ (45 ∷ (45 ∷ l)))) v.text_is ∙ sym (append_assoc (comment_open ++ v.inner) comment_close v.rest ∙ append_assoc comment_open v.inner (comment_close ++ v.rest));
       to_is = omega (arith, v.to_is, comment_length v.inner);
@@ -282,39 +282,39 @@ comment_by tag text (Ok x) t to e h =
       follows = tt;
     } in
     let renamed : (Comment v.inner, x + 3) ≡ (t, to) = ap (λ (l : List ℕ). (Comment l, x + 3)) (sym v.taken) ∙ same in
-    subst (λ (p : Token × ℕ). IsRead tag (60 ∷ (33 ∷ (45 ∷ (45 ∷ text)))) p.0 p.1) renamed made
+    subst (λ (p : Token × ℕ). IsTokenRead tag (60 ∷ (33 ∷ (45 ∷ (45 ∷ text)))) p.0 p.1) renamed made
 
-dash_found : (tag : ℕ) (text : List ℕ) (t : Token) (to : ℕ) → dash_at tag text ≡ ok (t, to) → IsRead tag (60 ∷ (33 ∷ (45 ∷ text))) t to
+dash_found : (tag : ℕ) (text : List ℕ) (t : Token) (to : ℕ) → dash_at tag text ≡ ok (t, to) → IsTokenRead tag (60 ∷ (33 ∷ (45 ∷ text))) t to
 unfolding dash_at
 dash_found tag [] t to e = absurd (not_ok (Err (fault tag UnclosedComment)) (fault tag UnclosedComment) (t, to) refl e)
 dash_found tag (d ∷ ds) t to e =
     elim (cases_Bool (d == 45)) [
       | inl dash ↦
           let h : comment_at tag ds ≡ ok (t, to) = rw dash at e in
-          subst (λ (x : ℕ). IsRead tag (60 ∷ (33 ∷ (45 ∷ (x ∷ ds)))) t to) (sym (eqb-true d 45 dash)) (comment_by tag ds (verbatim_end comment_close (fault tag UnclosedComment) (tag + 4) ds) t to refl h)
+          subst (λ (x : ℕ). IsTokenRead tag (60 ∷ (33 ∷ (45 ∷ (x ∷ ds)))) t to) (sym (eqb-true d 45 dash)) (comment_by tag ds (verbatim_end comment_close (fault tag UnclosedComment) (tag + 4) ds) t to refl h)
       | inr other ↦
-          let h : Err (refused (tag + 3) d (fault tag BadTag)) ≡ ok (t, to) = rw other at e in
-          absurd (not_ok (Err (refused (tag + 3) d (fault tag BadTag))) (refused (tag + 3) d (fault tag BadTag)) (t, to) refl h)
+          let h : Err (byte_fault (tag + 3) d (fault tag BadTag)) ≡ ok (t, to) = rw other at e in
+          absurd (not_ok (Err (byte_fault (tag + 3) d (fault tag BadTag))) (byte_fault (tag + 3) d (fault tag BadTag)) (t, to) refl h)
     ]
 
 markup_other : (tag c : ℕ) (cs : List ℕ) (t : Token) (to : ℕ) → (c == 45) ≡ false → markup_at tag (c ∷ cs) ≡ ok (t, to) → ⊥
 unfolding markup_at
-markup_other tag c cs t to n e = not_ok (markup_at tag (c ∷ cs)) (refused (tag + 2) c (fault tag (cond (is_doctype (c ∷ cs)) Doctype BadTag))) (t, to) (rw n refl) e
+markup_other tag c cs t to n e = not_ok (markup_at tag (c ∷ cs)) (byte_fault (tag + 2) c (fault tag (cond (is_doctype (c ∷ cs)) Doctype BadTag))) (t, to) (rw n refl) e
 
-markup_found : (tag : ℕ) (text : List ℕ) (t : Token) (to : ℕ) → markup_at tag text ≡ ok (t, to) → IsRead tag (60 ∷ (33 ∷ text)) t to
+markup_found : (tag : ℕ) (text : List ℕ) (t : Token) (to : ℕ) → markup_at tag text ≡ ok (t, to) → IsTokenRead tag (60 ∷ (33 ∷ text)) t to
 unfolding markup_at
 markup_found tag [] t to e = absurd (not_ok (Err (fault tag UnclosedComment)) (fault tag UnclosedComment) (t, to) refl e)
 markup_found tag (c ∷ cs) t to e =
     elim (cases_Bool (c == 45)) [
       | inl dash ↦
           let h : dash_at tag cs ≡ ok (t, to) = rw dash at e in
-          subst (λ (x : ℕ). IsRead tag (60 ∷ (33 ∷ (x ∷ cs))) t to) (sym (eqb-true c 45 dash)) (dash_found tag cs t to h)
+          subst (λ (x : ℕ). IsTokenRead tag (60 ∷ (33 ∷ (x ∷ cs))) t to) (sym (eqb-true c 45 dash)) (dash_found tag cs t to h)
       | inr other ↦ absurd (markup_other tag c cs t to other e)
     ]
 
 -- ---- tokens
 
-pub tag_found : (tag : ℕ) (text : List ℕ) (t : Token) (to : ℕ) → tag_at tag text ≡ ok (t, to) → IsRead tag (60 ∷ text) t to
+pub tag_found : (tag : ℕ) (text : List ℕ) (t : Token) (to : ℕ) → tag_at tag text ≡ ok (t, to) → IsTokenRead tag (60 ∷ text) t to
 unfolding tag_at
 tag_found tag [] t to e = absurd (not_ok (Err (fault tag UnclosedTag)) (fault tag UnclosedTag) (t, to) refl e)
 tag_found tag (c ∷ cs) t to e =
@@ -324,15 +324,15 @@ tag_found tag (c ∷ cs) t to e =
           elim (cases_Bool (c == 47)) [
             | inl slash ↦
                 let h : end_at tag cs ≡ ok (t, to) = rw (no_letter, slash) at e in
-                subst (λ (x : ℕ). IsRead tag (60 ∷ (x ∷ cs)) t to) (sym (eqb-true c 47 slash)) (end_found tag cs t to h)
+                subst (λ (x : ℕ). IsTokenRead tag (60 ∷ (x ∷ cs)) t to) (sym (eqb-true c 47 slash)) (end_found tag cs t to h)
             | inr no_slash ↦
                 elim (cases_Bool (c == 33)) [
                   | inl bang ↦
                       let h : markup_at tag cs ≡ ok (t, to) = rw (no_letter, no_slash, bang) at e in
-                      subst (λ (x : ℕ). IsRead tag (60 ∷ (x ∷ cs)) t to) (sym (eqb-true c 33 bang)) (markup_found tag cs t to h)
+                      subst (λ (x : ℕ). IsTokenRead tag (60 ∷ (x ∷ cs)) t to) (sym (eqb-true c 33 bang)) (markup_found tag cs t to h)
                   | inr no_bang ↦
-                      let h : Err (refused (tag + 1) c (fault tag BadTag)) ≡ ok (t, to) = rw (no_letter, no_slash, no_bang) at e in
-                      absurd (not_ok (Err (refused (tag + 1) c (fault tag BadTag))) (refused (tag + 1) c (fault tag BadTag)) (t, to) refl h)
+                      let h : Err (byte_fault (tag + 1) c (fault tag BadTag)) ≡ ok (t, to) = rw (no_letter, no_slash, no_bang) at e in
+                      absurd (not_ok (Err (byte_fault (tag + 1) c (fault tag BadTag))) (byte_fault (tag + 1) c (fault tag BadTag)) (t, to) refl h)
                 ]
           ]
     ]
@@ -356,34 +356,34 @@ text_some b bs [] [] n e f r = absurd cc
 text_some b bs [] (c ∷ suffix) n e f r = let same : b ≡ c = cc in absurd (both (b == 60) n (eq-eqb b 60 (same ∙ f)))
 text_some b bs (x ∷ prefix) suffix n e f r = r
 
-text_by : (at : ℕ) (b : ℕ) (bs : List ℕ) (r : Result ℕ ScanFault) (t : Token) (to : ℕ) → (b == 60) ≡ false → run_end None 60 at (b ∷ bs) ≡ r → (r >>= as_text at (b ∷ bs)) ≡ found (t, to) → IsRead at (b ∷ bs) t to
+text_by : (at : ℕ) (b : ℕ) (bs : List ℕ) (r : Result ℕ ScanFault) (t : Token) (to : ℕ) → (b == 60) ≡ false → run_end None 60 at (b ∷ bs) ≡ r → (r >>= as_text at (b ∷ bs)) ≡ found (t, to) → IsTokenRead at (b ∷ bs) t to
 text_by at b bs (Err f) t to n e h = absurd (not_ok (Err f >>= as_text at (b ∷ bs)) f (Some (t, to)) refl h)
 text_by at b bs (Ok x) t to n e h =
     let same = same_step (Chars (take (x - at) (b ∷ bs)), x) (t, to) h in
     let r = run_parts None 60 at x (b ∷ bs) text_parts e in
     let len : length r.prefix ≡ x - at = omega (arith, r.len) in
     let taken : take (x - at) (b ∷ bs) ≡ r.prefix = ap (take (x - at)) r.text_is ∙ take_at r.prefix r.suffix (x - at) len in
-    let made : IsRead at (b ∷ bs) (Chars r.prefix) x = record {
+    let made : IsTokenRead at (b ∷ bs) (Chars r.prefix) x = record {
       rest = r.suffix;
       text_is = r.text_is;
       to_is = r.len;
       allowed = text_some b bs r.prefix r.suffix n r.text_is r.follows r.run;
       follows = begins_follows r.suffix r.follows;
     } in
-    subst (λ (p : Token × ℕ). IsRead at (b ∷ bs) p.0 p.1) (ap (λ (l : List ℕ). (Chars l, x)) (sym taken) ∙ same) made
+    subst (λ (p : Token × ℕ). IsTokenRead at (b ∷ bs) p.0 p.1) (ap (λ (l : List ℕ). (Chars l, x)) (sym taken) ∙ same) made
 
 none_found : (t : Token) (to : ℕ) → Ok None ≡ found (t, to) → ⊥
 none_found t to e = cc
 
 -- What is read between two tokens is spelled so.
-pub between_found : (at : ℕ) (text : List ℕ) (t : Token) (to : ℕ) → between_at at text ≡ found (t, to) → IsRead at text t to
+pub between_found : (at : ℕ) (text : List ℕ) (t : Token) (to : ℕ) → between_at at text ≡ found (t, to) → IsTokenRead at text t to
 unfolding between_at
 between_found at [] t to e = absurd (none_found t to e)
 between_found at (b ∷ bs) t to e =
     elim (cases_Bool (b == 60)) [
       | inl tag ↦
           let h : some_token (tag_at at bs) ≡ found (t, to) = rw tag at e in
-          subst (λ (x : ℕ). IsRead at (x ∷ bs) t to) (sym (eqb-true b 60 tag)) (tag_found at bs t to (some_found (tag_at at bs) t to h))
+          subst (λ (x : ℕ). IsTokenRead at (x ∷ bs) t to) (sym (eqb-true b 60 tag)) (tag_found at bs t to (some_found (tag_at at bs) t to h))
       | inr other ↦
           let h : (run_end None 60 at (b ∷ bs) >>= as_text at (b ∷ bs)) ≡ found (t, to) = rw other at e in
           text_by at b bs (run_end None 60 at (b ∷ bs)) t to other refl h
@@ -393,7 +393,7 @@ pub between_is : (at : ℕ) (text : List ℕ) → token_at Between at text ≡ b
 unfolding token_at
 between_is at text = refl
 
-pub token_found : (at : ℕ) (text : List ℕ) (t : Token) (to : ℕ) → token_at Between at text ≡ Ok (Some (t, to)) → IsRead at text t to
+pub token_found : (at : ℕ) (text : List ℕ) (t : Token) (to : ℕ) → token_at Between at text ≡ Ok (Some (t, to)) → IsTokenRead at text t to
 token_found at text t to e = between_found at text t to (sym (between_is at text) ∙ e)
 
 pub raw_fails : (at : ℕ) (name text : List ℕ) (f : ScanFault) → verbatim_end (end_text name) (fault at UnclosedRaw) at text ≡ Err f → token_at (After name) at text ≡ Err f

@@ -8,7 +8,7 @@ use Rattle.ve_kinds.specs.Tags.{is_void, is_raw}
 use Rattle.model_spelling.specs.Reading.{fault, reference_fault, run_end, verbatim_end, head_at, attr_at, attrs_at, start_after, end_at, comment_at, is_doctype, dash_at, markup_at, start_at, tag_at, between_at, token_at}
 use Rattle.model_spelling.specs.Tokens.{tokens_from}
 use Rattle.model_spelling.specs.Faults.{ForestFault, Scan, Unclosed, fault_of}
-use Rattle.model_spelling.specs.Page.{first_place, last_place, body_at, parts, page_fault}
+use Rattle.model_spelling.specs.Page.{first_place, last_place, body_at, page_parts, page_fault}
 
 abbrev scan : ℕ → ScanWhat → Option ForestFault
 scan at what = Some (Scan (fault at what))
@@ -66,6 +66,6 @@ unfolding fault_of tokens_from token_at between_at tag_at start_at markup_at das
 no_bodies = refl
 
 -- the body start tag is looked for in comments too, and the last `</body>` counts
-three_parts : parts (codes "<!DocType x><!--<body>a</body>b</body>c") ≡ Ok (record { head = codes "<!DocType x><!--<body>"; body = codes "a</body>b"; tail = codes "</body>c" })
+three_parts : page_parts (codes "<!DocType x><!--<body>a</body>b</body>c") ≡ Ok (record { prefix = codes "<!DocType x><!--<body>"; body = codes "a</body>b"; suffix = codes "</body>c" })
 unfolding fault_of tokens_from token_at between_at tag_at start_at markup_at dash_at is_doctype comment_at end_at start_after attrs_at attr_at head_at verbatim_end run_end reference_fault starts_reference is_letter is_plaintext name_same is_barred begins_with is_void is_raw first_place last_place body_at page_fault
 three_parts = refl

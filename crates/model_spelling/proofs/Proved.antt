@@ -6,7 +6,7 @@ use Rattle.model_spelling.specs.Faults.{fault_of}
 use Rattle.model_spelling.specs.Parsed.{ending, forest_of}
 use Rattle.model_spelling.specs.Laws.{BodyInside, PartsAreThePage, BodyIsFound, BodyIsOnly}
 use Rattle.model_spelling.specs.Canonical.{WritesRight, CanWrite}
-use Rattle.model_spelling.specs.Standing.{FaultStands, UnclosedGoes, StandsOrGoes, CutReferenceGoes, CutDoctypeGoes}
+use Rattle.model_spelling.specs.Standing.{FaultStands, UnclosedGoes, LastsOrMayGo, CutReferenceGoes, CutDoctypeGoes}
 use Rattle.model_spelling.specs.Utf8.{DecodesUtf8, ForestUtf8}
 use Rattle.model_spelling.specs.Laws.{ReadIsSpelled, SpelledIsRead, RawReadIsSpelled, RawSpelledIsRead, EmptyRawIsNoToken, FaultlessIsSpelled, SpelledIsFaultless, OneForestSpells, SpellingIsReadBack, ReadForestSpells}
 use Rattle.model_spelling.proofs.Only as only
@@ -85,7 +85,7 @@ law_parts_are_the_page page p e = body.parts_are_the_page page p e
 pub law_body_is_found : BodyIsFound
 law_body_is_found page from to whole e = body.body_is_found page from to whole e
 
-pub law_stands_or_goes : StandsOrGoes
+pub law_stands_or_goes : LastsOrMayGo
 law_stands_or_goes text f e = going.stands_or_goes text f e
 
 pub law_cut_reference_goes : CutReferenceGoes

@@ -9,10 +9,10 @@ use Rattle.model_spelling.specs.declared.scan_fault.ScanFault.{ScanFault}
 use Rattle.model_spelling.specs.Grammar.{is_letter, is_name_byte, is_plaintext, name_same, is_tag_name, is_text, is_run, is_barred, starts_reference, is_verbatim, are_attrs, is_start, Attr, Token, Start, End, Chars, Raw, Comment, token_text, start_text, end_text, comment_close, attr_text}
 use Rattle.ve_kinds.specs.Tags.{is_void, is_raw}
 use Rattle.model_spelling.specs.Reading.{◌>>=◌, token_at, between_at, tag_at, some_token, run_end, Mode, Between, After, Failed, Step, mode_after}
-use Rattle.model_spelling.specs.Tokens.{Placed, Tokens, tokens_from, tokens_of, is_token, BeginsTag, MayFollow, RawRead, Inner, Closing, Runs}
+use Rattle.model_spelling.specs.Tokens.{Placed, Tokens, tokens_from, tokens_of, is_token, BeginsTag, MayFollow, RawRead, Inner, Closing, ReadsTokens}
 use Rattle.model_spelling.specs.Forest.{Forest, Nothing, Text, Remark, Void, RawElement, Element, starts_with_text, spelling, is_forest}
-use Rattle.model_spelling.specs.Faults.{Open, ForestFault, TooDeep, Stray, Mismatched, fault_in, fault_at_end, fault_of, after_start, after_end, after_token, or_fault}
-use Rattle.model_spelling.specs.Parsed.{Ending, first_of, with_token, ending, forest_of}
+use Rattle.model_spelling.specs.Faults.{OpenElement, ForestFault, TooDeep, Stray, Mismatched, fault_in, fault_at_end, fault_of, after_start, after_end, after_token, or_fault}
+use Rattle.model_spelling.specs.Parsed.{Ending, first_forest, with_token, ending, forest_of}
 use Rattle.model_spelling.proofs.AttrReading.{and_left, and_right}
 use Rattle.model_spelling.proofs.TokenRuns.{not_false}
 use Rattle.model_spelling.proofs.ForestLaws.{raw_not_void, equal_names}
@@ -69,7 +69,7 @@ part_of (After name) at text t to n e =
 part_of (Failed f) at text t to n e = absurd (failed_never f at text t to e)
 
 abbrev pub Run : Mode → ℕ → List ℕ → Tokens → Type 0
-Run m at text ts = Runs m at text ts.tokens ts.fault
+Run m at text ts = ReadsTokens m at text ts.tokens ts.fault
 
 -- what is read on after a token
 abbrev pub Later : ℕ → Type 0
@@ -95,7 +95,7 @@ pub run_of : (n : ℕ) → Later n
 run_of zero m at text named le = run_stop m at text (token_at m at text) refl named le
 run_of (suc n) m at text named le = run_step n m at text (token_at m at text) refl named le (run_of n)
 
-pub runs_of : (text : List ℕ) → Runs Between 0 text (tokens_of text).tokens (tokens_of text).fault
+pub runs_of : (text : List ℕ) → ReadsTokens Between 0 text (tokens_of text).tokens (tokens_of text).fault
 runs_of text =
     let n : suc (length text) ≡ length text + 1 = omega arith in
     subst (λ (k : ℕ). Run Between 0 text (tokens_from k Between 0 text)) n (run_of (length text) Between 0 text tt (omega arith))
@@ -103,25 +103,25 @@ runs_of text =
 -- ---- the shape of what is left
 
 -- the closing tags of the open elements, and the siblings that follow each
-abbrev pub Tail : ℕ → List Open → List Forest → List ℕ → Type 0
+abbrev pub Tail : ℕ → List OpenElement → List Forest → List ℕ → Type 0
 Tail room [] [] tail = tail ≡ []
 Tail room [] (f ∷ fs) tail = ⊥
 Tail room (o ∷ os) [] tail = ⊥
 Tail room (o ∷ os) (f ∷ fs) tail = (rest : List ℕ) × (tail ≡ end_text o.name ++ (spelling f ++ rest)) × (is_forest (suc room) f ≡ true) × Tail (suc room) os fs rest
 
-abbrev pub Shape : Mode → ℕ → List Open → Ending → List ℕ → Type 0
+abbrev pub Shape : Mode → ℕ → List OpenElement → Ending → List ℕ → Type 0
 Shape Between room os e text = (tail : List ℕ) × (text ≡ spelling e.here ++ tail) × (is_forest room e.here ≡ true) × Tail room os e.outer tail
 Shape (After name) room os e text = (tail : List ℕ) × (text ≡ e.raw ++ tail) × (is_verbatim (end_text name) e.raw ≡ true) × (e.here ≡ Nothing) × Tail room os e.outer tail
 Shape (Failed f) room os e text = ⊥
 
 -- the element whose raw text comes is the innermost one
-abbrev pub Fits : Mode → List Open → Type 0
+abbrev pub Fits : Mode → List OpenElement → Type 0
 Fits Between os = Unit {0}
 Fits (After name) [] = ⊥
 Fits (After name) (o ∷ os) = (is_tag_name name ≡ true) × (o.name ≡ name)
 Fits (Failed f) os = Unit {0}
 
-fits_named : (m : Mode) (os : List Open) → Fits m os → Named m
+fits_named : (m : Mode) (os : List OpenElement) → Fits m os → Named m
 fits_named Between os f = tt
 fits_named (After name) [] f = absurd f
 fits_named (After name) (o ∷ os) f = f.0
@@ -129,21 +129,21 @@ fits_named (Failed g) os f = tt
 
 -- ---- small facts
 
-abbrev ok_opens : List Open → Result (List Open) ForestFault → List Open
+abbrev ok_opens : List OpenElement → Result (List OpenElement) ForestFault → List OpenElement
 ok_opens d (Ok os) = os
 ok_opens d (Err f) = d
 
-abbrev is_ok : Result (List Open) ForestFault → Bool
+abbrev is_ok : Result (List OpenElement) ForestFault → Bool
 is_ok (Ok os) = true
 is_ok (Err f) = false
 
-fails : (r : Result (List Open) ForestFault) (f : ForestFault) (os : List Open) → r ≡ Err f → r ≡ Ok os → ⊥
+fails : (r : Result (List OpenElement) ForestFault) (f : ForestFault) (os : List OpenElement) → r ≡ Err f → r ≡ Ok os → ⊥
 fails r f os e g = let h : false ≡ true = ap is_ok (sym e ∙ g) in cc
 
 pub some_none : (f : ForestFault) → Some f ≡ None → ⊥
 some_none f e = cc
 
-pub or_none : (r : Result (List Open) ForestFault) (next : List Open → Option ForestFault) → or_fault r next ≡ None → (os : List Open) × (r ≡ Ok os) × (next os ≡ None)
+pub or_none : (r : Result (List OpenElement) ForestFault) (next : List OpenElement → Option ForestFault) → or_fault r next ≡ None → (os : List OpenElement) × (r ≡ Ok os) × (next os ≡ None)
 or_none (Err f) next e = absurd (some_none f e)
 or_none (Ok os) next e = (os, refl, e)
 
@@ -226,13 +226,13 @@ ne_200 n lt = ne_eqb n 200 (λ h. absurd (omega (arith, h)))
 
 -- ---- one token
 
-abbrev Following : Mode → List Open → Ending → List ℕ → Type 0
+abbrev Following : Mode → List OpenElement → Ending → List ℕ → Type 0
 Following m os e rest = (room : ℕ) → length os + room ≡ 200 → Fits m os → Shape m room os e rest
 
-made_so : (m : Mode) (room : ℕ) (os : List Open) (text : List ℕ) (x y : Ending) → x ≡ y → Shape m room os y text → Shape m room os x text
+made_so : (m : Mode) (room : ℕ) (os : List OpenElement) (text : List ℕ) (x y : Ending) → x ≡ y → Shape m room os y text → Shape m room os x text
 made_so m room os text x y e s = subst (λ (z : Ending). Shape m room os z text) (sym e) s
 
-with_text : (text rest : List ℕ) (whole : List ℕ) (os : List Open) (room : ℕ) (e : Ending) → whole ≡ text ++ rest → is_text text ≡ true → BeginsTag rest → Shape Between room os e rest → Shape Between room os (with_token (Chars text) e) whole
+with_text : (text rest : List ℕ) (whole : List ℕ) (os : List OpenElement) (room : ℕ) (e : Ending) → whole ≡ text ++ rest → is_text text ≡ true → BeginsTag rest → Shape Between room os e rest → Shape Between room os (with_token (Chars text) e) whole
 with_text text rest whole os room e w here b (tail, text_is, allowed, tails) =
     let other = no_text e.here room tail allowed (subst BeginsTag text_is b) in (
       tail,
@@ -241,7 +241,7 @@ with_text text rest whole os room e w here b (tail, text_is, allowed, tails) =
       tails,
     )
 
-with_comment : (text rest : List ℕ) (whole : List ℕ) (os : List Open) (room : ℕ) (e : Ending) → whole ≡ token_text (Comment text) ++ rest → is_verbatim comment_close text ≡ true → Shape Between room os e rest → Shape Between room os (with_token (Comment text) e) whole
+with_comment : (text rest : List ℕ) (whole : List ℕ) (os : List OpenElement) (room : ℕ) (e : Ending) → whole ≡ token_text (Comment text) ++ rest → is_verbatim comment_close text ≡ true → Shape Between room os e rest → Shape Between room os (with_token (Comment text) e) whole
 with_comment text rest whole os room e w here (tail, text_is, allowed, tails) = (
   tail,
   w ∙ ap (λ (l : List ℕ). token_text (Comment text) ++ l) text_is ∙ sym (append_assoc (token_text (Comment text)) (spelling e.here) tail),
@@ -249,11 +249,11 @@ with_comment text rest whole os room e w here (tail, text_is, allowed, tails) = 
   tails,
 )
 
-with_end : (m : Mode) (name rest whole : List ℕ) (o : Open) (os : List Open) (room : ℕ) (e : Ending) → whole ≡ end_text name ++ rest → o.name ≡ name → Shape Between (suc room) os e rest → Tail room (o ∷ os) (e.here ∷ e.outer) whole
+with_end : (m : Mode) (name rest whole : List ℕ) (o : OpenElement) (os : List OpenElement) (room : ℕ) (e : Ending) → whole ≡ end_text name ++ rest → o.name ≡ name → Shape Between (suc room) os e rest → Tail room (o ∷ os) (e.here ∷ e.outer) whole
 with_end m name rest whole o os room e w same (tail, text_is, allowed, tails) =
     (tail, w ∙ ap (λ (l : List ℕ). end_text l ++ rest) (sym same) ∙ ap (λ (l : List ℕ). end_text o.name ++ l) text_is, allowed, tails)
 
-with_void : (name : List ℕ) (attrs : List Attr) (slash : Bool) (rest whole : List ℕ) (os : List Open) (room : ℕ) (e : Ending) → whole ≡ start_text name attrs slash ++ rest → is_void name ≡ true → is_start name attrs slash ≡ true → Shape Between (suc room) os e rest
+with_void : (name : List ℕ) (attrs : List Attr) (slash : Bool) (rest whole : List ℕ) (os : List OpenElement) (room : ℕ) (e : Ending) → whole ≡ start_text name attrs slash ++ rest → is_void name ≡ true → is_start name attrs slash ≡ true → Shape Between (suc room) os e rest
     → Shape Between (suc room) os (with_token (Start name attrs slash) e) whole
 with_void name attrs slash rest whole os room e w v s (tail, text_is, allowed, tails) =
     made_so Between (suc room) os whole (with_token (Start name attrs slash) e) (record { raw = []; here = Void name attrs slash e.here; outer = e.outer }) (void_made name attrs slash e v) (
@@ -270,9 +270,9 @@ no_slash name attrs false e v = refl
 regrouped : (a b c d e : List ℕ) → a ++ (b ++ (c ++ (d ++ e))) ≡ (((a ++ b) ++ c) ++ d) ++ e
 regrouped a b c d e = simp append_assoc
 
-with_element_by : (name : List ℕ) (attrs : List Attr) (from : ℕ) (rest whole tail : List ℕ) (os : List Open) (room : ℕ) (here : Forest) (outer : List Forest) → whole ≡ start_text name attrs false ++ rest → is_void name ≡ false → is_raw name ≡ false → is_start name attrs false ≡ true
+with_element_by : (name : List ℕ) (attrs : List Attr) (from : ℕ) (rest whole tail : List ℕ) (os : List OpenElement) (room : ℕ) (here : Forest) (outer : List Forest) → whole ≡ start_text name attrs false ++ rest → is_void name ≡ false → is_raw name ≡ false → is_start name attrs false ≡ true
     → rest ≡ spelling here ++ tail → is_forest room here ≡ true → Tail room (record { name = name; at = from } ∷ os) outer tail
-    → Shape Between (suc room) os (record { raw = []; here = Element name attrs here (first_of outer); outer = drop 1 outer }) whole
+    → Shape Between (suc room) os (record { raw = []; here = Element name attrs here (first_forest outer); outer = drop 1 outer }) whole
 with_element_by name attrs from rest whole tail os room here [] w v r s text_is allowed tails = absurd tails
 with_element_by name attrs from rest whole tail os room here (f ∷ fs) w v r s text_is allowed (left, tail_is, more, tails) = (
   left,
@@ -283,9 +283,9 @@ with_element_by name attrs from rest whole tail os room here (f ∷ fs) w v r s 
   tails,
 )
 
-with_raw_by : (name : List ℕ) (attrs : List Attr) (from : ℕ) (raw rest whole tail : List ℕ) (os : List Open) (room : ℕ) (outer : List Forest) → whole ≡ start_text name attrs false ++ rest → is_raw name ≡ true → is_start name attrs false ≡ true
+with_raw_by : (name : List ℕ) (attrs : List Attr) (from : ℕ) (raw rest whole tail : List ℕ) (os : List OpenElement) (room : ℕ) (outer : List Forest) → whole ≡ start_text name attrs false ++ rest → is_raw name ≡ true → is_start name attrs false ≡ true
     → rest ≡ raw ++ tail → is_verbatim (end_text name) raw ≡ true → Tail room (record { name = name; at = from } ∷ os) outer tail
-    → Shape Between (suc room) os (record { raw = []; here = RawElement name attrs raw (first_of outer); outer = drop 1 outer }) whole
+    → Shape Between (suc room) os (record { raw = []; here = RawElement name attrs raw (first_forest outer); outer = drop 1 outer }) whole
 with_raw_by name attrs from raw rest whole tail os room [] w r s text_is fits tails = absurd tails
 with_raw_by name attrs from raw rest whole tail os room (f ∷ fs) w r s text_is fits (left, tail_is, more, tails) = (
   left,
@@ -295,29 +295,29 @@ with_raw_by name attrs from raw rest whole tail os room (f ∷ fs) w r s text_is
   tails,
 )
 
-with_element : (name : List ℕ) (attrs : List Attr) (from : ℕ) (rest whole : List ℕ) (os : List Open) (room : ℕ) (e : Ending) → whole ≡ start_text name attrs false ++ rest → is_void name ≡ false → is_raw name ≡ false → is_start name attrs false ≡ true
+with_element : (name : List ℕ) (attrs : List Attr) (from : ℕ) (rest whole : List ℕ) (os : List OpenElement) (room : ℕ) (e : Ending) → whole ≡ start_text name attrs false ++ rest → is_void name ≡ false → is_raw name ≡ false → is_start name attrs false ≡ true
     → Shape Between room (record { name = name; at = from } ∷ os) e rest → Shape Between (suc room) os (with_token (Start name attrs false) e) whole
 with_element name attrs from rest whole os room e w v r s (tail, text_is, allowed, tails) =
-    made_so Between (suc room) os whole (with_token (Start name attrs false) e) (record { raw = []; here = Element name attrs e.here (first_of e.outer); outer = drop 1 e.outer }) (element_made name attrs false e v r)
+    made_so Between (suc room) os whole (with_token (Start name attrs false) e) (record { raw = []; here = Element name attrs e.here (first_forest e.outer); outer = drop 1 e.outer }) (element_made name attrs false e v r)
     (with_element_by name attrs from rest whole tail os room e.here e.outer w v r s text_is allowed tails)
 
-with_raw : (name : List ℕ) (attrs : List Attr) (from : ℕ) (rest whole : List ℕ) (os : List Open) (room : ℕ) (e : Ending) → whole ≡ start_text name attrs false ++ rest → is_raw name ≡ true → is_start name attrs false ≡ true
+with_raw : (name : List ℕ) (attrs : List Attr) (from : ℕ) (rest whole : List ℕ) (os : List OpenElement) (room : ℕ) (e : Ending) → whole ≡ start_text name attrs false ++ rest → is_raw name ≡ true → is_start name attrs false ≡ true
     → Shape (After name) room (record { name = name; at = from } ∷ os) e rest → Shape Between (suc room) os (with_token (Start name attrs false) e) whole
 with_raw name attrs from rest whole os room e w r s (tail, text_is, fits, nothing, tails) =
-    made_so Between (suc room) os whole (with_token (Start name attrs false) e) (record { raw = []; here = RawElement name attrs e.raw (first_of e.outer); outer = drop 1 e.outer }) (raw_made name attrs false e (raw_not_void name r) r)
+    made_so Between (suc room) os whole (with_token (Start name attrs false) e) (record { raw = []; here = RawElement name attrs e.raw (first_forest e.outer); outer = drop 1 e.outer }) (raw_made name attrs false e (raw_not_void name r) r)
     (with_raw_by name attrs from e.raw rest whole tail os room e.outer w r s text_is fits tails)
 
 -- the elements that are open after a start tag
-pub start_full : (name : List ℕ) (from : ℕ) (os : List Open) → (length os == 200) ≡ true → after_start name from os ≡ Err (TooDeep from)
+pub start_full : (name : List ℕ) (from : ℕ) (os : List OpenElement) → (length os == 200) ≡ true → after_start name from os ≡ Err (TooDeep from)
 start_full name from os e = rw e refl
 
-pub start_void : (name : List ℕ) (from : ℕ) (os : List Open) → (length os == 200) ≡ false → is_void name ≡ true → after_start name from os ≡ Ok os
+pub start_void : (name : List ℕ) (from : ℕ) (os : List OpenElement) → (length os == 200) ≡ false → is_void name ≡ true → after_start name from os ≡ Ok os
 start_void name from os e v = rw (e, v) refl
 
-pub start_open : (name : List ℕ) (from : ℕ) (os : List Open) → (length os == 200) ≡ false → is_void name ≡ false → after_start name from os ≡ Ok (record { name = name; at = from } ∷ os)
+pub start_open : (name : List ℕ) (from : ℕ) (os : List OpenElement) → (length os == 200) ≡ false → is_void name ≡ false → after_start name from os ≡ Ok (record { name = name; at = from } ∷ os)
 start_open name from os e v = rw (e, v) refl
 
-same_opens : (r : Result (List Open) ForestFault) (os os2 : List Open) → r ≡ Ok os → r ≡ Ok os2 → os2 ≡ os
+same_opens : (r : Result (List OpenElement) ForestFault) (os os2 : List OpenElement) → r ≡ Ok os → r ≡ Ok os2 → os2 ≡ os
 same_opens r os os2 e f = ap (ok_opens os) (sym f ∙ e)
 
 plain_after : (name : List ℕ) (attrs : List Attr) (slash : Bool) → is_raw name ≡ false → mode_after (Start name attrs slash) ≡ Between
@@ -326,16 +326,16 @@ plain_after name attrs slash e = rw e refl
 raw_after : (name : List ℕ) (attrs : List Attr) (slash : Bool) → is_raw name ≡ true → mode_after (Start name attrs slash) ≡ After name
 raw_after name attrs slash e = rw e refl
 
-at_start : (name : List ℕ) (attrs : List Attr) (slash : Bool) (from : ℕ) (rest whole : List ℕ) (os os2 : List Open) (room : ℕ) (e : Ending) → length os + suc room ≡ 200 → whole ≡ start_text name attrs slash ++ rest → is_start name attrs slash ≡ true → (length os == 200) ≡ false
+at_start : (name : List ℕ) (attrs : List Attr) (slash : Bool) (from : ℕ) (rest whole : List ℕ) (os os2 : List OpenElement) (room : ℕ) (e : Ending) → length os + suc room ≡ 200 → whole ≡ start_text name attrs slash ++ rest → is_start name attrs slash ≡ true → (length os == 200) ≡ false
     → after_start name from os ≡ Ok os2 → Following (mode_after (Start name attrs slash)) os2 e rest → Shape Between (suc room) os (with_token (Start name attrs slash) e) whole
 at_start name attrs slash from rest whole os os2 room e n w s full a later =
     elim (cases_Bool (is_void name)) [
       | inl v ↦
           let opened = same_opens (after_start name from os) os os2 (start_void name from os full v) a in
-          let on_void : Following Between os e rest = subst (λ (o : List Open). Following Between o e rest) opened (subst (λ (m : Mode). Following m os2 e rest) (plain_after name attrs slash (void_not_raw name v)) later) in
+          let on_void : Following Between os e rest = subst (λ (o : List OpenElement). Following Between o e rest) opened (subst (λ (m : Mode). Following m os2 e rest) (plain_after name attrs slash (void_not_raw name v)) later) in
           with_void name attrs slash rest whole os room e w v s (on_void (suc room) n tt)
       | inr v ↦
-          let here : Open = record { name = name; at = from } in
+          let here : OpenElement = record { name = name; at = from } in
           let opened = same_opens (after_start name from os) (here ∷ os) os2 (start_open name from os full v) a in
           let none = no_slash name attrs slash s v in
           let s2 : is_start name attrs false ≡ true = subst (λ (x : Bool). is_start name attrs x ≡ true) none s in
@@ -343,22 +343,22 @@ at_start name attrs slash from rest whole os os2 room e n w s full a later =
           let made : Shape Between (suc room) os (with_token (Start name attrs false) e) whole =
           elim (cases_Bool (is_raw name)) [
             | inl r ↦
-                let on_raw : Following (After name) (here ∷ os) e rest = subst (λ (o : List Open). Following (After name) o e rest) opened (subst (λ (m : Mode). Following m os2 e rest) (raw_after name attrs slash r) later) in
+                let on_raw : Following (After name) (here ∷ os) e rest = subst (λ (o : List OpenElement). Following (After name) o e rest) opened (subst (λ (m : Mode). Following m os2 e rest) (raw_after name attrs slash r) later) in
                 with_raw name attrs from rest whole os room e w2 r s2 (on_raw room (omega arith) (start_named name attrs slash s, refl))
             | inr r ↦
-                let on_element : Following Between (here ∷ os) e rest = subst (λ (o : List Open). Following Between o e rest) opened (subst (λ (m : Mode). Following m os2 e rest) (plain_after name attrs slash r) later) in
+                let on_element : Following Between (here ∷ os) e rest = subst (λ (o : List OpenElement). Following Between o e rest) opened (subst (λ (m : Mode). Following m os2 e rest) (plain_after name attrs slash r) later) in
                 with_element name attrs from rest whole os room e w2 v r s2 (on_element room (omega arith) tt)
           ] in
           subst (λ (x : Bool). Shape Between (suc room) os (with_token (Start name attrs x) e) whole) (sym none) made
     ]
 
-at_full : (name : List ℕ) (attrs : List Attr) (slash : Bool) (from : ℕ) (rest whole : List ℕ) (os os2 : List Open) (room : ℕ) (e : Ending) → length os + room ≡ 200 → whole ≡ start_text name attrs slash ++ rest → is_start name attrs slash ≡ true
+at_full : (name : List ℕ) (attrs : List Attr) (slash : Bool) (from : ℕ) (rest whole : List ℕ) (os os2 : List OpenElement) (room : ℕ) (e : Ending) → length os + room ≡ 200 → whole ≡ start_text name attrs slash ++ rest → is_start name attrs slash ≡ true
     → after_start name from os ≡ Ok os2 → Following (mode_after (Start name attrs slash)) os2 e rest → Shape Between room os (with_token (Start name attrs slash) e) whole
 at_full name attrs slash from rest whole os os2 zero e n w s a later = absurd (fails (after_start name from os) (TooDeep from) os2 (start_full name from os (eq-eqb (length os) 200 (omega arith))) a)
 at_full name attrs slash from rest whole os os2 (suc room) e n w s a later = at_start name attrs slash from rest whole os os2 room e n w s (ne_200 (length os) (omega arith)) a later
 
 -- an end tag closes the innermost element
-end_closes : (name : List ℕ) (from : ℕ) (o : Open) (os os2 : List Open) → after_end name from (o ∷ os) ≡ Ok os2 → (os2 ≡ os) × (o.name ≡ name)
+end_closes : (name : List ℕ) (from : ℕ) (o : OpenElement) (os os2 : List OpenElement) → after_end name from (o ∷ os) ≡ Ok os2 → (os2 ≡ os) × (o.name ≡ name)
 end_closes name from o os os2 a =
     elim (cases_Bool (is_void name)) [
       | inl v ↦ absurd (fails (after_end name from (o ∷ os)) (Stray from) os2 (rw v refl) a)
@@ -369,38 +369,38 @@ end_closes name from o os os2 a =
           ]
     ]
 
-at_end_tag : (name : List ℕ) (from : ℕ) (rest whole : List ℕ) (os os2 : List Open) (room : ℕ) (e : Ending) → length os + room ≡ 200 → whole ≡ end_text name ++ rest → after_end name from os ≡ Ok os2 → Following Between os2 e rest → Tail room os (e.here ∷ e.outer) whole
+at_end_tag : (name : List ℕ) (from : ℕ) (rest whole : List ℕ) (os os2 : List OpenElement) (room : ℕ) (e : Ending) → length os + room ≡ 200 → whole ≡ end_text name ++ rest → after_end name from os ≡ Ok os2 → Following Between os2 e rest → Tail room os (e.here ∷ e.outer) whole
 at_end_tag name from rest whole [] os2 room e n w a later = absurd (fails (after_end name from []) (Stray from) os2 refl a)
 at_end_tag name from rest whole (o ∷ os) os2 room e n w a later =
     let c = end_closes name from o os os2 a in
-    let suffix : Following Between os e rest = subst (λ (x : List Open). Following Between x e rest) c.0 later in
-    with_end Between name rest whole o os room e w c.1 (suffix (suc room) (omega arith) tt)
+    let follows : Following Between os e rest = subst (λ (x : List OpenElement). Following Between x e rest) c.0 later in
+    with_end Between name rest whole o os room e w c.1 (follows (suc room) (omega arith) tt)
 
-step_between : (k : Token) (from : ℕ) (rest whole : List ℕ) (os os2 : List Open) (room : ℕ) (e : Ending) → length os + room ≡ 200 → whole ≡ token_text k ++ rest → is_token k ≡ true → MayFollow k rest → after_token k from os ≡ Ok os2 → Following (mode_after k) os2 e rest
+step_between : (k : Token) (from : ℕ) (rest whole : List ℕ) (os os2 : List OpenElement) (room : ℕ) (e : Ending) → length os + room ≡ 200 → whole ≡ token_text k ++ rest → is_token k ≡ true → MayFollow k rest → after_token k from os ≡ Ok os2 → Following (mode_after k) os2 e rest
     → Shape Between room os (with_token k e) whole
 step_between (Start name attrs slash) from rest whole os os2 room e n w s f a later = at_full name attrs slash from rest whole os os2 room e n w s a later
 step_between (End name) from rest whole os os2 room e n w s f a later = (whole, refl, refl, at_end_tag name from rest whole os os2 room e n w a later)
 step_between (Chars text) from rest whole os os2 room e n w s f a later =
-    let suffix : Following Between os e rest = subst (λ (x : List Open). Following Between x e rest) (same_opens (Ok os) os os2 refl a) later in
-    with_text text rest whole os room e w s f (suffix room n tt)
+    let follows : Following Between os e rest = subst (λ (x : List OpenElement). Following Between x e rest) (same_opens (Ok os) os os2 refl a) later in
+    with_text text rest whole os room e w s f (follows room n tt)
 step_between (Raw text) from rest whole os os2 room e n w s f a later = absurd cc
 step_between (Comment text) from rest whole os os2 room e n w s f a later =
-    let suffix : Following Between os e rest = subst (λ (x : List Open). Following Between x e rest) (same_opens (Ok os) os os2 refl a) later in
-    with_comment text rest whole os room e w s (suffix room n tt)
+    let follows : Following Between os e rest = subst (λ (x : List OpenElement). Following Between x e rest) (same_opens (Ok os) os os2 refl a) later in
+    with_comment text rest whole os room e w s (follows room n tt)
 
-with_inner : (name inner rest left whole : List ℕ) (os : List Open) (room : ℕ) (e : Ending) → whole ≡ inner ++ rest → rest ≡ end_text name ++ left → is_verbatim (end_text name) inner ≡ true → Shape Between room os e rest → Shape (After name) room os (with_token (Raw inner) e) whole
+with_inner : (name inner rest left whole : List ℕ) (os : List OpenElement) (room : ℕ) (e : Ending) → whole ≡ inner ++ rest → rest ≡ end_text name ++ left → is_verbatim (end_text name) inner ≡ true → Shape Between room os e rest → Shape (After name) room os (with_token (Raw inner) e) whole
 with_inner name inner rest left whole os room e w closes fits (tail, text_is, allowed, tails) =
     let nothing = closing_nothing e.here room tail name left allowed (sym text_is ∙ closes) in
     (tail, w ∙ ap (λ (l : List ℕ). inner ++ l) (text_is ∙ ap (λ (f : Forest). spelling f ++ tail) nothing), fits, nothing, tails)
 
-step_raw : (name : List ℕ) (k : Token) (at from to : ℕ) (rest whole : List ℕ) (os os2 : List Open) (room : ℕ) (e : Ending) → length os + room ≡ 200 → after_token k from os ≡ Ok os2 → Following (mode_after k) os2 e rest
+step_raw : (name : List ℕ) (k : Token) (at from to : ℕ) (rest whole : List ℕ) (os os2 : List OpenElement) (room : ℕ) (e : Ending) → length os + room ≡ 200 → after_token k from os ≡ Ok os2 → Following (mode_after k) os2 e rest
     → RawRead at name whole k to → ((some left : List ℕ) → whole ≡ some ++ left → to ≡ at + length some → rest ≡ left) → Shape (After name) room os (with_token k e) whole
 step_raw name k at from to rest whole os os2 room e n a later (Inner inner left is text_is to_is lt fits) same =
     let a2 : Ok os ≡ Ok os2 = subst (λ (x : Token). after_token x from os ≡ Ok os2) is a in
     let later2 : Following Between os2 e rest = subst (λ (x : Token). Following (mode_after x) os2 e rest) is later in
-    let suffix : Following Between os e rest = subst (λ (x : List Open). Following Between x e rest) (same_opens (Ok os) os os2 refl a2) later2 in
+    let follows : Following Between os e rest = subst (λ (x : List OpenElement). Following Between x e rest) (same_opens (Ok os) os os2 refl a2) later2 in
     let left_is = same inner (end_text name ++ left) text_is to_is in
-    subst (λ (x : Token). Shape (After name) room os (with_token x e) whole) (sym is) (with_inner name inner rest left whole os room e (text_is ∙ ap (λ (l : List ℕ). inner ++ l) (sym left_is)) left_is fits (suffix room n tt))
+    subst (λ (x : Token). Shape (After name) room os (with_token x e) whole) (sym is) (with_inner name inner rest left whole os room e (text_is ∙ ap (λ (l : List ℕ). inner ++ l) (sym left_is)) left_is fits (follows room n tt))
 step_raw name k at from to rest whole os os2 room e n a later (Closing left is text_is to_is) same =
     let a2 : after_end name from os ≡ Ok os2 = subst (λ (x : Token). after_token x from os ≡ Ok os2) is a in
     let later2 : Following Between os2 e rest = subst (λ (x : Token). Following (mode_after x) os2 e rest) is later in
@@ -438,7 +438,7 @@ none_text at (b ∷ bs) e =
       | inr other ↦ absurd (never_none_text at (b ∷ bs) (run_end None 60 at (b ∷ bs)) (rw other at e))
     ]
 
-shape_end : (m : Mode) (at room : ℕ) (os : List Open) (text : List ℕ) (last : Option ScanFault) → Fits m os → Runs m at text [] last → fault_at_end os last ≡ None → Shape m room os (ending []) text
+shape_end : (m : Mode) (at room : ℕ) (os : List OpenElement) (text : List ℕ) (last : Option ScanFault) → Fits m os → ReadsTokens m at text [] last → fault_at_end os last ≡ None → Shape m room os (ending []) text
 shape_end m at room [] text (Some f) fits r e = absurd (some_none _ e)
 shape_end m at room (o ∷ os) text (Some f) fits r e = absurd (some_none _ e)
 shape_end m at room (o ∷ os) text None fits r e = absurd (some_none _ e)
@@ -448,7 +448,7 @@ shape_end (Failed f) at room [] text None fits r e = absurd (failed_no_end f at 
 
 -- ---- all tokens
 
-right : (ts : List Placed) (last : Option ScanFault) (m : Mode) (at room : ℕ) (os : List Open) (text : List ℕ) → length os + room ≡ 200 → Fits m os → Runs m at text ts last → fault_in last os ts ≡ None → Shape m room os (ending ts) text
+right : (ts : List Placed) (last : Option ScanFault) (m : Mode) (at room : ℕ) (os : List OpenElement) (text : List ℕ) → length os + room ≡ 200 → Fits m os → ReadsTokens m at text ts last → fault_in last os ts ≡ None → Shape m room os (ending ts) text
 right [] last m at room os text n fits r e = shape_end m at room os text last fits r e
 right (t ∷ ts) last Between at room os text n fits (read, from, rest, some, parts, to, lt, r) e =
     let o = or_none (after_token t.token t.from os) (λ os. fault_in last os ts) e in

@@ -9,7 +9,7 @@ use Rattle.model_spelling.specs.declared.scan_fault.ScanFault.{ScanFault}
 use Rattle.model_spelling.specs.declared.scan_fault.ScanWhat.TheVariants.{BadChar, BadTag, BadAttribute, BadReference, UnclosedComment, UnclosedTag, TooManyAttributes, DuplicateAttribute}
 use Rattle.model_spelling.specs.Grammar.{is_barred, is_letter, is_name_byte, is_plaintext, begins_with, references, starts_reference, has_name, Attr, Start, End, Comment, comment_close}
 use Rattle.ve_kinds.specs.Tags.{is_void}
-use Rattle.model_spelling.specs.Reading.{◌>>=◌, fault, refused, longest_prefix, after_prefix, reference_fault, run_end, value_end, verbatim_end, name_len_at, quote_at, head_at, attr_at, attrs_at, name_ends, tag_close, start_after, with_name, start_at, end_after, end_at, comment_at, dash_at}
+use Rattle.model_spelling.specs.Reading.{◌>>=◌, fault, byte_fault, longest_prefix, after_prefix, reference_fault, run_end, value_end, verbatim_end, name_len_at, quote_at, head_at, attr_at, attrs_at, name_ends, tag_close, start_after, with_name, start_at, end_after, end_at, comment_at, dash_at}
 use Rattle.model_spelling.specs.Standing.{is_open, passes_reference, stands}
 use Rattle.model_spelling.proofs.AttrReading.{attr_head_fault, attr_many, attr_twice, attr_value_fault, attr_whole, attrs_stop, attrs_fault, attrs_more}
 use Rattle.model_spelling.proofs.Stays.{err, err_same, fault_ways, past_one}
@@ -28,15 +28,15 @@ one_settled : (whole : List ℕ) (r : Bool) (at : ℕ) (f : ScanFault) → settl
 one_settled whole true at f s = refl
 one_settled whole false at f s = s
 
-pub refused_settled : (whole : List ℕ) (at c : ℕ) (f g : ScanFault) → settled whole f ≡ true → refused at c f ≡ g → settled whole g ≡ true
+pub refused_settled : (whole : List ℕ) (at c : ℕ) (f g : ScanFault) → settled whole f ≡ true → byte_fault at c f ≡ g → settled whole g ≡ true
 refused_settled whole at c f g s e = ap (settled whole) (sym e) ∙ one_settled whole (is_barred c) at f s
 
 -- this reading fails so
 pub from_err : {A : Type 0} (whole : List ℕ) (r : Result A ScanFault) (f g : ScanFault) → settled whole f ≡ true → r ≡ Err f → r ≡ Err g → settled whole g ≡ true
 from_err whole r f g s e h = as_settled whole f g s (err_same r f g e h)
 
-pub from_refused : {A : Type 0} (whole : List ℕ) (r : Result A ScanFault) (at c : ℕ) (f g : ScanFault) → settled whole f ≡ true → r ≡ Err (refused at c f) → r ≡ Err g → settled whole g ≡ true
-from_refused whole r at c f g s e h = refused_settled whole at c f g s (err_same r (refused at c f) g e h)
+pub from_refused : {A : Type 0} (whole : List ℕ) (r : Result A ScanFault) (at c : ℕ) (f g : ScanFault) → settled whole f ≡ true → r ≡ Err (byte_fault at c f) → r ≡ Err g → settled whole g ≡ true
+from_refused whole r at c f g s e h = refused_settled whole at c f g s (err_same r (byte_fault at c f) g e h)
 
 -- ---- runs
 

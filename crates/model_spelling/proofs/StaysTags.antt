@@ -11,7 +11,7 @@ use Rattle.model_spelling.specs.declared.scan_fault.ScanFault.{ScanFault}
 use Rattle.model_spelling.specs.declared.scan_fault.ScanWhat.TheVariants.{BadTag, BadAttribute, Doctype, UnclosedComment, UnclosedTag, TooManyAttributes, DuplicateAttribute}
 use Rattle.model_spelling.specs.Grammar.{is_barred, is_letter, is_name_byte, name_same, begins_with, has_name, Attr, attr_text, Token, Start, Comment, comment_close}
 use Rattle.ve_kinds.specs.Tags.{is_void}
-use Rattle.model_spelling.specs.Reading.{◌>>=◌, fault, refused, value_end, verbatim_end, name_len_at, quote_at, head_at, attr_at, attrs_at, name_ends, tag_close, start_after, with_name, start_at, end_after, end_at, comment_at, is_doctype, dash_at, markup_at, tag_at}
+use Rattle.model_spelling.specs.Reading.{◌>>=◌, fault, byte_fault, value_end, verbatim_end, name_len_at, quote_at, head_at, attr_at, attrs_at, name_ends, tag_close, start_after, with_name, start_at, end_after, end_at, comment_at, is_doctype, dash_at, markup_at, tag_at}
 use Rattle.model_spelling.specs.Standing.{is_doctype_prefix, stands}
 use Rattle.model_spelling.proofs.AttrReading.{prefix_all, attr_head_fault, attr_many, attr_twice, attr_value_fault, attr_whole, attrs_stop, attrs_fault, attrs_more}
 use Rattle.model_spelling.proofs.TokenRuns.{not_false, begins_from_parts}
@@ -34,8 +34,8 @@ quote_stays tag place at k c [] more f ne e =
     elim (cases_Bool (c == 61)) [
       | inl equals ↦ absurd (ne (sym (err_same (quote_at tag place at (c ∷ []) >>= pair_of k) (fault tag UnclosedTag) f (rw equals refl) e)))
       | inr other ↦
-          let is : (quote_at tag place at (c ∷ []) >>= pair_of k) ≡ Err (refused at c (fault place BadAttribute)) = rw other refl in
-          let same = err_same (quote_at tag place at (c ∷ []) >>= pair_of k) (refused at c (fault place BadAttribute)) f is e in
+          let is : (quote_at tag place at (c ∷ []) >>= pair_of k) ≡ Err (byte_fault at c (fault place BadAttribute)) = rw other refl in
+          let same = err_same (quote_at tag place at (c ∷ []) >>= pair_of k) (byte_fault at c (fault place BadAttribute)) f is e in
           rw other (ap err same)
     ]
 
@@ -189,8 +189,8 @@ close_stays tag at void (c ∷ []) more f ne e =
           elim (cases_Bool (c == 47 && void)) [
             | inl slash ↦ absurd (ne (sym (err_same (tag_close tag void at (c ∷ [])) (fault tag UnclosedTag) f (rw (other, slash) refl) e)))
             | inr neither ↦
-                let is : tag_close tag void at (c ∷ []) ≡ Err (refused at c (fault at BadAttribute)) = rw (other, neither) refl in
-                let same = err_same (tag_close tag void at (c ∷ [])) (refused at c (fault at BadAttribute)) f is e in
+                let is : tag_close tag void at (c ∷ []) ≡ Err (byte_fault at c (fault at BadAttribute)) = rw (other, neither) refl in
+                let same = err_same (tag_close tag void at (c ∷ [])) (byte_fault at c (fault at BadAttribute)) f is e in
                 (rw (other, neither) (ap err same), omega arith)
           ]
     ]
@@ -270,7 +270,7 @@ end_stays tag [] more f ne e = absurd (ne (sym (err_same (end_at tag []) (fault 
 end_stays tag (c ∷ cs) more f ne e =
     elim (cases_Bool (is_letter c)) [
       | inl letter ↦ let h : with_name (end_after tag) (tag + 2) (c ∷ cs) ≡ Err f = rw letter at e in rw letter (end_named_stays tag (c ∷ cs) more f ne h)
-      | inr other ↦ let h : err {A = Token × ℕ} (refused (tag + 2) c (fault tag BadTag)) ≡ Err f = rw other at e in rw other h
+      | inr other ↦ let h : err {A = Token × ℕ} (byte_fault (tag + 2) c (fault tag BadTag)) ≡ Err f = rw other at e in rw other h
     ]
 
 close_plain : list_all (λ b. not (is_barred b)) comment_close ≡ true
@@ -289,7 +289,7 @@ dash_stays tag [] more f ne e = absurd (ne (sym (err_same (dash_at tag []) (faul
 dash_stays tag (d ∷ ds) more f ne e =
     elim (cases_Bool (d == 45)) [
       | inl dash ↦ let h : comment_at tag ds ≡ Err f = rw dash at e in rw dash (comment_by tag ds more f (verbatim_end comment_close (fault tag UnclosedComment) (tag + 4) ds) ne refl h)
-      | inr other ↦ let h : err {A = Token × ℕ} (refused (tag + 3) d (fault tag BadTag)) ≡ Err f = rw other at e in rw other h
+      | inr other ↦ let h : err {A = Token × ℕ} (byte_fault (tag + 3) d (fault tag BadTag)) ≡ Err f = rw other at e in rw other h
     ]
 
 -- ---- doctype
@@ -328,31 +328,31 @@ doctype_true cs more is =
     let ge : 7 ≤ length cs = omega (arith, len, length-take 7 cs) in
     doctype_taken (cs ++ more) cs (take-append-le 7 cs more ge) ∙ is
 
-refused_barred : (at b : ℕ) (f g : ScanFault) → is_barred b ≡ true → refused at b f ≡ refused at b g
+refused_barred : (at b : ℕ) (f g : ScanFault) → is_barred b ≡ true → byte_fault at b f ≡ byte_fault at b g
 refused_barred at b f g e = rw e refl
 
-pub refused_plain : (at b : ℕ) (f : ScanFault) → is_barred b ≡ false → refused at b f ≡ f
+pub refused_plain : (at b : ℕ) (f : ScanFault) → is_barred b ≡ false → byte_fault at b f ≡ f
 refused_plain at b f e = rw e refl
 
 abbrev pub markup_fault : ℕ → List ℕ → ScanFault
 markup_fault tag cs = fault tag (cond (is_doctype cs) Doctype BadTag)
 
-pub markup_is : (tag c : ℕ) (cs : List ℕ) → (c == 45) ≡ false → markup_at tag (c ∷ cs) ≡ Err (refused (tag + 2) c (markup_fault tag (c ∷ cs)))
+pub markup_is : (tag c : ℕ) (cs : List ℕ) → (c == 45) ≡ false → markup_at tag (c ∷ cs) ≡ Err (byte_fault (tag + 2) c (markup_fault tag (c ∷ cs)))
 unfolding markup_at
 markup_is tag c cs n = rw n refl
 
-markup_same : (tag c : ℕ) (cs more whole : List ℕ) (f : ScanFault) → drop tag whole ≡ 60 ∷ (33 ∷ (c ∷ cs)) → stands whole f ≡ true → refused (tag + 2) c (markup_fault tag (c ∷ cs)) ≡ f → refused (tag + 2) c (markup_fault tag (c ∷ (cs ++ more))) ≡ f
+markup_same : (tag c : ℕ) (cs more whole : List ℕ) (f : ScanFault) → drop tag whole ≡ 60 ∷ (33 ∷ (c ∷ cs)) → stands whole f ≡ true → byte_fault (tag + 2) c (markup_fault tag (c ∷ cs)) ≡ f → byte_fault (tag + 2) c (markup_fault tag (c ∷ (cs ++ more))) ≡ f
 markup_same tag c cs more whole f here s e =
     elim (cases_Bool (is_barred c)) [
       | inl barred ↦ refused_barred (tag + 2) c (markup_fault tag (c ∷ (cs ++ more))) (markup_fault tag (c ∷ cs)) barred ∙ e
       | inr plain ↦
           elim (cases_Bool (is_doctype (c ∷ cs))) [
-            | inl doctype ↦ ap (λ (x : Bool). refused (tag + 2) c (fault tag (cond x Doctype BadTag))) (doctype_true (c ∷ cs) more doctype ∙ sym doctype) ∙ e
+            | inl doctype ↦ ap (λ (x : Bool). byte_fault (tag + 2) c (fault tag (cond x Doctype BadTag))) (doctype_true (c ∷ cs) more doctype ∙ sym doctype) ∙ e
             | inr no_doctype ↦
                 let is : fault tag BadTag ≡ f = ap (λ (x : Bool). fault tag (cond x Doctype BadTag)) (sym no_doctype) ∙ sym (refused_plain (tag + 2) c (markup_fault tag (c ∷ cs)) plain) ∙ e in
                 let st : not (is_doctype_prefix (drop tag whole)) ≡ true = ap (stands whole) is ∙ s in
-                let prefix : begins_with (map to_ascii_lowercase (c ∷ cs)) (codes "doctype") ≡ false = sym (ap is_doctype_prefix here ∙ prefix_is (c ∷ cs)) ∙ not_false (is_doctype_prefix (drop tag whole)) st in
-                ap (λ (x : Bool). refused (tag + 2) c (fault tag (cond x Doctype BadTag))) (doctype_false (c ∷ cs) more no_doctype prefix ∙ sym no_doctype) ∙ e
+                let unlike : begins_with (map to_ascii_lowercase (c ∷ cs)) (codes "doctype") ≡ false = sym (ap is_doctype_prefix here ∙ prefix_is (c ∷ cs)) ∙ not_false (is_doctype_prefix (drop tag whole)) st in
+                ap (λ (x : Bool). byte_fault (tag + 2) c (fault tag (cond x Doctype BadTag))) (doctype_false (c ∷ cs) more no_doctype unlike ∙ sym no_doctype) ∙ e
           ]
     ]
 
@@ -363,7 +363,7 @@ markup_stays tag (c ∷ cs) more whole f here s ne e =
     elim (cases_Bool (c == 45)) [
       | inl dash ↦ let h : dash_at tag cs ≡ Err f = rw dash at e in rw dash (dash_stays tag cs more f ne h)
       | inr other ↦
-          let same = err_same (markup_at tag (c ∷ cs)) (refused (tag + 2) c (markup_fault tag (c ∷ cs))) f (markup_is tag c cs other) e in
+          let same = err_same (markup_at tag (c ∷ cs)) (byte_fault (tag + 2) c (markup_fault tag (c ∷ cs))) f (markup_is tag c cs other) e in
           markup_is tag c (cs ++ more) other ∙ ap err (markup_same tag c cs more whole f here s same)
     ]
 
@@ -381,7 +381,7 @@ tag_stays tag (c ∷ cs) more whole f here s ne nc e =
                   | inl bang ↦
                       let h : markup_at tag cs ≡ Err f = rw (no_letter, no_slash, bang) at e in
                       rw (no_letter, no_slash, bang) (markup_stays tag cs more whole f (here ∙ ap (λ (x : ℕ). 60 ∷ (x ∷ cs)) (eqb-true c 33 bang)) s nc h)
-                  | inr no_bang ↦ let h : err {A = Token × ℕ} (refused (tag + 1) c (fault tag BadTag)) ≡ Err f = rw (no_letter, no_slash, no_bang) at e in rw (no_letter, no_slash, no_bang) h
+                  | inr no_bang ↦ let h : err {A = Token × ℕ} (byte_fault (tag + 1) c (fault tag BadTag)) ≡ Err f = rw (no_letter, no_slash, no_bang) at e in rw (no_letter, no_slash, no_bang) h
                 ]
           ]
     ]

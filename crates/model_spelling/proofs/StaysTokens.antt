@@ -10,8 +10,8 @@ use Rattle.model_spelling.specs.declared.scan_fault.ScanFault.{ScanFault}
 use Rattle.model_spelling.specs.declared.scan_fault.ScanWhat.TheVariants.{UnclosedComment, UnclosedTag, UnclosedRaw}
 use Rattle.model_spelling.specs.Grammar.{is_barred, is_name_byte, is_tag_name, is_verbatim, Token, Start, End, Chars, Raw, Comment, token_text, end_text}
 use Rattle.model_spelling.specs.Reading.{◌>>=◌, fault, run_end, verbatim_end, some_token, tag_at, between_at, token_at, Mode, Between, After, Failed, Step, mode_after}
-use Rattle.model_spelling.specs.Tokens.{Placed, Tokens, tokens_from, tokens_of, MayFollow, Inner, Closing, Runs}
-use Rattle.model_spelling.specs.Faults.{Open, ForestFault, Scan, Unclosed, fault_in, fault_at_end, fault_of, after_token, or_fault}
+use Rattle.model_spelling.specs.Tokens.{Placed, Tokens, tokens_from, tokens_of, MayFollow, Inner, Closing, ReadsTokens}
+use Rattle.model_spelling.specs.Faults.{OpenElement, ForestFault, Scan, Unclosed, fault_in, fault_at_end, fault_of, after_token, or_fault}
 use Rattle.model_spelling.specs.Standing.{stands, forest_stands}
 use Rattle.model_spelling.proofs.AttrReading.{and_left, and_right}
 use Rattle.model_spelling.proofs.Only.{and_both, both, token_only, raw_only, raw_none, raw_by, none_by, name_parts, end_tag_only, end_length}
@@ -149,20 +149,20 @@ token_more (Failed f) at text more t to n e some = absurd (failed_never f at tex
 -- ---- forests
 
 -- tokens that come from here and have this fault
-record Comes (m : Mode) (at : ℕ) (text : List ℕ) (os : List Open) (e : ForestFault) : Type 0 where
+record Comes (m : Mode) (at : ℕ) (text : List ℕ) (os : List OpenElement) (e : ForestFault) : Type 0 where
   pub tokens : List Placed
   pub last : Option ScanFault
-  pub runs : Runs m at text tokens last
+  pub runs : ReadsTokens m at text tokens last
   pub same : fault_in last os tokens ≡ Some e
 
-pub scan_at_end : (os : List Open) (f : ScanFault) → fault_at_end os (Some f) ≡ Some (Scan f)
+pub scan_at_end : (os : List OpenElement) (f : ScanFault) → fault_at_end os (Some f) ≡ Some (Scan f)
 scan_at_end [] f = refl
 scan_at_end (o ∷ os) f = refl
 
 pub fault_same : (e g : ForestFault) → Some e ≡ Some g → e ≡ g
 fault_same e g h = cc
 
-comes_end : (m : Mode) (at : ℕ) (text more whole : List ℕ) (os : List Open) (last : Option ScanFault) (e : ForestFault) → Named m → drop at whole ≡ text → forest_stands whole e ≡ true → Runs m at text [] last → fault_at_end os last ≡ Some e → Comes m at (text ++ more) os e
+comes_end : (m : Mode) (at : ℕ) (text more whole : List ℕ) (os : List OpenElement) (last : Option ScanFault) (e : ForestFault) → Named m → drop at whole ≡ text → forest_stands whole e ≡ true → ReadsTokens m at text [] last → fault_at_end os last ≡ Some e → Comes m at (text ++ more) os e
 comes_end m at text more whole [] None e n here s r h = absurd (some_none e (sym h))
 comes_end m at text more whole (o ∷ os) None e n here s r h =
     let same = fault_same (Unclosed o.at) e h in
@@ -172,17 +172,17 @@ comes_end m at text more whole os (Some f) e n here s r h =
     let st : stands whole f ≡ true = ap (forest_stands whole) same ∙ s in
     record { tokens = []; last = Some f; runs = token_stays m at text more whole f n here st r; same = h }
 
-abbrev pub Goes : Placed → List Open → Option ScanFault → List Placed → ForestFault → Type 0
-Goes t os last ts e = (os2 : List Open) × (after_token t.token t.from os ≡ Ok os2) × (fault_in last os2 ts ≡ Some e)
+abbrev pub Goes : Placed → List OpenElement → Option ScanFault → List Placed → ForestFault → Type 0
+Goes t os last ts e = (os2 : List OpenElement) × (after_token t.token t.from os ≡ Ok os2) × (fault_in last os2 ts ≡ Some e)
 
-pub one_way : (t : Placed) (os : List Open) (last : Option ScanFault) (ts : List Placed) (e : ForestFault) (r : Result (List Open) ForestFault) → after_token t.token t.from os ≡ r → fault_in last os (t ∷ ts) ≡ Some e → (after_token t.token t.from os ≡ Err e) ⊎ Goes t os last ts e
+pub one_way : (t : Placed) (os : List OpenElement) (last : Option ScanFault) (ts : List Placed) (e : ForestFault) (r : Result (List OpenElement) ForestFault) → after_token t.token t.from os ≡ r → fault_in last os (t ∷ ts) ≡ Some e → (after_token t.token t.from os ≡ Err e) ⊎ Goes t os last ts e
 one_way t os last ts e (Err g) a h =
-    let first : Some g ≡ Some e = sym (ap (λ (x : Result (List Open) ForestFault). or_fault x (λ os. fault_in last os ts)) a) ∙ h in
+    let first : Some g ≡ Some e = sym (ap (λ (x : Result (List OpenElement) ForestFault). or_fault x (λ os. fault_in last os ts)) a) ∙ h in
     inl (a ∙ ap (λ (x : ForestFault). Err x) (fault_same g e first))
-one_way t os last ts e (Ok os2) a h = inr (os2, a, sym (ap (λ (x : Result (List Open) ForestFault). or_fault x (λ os. fault_in last os ts)) a) ∙ h)
+one_way t os last ts e (Ok os2) a h = inr (os2, a, sym (ap (λ (x : Result (List OpenElement) ForestFault). or_fault x (λ os. fault_in last os ts)) a) ∙ h)
 
 -- a token with a fault of its own is no text
-faulty_markup : (t : Token) (from : ℕ) (os : List Open) (e : ForestFault) → after_token t from os ≡ Err e → IsMarkup t
+faulty_markup : (t : Token) (from : ℕ) (os : List OpenElement) (e : ForestFault) → after_token t from os ≡ Err e → IsMarkup t
 faulty_markup (Start name attrs slash) from os e a = tt
 faulty_markup (End name) from os e a = tt
 faulty_markup (Chars text) from os e a = let h : Ok os ≡ Err e = a in absurd cc
@@ -196,14 +196,14 @@ end_step at = refl
 pub none_some : {A : Type 0} (x : A) (s : Step) (y : Token × ℕ) → s ≡ Ok None → s ≡ Ok (Some y) → ⊥
 none_some x s y e f = let h : Ok None ≡ Ok (Some y) = sym e ∙ f in cc
 
-nothing_stands : (whole : List ℕ) (at : ℕ) (ts : List Placed) (last : Option ScanFault) (os : List Open) (e : ForestFault) → Runs Between at [] ts last → fault_in last os ts ≡ Some e → forest_stands whole e ≡ true → ⊥
+nothing_stands : (whole : List ℕ) (at : ℕ) (ts : List Placed) (last : Option ScanFault) (os : List OpenElement) (e : ForestFault) → ReadsTokens Between at [] ts last → fault_in last os ts ≡ Some e → forest_stands whole e ≡ true → ⊥
 nothing_stands whole at [] (Some f) os e r h s = not_ok (token_at Between at []) f None r (end_step at)
 nothing_stands whole at [] None [] e r h s = some_none e (sym h)
 nothing_stands whole at [] None (o ∷ os) e r h s = both (forest_stands whole e) (ap (forest_stands whole) (sym (fault_same (Unclosed o.at) e h))) s
 nothing_stands whole at (t ∷ ts) last os e (read, from, rest, some, parts, to, lt, r) h s = none_some at (token_at Between at []) (t.token, t.to) (end_step at) read
 
 -- after a text at the end no fault comes that stands
-after_text : (t : Token) (whole text rest : List ℕ) (at : ℕ) (ts : List Placed) (last : Option ScanFault) (os : List Open) (e : ForestFault) → Runs (mode_after t) at rest ts last → fault_in last os ts ≡ Some e → forest_stands whole e ≡ true → (0 < length rest) ⊎ IsMarkup t
+after_text : (t : Token) (whole text rest : List ℕ) (at : ℕ) (ts : List Placed) (last : Option ScanFault) (os : List OpenElement) (e : ForestFault) → ReadsTokens (mode_after t) at rest ts last → fault_in last os ts ≡ Some e → forest_stands whole e ≡ true → (0 < length rest) ⊎ IsMarkup t
 after_text (Start name attrs slash) whole text rest at ts last os e r h s = inr tt
 after_text (End name) whole text rest at ts last os e r h s = inr tt
 after_text (Raw inner) whole text rest at ts last os e r h s = inr tt
@@ -214,7 +214,7 @@ after_text (Chars inner) whole text [] at ts last os e r h s = absurd (nothing_s
 pub named_after : (m : Mode) (at : ℕ) (text : List ℕ) (t : Placed) → Named m → token_at m at text ≡ Ok (Some (t.token, t.to)) → Named (mode_after t.token)
 named_after m at text t n read = let p = part_of m at text t.token t.to n read in p.named
 
-comes_here : (m : Mode) (at : ℕ) (text more rest some : List ℕ) (t : Placed) (os : List Open) (e : ForestFault) → Named m → token_at m at text ≡ Ok (Some (t.token, t.to)) → t.from ≡ at → text ≡ some ++ rest → t.to ≡ at + length some → 0 < length some → after_token t.token t.from os ≡ Err e → Comes m at (text ++ more) os e
+comes_here : (m : Mode) (at : ℕ) (text more rest some : List ℕ) (t : Placed) (os : List OpenElement) (e : ForestFault) → Named m → token_at m at text ≡ Ok (Some (t.token, t.to)) → t.from ≡ at → text ≡ some ++ rest → t.to ≡ at + length some → 0 < length some → after_token t.token t.from os ≡ Err e → Comes m at (text ++ more) os e
 comes_here m at text more rest some t os e n read from parts to lt a =
     let named = named_after m at text t n read in
     let on = run_of (length (rest ++ more)) (mode_after t.token) t.to (rest ++ more) named (omega arith) in
@@ -223,15 +223,15 @@ comes_here m at text more rest some t os e n read from parts to lt a =
       tokens = t ∷ ts.tokens;
       last = ts.fault;
       runs = (token_more m at text more t.token t.to n read (λ r w. inr (faulty_markup t.token t.from os e a)), from, rest ++ more, some, longer text some rest more parts, to, lt, on);
-      same = ap (λ (x : Result (List Open) ForestFault). or_fault x (λ os. fault_in ts.fault os ts.tokens)) a;
+      same = ap (λ (x : Result (List OpenElement) ForestFault). or_fault x (λ os. fault_in ts.fault os ts.tokens)) a;
     }
 
-comes_later : (m : Mode) (at : ℕ) (text more rest some : List ℕ) (t : Placed) (os os2 : List Open) (e : ForestFault) → token_at m at (text ++ more) ≡ Ok (Some (t.token, t.to)) → t.from ≡ at → text ≡ some ++ rest → t.to ≡ at + length some → 0 < length some → after_token t.token t.from os ≡ Ok os2 → Comes (mode_after t.token) t.to (rest ++ more) os2 e → Comes m at (text ++ more) os e
+comes_later : (m : Mode) (at : ℕ) (text more rest some : List ℕ) (t : Placed) (os os2 : List OpenElement) (e : ForestFault) → token_at m at (text ++ more) ≡ Ok (Some (t.token, t.to)) → t.from ≡ at → text ≡ some ++ rest → t.to ≡ at + length some → 0 < length some → after_token t.token t.from os ≡ Ok os2 → Comes (mode_after t.token) t.to (rest ++ more) os2 e → Comes m at (text ++ more) os e
 comes_later m at text more rest some t os os2 e read from parts to lt a c = record {
   tokens = t ∷ c.tokens;
   last = c.last;
   runs = (read, from, rest ++ more, some, longer text some rest more parts, to, lt, c.runs);
-  same = ap (λ (x : Result (List Open) ForestFault). or_fault x (λ os. fault_in c.last os c.tokens)) a ∙ c.same;
+  same = ap (λ (x : Result (List OpenElement) ForestFault). or_fault x (λ os. fault_in c.last os c.tokens)) a ∙ c.same;
 }
 
 pub drop_on : (at to : ℕ) (whole text some rest : List ℕ) → drop at whole ≡ text → text ≡ some ++ rest → to ≡ at + length some → drop to whole ≡ rest
@@ -255,7 +255,7 @@ kept_by t rest other e (inr m) = inr m
 pub kept : (t : Token) (text rest other some : List ℕ) (at to : ℕ) → text ≡ some ++ rest → to ≡ at + length some → text ≡ token_text t ++ other → to ≡ at + length (token_text t) → (0 < length rest) ⊎ IsMarkup t → (0 < length other) ⊎ IsMarkup t
 kept t text rest other some at to parts n w m h = kept_by t rest other (omega (arith, n, m, ap length parts, ap length w, length-append some rest, length-append (token_text t) other)) h
 
-stay : (ts : List Placed) (last : Option ScanFault) (m : Mode) (at : ℕ) (text more whole : List ℕ) (os : List Open) (e : ForestFault) → Named m → drop at whole ≡ text → forest_stands whole e ≡ true → Runs m at text ts last → fault_in last os ts ≡ Some e → Comes m at (text ++ more) os e
+stay : (ts : List Placed) (last : Option ScanFault) (m : Mode) (at : ℕ) (text more whole : List ℕ) (os : List OpenElement) (e : ForestFault) → Named m → drop at whole ≡ text → forest_stands whole e ≡ true → ReadsTokens m at text ts last → fault_in last os ts ≡ Some e → Comes m at (text ++ more) os e
 stay [] last m at text more whole os e n here s r h = comes_end m at text more whole os last e n here s r h
 stay (t ∷ ts) last m at text more whole os e n here s (read, from, rest, some, parts, to, lt, r) h =
     elim (one_way t os last ts e (after_token t.token t.from os) refl h) [

@@ -54,7 +54,8 @@ is_plain room (Remark text rest) = is_verbatim comment_close text && is_plain ro
 is_plain zero (Void name attrs slash rest) = false
 is_plain (suc room) (Void name attrs slash rest) = is_void name && is_plain_start name attrs && not slash && is_plain (suc room) rest
 is_plain zero (RawElement name attrs text rest) = false
-is_plain (suc room) (RawElement name attrs text rest) = is_raw name && is_plain_start name attrs && is_verbatim (end_text name) text && is_plain (suc room) rest
+is_plain (suc room) (RawElement name attrs text rest) =
+    is_raw name && is_plain_start name attrs && is_verbatim (end_text name) text && is_plain (suc room) rest
 is_plain zero (Element name attrs children rest) = false
 is_plain (suc room) (Element name attrs children rest) =
     not (is_void name) && not (is_raw name) && is_plain_start name attrs && is_plain room children && is_plain (suc room) rest

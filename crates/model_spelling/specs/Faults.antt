@@ -15,30 +15,30 @@ pub data ForestFault : Type 0 where
   TooDeep : ℕ → ForestFault
 
 -- An open element: its name and the byte of its `<`. The innermost one stands first.
-pub record Open : Type 0 where
+pub record OpenElement : Type 0 where
   pub name : List ℕ
   pub at : ℕ
 
 -- at the end the innermost open element is unclosed
-abbrev pub fault_at_end : List Open → Option ScanFault → Option ForestFault
+abbrev pub fault_at_end : List OpenElement → Option ScanFault → Option ForestFault
 fault_at_end opened (Some f) = Some (Scan f)
 fault_at_end [] None = None
 fault_at_end (o ∷ os) None = Some (Unclosed o.at)
 
 -- the elements that are open after a start tag, or after an end tag
-abbrev pub after_start : List ℕ → ℕ → List Open → Result (List Open) ForestFault
+abbrev pub after_start : List ℕ → ℕ → List OpenElement → Result (List OpenElement) ForestFault
 after_start name at opened =
     if length opened == max_open_elements then Err (TooDeep at)
     else if is_void name then Ok opened
     else Ok (record { name = name; at = at } ∷ opened)
 
-abbrev pub after_end : List ℕ → ℕ → List Open → Result (List Open) ForestFault
+abbrev pub after_end : List ℕ → ℕ → List OpenElement → Result (List OpenElement) ForestFault
 after_end name at [] = Err (Stray at)
 after_end name at (o ∷ os) =
     if is_void name then Err (Stray at) else if name_same o.name name then Ok os else Err (Mismatched at)
 
 -- the elements that are open after a token that starts at this byte
-abbrev pub after_token : Token → ℕ → List Open → Result (List Open) ForestFault
+abbrev pub after_token : Token → ℕ → List OpenElement → Result (List OpenElement) ForestFault
 after_token (Start name attrs slash) at opened = after_start name at opened
 after_token (End name) at opened = after_end name at opened
 after_token (Chars text) at opened = Ok opened
@@ -50,7 +50,7 @@ or_fault (Err f) next = Some f
 or_fault (Ok x) next = next x
 
 -- The first fault of these tokens where these elements are open, and last comes after the tokens.
-abbrev pub fault_in : Option ScanFault → List Open → List Placed → Option ForestFault
+abbrev pub fault_in : Option ScanFault → List OpenElement → List Placed → Option ForestFault
 fault_in last opened [] = fault_at_end opened last
 fault_in last opened (t ∷ ts) = or_fault (after_token t.token t.from opened) (λ os. fault_in last os ts)
 

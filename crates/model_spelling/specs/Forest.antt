@@ -38,7 +38,8 @@ is_forest room (Remark text rest) = is_verbatim comment_close text && is_forest 
 is_forest zero (Void name attrs slash rest) = false
 is_forest (suc room) (Void name attrs slash rest) = is_void name && is_start name attrs slash && is_forest (suc room) rest
 is_forest zero (RawElement name attrs text rest) = false
-is_forest (suc room) (RawElement name attrs text rest) = is_raw name && is_start name attrs false && is_verbatim (end_text name) text && is_forest (suc room) rest
+is_forest (suc room) (RawElement name attrs text rest) =
+    is_raw name && is_start name attrs false && is_verbatim (end_text name) text && is_forest (suc room) rest
 is_forest zero (Element name attrs children rest) = false
 is_forest (suc room) (Element name attrs children rest) =
     not (is_void name) && not (is_raw name) && is_start name attrs false && is_forest room children && is_forest (suc room) rest

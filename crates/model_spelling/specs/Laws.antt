@@ -3,33 +3,41 @@ use Rattle.std.specs.Prelude.{◌≡◌, ℕ, ◌+◌, ◌≤◌, true, List, �
 use Rattle.model_spelling.specs.Grammar.{Token, End, Raw, token_text, end_text, is_tag_name, is_verbatim}
 use Rattle.model_spelling.specs.Forest.{Forest, Spells, spelling, is_forest}
 use Rattle.model_spelling.specs.Reading.{Between, After, token_at}
-use Rattle.model_spelling.specs.Tokens.{is_token, MayFollow, IsRead, RawRead}
+use Rattle.model_spelling.specs.Tokens.{is_token, MayFollow, IsTokenRead, RawRead}
 use Rattle.model_spelling.specs.Faults.{fault_of}
 use Rattle.model_spelling.specs.Parsed.{forest_of}
-use Rattle.model_spelling.specs.Page.{Parts, parts, is_whole, body_at, IsBody}
+use Rattle.model_spelling.specs.Page.{PageParts, page_parts, is_whole, body_at, IsBody}
 use Rattle.ve_base.specs.Limits.{max_open_elements}
 
 -- ---- tokens
 
 -- What is read as a token is spelled so.
 abbrev pub ReadIsSpelled : Type 0
-ReadIsSpelled = (at : ℕ) (text : List ℕ) (t : Token) (to : ℕ) → token_at Between at text ≡ Ok (Some (t, to)) → IsRead at text t to
+ReadIsSpelled = (at : ℕ) (text : List ℕ) (t : Token) (to : ℕ) → token_at Between at text ≡ Ok (Some (t, to)) → IsTokenRead at text t to
 
 -- What is spelled as a token is read, whatever follows that may.
 abbrev pub SpelledIsRead : Type 0
-SpelledIsRead = (at : ℕ) (t : Token) (rest : List ℕ) → is_token t ≡ true → MayFollow t rest → token_at Between at (token_text t ++ rest) ≡ Ok (Some (t, at + length (token_text t)))
+SpelledIsRead =
+    (at : ℕ) (t : Token) (rest : List ℕ) → is_token t ≡ true → MayFollow t rest →
+    token_at Between at (token_text t ++ rest) ≡ Ok (Some (t, at + length (token_text t)))
 
 -- What is read after the start tag of a raw element is its raw text, with its end tag after it, or that end tag alone.
 abbrev pub RawReadIsSpelled : Type 0
-RawReadIsSpelled = (at : ℕ) (name text : List ℕ) (t : Token) (to : ℕ) → is_tag_name name ≡ true → token_at (After name) at text ≡ Ok (Some (t, to)) → RawRead at name text t to
+RawReadIsSpelled =
+    (at : ℕ) (name text : List ℕ) (t : Token) (to : ℕ) → is_tag_name name ≡ true → token_at (After name) at text ≡ Ok (Some (t, to)) →
+    RawRead at name text t to
 
 -- Raw text is read up to the first end tag of its element.
 abbrev pub RawSpelledIsRead : Type 0
-RawSpelledIsRead = (at : ℕ) (name : List ℕ) (b : ℕ) (bs rest : List ℕ) → is_verbatim (end_text name) (b ∷ bs) ≡ true → token_at (After name) at (b ∷ bs ++ (end_text name ++ rest)) ≡ Ok (Some (Raw (b ∷ bs), at + length (b ∷ bs)))
+RawSpelledIsRead =
+    (at : ℕ) (name : List ℕ) (b : ℕ) (bs rest : List ℕ) → is_verbatim (end_text name) (b ∷ bs) ≡ true →
+    token_at (After name) at (b ∷ bs ++ (end_text name ++ rest)) ≡ Ok (Some (Raw (b ∷ bs), at + length (b ∷ bs)))
 
 -- Empty raw text is no token.
 abbrev pub EmptyRawIsNoToken : Type 0
-EmptyRawIsNoToken = (at : ℕ) (name rest : List ℕ) → is_tag_name name ≡ true → token_at (After name) at (end_text name ++ rest) ≡ Ok (Some (End name, at + length (end_text name)))
+EmptyRawIsNoToken =
+    (at : ℕ) (name rest : List ℕ) → is_tag_name name ≡ true →
+    token_at (After name) at (end_text name ++ rest) ≡ Ok (Some (End name, at + length (end_text name)))
 
 -- ---- forests
 
@@ -61,7 +69,7 @@ BodyInside = (page : List ℕ) (from to : ℕ) → body_at page ≡ Ok (from, to
 
 -- The three parts one after the other are the page.
 abbrev pub PartsAreThePage : Type 0
-PartsAreThePage = (page : List ℕ) (p : Parts) → parts page ≡ Ok p → p.head ++ p.body ++ p.tail ≡ page
+PartsAreThePage = (page : List ℕ) (p : PageParts) → page_parts page ≡ Ok p → p.prefix ++ p.body ++ p.suffix ≡ page
 
 -- What is found as the body of a whole page is its body.
 abbrev pub BodyIsFound : Type 0

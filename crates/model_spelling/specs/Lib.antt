@@ -1,6 +1,6 @@
 pub mod Grammar
 pub mod Forest
-pub mod Rows
+pub mod ForestNodes
 pub mod Reading
 pub mod Tokens
 pub mod Faults

@@ -1,4 +1,4 @@
--- Head, body and tail of a page, and the first fault of a page.
+-- The prefix of a page before its body, its body and its suffix after that, and the first fault of a page.
 -- A page that begins with `<!doctype`, in any case of its letters, is whole; every other page is all body.
 use Rattle.std.specs.Prelude.{◌≡◌, ℕ, ◌+◌, ◌-◌, ◌<◌, Bool, true, false, ◌||◌, List, [], ◌∷◌, ◌++◌, length, take, drop, map, Option, Some, None, Result, Ok, Err, if◌then◌else◌, codes, bytes_eq}
 use Rattle.std.specs.Option.{option_or}
@@ -40,41 +40,41 @@ or_no_body at (Some x) = Ok x
 unfoldable pub body_at : List ℕ → Result (ℕ × ℕ) ScanFault
 body_at page = if is_whole page then (do
   tag ← or_no_body 0 (first_place starts_body 0 page)
-  head ← tag_at tag (drop (tag + 1) page)
-  to ← or_no_body head.1 (last_place ends_body head.1 (drop head.1 page))
-  Ok (head.1, to)) else Ok (0, length page)
+  start ← tag_at tag (drop (tag + 1) page)
+  to ← or_no_body start.1 (last_place ends_body start.1 (drop start.1 page))
+  Ok (start.1, to)) else Ok (0, length page)
 
 -- ---- the three parts
 
-pub record Parts : Type 0 where
-  pub head : List ℕ
+pub record PageParts : Type 0 where
+  pub prefix : List ℕ
   pub body : List ℕ
-  pub tail : List ℕ
+  pub suffix : List ℕ
 
 -- a text cut at two places
-abbrev pub parts_at : ℕ → ℕ → List ℕ → Parts
-parts_at from to page = record { head = take from page; body = take (to - from) (drop from page); tail = drop to page }
+abbrev pub page_parts_at : ℕ → ℕ → List ℕ → PageParts
+page_parts_at from to page = record { prefix = take from page; body = take (to - from) (drop from page); suffix = drop to page }
 
-abbrev pub parts : List ℕ → Result Parts ScanFault
-parts page = body_at page >>= λ b. Ok (parts_at b.0 b.1 page)
+abbrev pub page_parts : List ℕ → Result PageParts ScanFault
+page_parts page = body_at page >>= λ b. Ok (page_parts_at b.0 b.1 page)
 
 -- ---- the first fault of a page
 
 -- the fault of a text that begins at this byte of the page
-abbrev pub moved : ℕ → ForestFault → ForestFault
-moved from (Scan f) = Scan (fault (from + f.at) f.what)
-moved from (Mismatched at) = Mismatched (from + at)
-moved from (Unclosed at) = Unclosed (from + at)
-moved from (Stray at) = Stray (from + at)
-moved from (TooDeep at) = TooDeep (from + at)
+abbrev pub fault_in_page : ℕ → ForestFault → ForestFault
+fault_in_page from (Scan f) = Scan (fault (from + f.at) f.what)
+fault_in_page from (Mismatched at) = Mismatched (from + at)
+fault_in_page from (Unclosed at) = Unclosed (from + at)
+fault_in_page from (Stray at) = Stray (from + at)
+fault_in_page from (TooDeep at) = TooDeep (from + at)
 
-abbrev pub moved_some : ℕ → Option ForestFault → Option ForestFault
-moved_some from None = None
-moved_some from (Some f) = Some (moved from f)
+abbrev pub fault_in_page_if_any : ℕ → Option ForestFault → Option ForestFault
+fault_in_page_if_any from None = None
+fault_in_page_if_any from (Some f) = Some (fault_in_page from f)
 
 abbrev pub fault_between : List ℕ → Result (ℕ × ℕ) ScanFault → Option ForestFault
 fault_between page (Err f) = Some (Scan f)
-fault_between page (Ok b) = moved_some b.0 (fault_of (take (b.1 - b.0) (drop b.0 page)))
+fault_between page (Ok b) = fault_in_page_if_any b.0 (fault_of (take (b.1 - b.0) (drop b.0 page)))
 
 -- The fault of the three parts where they aren't there, else the body's, with its byte counted from the start of the page.
 unfoldable pub page_fault : List ℕ → Option ForestFault

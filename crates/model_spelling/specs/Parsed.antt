@@ -12,15 +12,15 @@ pub record Ending : Type 0 where
   pub here : Forest
   pub outer : List Forest
 
-abbrev pub first_of : List Forest → Forest
-first_of [] = Nothing
-first_of (f ∷ outer) = f
+abbrev pub first_forest : List Forest → Forest
+first_forest [] = Nothing
+first_forest (f ∷ outer) = f
 
 abbrev pub with_start : List ℕ → (Forest → Forest) → (Forest → Forest) → Ending → Ending
 with_start name void element e =
     if is_void name
     then record { raw = []; here = void e.here; outer = e.outer }
-    else record { raw = []; here = element (first_of e.outer); outer = drop 1 e.outer }
+    else record { raw = []; here = element (first_forest e.outer); outer = drop 1 e.outer }
 
 abbrev pub with_token : Token → Ending → Ending
 with_token (Start name attrs slash) e =

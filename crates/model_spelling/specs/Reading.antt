@@ -20,8 +20,8 @@ abbrev pub fault : ℕ → ScanWhat → ScanFault
 fault at what = record { at = at; what = what }
 
 -- the fault of a byte b that no spelling allows at its place: f, or its own
-abbrev pub refused : ℕ → ℕ → ScanFault → ScanFault
-refused at b f = if is_barred b then fault at BadChar else f
+abbrev pub byte_fault : ℕ → ℕ → ScanFault → ScanFault
+byte_fault at b f = if is_barred b then fault at BadChar else f
 
 -- ---- runs
 
@@ -39,7 +39,7 @@ end_of_run (Some unclosed) at = Err unclosed
 abbrev pub after_prefix : Option ScanFault → ℕ → ℕ → List ℕ → ScanFault
 after_prefix None amp next [] = fault amp BadReference
 after_prefix (Some unclosed) amp next [] = unclosed
-after_prefix end amp next (b ∷ bs) = refused next b (fault amp BadReference)
+after_prefix end amp next (b ∷ bs) = byte_fault next b (fault amp BadReference)
 
 unfoldable pub reference_fault : Option ScanFault → ℕ → List ℕ → ScanFault
 reference_fault end at text = after_prefix end at (at + longest_prefix references text) (drop (longest_prefix references text) text)
@@ -70,17 +70,17 @@ value_end tag q at text = run_end (Some (fault tag UnclosedTag)) q at text
 -- after ` name=`: a quote, which is answered; place is the byte before the name
 abbrev pub mark_at : ℕ → ℕ → ℕ → List ℕ → Result ℕ ScanFault
 mark_at tag place at [] = Err (fault tag UnclosedTag)
-mark_at tag place at (q ∷ rest) = if q == 34 || q == 39 then Ok q else Err (refused at q (fault place BadAttribute))
+mark_at tag place at (q ∷ rest) = if q == 34 || q == 39 then Ok q else Err (byte_fault at q (fault place BadAttribute))
 
 -- after ` name`
 abbrev pub quote_at : ℕ → ℕ → ℕ → List ℕ → Result ℕ ScanFault
 quote_at tag place at [] = Err (fault tag UnclosedTag)
-quote_at tag place at (c ∷ rest) = if c == 61 then mark_at tag place (at + 1) rest else Err (refused at c (fault place BadAttribute))
+quote_at tag place at (c ∷ rest) = if c == 61 then mark_at tag place (at + 1) rest else Err (byte_fault at c (fault place BadAttribute))
 
 -- after a space: a name of this length
 abbrev pub name_len_at : ℕ → ℕ → ℕ → List ℕ → Result ℕ ScanFault
 name_len_at tag place zero [] = Err (fault tag UnclosedTag)
-name_len_at tag place zero (c ∷ rest) = Err (refused (place + 1) c (fault place BadAttribute))
+name_len_at tag place zero (c ∷ rest) = Err (byte_fault (place + 1) c (fault place BadAttribute))
 name_len_at tag place (suc n) rest = Ok (suc n)
 
 -- an attribute is judged where its quote was read
@@ -108,23 +108,25 @@ unfoldable pub attrs_at : ℕ → ℕ → List Attr → ℕ → List ℕ → Res
 attrs_at zero tag before at text =
     if slice_index text 0 == 32 then (attr_at zero tag before at (drop 1 text) >>= λ a. Ok (before, at)) else Ok (before, at)
 attrs_at (suc room) tag before at text =
-    if slice_index text 0 == 32 then (attr_at (suc room) tag before at (drop 1 text) >>= λ a. attrs_at room tag (before ++ a.0 ∷ []) a.1 (drop (a.1 - at) text)) else Ok (before, at)
+    if slice_index text 0 == 32
+    then (attr_at (suc room) tag before at (drop 1 text) >>= λ a. attrs_at room tag (before ++ a.0 ∷ []) a.1 (drop (a.1 - at) text))
+    else Ok (before, at)
 
 -- the attributes that were read
-abbrev pub attrs_of : Result (List Attr × ℕ) ScanFault → List Attr
-attrs_of (Ok r) = r.0
-attrs_of (Err f) = []
+abbrev pub attrs_read : Result (List Attr × ℕ) ScanFault → List Attr
+attrs_read (Ok r) = r.0
+attrs_read (Err f) = []
 
 -- the attributes of the tag at tag, whose name ends at at
 abbrev pub attrs_from : ℕ → ℕ → List ℕ → List Attr
-attrs_from tag at text = attrs_of (attrs_at max_attributes tag [] at (drop at text))
+attrs_from tag at text = attrs_read (attrs_at max_attributes tag [] at (drop at text))
 
 -- ---- tags
 
 -- after the `/` at the end of a void element's tag
 abbrev pub slash_at : ℕ → ℕ → List ℕ → Result (Bool × ℕ) ScanFault
 slash_at tag at [] = Err (fault tag UnclosedTag)
-slash_at tag at (d ∷ rest) = if d == 62 then Ok (true, at + 2) else Err (refused (at + 1) d (fault at BadAttribute))
+slash_at tag at (d ∷ rest) = if d == 62 then Ok (true, at + 2) else Err (byte_fault (at + 1) d (fault at BadAttribute))
 
 -- the end of a start tag: is there a `/`, and the byte after the `>`
 abbrev pub tag_close : ℕ → Bool → ℕ → List ℕ → Result (Bool × ℕ) ScanFault
@@ -132,12 +134,12 @@ tag_close tag void at [] = Err (fault tag UnclosedTag)
 tag_close tag void at (c ∷ rest) =
     if c == 62 then Ok (false, at + 1)
     else if c == 47 && void then slash_at tag at rest
-    else Err (refused at c (fault at BadAttribute))
+    else Err (byte_fault at c (fault at BadAttribute))
 
 -- some byte ends a tag's name, and the name is allowed
 abbrev pub name_ends : ℕ → List ℕ → ℕ → List ℕ → Result (Unit {0}) ScanFault
 name_ends tag name at [] = Err (fault tag UnclosedTag)
-name_ends tag name at (c ∷ rest) = if is_plaintext name then Err (refused at c (fault tag BadTag)) else Ok tt
+name_ends tag name at (c ∷ rest) = if is_plaintext name then Err (byte_fault at c (fault tag BadTag)) else Ok tt
 
 -- after the name of a start tag
 unfoldable pub start_after : ℕ → List ℕ → ℕ → List ℕ → Result (Token × ℕ) ScanFault
@@ -151,16 +153,16 @@ start_after tag name at text = do
 abbrev pub end_after : ℕ → List ℕ → ℕ → List ℕ → Result (Token × ℕ) ScanFault
 end_after tag name at [] = Err (fault tag UnclosedTag)
 end_after tag name at (c ∷ rest) =
-    if c == 62 && not (is_plaintext name) then Ok (End name, at + 1) else Err (refused at c (fault tag BadTag))
+    if c == 62 && not (is_plaintext name) then Ok (End name, at + 1) else Err (byte_fault at c (fault tag BadTag))
 
--- the name at the prefix, and what follows it
+-- the name that the text begins with, and what follows it
 abbrev pub with_name : {A : Type 0} → (List ℕ → ℕ → List ℕ → A) → ℕ → List ℕ → A
 with_name after at text = let n = prefix_len is_name_byte text in after (take n text) (at + n) (drop n text)
 
 -- after `</`
 unfoldable pub end_at : ℕ → List ℕ → Result (Token × ℕ) ScanFault
 end_at tag [] = Err (fault tag UnclosedTag)
-end_at tag (c ∷ cs) = if is_letter c then with_name (end_after tag) (tag + 2) (c ∷ cs) else Err (refused (tag + 2) c (fault tag BadTag))
+end_at tag (c ∷ cs) = if is_letter c then with_name (end_after tag) (tag + 2) (c ∷ cs) else Err (byte_fault (tag + 2) c (fault tag BadTag))
 
 -- after `<!--`
 unfoldable pub comment_at : ℕ → List ℕ → Result (Token × ℕ) ScanFault
@@ -175,14 +177,14 @@ is_doctype text = name_same (codes "doctype") (map to_ascii_lowercase (take 7 te
 -- after `<!-`
 unfoldable pub dash_at : ℕ → List ℕ → Result (Token × ℕ) ScanFault
 dash_at tag [] = Err (fault tag UnclosedComment)
-dash_at tag (d ∷ ds) = if d == 45 then comment_at tag ds else Err (refused (tag + 3) d (fault tag BadTag))
+dash_at tag (d ∷ ds) = if d == 45 then comment_at tag ds else Err (byte_fault (tag + 3) d (fault tag BadTag))
 
 -- after `<!`
 unfoldable pub markup_at : ℕ → List ℕ → Result (Token × ℕ) ScanFault
 markup_at tag [] = Err (fault tag UnclosedComment)
 markup_at tag (c ∷ cs) =
     if c == 45 then dash_at tag cs
-    else Err (refused (tag + 2) c (fault tag (if is_doctype (c ∷ cs) then Doctype else BadTag)))
+    else Err (byte_fault (tag + 2) c (fault tag (if is_doctype (c ∷ cs) then Doctype else BadTag)))
 
 -- after the `<` of a start tag
 unfoldable pub start_at : ℕ → List ℕ → Result (Token × ℕ) ScanFault
@@ -195,7 +197,7 @@ tag_at tag (c ∷ cs) =
     if is_letter c then start_at tag (c ∷ cs)
     else if c == 47 then end_at tag cs
     else if c == 33 then markup_at tag cs
-    else Err (refused (tag + 1) c (fault tag BadTag))
+    else Err (byte_fault (tag + 1) c (fault tag BadTag))
 
 -- ---- tokens
 

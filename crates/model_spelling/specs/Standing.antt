@@ -42,7 +42,8 @@ forest_stands text (TooDeep at) = true
 
 -- A fault that isn't one of the text's end stands, with the same byte, however the text goes on.
 abbrev pub FaultStands : Type 0
-FaultStands = (text more : List ℕ) (f : ForestFault) → fault_of text ≡ Some f → forest_stands text f ≡ true → fault_of (text ++ more) ≡ Some f
+FaultStands =
+    (text more : List ℕ) (f : ForestFault) → fault_of text ≡ Some f → forest_stands text f ≡ true → fault_of (text ++ more) ≡ Some f
 
 -- ---- what is unclosed can be made another fault, or none
 
@@ -73,16 +74,18 @@ UnclosedGoes = (text : List ℕ) (f : ForestFault) → is_unclosed f ≡ true �
 -- ---- what is one of the end goes
 
 -- However the text goes on, this is its fault.
-abbrev pub Stands : List ℕ → ForestFault → Type 0
-Stands text f = (more : List ℕ) → fault_of (text ++ more) ≡ Some f
+abbrev pub Lasts : List ℕ → ForestFault → Type 0
+Lasts text f = (more : List ℕ) → fault_of (text ++ more) ≡ Some f
 
 -- With some text after it, it has another fault, or none.
-abbrev pub Goes : List ℕ → ForestFault → Type 0
-Goes text f = (more : List ℕ) × (fault_of (text ++ more) ≡ Some f → ⊥)
+abbrev pub MayGo : List ℕ → ForestFault → Type 0
+MayGo text f = (more : List ℕ) × (fault_of (text ++ more) ≡ Some f → ⊥)
 
 -- Each fault stands however the text goes on, or it is one of the text's end, and goes.
-abbrev pub StandsOrGoes : Type 0
-StandsOrGoes = (text : List ℕ) (f : ForestFault) → fault_of text ≡ Some f → ((forest_stands text f ≡ true) × Stands text f) ⊎ ((forest_stands text f ≡ false) × Goes text f)
+abbrev pub LastsOrMayGo : Type 0
+LastsOrMayGo =
+    (text : List ℕ) (f : ForestFault) → fault_of text ≡ Some f →
+    ((forest_stands text f ≡ true) × Lasts text f) ⊎ ((forest_stands text f ≡ false) × MayGo text f)
 
 -- no fault, or only that an element isn't closed yet
 abbrev pub is_left_open : Option ForestFault → Bool

@@ -28,7 +28,7 @@ MayFollow (Raw text) rest = Unit {0}
 MayFollow (Comment text) rest = Unit {0}
 
 -- The token t, which ends before to, is what the text from the byte at begins with.
-pub record IsRead (at : ℕ) (text : List ℕ) (t : Token) (to : ℕ) : Type 0 where
+pub record IsTokenRead (at : ℕ) (text : List ℕ) (t : Token) (to : ℕ) : Type 0 where
   pub rest : List ℕ
   pub text_is : text ≡ token_text t ++ rest
   pub to_is : to ≡ at + length (token_text t)
@@ -37,7 +37,8 @@ pub record IsRead (at : ℕ) (text : List ℕ) (t : Token) (to : ℕ) : Type 0 w
 
 -- What is read after the start tag of a raw element.
 pub data RawRead (at : ℕ) (name text : List ℕ) (t : Token) (to : ℕ) : Type 0 where
-  Inner : (inner rest : List ℕ) → t ≡ Raw inner → text ≡ inner ++ (end_text name ++ rest) → to ≡ at + length inner → 0 < length inner → is_verbatim (end_text name) inner ≡ true → RawRead at name text t to
+  Inner : (inner rest : List ℕ) → t ≡ Raw inner → text ≡ inner ++ (end_text name ++ rest) → to ≡ at + length inner →
+      0 < length inner → is_verbatim (end_text name) inner ≡ true → RawRead at name text t to
   Closing : (rest : List ℕ) → t ≡ End name → text ≡ end_text name ++ rest → to ≡ at + length (end_text name) → RawRead at name text t to
 
 -- ---- all tokens of a text
@@ -70,7 +71,10 @@ abbrev pub tokens_of : List ℕ → Tokens
 tokens_of text = tokens_from (length text + 1) Between 0 text
 
 -- Reading from here gives these tokens, and then last, a fault or the end.
-abbrev pub Runs : Mode → ℕ → List ℕ → List Placed → Option ScanFault → Type 0
-Runs mode at text [] None = token_at mode at text ≡ Ok None
-Runs mode at text [] (Some f) = token_at mode at text ≡ Err f
-Runs mode at text (t ∷ ts) last = (token_at mode at text ≡ Ok (Some (t.token, t.to))) × (t.from ≡ at) × (rest : List ℕ) × (some : List ℕ) × (text ≡ some ++ rest) × (t.to ≡ at + length some) × (0 < length some) × Runs (mode_after t.token) t.to rest ts last
+abbrev pub ReadsTokens : Mode → ℕ → List ℕ → List Placed → Option ScanFault → Type 0
+ReadsTokens mode at text [] None = token_at mode at text ≡ Ok None
+ReadsTokens mode at text [] (Some f) = token_at mode at text ≡ Err f
+ReadsTokens mode at text (t ∷ ts) last =
+    (token_at mode at text ≡ Ok (Some (t.token, t.to))) × (t.from ≡ at)
+    × (rest : List ℕ) × (some : List ℕ) × (text ≡ some ++ rest) × (t.to ≡ at + length some) × (0 < length some)
+    × ReadsTokens (mode_after t.token) t.to rest ts last

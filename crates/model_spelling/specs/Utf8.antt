@@ -14,7 +14,8 @@ NodesUtf8 (Text text rest) = IsUtf8 text × NodesUtf8 rest
 NodesUtf8 (Remark text rest) = IsUtf8 (token_text (Comment text)) × NodesUtf8 rest
 NodesUtf8 (Void name attrs slash rest) = IsUtf8 (start_text name attrs slash) × NodesUtf8 rest
 NodesUtf8 (RawElement name attrs text rest) = IsUtf8 (start_text name attrs false ++ text ++ end_text name) × NodesUtf8 rest
-NodesUtf8 (Element name attrs children rest) = IsUtf8 (start_text name attrs false ++ spelling children ++ end_text name) × NodesUtf8 children × NodesUtf8 rest
+NodesUtf8 (Element name attrs children rest) =
+    IsUtf8 (start_text name attrs false ++ spelling children ++ end_text name) × NodesUtf8 children × NodesUtf8 rest
 
 abbrev pub ForestUtf8 : Type 0
 ForestUtf8 = (room : ℕ) (f : Forest) → is_forest room f ≡ true → IsUtf8 (spelling f) → NodesUtf8 f

@@ -6,9 +6,11 @@ use Rattle.model_spelling.specs.Grammar.{Attr as Spelled}
 
 -- a reference, and the character that it stands for
 abbrev pub meanings : List (List ℕ × List ℕ)
-meanings = (codes "&amp;", 38 ∷ []) ∷ (codes "&lt;", 60 ∷ []) ∷ (codes "&gt;", 62 ∷ []) ∷ (codes "&nbsp;", 194 ∷ 160 ∷ []) ∷ (codes "&quot;", 34 ∷ []) ∷ (codes "&apos;", 39 ∷ []) ∷ []
+meanings =
+    (codes "&amp;", 38 ∷ []) ∷ (codes "&lt;", 60 ∷ []) ∷ (codes "&gt;", 62 ∷ []) ∷ (codes "&nbsp;", 194 ∷ 160 ∷ [])
+    ∷ (codes "&quot;", 34 ∷ []) ∷ (codes "&apos;", 39 ∷ []) ∷ []
 
--- the reference at the prefix and its meaning; else the first byte, which stands for itself
+-- the reference that the bytes begin with and its meaning; else the first byte, which stands for itself
 abbrev pub prefix_of : List (List ℕ × List ℕ) → ℕ → List ℕ → List ℕ × List ℕ
 prefix_of [] b bs = (b ∷ [], b ∷ [])
 prefix_of (m ∷ ms) b bs = if begins_with m.0 (b ∷ bs) then m else prefix_of ms b bs

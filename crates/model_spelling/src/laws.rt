@@ -1,7 +1,7 @@
 // The laws of the spelling of a page: they speak of the definitions alone.
 ghost use Rattle.model_spelling.specs.Canonical.{WritesRight, CanWrite};
 ghost use Rattle.model_spelling.specs.Laws.{ReadIsSpelled, SpelledIsRead, RawReadIsSpelled, RawSpelledIsRead, EmptyRawIsNoToken, FaultlessIsSpelled, SpelledIsFaultless, OneForestSpells, SpellingIsReadBack, ReadForestSpells, BodyInside, PartsAreThePage, BodyIsFound, BodyIsOnly};
-ghost use Rattle.model_spelling.specs.Standing.{FaultStands, UnclosedGoes, StandsOrGoes, CutReferenceGoes, CutDoctypeGoes};
+ghost use Rattle.model_spelling.specs.Standing.{FaultStands, UnclosedGoes, LastsOrMayGo, CutReferenceGoes, CutDoctypeGoes};
 ghost use Rattle.model_spelling.specs.Utf8.{DecodesUtf8, ForestUtf8};
 
 /// What is read as a token is spelled so, and what is spelled so is read.
@@ -29,7 +29,7 @@ pub fn forest_laws()
 pub fn prefix_laws()
     ensures stands { FaultStands }
     ensures goes { UnclosedGoes }
-    ensures each { StandsOrGoes }
+    ensures each { LastsOrMayGo }
     ensures cut_reference { CutReferenceGoes }
     ensures cut_doctype { CutDoctypeGoes }
 {}

@@ -6,7 +6,7 @@ use Rattle.model_spelling.specs.Parsed.{forest_of}
 use Rattle.model_items.specs.declared.plain_item.PlainItem.{PlainItem}
 use Rattle.model_change.specs.Transaction.{Retain, Replace, Attribute, Transaction}
 use Rattle.model_page.specs.PageItems.{or_nothing}
-use Rattle.model_page.specs.Fragment.{pieces_of}
+use Rattle.model_page.specs.Fragment.{fragment_items}
 use Rattle.model_page.specs.Limits.{fragment_limit}
 use Rattle.model_edit.specs.Causes.{BuildCause}
 use Rattle.model_items.specs.Offsets.{stack_at}
@@ -37,7 +37,7 @@ built result = refused_as build_refusal result
 abbrev pub forest_inserted : List PlainItem → ℕ → Forest → Result Transaction Refusal
 forest_inserted items at forest = elim (fragment_limit (stack_at items at) forest) [
   | Some byte ↦ Err (TooManyMarks byte)
-  | None ↦ built (insertion items at (pieces_of (stack_at items at) forest))
+  | None ↦ built (insertion items at (fragment_items (stack_at items at) forest))
 ]
 
 abbrev pub text_inserted : List PlainItem → ℕ → List ℕ → Result Transaction Refusal

@@ -20,7 +20,7 @@ use Rattle.model_change.specs.Attributes.{item_changed}
 use Rattle.model_change.specs.Transaction.{Transaction, old_length, on_first}
 use Rattle.model_change.specs.Fault.{differs_at, mismatch_at, bad_attribute_at, fault}
 use Rattle.model_page.specs.PageItems.{or_nothing}
-use Rattle.model_page.specs.Fragment.{pieces_of}
+use Rattle.model_page.specs.Fragment.{fragment_items}
 use Rattle.model_page.specs.Limits.{fragment_limit}
 use Rattle.model_edit.specs.Causes.{BuildCause, TableCause, ListCause}
 use Rattle.model_edit.specs.Tables.{row_in, row_out, col_in, col_out}
@@ -91,10 +91,10 @@ forest_is items at f h = by (fragment_limit (stack_at items at) f) h
   where
     by : (o : Option ℕ) → (elim o as (λ _. Result Transaction Refusal) [
       | Some byte ↦ Err (TooManyMarks byte)
-      | None ↦ built (insertion items at (pieces_of (stack_at items at) f))
+      | None ↦ built (insertion items at (fragment_items (stack_at items at) f))
     ]) ≡ Err StoreFull → ⊥
     by (Some byte) h = cc
-    by None h = built_is (insertion items at (pieces_of (stack_at items at) f)) h
+    by None h = built_is (insertion items at (fragment_items (stack_at items at) f)) h
 
 text_is : (items : List PlainItem) (at : ℕ) (text : List ℕ) → text_inserted items at text ≡ Err StoreFull → ⊥
 text_is items at text h = by (fault_of text) h
@@ -210,10 +210,10 @@ forest_match items at f t h = by (fragment_limit (stack_at items at) f) h
   where
     by : (o : Option ℕ) → (elim o as (λ _. Result Transaction Refusal) [
       | Some byte ↦ Err (TooManyMarks byte)
-      | None ↦ built (insertion items at (pieces_of (stack_at items at) f))
+      | None ↦ built (insertion items at (fragment_items (stack_at items at) f))
     ]) ≡ Ok t → Matches t items
     by (Some byte) h = cc
-    by None h = fine_match items t (insertion_fine items at (pieces_of (stack_at items at) f) t (given build_refusal _ t h))
+    by None h = fine_match items t (insertion_fine items at (fragment_items (stack_at items at) f) t (given build_refusal _ t h))
 
 text_match : (items : List PlainItem) (at : ℕ) (text : List ℕ) (t : Transaction) → text_inserted items at text ≡ Ok t → Matches t items
 text_match items at text t h = by (fault_of text) h

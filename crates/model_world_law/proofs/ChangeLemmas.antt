@@ -14,8 +14,8 @@ use Rattle.model_items.specs.Same.{text_same}
 use Rattle.model_items.proofs.LawLemmas.{Ok-same}
 use Rattle.model_change.specs.Attributes.{AllNamesApart}
 use Rattle.model_change.specs.Transaction.{Op, Retain, Replace, Attribute, Transaction, may_precede, is_something, is_reduced, InsertedApart}
-use Rattle.model_page.specs.PageItems.{Opened, opened_with, opened_forest, opened_body, page_made, slice, or_nothing}
-use Rattle.model_page.specs.Fragment.{pieces_of}
+use Rattle.model_page.specs.PageItems.{Opened, page_opened, opened_forest, opened_body, page_made, slice, or_nothing}
+use Rattle.model_page.specs.Fragment.{fragment_items}
 use Rattle.model_page.specs.Limits.{fragment_limit}
 use Rattle.model_page.specs.OpenPage.{read_page}
 use Rattle.model_page_law.proofs.OpenPageLemmas.{read_is_lawful, read_is_within}
@@ -129,10 +129,10 @@ forest_fits items at f t s g h = by (fragment_limit (stack_at items at) f) h
   where
     by : (o : Option ℕ) → (elim o as (λ _. Result Transaction Refusal) [
       | Some byte ↦ Err (TooManyMarks byte)
-      | None ↦ built (insertion items at (pieces_of (stack_at items at) f))
+      | None ↦ built (insertion items at (fragment_items (stack_at items at) f))
     ]) ≡ Ok t → Fit t
     by (Some byte) h = cc
-    by None h = insertion_fits items at (pieces_of (stack_at items at) f) t s (fragment_apart (stack_at items at) f g) (given build_refusal _ t h)
+    by None h = insertion_fits items at (fragment_items (stack_at items at) f) t s (fragment_apart (stack_at items at) f g) (given build_refusal _ t h)
 
 text_fits : (items : List PlainItem) (at : ℕ) (text : List ℕ) (t : Transaction) → Sound items → text_inserted items at text ≡ Ok t → Fit t
 text_fits items at text t s h = by (fault_of text) h
@@ -177,7 +177,7 @@ changes_fit items (change.Apply ops) t w s h = applied_fits items ops t w.0 w.1 
 forest_page : (page : List ℕ) (from to : ℕ) (r : Option Forest) → forest_of (slice page from to) ≡ r → (o : Opened) → opened_forest page (record { from = from; to = to }) r ≡ Some o → AllNamesApart o.items
 forest_page page from to None e o h = cc
 forest_page page from to (Some f) e o h =
-    let first : Opened = opened_with page (record { from = from; to = to }) (page_made from f) in
+    let first : Opened = page_opened page (record { from = from; to = to }) (page_made from f) in
     let is : first ≡ o = let p : ◌≡◌ {A = Option Opened} (Some first) (Some o) = h in ap (λ x. unwrap_or x first) p in
     subst (λ x. AllNamesApart x.items) is (page_apart from f (forest_apart 200 f (law_reads_right (slice page from to) f e).1))
 

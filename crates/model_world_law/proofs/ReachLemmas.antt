@@ -5,8 +5,8 @@ use Rattle.model_spelling.specs.declared.scan_fault.ScanFault.{ScanFault}
 use Rattle.model_spelling.specs.Forest.{Forest}
 use Rattle.model_spelling.specs.Parsed.{forest_of}
 use Rattle.model_spelling.specs.Page.{body_at}
-use Rattle.model_page.specs.Pieces.{Span}
-use Rattle.model_page.specs.PageItems.{Opened, slice, page_made, opened_with as opened_with_page, opened_forest, opened_body, opened_page}
+use Rattle.model_page.specs.Pieces.{SourceSpan}
+use Rattle.model_page.specs.PageItems.{Opened, slice, page_made, page_opened as opened_with_page, opened_forest, opened_body, opened_page}
 use Rattle.model_page.specs.OpenPage.{read_page}
 use Rattle.model_page_write.specs.PageText.{write}
 use Rattle.model_page_law.proofs.OpenPageLemmas.{read_is_within}
@@ -177,7 +177,7 @@ all_sites_meet lines page w k l m n h = meet page w k l m n (subst WorldReached 
 
 -- ---- a page that was not edited
 
-of_forest : (page : List ℕ) (body : Span) (f : Option Forest) (o : Opened) → opened_forest page body f ≡ Some o → o.page ≡ page
+of_forest : (page : List ℕ) (body : SourceSpan) (f : Option Forest) (o : Opened) → opened_forest page body f ≡ Some o → o.page ≡ page
 of_forest page body None o h = cc
 of_forest page body (Some f) o h =
     let first : Opened = opened_with_page page body (page_made body.from f) in

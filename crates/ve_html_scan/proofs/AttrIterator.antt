@@ -31,10 +31,10 @@ quote_of q e = grind (arith, nat_tests)
 
 pub spelled_by : (a : Attr) → is_attr a ≡ true → IsSpelled a
 spelled_by a e =
-    let prefix = and_left (is_attr_name a.name && (a.quote == 34 || a.quote == 39)) (is_run a.quote a.value) e in
+    let named = and_left (is_attr_name a.name && (a.quote == 34 || a.quote == 39)) (is_run a.quote a.value) e in
     record {
-      name = and_left (is_attr_name a.name) (a.quote == 34 || a.quote == 39) prefix;
-      quote = quote_of a.quote (and_right (is_attr_name a.name) (a.quote == 34 || a.quote == 39) prefix);
+      name = and_left (is_attr_name a.name) (a.quote == 34 || a.quote == 39) named;
+      quote = quote_of a.quote (and_right (is_attr_name a.name) (a.quote == 34 || a.quote == 39) named);
       value = no_quote_in a.quote a.value (and_right (is_attr_name a.name && (a.quote == 34 || a.quote == 39)) (is_run a.quote a.value) e);
     }
 

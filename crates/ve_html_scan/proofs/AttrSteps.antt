@@ -6,7 +6,7 @@ use Rattle.std.specs.List.{prefix_len, slice_range}
 use Rattle.model_spelling.specs.declared.scan_fault.ScanFault.{ScanFault}
 use Rattle.model_spelling.specs.declared.scan_fault.ScanWhat.TheVariants.{UnclosedTag, BadAttribute}
 use Rattle.model_spelling.specs.Grammar.{is_name_byte}
-use Rattle.model_spelling.specs.Reading.{◌>>=◌, fault, refused, mark_at, quote_at, name_len_at, head_at, slash_at, tag_close}
+use Rattle.model_spelling.specs.Reading.{◌>>=◌, fault, byte_fault, mark_at, quote_at, name_len_at, head_at, slash_at, tag_close}
 
 -- ---- the end of a start tag
 
@@ -14,16 +14,16 @@ pub close_none : (tag at : ℕ) (void : Bool) (t : List ℕ) → at ≡ length t
 close_none tag at void t e = at_drop_all (tag_close tag void at) t at (omega arith)
 
 close_is : (tag at : ℕ) (void : Bool) (t : List ℕ) → at < length t
-    → tag_close tag void at (drop at t) ≡ cond (eqb (get_or t at 0) 62) (Ok (false, at + 1)) (cond (eqb (get_or t at 0) 47 && void) (slash_at tag at (drop (at + 1) t)) (Err (refused at (get_or t at 0) (fault at BadAttribute))))
+    → tag_close tag void at (drop at t) ≡ cond (eqb (get_or t at 0) 62) (Ok (false, at + 1)) (cond (eqb (get_or t at 0) 47 && void) (slash_at tag at (drop (at + 1) t)) (Err (byte_fault at (get_or t at 0) (fault at BadAttribute))))
 close_is tag at void t lt = at_drop_more (tag_close tag void at) t at 0 lt
 
 pub close_plain : (tag at : ℕ) (void : Bool) (t : List ℕ) → at < length t → get_or t at 0 ≡ 62 → tag_close tag void at (drop at t) ≡ Ok (false, at + 1)
 close_plain tag at void t lt e = close_is tag at void t lt ∙ rw (eq-eqb _ _ e) refl
 
-pub close_other : (tag at : ℕ) (void : Bool) (t : List ℕ) → at < length t → get_or t at 0 ≢ 62 → get_or t at 0 ≢ 47 → tag_close tag void at (drop at t) ≡ Err (refused at (get_or t at 0) (fault at BadAttribute))
+pub close_other : (tag at : ℕ) (void : Bool) (t : List ℕ) → at < length t → get_or t at 0 ≢ 62 → get_or t at 0 ≢ 47 → tag_close tag void at (drop at t) ≡ Err (byte_fault at (get_or t at 0) (fault at BadAttribute))
 close_other tag at void t lt n m = close_is tag at void t lt ∙ rw (ne_eqb _ _ n, ne_eqb _ _ m) refl
 
-pub close_not_void : (tag at : ℕ) (t : List ℕ) → at < length t → get_or t at 0 ≡ 47 → tag_close tag false at (drop at t) ≡ Err (refused at (get_or t at 0) (fault at BadAttribute))
+pub close_not_void : (tag at : ℕ) (t : List ℕ) → at < length t → get_or t at 0 ≡ 47 → tag_close tag false at (drop at t) ≡ Err (byte_fault at (get_or t at 0) (fault at BadAttribute))
 close_not_void tag at t lt e = close_is tag at false t lt ∙ rw e refl
 
 close_slash : (tag at : ℕ) (t : List ℕ) → at < length t → get_or t at 0 ≡ 47 → tag_close tag true at (drop at t) ≡ slash_at tag at (drop (at + 1) t)
@@ -33,11 +33,11 @@ pub close_cut : (tag at : ℕ) (t : List ℕ) → at < length t → get_or t at 
 close_cut tag at t lt e n = close_slash tag at t lt e ∙ at_drop_all (slash_at tag at) t (at + 1) (omega arith)
 
 slash_is : (tag at : ℕ) (t : List ℕ) → at + 1 < length t
-    → slash_at tag at (drop (at + 1) t) ≡ cond (eqb (get_or t (at + 1) 0) 62) (Ok (true, at + 2)) (Err (refused (at + 1) (get_or t (at + 1) 0) (fault at BadAttribute)))
+    → slash_at tag at (drop (at + 1) t) ≡ cond (eqb (get_or t (at + 1) 0) 62) (Ok (true, at + 2)) (Err (byte_fault (at + 1) (get_or t (at + 1) 0) (fault at BadAttribute)))
 slash_is tag at t lt = at_drop_more (slash_at tag at) t (at + 1) 0 lt
 
 pub close_open : (tag at : ℕ) (t : List ℕ) → at < length t → get_or t at 0 ≡ 47 → at + 1 < length t → get_or t (at + 1) 0 ≢ 62
-    → tag_close tag true at (drop at t) ≡ Err (refused (at + 1) (get_or t (at + 1) 0) (fault at BadAttribute))
+    → tag_close tag true at (drop at t) ≡ Err (byte_fault (at + 1) (get_or t (at + 1) 0) (fault at BadAttribute))
 close_open tag at t lt e l n = close_slash tag at t lt e ∙ slash_is tag at t l ∙ rw (ne_eqb _ _ n) refl
 
 pub close_void : (tag at : ℕ) (t : List ℕ) → at < length t → get_or t at 0 ≡ 47 → at + 1 < length t → get_or t (at + 1) 0 ≡ 62 → tag_close tag true at (drop at t) ≡ Ok (true, at + 2)
@@ -76,7 +76,7 @@ pub head_cut : (tag place to : ℕ) (t : List ℕ) → to ≡ place + 1 + name_l
 head_cut tag place to t w h = head_cut_by tag place (name_len place t) to t refl w h
 
 pub head_no_name : (tag place to : ℕ) (t : List ℕ) → to ≡ place + 1 + name_len place t → to < length t → to ≡ place + 1
-    → head_at tag place (drop (place + 1) t) ≡ Err (refused to (get_or t to 0) (fault place BadAttribute))
+    → head_at tag place (drop (place + 1) t) ≡ Err (byte_fault to (get_or t to 0) (fault place BadAttribute))
 head_no_name tag place to t w lt h =
     let n : name_len place t ≡ 0 = omega arith in
     let lt2 : place + 1 < length t = omega arith in
@@ -84,14 +84,14 @@ head_no_name tag place to t w lt h =
 
 -- a name that isn't empty, after which the text goes on
 quote_is : (tag place to : ℕ) (t : List ℕ) (n : ℕ) → name_len place t ≡ n → to ≡ place + 1 + n → to < length t → to ≢ place + 1
-    → head_at tag place (drop (place + 1) t) ≡ (cond (eqb (get_or t to 0) 61) (mark_at tag place (to + 1) (drop (to + 1) t)) (Err (refused to (get_or t to 0) (fault place BadAttribute))) >>= λ q. Ok (to - (place + 1), q))
+    → head_at tag place (drop (place + 1) t) ≡ (cond (eqb (get_or t to 0) 61) (mark_at tag place (to + 1) (drop (to + 1) t)) (Err (byte_fault to (get_or t to 0) (fault place BadAttribute))) >>= λ q. Ok (to - (place + 1), q))
 quote_is tag place to t zero e w lt ne = absurd (omega arith)
 quote_is tag place to t (suc n) e w lt ne =
     let len : suc n ≡ to - (place + 1) = omega arith in
     head_named tag place n to t e w ∙ at_drop_more (λ text. quote_at tag place to text >>= λ q. Ok (suc n, q)) t to 0 lt ∙ rw len refl
 
 pub head_no_equals : (tag place to : ℕ) (t : List ℕ) → to ≡ place + 1 + name_len place t → to < length t → to ≢ place + 1 → get_or t to 0 ≢ 61
-    → head_at tag place (drop (place + 1) t) ≡ Err (refused to (get_or t to 0) (fault place BadAttribute))
+    → head_at tag place (drop (place + 1) t) ≡ Err (byte_fault to (get_or t to 0) (fault place BadAttribute))
 head_no_equals tag place to t w lt ne n = quote_is tag place to t (name_len place t) refl w lt ne ∙ rw (ne_eqb _ _ n) refl
 
 mark_is : (tag place to : ℕ) (t : List ℕ) → to ≡ place + 1 + name_len place t → to < length t → to ≢ place + 1 → get_or t to 0 ≡ 61
@@ -104,12 +104,12 @@ head_no_mark tag place to t w lt ne n e =
     mark_is tag place to t w lt ne n ∙ at_drop_all (λ text. mark_at tag place (to + 1) text >>= λ q. Ok (to - (place + 1), q)) t (to + 1) (omega arith)
 
 marked : (tag place to : ℕ) (t : List ℕ) → to ≡ place + 1 + name_len place t → to < length t → to ≢ place + 1 → get_or t to 0 ≡ 61 → to + 1 < length t
-    → head_at tag place (drop (place + 1) t) ≡ (cond (eqb (get_or t (to + 1) 0) 34 || eqb (get_or t (to + 1) 0) 39) (Ok (get_or t (to + 1) 0)) (Err (refused (to + 1) (get_or t (to + 1) 0) (fault place BadAttribute))) >>= λ q. Ok (to - (place + 1), q))
+    → head_at tag place (drop (place + 1) t) ≡ (cond (eqb (get_or t (to + 1) 0) 34 || eqb (get_or t (to + 1) 0) 39) (Ok (get_or t (to + 1) 0)) (Err (byte_fault (to + 1) (get_or t (to + 1) 0) (fault place BadAttribute))) >>= λ q. Ok (to - (place + 1), q))
 marked tag place to t w lt ne n l =
     mark_is tag place to t w lt ne n ∙ at_drop_more (λ text. mark_at tag place (to + 1) text >>= λ q. Ok (to - (place + 1), q)) t (to + 1) 0 l
 
 pub head_bad_mark : (tag place to : ℕ) (t : List ℕ) → to ≡ place + 1 + name_len place t → to < length t → to ≢ place + 1 → get_or t to 0 ≡ 61 → to + 1 < length t
-    → get_or t (to + 1) 0 ≢ 34 → get_or t (to + 1) 0 ≢ 39 → head_at tag place (drop (place + 1) t) ≡ Err (refused (to + 1) (get_or t (to + 1) 0) (fault place BadAttribute))
+    → get_or t (to + 1) 0 ≢ 34 → get_or t (to + 1) 0 ≢ 39 → head_at tag place (drop (place + 1) t) ≡ Err (byte_fault (to + 1) (get_or t (to + 1) 0) (fault place BadAttribute))
 head_bad_mark tag place to t w lt ne n l a b = marked tag place to t w lt ne n l ∙ rw (ne_eqb _ _ a, ne_eqb _ _ b) refl
 
 pub head_double : (tag place to : ℕ) (t : List ℕ) → to ≡ place + 1 + name_len place t → to < length t → to ≢ place + 1 → get_or t to 0 ≡ 61 → to + 1 < length t

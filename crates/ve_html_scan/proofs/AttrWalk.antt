@@ -10,7 +10,7 @@ use Rattle.model_spelling.specs.Grammar.{is_barred, starts_reference, is_name_by
 use Rattle.ve_kinds.specs.Tags.{is_one_of}
 use Rattle.model_spelling.specs.declared.scan_fault.ScanFault.{ScanFault}
 use Rattle.model_spelling.specs.declared.scan_fault.ScanWhat.TheVariants.{DuplicateAttribute, TooManyAttributes, BadChar, UnclosedTag}
-use Rattle.model_spelling.specs.Reading.{fault, reference_fault, run_end, value_end, head_at, attr_at, attrs_at, attrs_of, attrs_from}
+use Rattle.model_spelling.specs.Reading.{fault, reference_fault, run_end, value_end, head_at, attr_at, attrs_at, attrs_read, attrs_from}
 use Rattle.ve_html_scan.specs.Parts.{IsQuote, IsSpelled, AreSpelled}
 use Rattle.model_spelling.proofs.AttrReading.{four_ways, attr_head_fault, attr_many, attr_twice, attr_value_fault, attr_whole, attrs_stop, attrs_fault, attrs_more}
 
@@ -51,7 +51,7 @@ past t at = drop-drop 1 at t
 pub so_far_ends : {names : List (List ℕ)} (t : List ℕ) (tag from at room : ℕ) → get_or t at 0 ≢ 32 → SoFar names t tag from at room → attrs_at 256 tag [] from (drop from t) ≡ Ok (attrs_from tag from t, at)
 so_far_ends t tag from at room n s =
     let all : attrs_at 256 tag [] from (drop from t) ≡ Ok (s.before, at) = sym s.read ∙ attrs_stop room tag at s.before (drop at t) (λ e. n (sym (here t at) ∙ e)) in
-    all ∙ ap (λ (attrs : List Attr). Ok (attrs, at)) (sym (ap attrs_of all))
+    all ∙ ap (λ (attrs : List Attr). Ok (attrs, at)) (sym (ap attrs_read all))
 
 pub so_far_ends_at_end : {names : List (List ℕ)} (t : List ℕ) (tag from at room : ℕ) → at ≡ length t → SoFar names t tag from at room → attrs_at 256 tag [] from (drop from t) ≡ Ok (attrs_from tag from t, at)
 so_far_ends_at_end t tag from at room e s = so_far_ends t tag from at room (λ h. absurd (omega (arith, h, get_or_past t at 0 (omega arith)))) s
@@ -245,7 +245,7 @@ first_stays t from at le space known to lt2 =
 
 so_far_attrs : {names : List (List ℕ)} (t : List ℕ) (tag from at room : ℕ) → get_or t at 0 ≢ 32 → (s : SoFar names t tag from at room) → attrs_from tag from t ≡ s.before
 so_far_attrs t tag from at room n s =
-    ap attrs_of (sym s.read ∙ attrs_stop room tag at s.before (drop at t) (λ e. n (sym (here t at) ∙ e)))
+    ap attrs_read (sym s.read ∙ attrs_stop room tag at s.before (drop at t) (λ e. n (sym (here t at) ∙ e)))
 
 pub so_far_text : {names : List (List ℕ)} (t : List ℕ) (tag from at room : ℕ) → get_or t at 0 ≢ 32 → SoFar names t tag from at room → drop from t ≡ flat_map attr_text (attrs_from tag from t) ++ drop at t
 so_far_text t tag from at room n s = s.text ∙ ap (λ (a : List Attr). flat_map attr_text a ++ drop at t) (sym (so_far_attrs t tag from at room n s))

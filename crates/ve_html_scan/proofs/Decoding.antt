@@ -125,9 +125,9 @@ pub plain_read : (t b text : List ℕ) (at to : ℕ) → b ≡ t → to ≡ at +
 plain_read t b text at to same e is =
     let n : to - at ≡ prefix_len (λ c. not (c == 38)) (drop at t) = omega (arith, ap (λ (x : List ℕ). prefix_len (λ c. not (c == 38)) (drop at x)) same) in
     let whole : to ≡ at + prefix_len (λ c. not (c == 38)) (drop at t) = omega (arith, n, e) in
-    let prefix : text ≡ take (prefix_len (λ c. not (c == 38)) (drop at t)) (drop at t) = is ∙ ap (λ (k : ℕ). take k (drop at t)) n in
+    let is_part : text ≡ take (prefix_len (λ c. not (c == 38)) (drop at t)) (drop at t) = is ∙ ap (λ (k : ℕ). take k (drop at t)) n in
     let back : drop to t ≡ drop (prefix_len (λ c. not (c == 38)) (drop at t)) (drop at t) = ap (λ (k : ℕ). drop k t) whole ∙ sym (drop-drop (prefix_len (λ c. not (c == 38)) (drop at t)) at t) in
-    plain_prefix (drop at t) ∙ ap (λ (l : List ℕ). l ++ decoded (drop (prefix_len (λ c. not (c == 38)) (drop at t)) (drop at t))) (sym prefix) ∙ ap (λ (l : List ℕ). text ++ decoded l) (sym back)
+    plain_prefix (drop at t) ∙ ap (λ (l : List ℕ). l ++ decoded (drop (prefix_len (λ c. not (c == 38)) (drop at t)) (drop at t))) (sym is_part) ∙ ap (λ (l : List ℕ). text ++ decoded l) (sym back)
 
 -- where a piece ends
 pub cut_after_reference : (t b : List ℕ) (at len : ℕ) → b ≡ t → IsUtf8 t → 0 < len → at + len ≤ length b → get_or b (at + (len - 1)) 0 < 128 → IsCharBoundary t (at + len)

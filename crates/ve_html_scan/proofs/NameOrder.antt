@@ -83,11 +83,11 @@ searched_more names name i s le parted x =
 -- the names from place on in the first len, and the one after them
 turned : {X : Type 0} (xs : List X) (len place : ℕ) (x : X) → place ≤ len → len < length xs → mid_of place (len + 1 - place) (set xs len x) ≡ drop place (take len xs) ++ x ∷ []
 turned xs len place x le lt =
-    let prefix : take (len + 1) (set xs len x) ≡ take len xs ++ x ∷ [] = take_more_set xs len x lt in
+    let more_is : take (len + 1) (set xs len x) ≡ take len xs ++ x ∷ [] = take_more_set xs len x lt in
     let n : place + (len + 1 - place) ≡ len + 1 = omega arith in
     sym (drop-take place (len + 1 - place) (set xs len x))
     ∙ ap (λ (k : ℕ). drop place (take k (set xs len x))) n
-    ∙ ap (drop place) prefix
+    ∙ ap (drop place) more_is
     ∙ drop-append-le place (take len xs) (x ∷ []) (omega (arith, length-take len xs))
 
 -- after the last of these has come to their prefix

@@ -6,7 +6,7 @@ use Rattle.std.specs.List.{common_prefix_len}
 use Rattle.model_spelling.specs.declared.scan_fault.ScanFault.{ScanFault}
 use Rattle.model_spelling.specs.declared.scan_fault.ScanWhat.TheVariants.{BadChar, BadReference}
 use Rattle.model_spelling.specs.Grammar.{is_barred, begins_with, references, starts_reference, end_text}
-use Rattle.model_spelling.specs.Reading.{fault, refused, longest_prefix, after_prefix, reference_fault, run_end, verbatim_end}
+use Rattle.model_spelling.specs.Reading.{fault, byte_fault, longest_prefix, after_prefix, reference_fault, run_end, verbatim_end}
 
 -- ---- characters
 
@@ -68,11 +68,11 @@ verbatim_unclosed close unclosed at bs e = at_drop_all (verbatim_end close unclo
 abbrev pub prefix_len : ℕ → List ℕ → ℕ
 prefix_len at t = longest_prefix references (drop at t)
 
-by_end : (end : Option ScanFault) (at after b : ℕ) (bs : List ℕ) → after_prefix end at after (b ∷ bs) ≡ refused after b (fault at BadReference)
+by_end : (end : Option ScanFault) (at after b : ℕ) (bs : List ℕ) → after_prefix end at after (b ∷ bs) ≡ byte_fault after b (fault at BadReference)
 by_end None at after b bs = refl
 by_end (Some f) at after b bs = refl
 
-pub fault_after : (end : Option ScanFault) (at after : ℕ) (t : List ℕ) → after ≡ at + prefix_len at t → after < length t → reference_fault end at (drop at t) ≡ refused after (get_or t after 0) (fault at BadReference)
+pub fault_after : (end : Option ScanFault) (at after : ℕ) (t : List ℕ) → after ≡ at + prefix_len at t → after < length t → reference_fault end at (drop at t) ≡ byte_fault after (get_or t after 0) (fault at BadReference)
 unfolding reference_fault
 fault_after end at after t e lt =
     let n : at + prefix_len at t ≡ after = sym e in

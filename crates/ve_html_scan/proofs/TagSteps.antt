@@ -7,12 +7,12 @@ use Rattle.model_spelling.specs.declared.scan_fault.ScanFault.{ScanFault}
 use Rattle.model_spelling.specs.declared.scan_fault.ScanWhat.TheVariants.{BadTag, UnclosedTag, UnclosedComment, Doctype}
 use Rattle.model_spelling.specs.Grammar.{is_barred, is_letter, is_name_byte, is_plaintext, Attr, Token, Start, End, Comment, comment_close}
 use Rattle.ve_kinds.specs.Tags.{is_void}
-use Rattle.model_spelling.specs.Reading.{◌>>=◌, fault, refused, attrs_at, tag_close, start_after, start_at, tag_at, some_token, end_at, end_after, with_name, comment_at, is_doctype, dash_at, markup_at, verbatim_end}
+use Rattle.model_spelling.specs.Reading.{◌>>=◌, fault, byte_fault, attrs_at, tag_close, start_after, start_at, tag_at, some_token, end_at, end_after, with_name, comment_at, is_doctype, dash_at, markup_at, verbatim_end}
 
 -- ---- end tags
 
 end_is : (tag : ℕ) (t : List ℕ) → tag + 2 < length t
-    → end_at tag (drop (tag + 2) t) ≡ cond (is_letter (get_or t (tag + 2) 0)) (with_name (end_after tag) (tag + 2) (drop (tag + 2) t)) (Err (refused (tag + 2) (get_or t (tag + 2) 0) (fault tag BadTag)))
+    → end_at tag (drop (tag + 2) t) ≡ cond (is_letter (get_or t (tag + 2) 0)) (with_name (end_after tag) (tag + 2) (drop (tag + 2) t)) (Err (byte_fault (tag + 2) (get_or t (tag + 2) 0) (fault tag BadTag)))
 unfolding end_at
 end_is tag t lt = rw (drop_more t (tag + 2) 0 lt) refl
 
@@ -21,7 +21,7 @@ unfolding end_at
 end_none tag t e = at_drop_all (end_at tag) t (tag + 2) (omega arith)
 
 pub end_no_letter : (tag : ℕ) (t : List ℕ) → tag + 2 < length t → is_letter (get_or t (tag + 2) 0) ≡ false
-    → end_at tag (drop (tag + 2) t) ≡ Err (refused (tag + 2) (get_or t (tag + 2) 0) (fault tag BadTag))
+    → end_at tag (drop (tag + 2) t) ≡ Err (byte_fault (tag + 2) (get_or t (tag + 2) 0) (fault tag BadTag))
 end_no_letter tag t lt e = end_is tag t lt ∙ rw e refl
 
 -- after a name of n bytes
@@ -35,12 +35,12 @@ end_cut tag n t lt l e h = end_named tag n t lt l e ∙ at_drop_all (end_after t
 
 end_judged : (tag n : ℕ) (t : List ℕ) → tag + 2 < length t → is_letter (get_or t (tag + 2) 0) ≡ true → n ≡ prefix_len is_name_byte (drop (tag + 2) t)
     → tag + 2 + n < length t
-    → end_at tag (drop (tag + 2) t) ≡ cond (eqb (get_or t (tag + 2 + n) 0) 62 && not (is_plaintext (take n (drop (tag + 2) t)))) (Ok (End (take n (drop (tag + 2) t)), tag + 2 + n + 1)) (Err (refused (tag + 2 + n) (get_or t (tag + 2 + n) 0) (fault tag BadTag)))
+    → end_at tag (drop (tag + 2) t) ≡ cond (eqb (get_or t (tag + 2 + n) 0) 62 && not (is_plaintext (take n (drop (tag + 2) t)))) (Ok (End (take n (drop (tag + 2) t)), tag + 2 + n + 1)) (Err (byte_fault (tag + 2 + n) (get_or t (tag + 2 + n) 0) (fault tag BadTag)))
 end_judged tag n t lt l e h = end_named tag n t lt l e ∙ rw (drop_more t (tag + 2 + n) 0 h) refl
 
 pub end_other : (tag n : ℕ) (t : List ℕ) → tag + 2 < length t → is_letter (get_or t (tag + 2) 0) ≡ true → n ≡ prefix_len is_name_byte (drop (tag + 2) t)
     → tag + 2 + n < length t → get_or t (tag + 2 + n) 0 ≢ 62
-    → end_at tag (drop (tag + 2) t) ≡ Err (refused (tag + 2 + n) (get_or t (tag + 2 + n) 0) (fault tag BadTag))
+    → end_at tag (drop (tag + 2) t) ≡ Err (byte_fault (tag + 2 + n) (get_or t (tag + 2 + n) 0) (fault tag BadTag))
 end_other tag n t lt l e h ne = end_judged tag n t lt l e h ∙ rw (ne_eqb _ _ ne) refl
 
 -- the name as it is lent
@@ -89,23 +89,23 @@ unfolding markup_at
 markup_none tag t e = at_drop_all (markup_at tag) t (tag + 2) (omega arith)
 
 markup_is : (tag : ℕ) (t : List ℕ) → tag + 2 < length t
-    → markup_at tag (drop (tag + 2) t) ≡ cond (eqb (get_or t (tag + 2) 0) 45) (dash_at tag (drop (tag + 3) t)) (Err (refused (tag + 2) (get_or t (tag + 2) 0) (fault tag (cond (is_doctype (drop (tag + 2) t)) Doctype BadTag))))
+    → markup_at tag (drop (tag + 2) t) ≡ cond (eqb (get_or t (tag + 2) 0) 45) (dash_at tag (drop (tag + 3) t)) (Err (byte_fault (tag + 2) (get_or t (tag + 2) 0) (fault tag (cond (is_doctype (drop (tag + 2) t)) Doctype BadTag))))
 unfolding markup_at
 markup_is tag t lt = let n : tag + 2 + 1 ≡ tag + 3 = omega arith in rw (drop_more t (tag + 2) 0 lt, n) refl
 
 pub markup_doctype : (tag : ℕ) (t : List ℕ) → tag + 2 < length t → get_or t (tag + 2) 0 ≢ 45 → is_doctype (drop (tag + 2) t) ≡ true
-    → markup_at tag (drop (tag + 2) t) ≡ Err (refused (tag + 2) (get_or t (tag + 2) 0) (fault tag Doctype))
+    → markup_at tag (drop (tag + 2) t) ≡ Err (byte_fault (tag + 2) (get_or t (tag + 2) 0) (fault tag Doctype))
 markup_doctype tag t lt ne d = markup_is tag t lt ∙ rw (ne_eqb _ _ ne, d) refl
 
 pub markup_other : (tag : ℕ) (t : List ℕ) → tag + 2 < length t → get_or t (tag + 2) 0 ≢ 45 → is_doctype (drop (tag + 2) t) ≡ false
-    → markup_at tag (drop (tag + 2) t) ≡ Err (refused (tag + 2) (get_or t (tag + 2) 0) (fault tag BadTag))
+    → markup_at tag (drop (tag + 2) t) ≡ Err (byte_fault (tag + 2) (get_or t (tag + 2) 0) (fault tag BadTag))
 markup_other tag t lt ne d = markup_is tag t lt ∙ rw (ne_eqb _ _ ne, d) refl
 
 markup_dash : (tag : ℕ) (t : List ℕ) → tag + 2 < length t → get_or t (tag + 2) 0 ≡ 45 → markup_at tag (drop (tag + 2) t) ≡ dash_at tag (drop (tag + 3) t)
 markup_dash tag t lt e = markup_is tag t lt ∙ rw (eq-eqb _ _ e) refl
 
 dash_is : (tag : ℕ) (t : List ℕ) → tag + 3 < length t
-    → dash_at tag (drop (tag + 3) t) ≡ cond (eqb (get_or t (tag + 3) 0) 45) (comment_at tag (drop (tag + 4) t)) (Err (refused (tag + 3) (get_or t (tag + 3) 0) (fault tag BadTag)))
+    → dash_at tag (drop (tag + 3) t) ≡ cond (eqb (get_or t (tag + 3) 0) 45) (comment_at tag (drop (tag + 4) t)) (Err (byte_fault (tag + 3) (get_or t (tag + 3) 0) (fault tag BadTag)))
 unfolding dash_at
 dash_is tag t lt = let n : tag + 3 + 1 ≡ tag + 4 = omega arith in rw (drop_more t (tag + 3) 0 lt, n) refl
 
@@ -117,7 +117,7 @@ pub markup_cut : (tag : ℕ) (t : List ℕ) → tag + 2 < length t → get_or t 
 markup_cut tag t lt e n = markup_dash tag t lt e ∙ dash_none tag t n
 
 pub markup_one_dash : (tag : ℕ) (t : List ℕ) → tag + 2 < length t → get_or t (tag + 2) 0 ≡ 45 → tag + 3 < length t → get_or t (tag + 3) 0 ≢ 45
-    → markup_at tag (drop (tag + 2) t) ≡ Err (refused (tag + 3) (get_or t (tag + 3) 0) (fault tag BadTag))
+    → markup_at tag (drop (tag + 2) t) ≡ Err (byte_fault (tag + 3) (get_or t (tag + 3) 0) (fault tag BadTag))
 markup_one_dash tag t lt e l ne = markup_dash tag t lt e ∙ dash_is tag t l ∙ rw (ne_eqb _ _ ne) refl
 
 pub markup_comment : (tag : ℕ) (t : List ℕ) → tag + 2 < length t → get_or t (tag + 2) 0 ≡ 45 → tag + 3 < length t → get_or t (tag + 3) 0 ≡ 45
@@ -142,7 +142,7 @@ unfolding start_after
 start_cut tag to t e h = start_named tag to t e ∙ at_drop_all (start_after tag (slice_range t (tag + 1) to) to) t to (omega arith)
 
 pub start_plaintext : (tag to : ℕ) (t : List ℕ) → to ≡ tag + 1 + prefix_len is_name_byte (drop (tag + 1) t) → to < length t → is_plaintext (slice_range t (tag + 1) to) ≡ true
-    → start_at tag (drop (tag + 1) t) ≡ Err (refused to (get_or t to 0) (fault tag BadTag))
+    → start_at tag (drop (tag + 1) t) ≡ Err (byte_fault to (get_or t to 0) (fault tag BadTag))
 unfolding start_after
 start_plaintext tag to t e lt p = start_named tag to t e ∙ at_drop_more (start_after tag (slice_range t (tag + 1) to) to) t to 0 lt ∙ rw p refl
 
@@ -187,7 +187,7 @@ unfolding tag_at
 tag_none tag t e = at_drop_all (tag_at tag) t (tag + 1) (omega arith)
 
 tag_is : (tag : ℕ) (t : List ℕ) → tag + 1 < length t
-    → tag_at tag (drop (tag + 1) t) ≡ cond (is_letter (get_or t (tag + 1) 0)) (start_at tag (drop (tag + 1) t)) (cond (eqb (get_or t (tag + 1) 0) 47) (end_at tag (drop (tag + 2) t)) (cond (eqb (get_or t (tag + 1) 0) 33) (markup_at tag (drop (tag + 2) t)) (Err (refused (tag + 1) (get_or t (tag + 1) 0) (fault tag BadTag)))))
+    → tag_at tag (drop (tag + 1) t) ≡ cond (is_letter (get_or t (tag + 1) 0)) (start_at tag (drop (tag + 1) t)) (cond (eqb (get_or t (tag + 1) 0) 47) (end_at tag (drop (tag + 2) t)) (cond (eqb (get_or t (tag + 1) 0) 33) (markup_at tag (drop (tag + 2) t)) (Err (byte_fault (tag + 1) (get_or t (tag + 1) 0) (fault tag BadTag)))))
 unfolding tag_at
 tag_is tag t lt = let n : tag + 1 + 1 ≡ tag + 2 = omega arith in rw (drop_more t (tag + 1) 0 lt, n) refl
 
@@ -201,7 +201,7 @@ pub tag_marks : (tag : ℕ) (t : List ℕ) → tag + 1 < length t → is_letter 
 tag_marks tag t lt e n s = tag_is tag t lt ∙ rw (e, ne_eqb _ _ n, eq-eqb _ _ s) refl
 
 pub tag_other : (tag : ℕ) (t : List ℕ) → tag + 1 < length t → is_letter (get_or t (tag + 1) 0) ≡ false → get_or t (tag + 1) 0 ≢ 47 → get_or t (tag + 1) 0 ≢ 33
-    → tag_at tag (drop (tag + 1) t) ≡ Err (refused (tag + 1) (get_or t (tag + 1) 0) (fault tag BadTag))
+    → tag_at tag (drop (tag + 1) t) ≡ Err (byte_fault (tag + 1) (get_or t (tag + 1) 0) (fault tag BadTag))
 tag_other tag t lt e n m = tag_is tag t lt ∙ rw (e, ne_eqb _ _ n, ne_eqb _ _ m) refl
 
 pub some_err : (r : Result (Token × ℕ) ScanFault) (f : ScanFault) → r ≡ Err f → some_token r ≡ Err f

@@ -1,6 +1,6 @@
 -- What the functions over the bytes of a text answer.
-use Rattle.std.specs.Prelude.{◌≡◌, ℕ, ◌+◌, List, Bool, not, ◌==◌, IsTrue, Result, Ok, Err, slice_range, ◌⊎◌, if◌then◌else◌, codes}
-use Rattle.std.specs.List.{list_all, AllByRecursion}
+use Rattle.std.specs.Prelude.{◌≡◌, ℕ, ◌+◌, ◌-◌, ◌++◌, List, Bool, not, ◌==◌, IsTrue, Result, Ok, Err, slice_range, slice_index, ◌⊎◌, if◌then◌else◌, codes}
+use Rattle.std.specs.List.{flat_map, list_all, AllByRecursion}
 use Rattle.model_spelling.specs.declared.scan_fault.ScanFault.{ScanFault}
 use Rattle.ve_html_scan.specs.declared.runs.Close.{Close}
 use Rattle.ve_html_scan.specs.declared.runs.Close.TheVariants as closes
@@ -8,9 +8,9 @@ use Rattle.ve_html_scan.specs.declared.tags.StartPlaces.{StartPlaces}
 use Rattle.model_spelling.specs.Grammar as g
 use Rattle.model_spelling.specs.Reading.{attrs_from}
 
-abbrev pub closing : Close → List ℕ
-closing closes.Comment = g.comment_close
-closing (closes.Raw name) = g.end_text name.now
+abbrev pub closing_text : Close → List ℕ
+closing_text closes.Comment = g.comment_close
+closing_text (closes.Raw name) = g.end_text name.now
 
 abbrev pub close_text : Bool → List ℕ
 close_text slash = if slash then codes "/>" else codes ">"
@@ -35,3 +35,11 @@ Finds view (Err f) read = read ≡ Err f
 -- the start tag whose parts end at these places
 abbrev pub start_view : List ℕ → ℕ → StartPlaces → g.Token × ℕ
 start_view text tag p = (g.Start (slice_range text (tag + 1) p.name_to) (attrs_from tag p.name_to text) p.slash, p.to)
+
+-- what follows the name of a start tag whose parts end at these places
+abbrev pub after_name : List ℕ → ℕ → StartPlaces → List ℕ
+after_name text tag p = flat_map g.attr_text (attrs_from tag p.name_to text) ++ close_text p.slash
+
+-- the length of the name that begins after the space at place and ends at to, and the quote of its value
+abbrev pub head_view : List ℕ → ℕ → ℕ → ℕ × ℕ
+head_view text place to = (to - (place + 1), slice_index text (to + 1))

@@ -13,12 +13,12 @@ use Rattle.model_spelling.specs.Reading.{Mode, Between, After, Failed, Step, tok
 use Rattle.ve_kinds.specs.Tags.{is_raw}
 use Rattle.ve_html_scan.specs.Parts.{close_text}
 
-abbrev pub span_of : Token → Span
-span_of (lent.StartTag name attrs span) = span
-span_of (lent.EndTag name span) = span
-span_of (lent.Chars text span) = span
-span_of (lent.Raw text span) = span
-span_of (lent.Comment text span) = span
+abbrev pub token_span : Token → Span
+token_span (lent.StartTag name attrs span) = span
+token_span (lent.EndTag name span) = span
+token_span (lent.Chars text span) = span
+token_span (lent.Raw text span) = span
+token_span (lent.Comment text span) = span
 
 -- These attributes are still to come, and then the end of the tag, with or without a `/`.
 pub record ShowsAttrs (t : AttrTokens) (attrs : List g.Attr) (slash : Bool) : Type 0 where
@@ -35,38 +35,40 @@ pub record ShowsAttr (at : ℕ) (t : AttrToken) (a : g.Attr) : Type 0 where
 -- what is given where these attributes are still to come: the first of them, and then the others are
 abbrev pub GivesAttr : List g.Attr → Bool → ℕ → Option AttrToken → AttrTokens → Type 0
 GivesAttr [] slash at result after = IsNone result × ShowsAttrs after [] slash × (after.at ≡ at)
-GivesAttr (a ∷ attrs) slash at result after = IsSomeAnd result (λ t. ShowsAttr at t a) × ShowsAttrs after attrs slash × (after.at ≡ at + length (g.attr_text a))
+GivesAttr (a ∷ attrs) slash at result after =
+    IsSomeAnd result (λ t. ShowsAttr at t a) × ShowsAttrs after attrs slash × (after.at ≡ at + length (g.attr_text a))
 
 -- one call of an iterator over a tag's attributes
 abbrev pub AttrsStep : AttrTokens → Option AttrToken → AttrTokens → Type 0
-AttrsStep before result after = (attrs : List g.Attr) (slash : Bool) → ShowsAttrs before attrs slash → GivesAttr attrs slash before.at result after
+AttrsStep before result after =
+    (attrs : List g.Attr) (slash : Bool) → ShowsAttrs before attrs slash → GivesAttr attrs slash before.at result after
 
-abbrev pub Shows : Token → g.Token → Type 0
-Shows (lent.StartTag name attrs span) (g.Start n attributes slash) =
+abbrev pub ShowsToken : Token → g.Token → Type 0
+ShowsToken (lent.StartTag name attrs span) (g.Start n attributes slash) =
     (name.now ≡ n) × ShowsAttrs attrs attributes slash × (attrs.at ≡ span.from + 1 + length n)
-Shows (lent.EndTag name span) (g.End n) = name.now ≡ n
-Shows (lent.Chars text span) (g.Chars t) = text.now ≡ t
-Shows (lent.Raw text span) (g.Raw t) = text.now ≡ t
-Shows (lent.Comment text span) (g.Comment t) = text.now ≡ t
-Shows _ _ = ⊥
+ShowsToken (lent.EndTag name span) (g.End n) = name.now ≡ n
+ShowsToken (lent.Chars text span) (g.Chars t) = text.now ≡ t
+ShowsToken (lent.Raw text span) (g.Raw t) = text.now ≡ t
+ShowsToken (lent.Comment text span) (g.Comment t) = text.now ≡ t
+ShowsToken _ _ = ⊥
 
 -- what a scanner waits for after a token
-abbrev pub mode_after : Token → Mode
-mode_after (lent.StartTag name attrs span) = if is_raw name.now then After name.now else Between
-mode_after (lent.EndTag name span) = Between
-mode_after (lent.Chars text span) = Between
-mode_after (lent.Raw text span) = Between
-mode_after (lent.Comment text span) = Between
+abbrev pub mode_after_lent : Token → Mode
+mode_after_lent (lent.StartTag name attrs span) = if is_raw name.now then After name.now else Between
+mode_after_lent (lent.EndTag name span) = Between
+mode_after_lent (lent.Chars text span) = Between
+mode_after_lent (lent.Raw text span) = Between
+mode_after_lent (lent.Comment text span) = Between
 
 -- The token t, lent from the text from the byte at on, is what reading gives there.
 pub record IsFound (text : List ℕ) (at : ℕ) (read : Step) (t : Token) : Type 0 where
   pub token : g.Token
-  pub is : read ≡ Ok (Some (token, (span_of t).to))
-  pub shows : Shows t token
-  pub from : (span_of t).from ≡ at
-  pub some : at < (span_of t).to
-  pub mode : mode_after t ≡ reading.mode_after token
-  pub boundary : IsCharBoundary text (span_of t).to
+  pub is : read ≡ Ok (Some (token, (token_span t).to))
+  pub shows : ShowsToken t token
+  pub from : (token_span t).from ≡ at
+  pub some : at < (token_span t).to
+  pub mode : mode_after_lent t ≡ reading.mode_after token
+  pub boundary : IsCharBoundary text (token_span t).to
 
 -- What is answered for a text from the byte at is what reading gives.
 abbrev pub Gives : List ℕ → ℕ → Result (Option Token) ScanFault → Step → Type 0
@@ -77,17 +79,17 @@ Gives text at (Err f) read = read ≡ Err f
 -- ---- a scanner
 
 -- its text, where it stands in it, and what it waits for
-pub record Place : Type 0 where
+pub record ScannerState : Type 0 where
   pub text : List ℕ
   pub at : ℕ
   pub mode : Mode
 
 -- where a scanner stands after it gave this answer
-abbrev pub place_after : Result (Option Token) ScanFault → Place → Place
-place_after (Ok None) p = p
-place_after (Ok (Some t)) p = record { text = p.text; at = (span_of t).to; mode = mode_after t }
-place_after (Err f) p = record { text = p.text; at = p.at; mode = Failed f }
+abbrev pub scanner_after : Result (Option Token) ScanFault → ScannerState → ScannerState
+scanner_after (Ok None) p = p
+scanner_after (Ok (Some t)) p = record { text = p.text; at = (token_span t).to; mode = mode_after_lent t }
+scanner_after (Err f) p = record { text = p.text; at = p.at; mode = Failed f }
 
 -- what comes next from this place
-abbrev pub next_of : Place → Step
+abbrev pub next_of : ScannerState → Step
 next_of p = token_at p.mode p.at (drop p.at p.text)

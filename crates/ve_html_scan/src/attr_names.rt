@@ -27,7 +27,7 @@ impl<'a> Model for AttrNames<'a> {
     ghost invariant = { λ names. (names.len ≤ max_attributes) × CanBeSearched (take names.len names.sorted) };
 }
 
-/// Puts a name before those from that place on, where so many names stand at the prefix.
+/// Puts a name before those from that place on, where the first `len` are names.
 fn put_name<'a>(names: &mut [&'a [u8]], len: usize, place: usize, name: &'a [u8])
     requires place { place ≤ len }
     requires room { len < length names.old }

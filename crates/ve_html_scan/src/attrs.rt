@@ -4,8 +4,8 @@ ghost use Rattle.std.specs.Prelude.{◌≡◌, ◌≤◌, ◌<◌, ◌+◌, ◌-
 ghost use Rattle.std.specs.List.{flat_map, prefix_len};
 ghost use Rattle.ve_base.specs.Limits.{max_attributes};
 ghost use Rattle.model_spelling.specs.Grammar.{is_name_byte, attr_text};
-ghost use Rattle.model_spelling.specs.Reading.{fault, refused, head_at, value_end, attrs_at, attrs_from, tag_close};
-ghost use Rattle.ve_html_scan.specs.Parts.{Finds, AreSpelled, IsQuote, close_text};
+ghost use Rattle.model_spelling.specs.Reading.{fault, byte_fault, head_at, value_end, attrs_at, attrs_from, tag_close};
+ghost use Rattle.ve_html_scan.specs.Parts.{Finds, head_view, AreSpelled, IsQuote, close_text};
 
 use crate::attr_names::AttrNames;
 use crate::fault::{fault_at, refusal};
@@ -16,7 +16,7 @@ use model_spelling::{ScanFault, ScanWhat};
 #[tactic(auto, using(crate::proofs::AttrSteps::head_steps))]
 fn attr_name(bytes: &[u8], tag: usize, place: usize) -> Result<usize, ScanFault>
     requires { place < length bytes.now }
-    ensures read { Finds (λ to. (to - (place + 1), slice_index bytes.now (to + 1))) result (head_at tag place (drop (place + 1) bytes.now)) }
+    ensures read { Finds (head_view bytes.now place) result (head_at tag place (drop (place + 1) bytes.now)) }
     ensures bound { IfOk result (λ to. (place + 1 < to) × (to + 1 < length bytes.now)) }
     ensures end { IfOk result (λ to. to ≡ place + 1 + prefix_len is_name_byte (drop (place + 1) bytes.now)) }
     ensures equals { IfOk result (λ to. slice_index bytes.now to ≡ 61) }

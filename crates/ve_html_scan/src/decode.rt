@@ -8,14 +8,14 @@ use crate::runs::{begins, next_place_of, rest};
 use std::alloc::Global;
 use ve_base::{Memory, Text};
 
-/// A reference at the prefix of a text: how long it is, and what it stands for.
+/// The reference that a text begins with: how long it is, and what it stands for.
 #[derive(Clone, Copy)]
 struct Reference {
     meaning: &'static str,
     len: usize,
 }
 
-/// The reference at the prefix of a text that begins with `&`; where there is none, the `&` itself.
+/// The reference that a text begins with, or the `&` itself where it begins no reference.
 #[tactic(auto, using(crate::proofs::Decoding::prefix_steps))]
 fn first_reference(text: &[u8]) -> Reference
     requires { slice_index text.now 0 ≡ 38 }

@@ -4,7 +4,7 @@ ghost use Rattle.std.specs.Prelude.{◌≡◌, ◌≤◌, ◌<◌, ◌+◌, leng
 ghost use Rattle.std.specs.List.{prefix_len, common_prefix_len};
 ghost use Rattle.model_spelling.specs.Grammar.{is_barred, begins_with, is_letter, is_name_byte, references, starts_reference};
 ghost use Rattle.model_spelling.specs.Reading.{fault, longest_prefix, reference_fault, run_end, verbatim_end};
-ghost use Rattle.ve_html_scan.specs.Parts.{closing};
+ghost use Rattle.ve_html_scan.specs.Parts.{closing_text};
 
 use crate::fault::{fault_at, refusal};
 use model_spelling::{ScanFault, ScanWhat};
@@ -178,8 +178,8 @@ pub enum Close<'a> {
 #[tactic(auto, using(crate::proofs::Steps::close_steps))]
 fn closes(bytes: &[u8], at: usize, close: Close<'_>) -> bool
     requires { at ≤ length bytes.now }
-    ensures value { result ≡ begins_with (closing close.entry) (drop at bytes.now) }
-    ensures bound { IsTrue result → at + length (closing close.entry) ≤ length bytes.now }
+    ensures value { result ≡ begins_with (closing_text close.entry) (drop at bytes.now) }
+    ensures bound { IsTrue result → at + length (closing_text close.entry) ≤ length bytes.now }
 {
     match close {
         Close::Comment => begins(rest(bytes, at), b"-->"),
@@ -206,9 +206,9 @@ pub fn closing_at(
     unclosed: ScanFault,
 ) -> Result<usize, ScanFault>
     requires { from ≤ length bytes.now }
-    ensures read { result ≡ verbatim_end (closing close.entry) unclosed from (drop from bytes.now) }
-    ensures bound { IfOk result (λ to. (from ≤ to) × (to + length (closing close.entry) ≤ length bytes.now)) }
-    ensures found { IfOk result (λ to. begins_with (closing close.entry) (drop to bytes.now) ≡ true) }
+    ensures read { result ≡ verbatim_end (closing_text close.entry) unclosed from (drop from bytes.now) }
+    ensures bound { IfOk result (λ to. (from ≤ to) × (to + length (closing_text close.entry) ≤ length bytes.now)) }
+    ensures found { IfOk result (λ to. begins_with (closing_text close.entry) (drop to bytes.now) ≡ true) }
 {
     let mut at = from;
     while at < bytes.len() {

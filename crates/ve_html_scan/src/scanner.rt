@@ -3,7 +3,7 @@
 ghost use Rattle.std.specs.Prelude.{◌≡◌, ◌≤◌, ◌<◌, ◌+◌, length, drop, slice_index, true, IsCharBoundary};
 ghost use Rattle.model_spelling.specs.Grammar.{is_letter};
 ghost use Rattle.model_spelling.specs.Reading.{some_token, Between, start_at, end_at, markup_at, tag_at, between_at, token_at};
-ghost use Rattle.ve_html_scan.specs.Shown.{Gives, mode_after, next_of, place_after};
+ghost use Rattle.ve_html_scan.specs.Shown.{Gives, mode_after_lent, next_of, scanner_after};
 ghost use Rattle.ve_html_scan.specs.Scanned.{shown_mode};
 
 use crate::attr_names::AttrNames;
@@ -12,9 +12,9 @@ use crate::fault::{fault_at, refusal};
 use crate::runs::{Close, characters_end, closing_at, is_tag_letter};
 use crate::tags::{end_tag, markup, start_tag};
 use crate::token::{Span, Token};
-use ve_kinds::is_raw_name;
 use model_spelling::{ScanFault, ScanWhat};
 use std::marker::Model;
+use ve_kinds::is_raw_name;
 
 /// What a scanner waits for.
 #[derive(Clone, Copy)]
@@ -160,7 +160,7 @@ fn next_token<'a>(
 }
 
 fn mode_past<'a>(token: &Token<'a>) -> Mode<'a>
-    ensures { shown_mode result ≡ mode_after token.now }
+    ensures { shown_mode result ≡ mode_after_lent token.now }
 {
     match *token {
         Token::StartTag { name, .. } => {
@@ -186,10 +186,10 @@ pub struct Scanner<'a> {
 
 impl<'a> Model for Scanner<'a> {
     ghost use Rattle.std.specs.Prelude.{IsCharBoundary};
-    ghost use Rattle.ve_html_scan.specs.Shown.{Place};
+    ghost use Rattle.ve_html_scan.specs.Shown.{ScannerState};
     ghost use Rattle.ve_html_scan.specs.Scanned.{shown_mode};
 
-    ghost Value = { Place };
+    ghost Value = { ScannerState };
 
     ghost view = { λ s. record { text = s.text.now; at = s.at; mode = shown_mode s.mode } };
 
@@ -214,7 +214,7 @@ impl<'a> Scanner<'a> {
         // The token is what reading the rest of the text gives, and its parts are lent from there.
         ensures read { Gives self.old.text self.old.at result (next_of self.old) }
         // The scanner stands after the token, or at its fault.
-        ensures place { self.new ≡ place_after result self.old }
+        ensures place { self.new ≡ scanner_after result self.old }
     {
         match next_token(self.text, self.at, self.mode, &mut self.names) {
             Ok(None) => Ok(None),

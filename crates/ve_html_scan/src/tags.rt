@@ -1,18 +1,17 @@
 //! Tokens that begin with `<`. `tag` is the place of that byte.
 
-ghost use Rattle.std.specs.Prelude.{◌≡◌, ◌≤◌, ◌<◌, ◌+◌, ◌-◌, ◌++◌, length, drop, slice_range, slice_index, true, IfOk};
-ghost use Rattle.std.specs.List.{flat_map};
-ghost use Rattle.model_spelling.specs.Grammar.{is_barred, begins_with, is_letter, attr_text, End, Comment, comment_close};
-ghost use Rattle.model_spelling.specs.Reading.{fault, refused, attrs_from, start_at, end_at, is_doctype, comment_at, markup_at};
-ghost use Rattle.ve_html_scan.specs.Parts.{Finds, start_view, close_text, AreSpelled};
+ghost use Rattle.std.specs.Prelude.{◌≡◌, ◌≤◌, ◌<◌, ◌+◌, ◌-◌, length, drop, slice_range, slice_index, true, IfOk};
+ghost use Rattle.model_spelling.specs.Grammar.{is_barred, begins_with, is_letter, End, Comment, comment_close};
+ghost use Rattle.model_spelling.specs.Reading.{fault, byte_fault, attrs_from, start_at, end_at, is_doctype, comment_at, markup_at};
+ghost use Rattle.ve_html_scan.specs.Parts.{Finds, start_view, after_name, AreSpelled};
 
 use crate::attr_names::AttrNames;
 use crate::attrs::{attrs_end, tag_end};
 use crate::fault::{fault_at, refusal};
 use crate::names::is_plaintext_name;
 use crate::runs::{Close, closing_at, is_tag_letter, name_end, rest};
-use ve_kinds::is_void_name;
 use model_spelling::{ScanFault, ScanWhat};
+use ve_kinds::is_void_name;
 
 /// Where the name of an end tag ends.
 #[tactic(auto, using(crate::proofs::TagSteps::end_steps))]
@@ -115,7 +114,7 @@ pub fn start_tag<'a>(
     ensures first { IfOk result (λ p. slice_index bytes.now p.name_to < 128) }
     ensures close { IfOk result (λ p. slice_index bytes.now (p.to - 1) ≡ 62) }
     ensures spelled { IfOk result (λ p. AreSpelled (attrs_from tag p.name_to bytes.now)) }
-    ensures source { IfOk result (λ p. slice_range bytes.now p.name_to p.to ≡ flat_map attr_text (attrs_from tag p.name_to bytes.now) ++ close_text p.slash) }
+    ensures source { IfOk result (λ p. slice_range bytes.now p.name_to p.to ≡ after_name bytes.now tag p) }
 {
     let from = tag + 1;
     let name_to = name_end(bytes, from);

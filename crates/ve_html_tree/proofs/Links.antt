@@ -1,11 +1,11 @@
 -- The links between the open elements, as nodes are appended and ended.
 use Rattle.std.proofs.Common.{◌≡◌, ◌≢◌, ℕ, zero, suc, ◌+◌, ◌-◌, ◌<◌, ◌≤◌, List, [], ◌∷◌, ◌++◌, map, length, get_or, slice_set, refl, sym, ap, ◌∙◌, arith, subst}
 use Rattle.std.proofs.lemmas.List.{length-append, length-map}
-use Rattle.model_spelling.specs.Faults.{Open}
+use Rattle.model_spelling.specs.Faults.{OpenElement}
 use Rattle.ve_html_tree.specs.declared.node.Node.{Node}
 use Rattle.ve_html_tree.specs.declared.open.Opened.{Opened}
-use Rattle.ve_html_tree.specs.Nodes.{ended, ended_at}
-use Rattle.ve_html_tree.specs.Opened.{start_name, open_at, next_at, numbers_from, numbers, opens, LinkedFrom, AreLinked}
+use Rattle.ve_html_tree.specs.Nodes.{ended_node, ended_at}
+use Rattle.ve_html_tree.specs.Opened.{start_name, open_at, next_at, open_node_numbers_from, open_node_numbers, opens, LinkedFrom, AreLinked}
 
 -- ---- what stands at a number
 
@@ -38,9 +38,9 @@ length_ended zero from to next (n ∷ ns) = refl
 length_ended (suc k) from to next (n ∷ ns) = let e = length_ended k from to next ns in omega arith
 
 -- the node that a function ended is the one at its number
-pub ended_set : (ns : List Node) (k from to next : ℕ) (m : Node) → k < length ns → m ≡ get_or ns k m → slice_set ns k (ended from to next m) ≡ ended_at k from to next ns
+pub ended_set : (ns : List Node) (k from to next : ℕ) (m : Node) → k < length ns → m ≡ get_or ns k m → slice_set ns k (ended_node from to next m) ≡ ended_at k from to next ns
 ended_set [] k from to next m lt e = absurd (omega (arith, lt))
-ended_set (n ∷ ns) zero from to next m lt e = ap (λ (x : Node). ended from to next x ∷ ns) e
+ended_set (n ∷ ns) zero from to next m lt e = ap (λ (x : Node). ended_node from to next x ∷ ns) e
 ended_set (n ∷ ns) (suc k) from to next m lt e = ap (λ (l : List Node). n ∷ l) (ended_set ns k from to next m (omega (arith, lt)) e)
 
 -- ---- lists that agree below a bound
@@ -53,17 +53,17 @@ record Agrees (ns ms : List Node) (bound : ℕ) : Type 0 where
 narrower : (ns ms : List Node) (bound k : ℕ) → k < bound → Agrees ns ms bound → Agrees ns ms k
 narrower ns ms bound k lt a = record { next = λ j l. a.next j (omega arith); shown = λ j l. a.shown j (omega arith) }
 
-kept_numbers : (ns ms : List Node) (bound count k : ℕ) → Agrees ns ms bound → LinkedFrom ns bound count k → numbers_from ms count k ≡ numbers_from ns count k
+kept_numbers : (ns ms : List Node) (bound count k : ℕ) → Agrees ns ms bound → LinkedFrom ns bound count k → open_node_numbers_from ms count k ≡ open_node_numbers_from ns count k
 kept_numbers ns ms bound zero k a l = refl
 kept_numbers ns ms bound (suc count) k a l =
-    ap (λ (j : ℕ). k ∷ numbers_from ms count j) (a.next k l.0) ∙ ap (λ (ks : List ℕ). k ∷ ks) (kept_numbers ns ms k count (next_at ns k) (narrower ns ms bound k l.0 a) l.1)
+    ap (λ (j : ℕ). k ∷ open_node_numbers_from ms count j) (a.next k l.0) ∙ ap (λ (ks : List ℕ). k ∷ ks) (kept_numbers ns ms k count (next_at ns k) (narrower ns ms bound k l.0 a) l.1)
 
-kept_opens : (ns ms : List Node) (bound count k : ℕ) → Agrees ns ms bound → LinkedFrom ns bound count k → map (open_at ms) (numbers_from ms count k) ≡ map (open_at ns) (numbers_from ns count k)
+kept_opens : (ns ms : List Node) (bound count k : ℕ) → Agrees ns ms bound → LinkedFrom ns bound count k → map (open_at ms) (open_node_numbers_from ms count k) ≡ map (open_at ns) (open_node_numbers_from ns count k)
 kept_opens ns ms bound zero k a l = refl
 kept_opens ns ms bound (suc count) k a l =
-    ap (λ (j : ℕ). open_at ms k ∷ map (open_at ms) (numbers_from ms count j)) (a.next k l.0)
-    ∙ ap (λ (o : Open). o ∷ map (open_at ms) (numbers_from ms count (next_at ns k))) (a.shown k l.0)
-    ∙ ap (λ (os : List Open). open_at ns k ∷ os) (kept_opens ns ms k count (next_at ns k) (narrower ns ms bound k l.0 a) l.1)
+    ap (λ (j : ℕ). open_at ms k ∷ map (open_at ms) (open_node_numbers_from ms count j)) (a.next k l.0)
+    ∙ ap (λ (o : OpenElement). o ∷ map (open_at ms) (open_node_numbers_from ms count (next_at ns k))) (a.shown k l.0)
+    ∙ ap (λ (os : List OpenElement). open_at ns k ∷ os) (kept_opens ns ms k count (next_at ns k) (narrower ns ms bound k l.0 a) l.1)
 
 kept_links : (ns ms : List Node) (bound count k : ℕ) → Agrees ns ms bound → LinkedFrom ns bound count k → LinkedFrom ms bound count k
 kept_links ns ms bound zero k a l = l
@@ -79,12 +79,12 @@ pub no_more : (ns : List Node) (bound count k : ℕ) → LinkedFrom ns bound cou
 no_more ns bound zero k l = omega arith
 no_more ns bound (suc count) k l = omega (arith, l.0, no_more ns k count (next_at ns k) l.1)
 
-length_numbers : (ns : List Node) (count k : ℕ) → length (numbers_from ns count k) ≡ count
+length_numbers : (ns : List Node) (count k : ℕ) → length (open_node_numbers_from ns count k) ≡ count
 length_numbers ns zero k = refl
 length_numbers ns (suc count) k = let e = length_numbers ns count (next_at ns k) in omega arith
 
 pub length_opens : (ns : List Node) (o : Opened) → length (opens ns o) ≡ o.count
-length_opens ns o = length-map (numbers ns o) (open_at ns) ∙ length_numbers ns o.count o.innermost
+length_opens ns o = length-map (open_node_numbers ns o) (open_at ns) ∙ length_numbers ns o.count o.innermost
 
 -- ---- a node more
 
@@ -98,7 +98,7 @@ agrees_pushed ns x = record {
 longer : (ns : List Node) (x : Node) → length ns < length (ns ++ x ∷ [])
 longer ns x = omega (arith, length-append ns (x ∷ []))
 
-pub leaf_numbers : (ns : List Node) (x : Node) (o : Opened) → AreLinked ns o → numbers (ns ++ x ∷ []) o ≡ numbers ns o
+pub leaf_numbers : (ns : List Node) (x : Node) (o : Opened) → AreLinked ns o → open_node_numbers (ns ++ x ∷ []) o ≡ open_node_numbers ns o
 leaf_numbers ns x o l = kept_numbers ns (ns ++ x ∷ []) (length ns) o.count o.innermost (agrees_pushed ns x) l
 
 pub leaf_opens : (ns : List Node) (x : Node) (o : Opened) → AreLinked ns o → opens (ns ++ x ∷ []) o ≡ opens ns o
@@ -113,7 +113,7 @@ leaf_links ns x o l = wider (ns ++ x ∷ []) (length ns) (length (ns ++ x ∷ []
 abbrev pub within : ℕ → Opened → Opened
 within k o = record { count = o.count + 1; innermost = k }
 
-abbrev pub shown_node : Node → Open
+abbrev pub shown_node : Node → OpenElement
 shown_node n = record { name = start_name n.token; at = n.span.from }
 
 one_more : (c : ℕ) → c + 1 ≡ suc c
@@ -123,17 +123,17 @@ module _ (ns : List Node) (x : Node) (o : Opened) (link : x.next ≡ o.innermost
   linked_last : next_at (ns ++ x ∷ []) (length ns) ≡ o.innermost
   linked_last = item_last (λ (n : Node). n.next) 0 ns x ∙ link
 
-  pub opened_numbers : numbers (ns ++ x ∷ []) (within (length ns) o) ≡ length ns ∷ numbers ns o
+  pub opened_numbers : open_node_numbers (ns ++ x ∷ []) (within (length ns) o) ≡ length ns ∷ open_node_numbers ns o
   opened_numbers =
-      ap (λ (c : ℕ). numbers_from (ns ++ x ∷ []) c (length ns)) (one_more o.count)
-      ∙ ap (λ (k : ℕ). length ns ∷ numbers_from (ns ++ x ∷ []) o.count k) linked_last
+      ap (λ (c : ℕ). open_node_numbers_from (ns ++ x ∷ []) c (length ns)) (one_more o.count)
+      ∙ ap (λ (k : ℕ). length ns ∷ open_node_numbers_from (ns ++ x ∷ []) o.count k) linked_last
       ∙ ap (λ (ks : List ℕ). length ns ∷ ks) (leaf_numbers ns x o l)
 
   pub opened_opens : opens (ns ++ x ∷ []) (within (length ns) o) ≡ shown_node x ∷ opens ns o
   opened_opens =
-      ap (λ (c : ℕ). map (open_at (ns ++ x ∷ [])) (numbers_from (ns ++ x ∷ []) c (length ns))) (one_more o.count)
-      ∙ ap (λ (k : ℕ). open_at (ns ++ x ∷ []) (length ns) ∷ map (open_at (ns ++ x ∷ [])) (numbers_from (ns ++ x ∷ []) o.count k)) linked_last
-      ∙ ap (λ (os : List Open). open_at (ns ++ x ∷ []) (length ns) ∷ os) (leaf_opens ns x o l)
+      ap (λ (c : ℕ). map (open_at (ns ++ x ∷ [])) (open_node_numbers_from (ns ++ x ∷ []) c (length ns))) (one_more o.count)
+      ∙ ap (λ (k : ℕ). open_at (ns ++ x ∷ []) (length ns) ∷ map (open_at (ns ++ x ∷ [])) (open_node_numbers_from (ns ++ x ∷ []) o.count k)) linked_last
+      ∙ ap (λ (os : List OpenElement). open_at (ns ++ x ∷ []) (length ns) ∷ os) (leaf_opens ns x o l)
       ∙ ap (λ (t : List ℕ). record { name = t; at = get_or (map (λ (n : Node). n.span.from) (ns ++ x ∷ [])) (length ns) 0 } ∷ opens ns o) (item_last (λ (n : Node). start_name n.token) [] ns x)
       ∙ ap (λ (k : ℕ). record { name = start_name x.token; at = k } ∷ opens ns o) (item_last (λ (n : Node). n.span.from) 0 ns x)
 
@@ -165,8 +165,8 @@ module _ (ns : List Node) (o : Opened) (m : Node) (ne : o.count ≢ 0) (l : AreL
   pub first_within : o.innermost < length ns
   first_within = first_links.0
 
-  pub first_numbers : numbers ns o ≡ o.innermost ∷ numbers_from ns (o.count - 1) (next_at ns o.innermost)
-  first_numbers = ap (λ (c : ℕ). numbers_from ns c o.innermost) (some_open o ne)
+  pub first_numbers : open_node_numbers ns o ≡ o.innermost ∷ open_node_numbers_from ns (o.count - 1) (next_at ns o.innermost)
+  first_numbers = ap (λ (c : ℕ). open_node_numbers_from ns c o.innermost) (some_open o ne)
 
   module _ (is : m ≡ get_or ns o.innermost m) where
     link_is : m.next ≡ next_at ns o.innermost
@@ -175,22 +175,22 @@ module _ (ns : List Node) (o : Opened) (m : Node) (ne : o.count ≢ 0) (l : AreL
     rest_links : LinkedFrom ns o.innermost (o.count - 1) m.next
     rest_links = subst (λ (k : ℕ). LinkedFrom ns o.innermost (o.count - 1) k) (sym link_is) first_links.1
 
-    pub first_opens : opens ns o ≡ shown_node m ∷ map (open_at ns) (numbers_from ns (o.count - 1) m.next)
+    pub first_opens : opens ns o ≡ shown_node m ∷ map (open_at ns) (open_node_numbers_from ns (o.count - 1) m.next)
     first_opens =
         ap (map (open_at ns)) first_numbers
-        ∙ ap (λ (k : ℕ). open_at ns o.innermost ∷ map (open_at ns) (numbers_from ns (o.count - 1) k)) (sym link_is)
-        ∙ ap (λ (t : List ℕ). record { name = t; at = get_or (map (λ (n : Node). n.span.from) ns) o.innermost 0 } ∷ map (open_at ns) (numbers_from ns (o.count - 1) m.next)) (item_at (λ (n : Node). start_name n.token) [] ns o.innermost m first_links.0 is)
-        ∙ ap (λ (k : ℕ). record { name = start_name m.token; at = k } ∷ map (open_at ns) (numbers_from ns (o.count - 1) m.next)) (item_at (λ (n : Node). n.span.from) 0 ns o.innermost m first_links.0 is)
+        ∙ ap (λ (k : ℕ). open_at ns o.innermost ∷ map (open_at ns) (open_node_numbers_from ns (o.count - 1) k)) (sym link_is)
+        ∙ ap (λ (t : List ℕ). record { name = t; at = get_or (map (λ (n : Node). n.span.from) ns) o.innermost 0 } ∷ map (open_at ns) (open_node_numbers_from ns (o.count - 1) m.next)) (item_at (λ (n : Node). start_name n.token) [] ns o.innermost m first_links.0 is)
+        ∙ ap (λ (k : ℕ). record { name = start_name m.token; at = k } ∷ map (open_at ns) (open_node_numbers_from ns (o.count - 1) m.next)) (item_at (λ (n : Node). n.span.from) 0 ns o.innermost m first_links.0 is)
 
     module _ (from to next : ℕ) where
-      pub closed_numbers : numbers ns o ≡ o.innermost ∷ numbers (ended_at o.innermost from to next ns) (without o m)
+      pub closed_numbers : open_node_numbers ns o ≡ o.innermost ∷ open_node_numbers (ended_at o.innermost from to next ns) (without o m)
       closed_numbers =
           first_numbers
-          ∙ ap (λ (k : ℕ). o.innermost ∷ numbers_from ns (o.count - 1) k) (sym link_is)
+          ∙ ap (λ (k : ℕ). o.innermost ∷ open_node_numbers_from ns (o.count - 1) k) (sym link_is)
           ∙ ap (λ (ks : List ℕ). o.innermost ∷ ks) (sym (kept_numbers ns (ended_at o.innermost from to next ns) o.innermost (o.count - 1) m.next (agrees_ended o.innermost from to next ns) rest_links))
 
       pub closed_opens : opens ns o ≡ shown_node m ∷ opens (ended_at o.innermost from to next ns) (without o m)
-      closed_opens = first_opens ∙ ap (λ (os : List Open). shown_node m ∷ os) (sym (kept_opens ns (ended_at o.innermost from to next ns) o.innermost (o.count - 1) m.next (agrees_ended o.innermost from to next ns) rest_links))
+      closed_opens = first_opens ∙ ap (λ (os : List OpenElement). shown_node m ∷ os) (sym (kept_opens ns (ended_at o.innermost from to next ns) o.innermost (o.count - 1) m.next (agrees_ended o.innermost from to next ns) rest_links))
 
       pub closed_links : AreLinked (ended_at o.innermost from to next ns) (without o m)
       closed_links =

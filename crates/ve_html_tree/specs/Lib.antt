@@ -2,3 +2,4 @@ pub mod Seen
 pub mod Building
 pub mod Nodes
 pub mod Opened
+pub mod Taken

@@ -5,13 +5,13 @@ use Rattle.ve_html_tree.specs.declared.fault.HtmlFault.{HtmlFault}
 use Rattle.ve_html_tree.specs.declared.fault.HtmlFault.TheVariants as lent
 
 -- An answer that is the first fault, where it isn't a want of memory.
-abbrev pub IsFault : HtmlFault → Option g.ForestFault → Type 0
-IsFault (lent.Scan f) first = first ≡ Some (g.Scan f)
-IsFault (lent.Mismatched at) first = first ≡ Some (g.Mismatched at)
-IsFault (lent.Unclosed at) first = first ≡ Some (g.Unclosed at)
-IsFault (lent.Stray at) first = first ≡ Some (g.Stray at)
-IsFault (lent.TooDeep at) first = first ≡ Some (g.TooDeep at)
-IsFault lent.Memory first = Unit {0}
+abbrev pub IsFirstFault : HtmlFault → Option g.ForestFault → Type 0
+IsFirstFault (lent.Scan f) first = first ≡ Some (g.Scan f)
+IsFirstFault (lent.Mismatched at) first = first ≡ Some (g.Mismatched at)
+IsFirstFault (lent.Unclosed at) first = first ≡ Some (g.Unclosed at)
+IsFirstFault (lent.Stray at) first = first ≡ Some (g.Stray at)
+IsFirstFault (lent.TooDeep at) first = first ≡ Some (g.TooDeep at)
+IsFirstFault lent.Memory first = Unit {0}
 
 -- the fault that a step met
 abbrev pub met : {A : Type 0} → Result A g.ForestFault → Option g.ForestFault
@@ -19,11 +19,11 @@ met (Ok x) = None
 met (Err f) = Some f
 
 -- A step went on to these open elements, or it met its fault.
-abbrev pub Goes : {A : Type 0} → Result A HtmlFault → List g.Open → Result (List g.Open) g.ForestFault → Type 0
-Goes (Ok x) os read = read ≡ Ok os
-Goes (Err e) os read = IsFault e (met read)
+abbrev pub StepsTo : {A : Type 0} → Result A HtmlFault → List g.OpenElement → Result (List g.OpenElement) g.ForestFault → Type 0
+StepsTo (Ok x) os read = read ≡ Ok os
+StepsTo (Err e) os read = IsFirstFault e (met read)
 
 -- the text may end, or it has this fault
 abbrev pub Ends : {A : Type 0} → Result A HtmlFault → Option g.ForestFault → Type 0
 Ends (Ok x) first = first ≡ None
-Ends (Err e) first = IsFault e first
+Ends (Err e) first = IsFirstFault e first

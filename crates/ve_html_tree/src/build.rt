@@ -1,13 +1,8 @@
 // The nodes that are made from the tokens.
-ghost use Rattle.std.specs.Prelude.{◌≡◌, List, OnOk};
-ghost use Rattle.model_spelling.specs.Faults.{after_token};
-ghost use Rattle.model_spelling.specs.Grammar as g;
-ghost use Rattle.model_spelling.specs.Rows.{Row};
-ghost use Rattle.ve_html_scan.specs.Shown.{Shows, span_of};
-ghost use Rattle.ve_html_tree.specs.Building.{built, taken};
-ghost use Rattle.ve_html_tree.specs.Nodes.{HasRoom, HasText, ShowRows};
-ghost use Rattle.ve_html_tree.specs.Opened.{opens, numbers, AreLinked};
-ghost use Rattle.ve_html_tree.specs.Seen.{Goes};
+ghost use Rattle.std.specs.Prelude.{OnOk};
+ghost use Rattle.ve_html_tree.specs.Nodes.{HasRoom};
+ghost use Rattle.ve_html_tree.specs.Opened.{AreLinked};
+ghost use Rattle.ve_html_tree.specs.Taken.{TakesFaults, TakesNodes, TakesNumbers};
 
 use crate::node::push_node;
 use crate::open::{Opened, close_element, open_element};
@@ -22,9 +17,9 @@ pub fn take_token<'a>(
 ) -> Result<(), HtmlFault>
     requires room { HasRoom token.now }
     requires linked { AreLinked nodes.old.items opened.old }
-    ensures faults { (k : g.Token) → Shows token.now k → Goes result (opens nodes.new.items opened.new) (after_token k (span_of token.now).from (opens nodes.old.items opened.old)) }
-    ensures rows { (k : g.Token) (rs : List Row) → Shows token.now k → HasText token.now k → ShowRows nodes.old.items rs → OnOk result (ShowRows nodes.new.items (taken k (span_of token.now).from (span_of token.now).to (built rs (numbers nodes.old.items opened.old))).rows) }
-    ensures numbers { (k : g.Token) (rs : List Row) → Shows token.now k → ShowRows nodes.old.items rs → OnOk result ((taken k (span_of token.now).from (span_of token.now).to (built rs (numbers nodes.old.items opened.old))).open_ ≡ numbers nodes.new.items opened.new) }
+    ensures faults { TakesFaults result token.now nodes.old.items opened.old nodes.new.items opened.new }
+    ensures nodes { TakesNodes result token.now nodes.old.items opened.old nodes.new.items }
+    ensures numbers { TakesNumbers result token.now nodes.old.items opened.old nodes.new.items opened.new }
     ensures linked { OnOk result (AreLinked nodes.new.items opened.new) }
 {
     match *token {

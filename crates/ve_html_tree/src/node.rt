@@ -1,6 +1,6 @@
 // The nodes of a forest, in the order of their starts.
 ghost use Rattle.std.specs.Prelude.{◌≡◌, ◌<◌, ◌++◌, ◌∷◌, [], IfErr, OnOk, length, slice_get, Some};
-ghost use Rattle.ve_html_scan.specs.Shown.{span_of};
+ghost use Rattle.ve_html_scan.specs.Shown.{token_span};
 ghost use Rattle.ve_html_tree.specs.Nodes.{inner_span, HasRoom, node_of, ended_at};
 ghost use Rattle.ve_html_tree.specs.declared.fault.HtmlFault.TheVariants as faults;
 

@@ -1,12 +1,12 @@
 // The elements that are open.
-ghost use Rattle.std.specs.Prelude.{◌≡◌, ◌+◌, ◌++◌, ◌∷◌, [], OnOk, None, length, if◌then◌else◌};
-ghost use Rattle.model_spelling.specs.Faults.{after_start, after_end, fault_at_end};
+ghost use Rattle.std.specs.Prelude.{◌≡◌, ◌++◌, ◌∷◌, [], OnOk, None, length};
+ghost use Rattle.model_spelling.specs.Faults.{fault_at_end};
 ghost use Rattle.model_spelling.specs.Grammar.{name_same};
-ghost use Rattle.ve_kinds.specs.Tags.{is_void};
-ghost use Rattle.ve_html_scan.specs.Shown.{span_of};
+ghost use Rattle.ve_html_scan.specs.Shown.{token_span};
 ghost use Rattle.ve_html_tree.specs.Nodes.{HasRoom, node_of, ended_at};
-ghost use Rattle.ve_html_tree.specs.Opened.{start_name, opens, numbers, AreLinked};
-ghost use Rattle.ve_html_tree.specs.Seen.{Goes, Ends};
+ghost use Rattle.ve_html_tree.specs.Opened.{start_name, opens, open_node_numbers, start_link, numbers_after_start, AreLinked};
+ghost use Rattle.ve_html_tree.specs.Seen.{Ends};
+ghost use Rattle.ve_html_tree.specs.Taken.{StartsElement, EndsElement};
 
 use crate::node::{end_node, push_node};
 use crate::{HtmlFault, Node};
@@ -31,9 +31,9 @@ pub fn open_element<'a>(
     requires name { start_name token.now ≡ name.now }
     requires room { HasRoom token.now }
     requires linked { AreLinked nodes.old.items opened.old }
-    ensures faults { Goes result (opens nodes.new.items opened.new) (after_start name.now (span_of token.now).from (opens nodes.old.items opened.old)) }
-    ensures nodes { OnOk result (nodes.new.items ≡ nodes.old.items ++ node_of token.now (if is_void name.now then length nodes.old.items + 1 else opened.old.innermost) ∷ []) }
-    ensures numbers { OnOk result (numbers nodes.new.items opened.new ≡ (if is_void name.now then numbers nodes.old.items opened.old else length nodes.old.items ∷ numbers nodes.old.items opened.old)) }
+    ensures faults { StartsElement result name.now (token_span token.now).from nodes.old.items opened.old nodes.new.items opened.new }
+    ensures nodes { OnOk result (nodes.new.items ≡ nodes.old.items ++ node_of token.now (start_link name.now nodes.old.items opened.old) ∷ []) }
+    ensures numbers { OnOk result (open_node_numbers nodes.new.items opened.new ≡ numbers_after_start name.now nodes.old.items opened.old) }
     ensures linked { OnOk result (AreLinked nodes.new.items opened.new) }
 {
     let number = nodes.len();
@@ -75,9 +75,9 @@ pub fn close_element<'a>(
     end: Span,
 ) -> Result<(), HtmlFault>
     requires { AreLinked nodes.old.items opened.old }
-    ensures faults { Goes result (opens nodes.new.items opened.new) (after_end name.now end.from (opens nodes.old.items opened.old)) }
+    ensures faults { EndsElement result name.now end.from nodes.old.items opened.old nodes.new.items opened.new }
     ensures nodes { OnOk result (nodes.new.items ≡ ended_at opened.old.innermost end.from end.to (length nodes.old.items) nodes.old.items) }
-    ensures numbers { OnOk result (numbers nodes.old.items opened.old ≡ opened.old.innermost ∷ numbers nodes.new.items opened.new) }
+    ensures numbers { OnOk result (open_node_numbers nodes.old.items opened.old ≡ opened.old.innermost ∷ open_node_numbers nodes.new.items opened.new) }
     ensures linked { OnOk result (AreLinked nodes.new.items opened.new) }
 {
     if opened.count == 0 || is_void_name(name.as_bytes()) {

@@ -1,9 +1,13 @@
--- An attribute that is held as two texts, as it is written.
-use Rattle.std.specs.Prelude.{ℕ, List}
+-- Parts of texts and tags, as they are written.
+use Rattle.std.specs.Prelude.{◌≡◌, ℕ, Bool, List, ◌++◌, drop}
 use Rattle.ve_base.specs.declared.attrs.Attr.{Attr}
 use Rattle.model_spelling.specs.Grammar.{attr_text}
-use Rattle.model_spelling.specs.Written.{canon_attr, attr_bytes}
+use Rattle.model_spelling.specs.Written.{escaped, canon_attr, attr_bytes}
 
 -- one attribute, with the space before it
 abbrev pub attr_written : Attr → List ℕ
 attr_written a = attr_text (canon_attr (attr_bytes a))
+
+-- What stands in the bytes from one place to another is written as spelled, in a value or in a text.
+abbrev pub IsSpelledAs : Bool → List ℕ → ℕ → ℕ → List ℕ → Type 0
+IsSpelledAs in_value bytes from to spelled = escaped in_value (drop from bytes) ≡ spelled ++ escaped in_value (drop to bytes)

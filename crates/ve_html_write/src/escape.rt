@@ -1,7 +1,8 @@
 //! Which characters are written as references, in texts and in values.
 
-ghost use Rattle.std.specs.Prelude.{◌≡◌, ◌≤◌, ◌<◌, ◌+◌, ◌++◌, ◌∷◌, length, drop, slice_index, slice_range, IfSome, IfNone, OnOk};
+ghost use Rattle.std.specs.Prelude.{◌≡◌, ◌≤◌, ◌<◌, ◌+◌, ◌++◌, ◌∷◌, [], length, slice_index, slice_range, IfSome, IfNone, OnOk};
 ghost use Rattle.model_spelling.specs.Written.{escaped};
+ghost use Rattle.ve_html_write.specs.Tags.{IsSpelledAs};
 
 use ve_base::{Bytes, Memory};
 
@@ -16,10 +17,10 @@ struct Reference {
 #[tactic(auto, using(crate::proofs::Escaping::reference_steps))]
 fn reference_at(bytes: &[u8], at: usize, in_value: bool) -> Option<Reference>
     requires { at < length bytes.now }
-    ensures some { IfSome result (λ r. escaped in_value (drop at bytes.now) ≡ r.spelled.now ++ escaped in_value (drop (at + r.len) bytes.now)) }
+    ensures some { IfSome result (λ r. IsSpelledAs in_value bytes.now at (at + r.len) r.spelled.now) }
     ensures more { IfSome result (λ r. 0 < r.len) }
     ensures bound { IfSome result (λ r. at + r.len ≤ length bytes.now) }
-    ensures none { IfNone result (escaped in_value (drop at bytes.now) ≡ slice_index bytes.now at ∷ escaped in_value (drop (at + 1) bytes.now)) }
+    ensures none { IfNone result (IsSpelledAs in_value bytes.now at (at + 1) (slice_index bytes.now at ∷ [])) }
 {
     let (spelled, len): (&'static [u8], usize) = match bytes[at] {
         b'&' => (b"&amp;", 1),
@@ -46,7 +47,7 @@ fn reference_at(bytes: &[u8], at: usize, in_value: bool) -> Option<Reference>
 #[tactic(auto, using(crate::proofs::Escaping::run_begun, crate::proofs::Escaping::run_more))]
 fn run_end(bytes: &[u8], from: usize, in_value: bool) -> usize
     requires { from ≤ length bytes.now }
-    ensures run { escaped in_value (drop from bytes.now) ≡ slice_range bytes.now from result ++ escaped in_value (drop result bytes.now) }
+    ensures run { IsSpelledAs in_value bytes.now from result (slice_range bytes.now from result) }
     ensures more { from ≤ result }
     ensures bound { result ≤ length bytes.now }
 {
@@ -68,7 +69,7 @@ struct Piece<'a> {
 #[tactic(auto, using(crate::proofs::Escaping::run_from))]
 fn piece_at(bytes: &[u8], at: usize, in_value: bool) -> Piece<'_>
     requires { at < length bytes.now }
-    ensures piece { escaped in_value (drop at bytes.now) ≡ result.spelled.now ++ escaped in_value (drop result.to bytes.now) }
+    ensures piece { IsSpelledAs in_value bytes.now at result.to result.spelled.now }
     ensures more { at < result.to }
     ensures bound { result.to ≤ length bytes.now }
 {

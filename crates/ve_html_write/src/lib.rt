@@ -1,4 +1,10 @@
-//! Texts and tags in the canonical spelling (WHATWG HTML, "Serializing HTML fragments", but that `<` and `>` are references in values too).
+//! Texts and tags in the canonical spelling (WHATWG HTML, "Serializing HTML fragments", but that `<` and `>` are references in values too). It knows
+//! texts, names and attributes; which text or tag comes next is its caller's matter.
+//!
+//! - `put_text`: the characters of a text; `put_start`, `put_end`: the tags of an element. Each appends whole, or not at all;
+//! - their meaning is `escaped` and `start_tag` in `Written` of `model_spelling`, and `end_text` in its `Grammar`; `Tags` in specs/ serves private functions.
+//!
+//! There are no laws here: that what is written is read back is a law of `model_spelling`.
 #![tactic(auto)]
 
 mod escape;

@@ -11,7 +11,8 @@ one_where holds = if holds then 1 else 0
 -- each kind is of one class, and of no second one
 abbrev pub KindsHaveOneClass : Type 0
 KindsHaveOneClass = (k : Kind) →
-    one_where (is_content_branch k) + one_where (is_flow k) + one_where (is_structural k) + one_where (is_block_leaf k) + one_where (is_inline_leaf k) ≡ 1
+    one_where (is_content_branch k) + one_where (is_flow k) + one_where (is_structural k)
+    + one_where (is_block_leaf k) + one_where (is_inline_leaf k) ≡ 1
 
 -- an element kind's tag spells that kind, and no other kind has a tag
 abbrev pub TagsSpellElements : Type 0

@@ -34,7 +34,9 @@ blocks = content_branches ++ (Ul ∷ Ol ∷ Dl ∷ Blockquote ∷ Div ∷ Table 
 
 -- those that a tag of the same name spells
 abbrev pub element_kinds : List Kind
-element_kinds = Section ∷ content_branches ++ (Ul ∷ Ol ∷ Li ∷ Dl ∷ Dt ∷ Dd ∷ Blockquote ∷ Div ∷ Table ∷ Caption ∷ Thead ∷ Tbody ∷ Tfoot ∷ Tr ∷ Td ∷ Th ∷ Br ∷ Img ∷ [])
+element_kinds =
+    Section ∷ content_branches
+    ++ (Ul ∷ Ol ∷ Li ∷ Dl ∷ Dt ∷ Dd ∷ Blockquote ∷ Div ∷ Table ∷ Caption ∷ Thead ∷ Tbody ∷ Tfoot ∷ Tr ∷ Td ∷ Th ∷ Br ∷ Img ∷ [])
 
 abbrev pub is_content_branch : Kind → Bool
 is_content_branch = is_among content_branches

@@ -1,5 +1,5 @@
 use Rattle.model_page_law.proofs.BodyReplaced.{body_is_replaced, written_opens, written_is_read_back}
-use Rattle.model_page_law.proofs.written_page_opens.Goals as goal
+use Rattle.model_page_law.proofs.laws.written_page_opens.Goals as goal
 
 pub returns-clause-replaced : goal.returns-clause-replaced
 returns-clause-replaced c = body_is_replaced

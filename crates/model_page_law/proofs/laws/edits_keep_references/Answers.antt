@@ -1,5 +1,5 @@
 use Rattle.model_page_law.proofs.EditsRefer.{fragments_refer, edits_refer, inverses_refer, joins_refer, replays_refer, reversals_refer, join_lists_refer, revokes_refer}
-use Rattle.model_page_law.proofs.edits_keep_references.Goals as goal
+use Rattle.model_page_law.proofs.laws.edits_keep_references.Goals as goal
 
 pub returns-clause-edited : goal.returns-clause-edited
 returns-clause-edited c = edits_refer

@@ -1,5 +1,5 @@
 use Rattle.model_page_law.proofs.ReferenceLemmas.{reference_is_written, reference_has_body}
-use Rattle.model_page_law.proofs.reference_is_written.Goals as goal
+use Rattle.model_page_law.proofs.laws.reference_is_written.Goals as goal
 
 pub returns-clause-written : goal.returns-clause-written
 returns-clause-written c = reference_is_written

@@ -1,5 +1,5 @@
 use Rattle.model_page_law.proofs.FreshLemmas.{writes_fresh}
-use Rattle.model_page_law.proofs.writes_fresh.Goals as goal
+use Rattle.model_page_law.proofs.laws.writes_fresh.Goals as goal
 
 -- src/lib.rt:32:1
 pub returns : goal.returns

@@ -1,5 +1,5 @@
 use Rattle.model_page_law.proofs.ComposedLemmas.{composed_is_read, composed_keeps_members, composed_keeps_body, composed_twice, composed_owns, composed_is_same, composed_is_barred, composed_reuses}
-use Rattle.model_page_law.proofs.composed_reads_back.Goals as goal
+use Rattle.model_page_law.proofs.laws.composed_reads_back.Goals as goal
 
 pub returns-clause-value : goal.returns-clause-value
 returns-clause-value c = composed_is_read
