@@ -1,4 +1,4 @@
--- A stack kept in the prefix of a list.
+-- A stack kept at the start of a list.
 use Rattle.std.proofs.Common.{◌≡◌, ◌≢◌, ℕ, zero, suc, ◌+◌, ◌-◌, ◌<◌, ◌≤◌, Bool, nat_eq, nat_lt, List, ◌∷◌, length, set, get_or, slice_get, Some, ◌∙◌, refl, sym, ap, arith, add-one, get_or-set_same, get_or-set_other, ne_eqb, lt-ltb, true, ◌||◌, Ok}
 use Rattle.ve_kinds.specs.declared.kind.Kind.{Kind}
 use Rattle.ve_kinds.specs.declared.kind.Kind.TheVariants.{Root}

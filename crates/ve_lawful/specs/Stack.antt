@@ -1,4 +1,4 @@
--- A stack in the prefix of a list, its top last.
+-- A stack kept at the start of a list, its top last.
 use Rattle.std.specs.Prelude.{ℕ, zero, suc, List, [], ◌∷◌, slice_index_or}
 use Rattle.ve_kinds.specs.declared.kind.Kind.{Kind}
 use Rattle.ve_kinds.specs.declared.kind.Kind.TheVariants.{Root}

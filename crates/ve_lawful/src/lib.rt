@@ -1,22 +1,23 @@
-//! Which lists of items are lawful: the state that each item moves on, and the first place where a list or a piece of one fails.
+//! Which lists of items are lawful: the state that each item moves on, and the first place where a list or a piece of one
+//! fails. It knows kinds and items, and reads none of the values that items cite. It takes no memory.
+//!
+//! - `State` is the stack of open kinds, the innermost first, and whether the internal list was opened (specs/Stack.antt
+//!   says how it is kept; the law itself is in model_items, specs/Law.antt). At most `max_open_kinds` kinds are open.
+//! - specs/Uncited.antt is the law over items that cite their values: `step`, `after`, `verdict`. `State::step`,
+//!   `check_piece` and `check` are these, with the same places.
+//!
+//! Its law is in laws.rt: the law reads no values.
 #![tactic(auto)]
 
-ghost use Rattle.ve_lawful.specs.Uncited.{StepReadsNoValues, AfterReadsNoValues, VerdictReadsNoValues};
-
+mod laws;
 mod list;
 mod piece;
 mod state;
 #[cfg(test)]
 mod tests;
 
+pub use laws::values_are_not_read;
 pub use list::check;
 pub use model_items::LawFault;
 pub use piece::check_piece;
 pub use state::State;
-
-/// The law reads no value that an item cites: over every list of values it says the same.
-pub fn values_are_not_read()
-    ensures step { StepReadsNoValues }
-    ensures after { AfterReadsNoValues }
-    ensures verdict { VerdictReadsNoValues }
-{}

@@ -1,19 +1,18 @@
 // The open kinds at a place of a list.
-ghost use Rattle.std.specs.Prelude.{◌≡◌, ◌<◌, length, slice_get, IfErr, OnErr, OnOk, Ok, Err, Some};
+ghost use Rattle.std.specs.Prelude.{◌≡◌, ◌<◌, ◌≤◌, length, slice_get, IfErr, OnErr, OnOk, Ok, Err, Some};
 ghost use Rattle.model_items.specs.Law as law;
+ghost use Rattle.ve_base.specs.Limits.{max_open_kinds};
 ghost use Rattle.ve_lawful.specs.Uncited.{step};
 
 use model_items::{Item, LawFault};
 use std::marker::Model;
+use ve_base::MAX_OPEN_KINDS;
 use ve_kinds::{Kind, is_content_branch, may_hold};
-
-/// How many nodes may be open, the root not counted.
-const MAX_DEPTH: usize = 100;
 
 /// The open kinds at a place of a list, the root not counted, and whether the internal list was opened before it.
 #[derive(Drop)]
 pub struct State {
-    kinds: [Kind; 100],
+    kinds: [Kind; MAX_OPEN_KINDS],
     len: usize,
     seen: bool,
 }
@@ -21,13 +20,14 @@ pub struct State {
 impl Model for State {
     ghost use Rattle.std.specs.Prelude.{◌≤◌};
     ghost use Rattle.model_items.specs.Law as law;
+    ghost use Rattle.ve_base.specs.Limits.{max_open_kinds};
     ghost use Rattle.ve_lawful.specs.Stack.{stack_of};
 
     ghost Value = { law.State };
 
     ghost view = { λ s. record { stack = stack_of s.kinds s.len; seen = s.seen } };
 
-    ghost invariant = { λ s. s.len ≤ 100 };
+    ghost invariant = { λ s. s.len ≤ max_open_kinds };
 }
 
 impl State {
@@ -36,7 +36,7 @@ impl State {
         ensures { result ≡ law.start }
     {
         State {
-            kinds: [Kind::Root; 100],
+            kinds: [Kind::Root; MAX_OPEN_KINDS],
             len: 0,
             seen: false,
         }
@@ -55,7 +55,8 @@ impl State {
 
     /// How many nodes are open.
     pub fn depth(&self) -> usize
-        ensures { result ≡ length self.now.stack }
+        ensures depth { result ≡ length self.now.stack }
+        ensures within { result ≤ max_open_kinds }
     {
         self.len
     }
@@ -130,7 +131,7 @@ impl State {
             Item::Opening { kind, .. } => {
                 if !self.may_open(kind) {
                     Err(LawFault::Unlawful { at: 0 })
-                } else if self.len >= MAX_DEPTH {
+                } else if self.len >= MAX_OPEN_KINDS {
                     Err(LawFault::TooDeep { at: 0 })
                 } else {
                     self.kinds[self.len] = kind;

@@ -120,3 +120,23 @@ admitted_next values n v distinct within at =
           let same : i ≡ n = distinct i n v (slice_get-get_or values i v (omega arith) ∙ ap Some (sym (get_or-take n values i v before) ∙ here)) at in
           let none : ⊥ = omega arith in
           none
+
+-- the first place in two lists, where the value is in the one before, and where it isn't
+pub first_before : (values more : List Value) (v : Value) → holds values v ≡ true → position_or_len (value_same v) values ≡ position_or_len (value_same v) (values ++ more)
+first_before [] more v h = absurd (true≢false (sym h))
+first_before (x ∷ xs) more v h = go (value_same v x) (λ later. first_before xs more v later) h where
+  go : (b : Bool) → (holds xs v ≡ true → position_or_len (value_same v) xs ≡ position_or_len (value_same v) (xs ++ more)) → (b || holds xs v) ≡ true →
+      cond (not b) (1 + position_or_len (value_same v) xs) 0 ≡ cond (not b) (1 + position_or_len (value_same v) (xs ++ more)) 0
+  go true next there = refl
+  go false next there = ap (λ n. 1 + n) (next there)
+
+pub first_after : (values more : List Value) (v : Value) → holds values v ≡ false → length values + position_or_len (value_same v) more ≡ position_or_len (value_same v) (values ++ more)
+first_after [] more v h = omega arith
+first_after (x ∷ xs) more v h = go (value_same v x) (λ later. first_after xs more v later) h where
+  go : (b : Bool) → (holds xs v ≡ false → length xs + position_or_len (value_same v) more ≡ position_or_len (value_same v) (xs ++ more)) → (b || holds xs v) ≡ false →
+      suc (length xs) + position_or_len (value_same v) more ≡ cond (not b) (1 + position_or_len (value_same v) (xs ++ more)) 0
+  go true next there = absurd (true≢false there)
+  go false next there = let e = next there in omega (arith, e)
+
+pub absent : (values : List Value) (v : Value) → ¬ Contains values v → holds values v ≡ false
+absent values v new = false_from_ne_true (holds values v) (λ there. new (Contains-holds values v there))

@@ -1,6 +1,12 @@
 -- Values that are to follow a store.
-use Rattle.std.specs.Prelude.{◌≡◌, ℕ, List, length, take}
+use Rattle.std.specs.Prelude.{◌≡◌, ℕ, List, ◌++◌, false, [], ◌∷◌, Option, IfSome, length, take}
+use Rattle.std.specs.List.{list_any, position_or_len}
+use Rattle.ve_base.specs.declared.marks.Mark.{Mark}
 use Rattle.ve_base.specs.declared.value.Value.{Value}
+use Rattle.ve_base.specs.declared.value.Value.TheVariants as value
+use Rattle.ve_base.specs.declared.value.ValueId.{ValueId}
+use Rattle.model_items.specs.Plain.{marks_in, value_at}
+use Rattle.model_items.specs.Same.{mark_same, value_same}
 
 pub record Following : Type 0 where
   -- the length of the store
@@ -10,3 +16,20 @@ pub record Following : Type 0 where
 -- the same store, and the same values first
 abbrev pub Grows : Following → Following → Type 0
 Grows old new = (new.after ≡ old.after) × (take (length old.values) new.values ≡ old.values)
+
+-- the values of the store, and after them those that follow
+abbrev pub together : List Value → Following → List Value
+together store new = store ++ new.values
+
+-- the marks that an item cites
+abbrev pub marks_at : List Value → Option ValueId → List Mark
+marks_at values marks = marks_in (value_at values marks)
+
+-- what is cited, if anything is, is the first place where the value stands, or else the end
+abbrev pub IsFirstPlace : List Value → Value → Option ValueId → Type 0
+IsFirstPlace values v id = IfSome id (λ place. place.0 ≡ position_or_len (value_same v) values)
+
+-- the first place of an item's marks with one more, where that is new among them
+abbrev pub IsPlaceMarked : List Value → Option ValueId → Mark → Option ValueId → Type 0
+IsPlaceMarked values marks mark id =
+    list_any (mark_same mark) (marks_at values marks) ≡ false → IsFirstPlace values (value.Marks (marks_at values marks ++ mark ∷ [])) id

@@ -1,3 +1,4 @@
+pub use Rattle.ve_base.specs.Limits
 pub mod Following
 pub mod HashInput
 pub mod Laws

@@ -3,9 +3,9 @@ ghost use Rattle.std.specs.Prelude.{◌≡◌, ◌++◌, ◌∷◌, [], length, 
 ghost use Rattle.std.specs.List.{list_any};
 ghost use Rattle.ve_base.specs.declared.value.Value.TheVariants as value;
 ghost use Rattle.model_change.specs.Store.{admitted};
-ghost use Rattle.model_items.specs.Plain.{value_at, marks_in, CitesMarks};
+ghost use Rattle.model_items.specs.Plain.{CitesMarks};
 ghost use Rattle.model_items.specs.Same.{mark_same};
-ghost use Rattle.ve_store.specs.Following.{Grows};
+ghost use Rattle.ve_store.specs.Following.{Grows, IsFirstPlace, IsPlaceMarked, marks_at, together};
 ghost use Rattle.model_items.specs.Marks.{with_mark, without_mark};
 ghost use Rattle.ve_store.specs.Marked.{with_marks, values_marked};
 
@@ -13,7 +13,7 @@ use crate::{NewValues, Store};
 use std::alloc::Global;
 use ve_base::{Mark, Marks, Memory, Value, ValueId};
 
-fn is_same(one: &Mark, other: &Mark) -> bool
+fn same_mark(one: &Mark, other: &Mark) -> bool
     ensures { result ≡ mark_same one.now other.now }
 {
     one.same(other)
@@ -22,7 +22,7 @@ fn is_same(one: &Mark, other: &Mark) -> bool
 fn has_mark(marks: &[Mark], mark: &Mark) -> bool
     ensures { result ≡ list_any (mark_same mark.now) marks.now }
 {
-    marks.iter().any(|one| is_same(mark, one))
+    marks.iter().any(|one| same_mark(mark, one))
 }
 
 fn appended(alloc: Global, marks: &[Mark], mark: &Mark) -> Result<Marks, Memory>
@@ -41,7 +41,7 @@ fn rest_of(alloc: Global, marks: &[Mark], mark: &Mark) -> Result<Marks, Memory>
 {
     let mut rest = Marks::new(alloc);
     for one in marks {
-        if !is_same(mark, one) {
+        if !same_mark(mark, one) {
             rest.push(one.copy(alloc)?)?;
         }
     }
@@ -51,8 +51,8 @@ fn rest_of(alloc: Global, marks: &[Mark], mark: &Mark) -> Result<Marks, Memory>
 /// The marks that an item cites.
 fn cited_marks<'v>(store: &'v Store, new: &'v NewValues, marks: Option<ValueId>) -> &'v [Mark]
     requires follows { new.now.after ≡ length store.now }
-    requires cites { CitesMarks (store.now ++ new.now.values) marks }
-    ensures { result.now ≡ marks_in (value_at (store.now ++ new.now.values) marks) }
+    requires cites { CitesMarks (together store.now new.now) marks }
+    ensures { result.now ≡ marks_at (together store.now new.now) marks }
 {
     let Some(id) = marks else {
         return &[];
@@ -73,11 +73,12 @@ pub fn with_mark(
     mark: &Mark,
 ) -> Result<Option<ValueId>, Memory>
     requires follows { new.old.after ≡ length store.now }
-    requires cites { CitesMarks (store.now ++ new.old.values) marks }
-    ensures cited { IfOk result (λ id. marks_in (value_at (store.now ++ new.new.values) id) ≡ with_mark mark.now (marks_in (value_at (store.now ++ new.old.values) marks))) }
-    ensures ok { OnOk result (store.now ++ new.new.values ≡ values_marked (store.now ++ new.old.values) (marks_in (value_at (store.now ++ new.old.values) marks)) mark.now) }
-    ensures same { list_any (mark_same mark.now) (marks_in (value_at (store.now ++ new.old.values) marks)) ≡ true → result ≡ Ok marks }
-    ensures cites { IfOk result (CitesMarks (store.now ++ new.new.values)) }
+    requires cites { CitesMarks (together store.now new.old) marks }
+    ensures cited { IfOk result (λ id. marks_at (together store.now new.new) id ≡ with_mark mark.now (marks_at (together store.now new.old) marks)) }
+    ensures ok { OnOk result (together store.now new.new ≡ values_marked (together store.now new.old) (marks_at (together store.now new.old) marks) mark.now) }
+    ensures same { list_any (mark_same mark.now) (marks_at (together store.now new.old) marks) ≡ true → result ≡ Ok marks }
+    ensures place { IfOk result (IsPlaceMarked (together store.now new.old) marks mark.now) }
+    ensures cites { IfOk result (CitesMarks (together store.now new.new)) }
     ensures grows { Grows new.old new.new }
     ensures err { OnErr result (new.new ≡ new.old) }
 {
@@ -99,10 +100,11 @@ pub fn without_mark(
     mark: &Mark,
 ) -> Result<Option<ValueId>, Memory>
     requires follows { new.old.after ≡ length store.now }
-    requires cites { CitesMarks (store.now ++ new.old.values) marks }
-    ensures cited { IfOk result (λ id. marks_in (value_at (store.now ++ new.new.values) id) ≡ without_mark mark.now (marks_in (value_at (store.now ++ new.old.values) marks))) }
-    ensures ok { OnOk result (store.now ++ new.new.values ≡ with_marks (store.now ++ new.old.values) (without_mark mark.now (marks_in (value_at (store.now ++ new.old.values) marks)))) }
-    ensures cites { IfOk result (CitesMarks (store.now ++ new.new.values)) }
+    requires cites { CitesMarks (together store.now new.old) marks }
+    ensures cited { IfOk result (λ id. marks_at (together store.now new.new) id ≡ without_mark mark.now (marks_at (together store.now new.old) marks)) }
+    ensures ok { OnOk result (together store.now new.new ≡ with_marks (together store.now new.old) (without_mark mark.now (marks_at (together store.now new.old) marks))) }
+    ensures place { IfOk result (IsFirstPlace (together store.now new.old) (value.Marks (without_mark mark.now (marks_at (together store.now new.old) marks)))) }
+    ensures cites { IfOk result (CitesMarks (together store.now new.new)) }
     ensures grows { Grows new.old new.new }
     ensures err { OnErr result (new.new ≡ new.old) }
 {

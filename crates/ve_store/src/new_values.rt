@@ -1,7 +1,9 @@
 // Values that an edit brings, before its store takes them.
 ghost use Rattle.std.specs.Prelude.{◌≡◌, ◌<◌, ◌++◌, [], length, slice_get, Some, IfOk, OnOk, OnErr};
+ghost use Rattle.std.specs.List.{position_or_len};
 ghost use Rattle.model_change.specs.Store.{admitted};
-ghost use Rattle.ve_store.specs.Following.{Grows};
+ghost use Rattle.model_items.specs.Same.{value_same};
+ghost use Rattle.ve_store.specs.Following.{Grows, together};
 
 use crate::Store;
 use crate::hashed::Hashed;
@@ -45,8 +47,8 @@ impl NewValues {
     /// The value at a place of the store and these values together.
     pub fn get<'v>(&'v self, store: &'v Store, id: ValueId) -> &'v Value
         requires follows { self.now.after ≡ length store.now }
-        requires within { id.0 < length (store.now ++ self.now.values) }
-        ensures { slice_get (store.now ++ self.now.values) id.0 ≡ Some result.now }
+        requires within { id.0 < length (together store.now self.now) }
+        ensures { slice_get (together store.now self.now) id.0 ≡ Some result.now }
     {
         if id.0 < self.after {
             store.get(id)
@@ -59,8 +61,9 @@ impl NewValues {
     /// changes nothing. A place that no `usize` names is a want of memory like any other.
     pub fn id_of(&mut self, store: &Store, value: Value) -> Result<ValueId, Memory>
         requires { self.old.after ≡ length store.now }
-        ensures stored { IfOk result (λ id. slice_get (store.now ++ self.new.values) id.0 ≡ Some value) }
-        ensures ok { OnOk result (store.now ++ self.new.values ≡ admitted (store.now ++ self.old.values) value) }
+        ensures place { IfOk result (λ id. id.0 ≡ position_or_len (value_same value) (together store.now self.old)) }
+        ensures stored { IfOk result (λ id. slice_get (together store.now self.new) id.0 ≡ Some value) }
+        ensures ok { OnOk result (together store.now self.new ≡ admitted (together store.now self.old) value) }
         ensures grows { Grows self.old self.new }
         ensures err { OnErr result (self.new ≡ self.old) }
     {

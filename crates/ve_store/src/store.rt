@@ -1,6 +1,7 @@
 // The values that a page's items cite.
-ghost use Rattle.std.specs.Prelude.{◌≡◌, ◌↔◌, ◌<◌, ◌≤◌, ◌^◌, [], Contains, length, take, slice_get, Ok, Err, Some, IsSome, IfSome, IfOk, OnOk, OnErr};
+ghost use Rattle.std.specs.Prelude.{◌≡◌, ◌↔◌, ◌<◌, ◌≤◌, [], Contains, length, take, slice_get, Ok, Err, Some, IsSome, IfSome, IfOk, OnOk, OnErr};
 ghost use Rattle.std.specs.List.{position_or_len};
+ghost use Rattle.ve_base.specs.Limits.{max_values};
 ghost use Rattle.model_change.specs.Store.{admitted};
 ghost use Rattle.model_items.specs.Plain.{AreDistinct};
 ghost use Rattle.model_items.specs.Same.{value_same};
@@ -10,10 +11,7 @@ use crate::hashed::Hashed;
 use indexmap::IndexSet;
 use std::alloc::Global;
 use std::marker::Model;
-use ve_base::{Memory, Value, ValueId};
-
-/// How many values `intern` lets a store hold.
-pub const MAX_VALUES: usize = 1_048_576;
+use ve_base::{MAX_VALUES, Memory, Value, ValueId};
 
 /// A list of distinct values, which items cite by their places. A value is found by its hash.
 #[derive(Drop)]
@@ -85,7 +83,7 @@ impl Store {
         ensures stored { IfOk result (λ id. slice_get self.new id.0 ≡ Some value) }
         ensures ok { OnOk result (self.new ≡ admitted self.old value) }
         ensures err { OnErr result (self.new ≡ self.old) }
-        ensures full { (result ≡ Err StoreFault.Full) ↔ ((2 ^ 20 ≤ length self.old) × (¬ Contains self.old value)) }
+        ensures full { (result ≡ Err StoreFault.Full) ↔ ((max_values ≤ length self.old) × (¬ Contains self.old value)) }
     {
         if self.values.len() < MAX_VALUES {
             return self.admit(value).map_err(|_| StoreFault::Memory);

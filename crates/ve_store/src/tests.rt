@@ -1,8 +1,8 @@
 // Each call that takes memory, with ample memory; the limit at its number and at the next; and what a fault prints.
-use crate::{MAX_VALUES, NewValues, Store, StoreFault, with_mark, without_mark};
+use crate::{NewValues, Store, StoreFault, with_mark, without_mark};
 use std::alloc::Global;
 use std::test::Fail;
-use ve_base::{Attrs, Mark, Memory, Text, Value, ValueId};
+use ve_base::{Attrs, MAX_VALUES, Mark, Memory, Text, Value, ValueId};
 
 fn white(alloc: Global, text: &str) -> Result<Value, Memory> {
     Ok(Value::White(Text::from_str(alloc, text)?))
@@ -40,7 +40,7 @@ fn a_store_is_full_at_its_limit(rt: HostRuntime) -> Result<(), Fail> {
     assert_eq!(rt; store.intern(white(alloc, "last")?), Ok(ValueId(1_048_575)));
     assert_eq!(rt; store.intern(white(alloc, "more")?), Err(StoreFault::Full));
     assert_eq!(rt; store.intern(white(alloc, "0")?), Ok(ValueId(0)));
-    assert_eq!(rt; store.admit(white(alloc, "more")?), Ok(ValueId(1_048_576)));
+    assert_eq!(rt; store.admit(white(alloc, "more")?), Ok(ValueId(MAX_VALUES)));
     Ok(())
 }
 

@@ -1,6 +1,6 @@
 use Rattle.std.proofs.Common.{[]}
 use Rattle.model_items.proofs.VerdictLemmas.{law_reads_no_values, verdict_reads_no_values}
-use Rattle.ve_lawful.proofs.values_are_not_read.Goals as goal
+use Rattle.ve_lawful.proofs.laws.values_are_not_read.Goals as goal
 
 pub returns-clause-after : goal.returns-clause-after
 returns-clause-after c = λ values s items. law_reads_no_values values [] items s
