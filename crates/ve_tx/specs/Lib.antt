@@ -1,3 +1,4 @@
+pub use Rattle.ve_base.specs.Limits
 pub use Rattle.ve_base.specs.Empty
 pub use Rattle.ve_base.specs.Names
 pub use Rattle.model_items.specs.Plain
@@ -10,6 +11,8 @@ pub use Rattle.model_change.specs.Join
 pub use Rattle.model_change.specs.Store
 pub use Rattle.ve_items.specs.Substitution
 pub mod Operation
+pub mod Applied
+pub mod Gathered
 pub mod Normal
 pub mod Range
 pub mod Turned

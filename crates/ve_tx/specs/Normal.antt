@@ -1,6 +1,7 @@
 -- The normal form, asked of operations whose items cite values: it reads no value. A law says that it is the normal form by value.
 use Rattle.std.specs.Prelude.{ℕ, ◌+◌, ◌^◌, Bool, true, false, not, ◌&&◌, nat_lt, nat_le, List, [], ◌∷◌, length}
 use Rattle.model_items.specs.Same.{text_same}
+use Rattle.ve_base.specs.Limits.{max_total_length}
 use Rattle.ve_tx.specs.declared.op.Op.{Op}
 use Rattle.ve_tx.specs.declared.op.Op.TheVariants.{Retain, Replace, Attribute}
 
@@ -47,4 +48,4 @@ abbrev pub fit_into : ℕ → List Op → Bool
 fit_into room ops = nat_le (total_size ops) room
 
 abbrev pub are_normal : List Op → Bool
-are_normal ops = are_reduced ops && fit_into (2 ^ 60) ops
+are_normal ops = are_reduced ops && fit_into max_total_length ops

@@ -9,7 +9,7 @@ ghost use Rattle.model_change.specs.Fault.{first_allows};
 ghost use Rattle.ve_tx.specs.Attrs.{exchanged, new_attr, place_of, count_of};
 ghost use Rattle.ve_tx.specs.Checked.{change_of};
 
-use crate::normal::is_same;
+use crate::normal::same_text;
 use std::alloc::Global;
 use ve_base::{Attr, Attrs, Head, Memory, Text, Value, ValueId};
 use ve_items::{Item, Linear};
@@ -37,11 +37,11 @@ fn attrs_of<'s>(store: &'s Store, head: Option<ValueId>) -> &'s [Attr]
     }
 }
 
-fn is_value(one: &Text, value: &Option<Text>) -> bool
+fn same_value(one: &Text, value: &Option<Text>) -> bool
     ensures { result ≡ option_same text_same (Some one.now) value.now }
 {
     match value {
-        Some(value) => is_same(one, value),
+        Some(value) => same_text(one, value),
         None => false,
     }
 }
@@ -51,8 +51,8 @@ fn has_value(attrs: &[Attr], name: &Text, value: &Option<Text>) -> bool
     ensures { result ≡ option_same text_same (value_of name.now attrs.now) value.now }
 {
     for attr in attrs {
-        if is_same(&attr.name, name) {
-            return is_value(&attr.value, value);
+        if same_text(&attr.name, name) {
+            return same_value(&attr.value, value);
         }
     }
     value.is_none()
@@ -117,7 +117,7 @@ pub fn position(attrs: &[Attr], name: &Text) -> usize
     ensures within { result ≤ length attrs.now }
 {
     for i in 0..attrs.len() {
-        if is_same(&attrs[i].name, name) {
+        if same_text(&attrs[i].name, name) {
             return i;
         }
     }

@@ -1,11 +1,9 @@
 // What a list is to be changed by, made before the list is.
 ghost use Rattle.std.specs.Prelude.{◌≡◌, ◌≤◌, ◌+◌, length, All, IfOk, OnOk, OnErr};
 ghost use Rattle.model_items.specs.Plain.{plain_list, CitesWell};
-ghost use Rattle.model_change.specs.Fault.{Applies};
 ghost use Rattle.model_change.specs.Join.{active_range};
-ghost use Rattle.model_change.specs.Store.{fill, changed_heads};
 ghost use Rattle.model_change.specs.Transaction.{edited};
-ghost use Rattle.ve_items.specs.Substitution.{spliced};
+ghost use Rattle.ve_tx.specs.Applied.{AppliesTo, spliced_by, store_after};
 ghost use Rattle.ve_tx.specs.Changed.{IsOver};
 ghost use Rattle.ve_tx.specs.Cites.{TxCites};
 ghost use Rattle.ve_tx.specs.Making.{Extends};
@@ -40,13 +38,13 @@ pub fn prepared(
     requires normal { IsNormal (with_positions ops.now kept.now) }
     requires list { All (CitesWell store.old) list.old.items }
     requires cites { TxCites store.old (with_positions ops.now kept.now) }
-    requires applies { Applies (by_value store.old (with_positions ops.now kept.now)) (plain_list store.old list.old.items) }
-    ensures changed { IfOk result (λ change. plain_list store.new (spliced list.old.items change.at change.removed change.items) ≡ edited (by_value store.old (with_positions ops.now kept.now)) (plain_list store.old list.old.items)) }
+    requires applies { AppliesTo store.old (with_positions ops.now kept.now) list.old.items }
+    ensures changed { IfOk result (λ change. plain_list store.new (spliced_by list.old.items change) ≡ edited (by_value store.old (with_positions ops.now kept.now)) (plain_list store.old list.old.items)) }
     ensures range { IfOk result (λ change. IsOver (active_range (by_value store.old (with_positions ops.now kept.now))) change.at change.removed) }
     ensures within { IfOk result (λ change. change.at + change.removed ≤ length list.old.items) }
     ensures room { IfOk result (λ change. length change.items ≤ list.new.spare) }
     ensures cites { IfOk result (λ change. All (CitesWell store.new) change.items) }
-    ensures store { OnOk result (store.new ≡ fill store.old (changed_heads (by_value store.old (with_positions ops.now kept.now)) (plain_list store.old list.old.items))) }
+    ensures store { OnOk result (store.new ≡ store_after store.old (with_positions ops.now kept.now) list.old.items) }
     ensures items { list.new.items ≡ list.old.items }
     ensures blocks { list.new.blocks ≡ list.old.blocks }
     ensures err { OnErr result (list.new ≡ list.old) }

@@ -1,5 +1,6 @@
 // Whether operations apply to a list: lengths first, then the items that are to be removed, then the attributes.
 ghost use Rattle.std.specs.Prelude.{◌≡◌, ◌≤◌, ◌<◌, ◌+◌, ◌^◌, ◌↔◌, length, take, drop, None, Some, All, IfErr, IfNone, IfSome, OnOk, IfOk, IsTrue};
+ghost use Rattle.ve_base.specs.Limits.{max_total_length};
 ghost use Rattle.ve_base.specs.declared.value.Value.{Value};
 ghost use Rattle.model_items.specs.Plain.{CitesWell, AreDistinct};
 ghost use Rattle.ve_tx.specs.Cites.{OperationCites, TxCites};
@@ -9,14 +10,14 @@ ghost use Rattle.ve_tx.specs.Operation.{unkept};
 
 use crate::Op;
 use crate::attributes::may_change;
-use crate::same::is_item;
+use crate::same::same_item;
 use model_change::TxFault;
 use ve_items::{Item, Linear};
 use ve_store::Store;
 
 /// The length of the lists that the operations apply to.
 pub fn old_length(ops: &[Op]) -> usize
-    requires { total_size ops.now ≤ 2 ^ 60 }
+    requires { total_size ops.now ≤ max_total_length }
     ensures { result ≡ old_size ops.now }
 {
     let mut len = 0;
@@ -37,7 +38,7 @@ fn difference(one: &[Item], other: &[Item]) -> Option<usize>
     ensures some { IfSome result (λ k. DiffersFirst one.now other.now k) }
 {
     for i in 0..one.len() {
-        if !is_item(one[i], other[i]) {
+        if !same_item(one[i], other[i]) {
             return Some(i);
         }
     }
@@ -66,7 +67,7 @@ fn first_difference(list: &Linear, at: usize, removed: &[Item]) -> Option<usize>
 
 /// The first place where an item that is to be removed is not the list's.
 pub fn first_mismatch(ops: &[Op], list: &Linear) -> Option<usize>
-    requires within { total_size ops.now ≤ 2 ^ 60 }
+    requires within { total_size ops.now ≤ max_total_length }
     requires fits { old_size ops.now ≡ length list.now.items }
     ensures { (values : _) → AreDistinct values → All (CitesWell values) list.now.items → TxCites values (unkept ops.now) → result ≡ mismatch_in values list.now.items 0 ops.now }
 {
@@ -89,7 +90,7 @@ pub fn first_mismatch(ops: &[Op], list: &Linear) -> Option<usize>
 
 /// The first place where an attribute operation is not allowed.
 pub fn first_bad(ops: &[Op], list: &Linear, store: &Store) -> Option<usize>
-    requires within { total_size ops.now ≤ 2 ^ 60 }
+    requires within { total_size ops.now ≤ max_total_length }
     requires cites { All (CitesWell store.now) list.now.items }
     ensures { result ≡ bad_in store.now list.now.items 0 ops.now }
 {
@@ -111,7 +112,7 @@ pub fn first_bad(ops: &[Op], list: &Linear, store: &Store) -> Option<usize>
 /// Whether operations apply to a list. It takes no memory, and asks for lengths first, then whether the list has the items
 /// that are to be removed, and then whether its own items allow the attribute operations.
 pub fn check(ops: &[Op], list: &Linear, store: &Store) -> Result<(), TxFault>
-    requires within { total_size ops.now ≤ 2 ^ 60 }
+    requires within { total_size ops.now ≤ max_total_length }
     requires distinct { AreDistinct store.now }
     requires list { All (CitesWell store.now) list.now.items }
     requires cites { TxCites store.now (unkept ops.now) }

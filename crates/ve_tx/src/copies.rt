@@ -4,6 +4,7 @@ ghost use Rattle.model_change.specs.Store.{fill, cited_by, cited};
 ghost use Rattle.model_items.specs.Plain.{plain, plain_list, CitesWell};
 ghost use Rattle.ve_tx.specs.Cites.{OperationCites, TxCites};
 ghost use Rattle.ve_tx.specs.Copied.{AreCopied, Stands, one_cited, CitesAlike, ReadsAlike};
+ghost use Rattle.ve_tx.specs.Gathered.{gathered};
 ghost use Rattle.ve_tx.specs.Operation.{operation_by_value, by_value, with_position, with_positions};
 ghost use Rattle.ve_tx.specs.Parcel.{operation_cited, transaction_cited};
 
@@ -154,7 +155,7 @@ impl Copies {
         requires cites { TxCites store.now (with_positions ops.now kept.now) }
         ensures copied { OnOk result (AreCopied store.now self.new.places.keys self.new.values) }
         ensures filled { OnOk result (self.new.values ≡ fill self.old.values (transaction_cited (by_value store.now (with_positions ops.now kept.now)))) }
-        ensures alike { IfOk result (λ made. ReadsAlike by_value TxCites store.now self.new.values (with_positions ops.now kept.now) (with_positions made.ops.items made.kept.items)) }
+        ensures alike { IfOk result (λ made. ReadsAlike by_value TxCites store.now self.new.values (with_positions ops.now kept.now) (gathered made)) }
     {
         let mut made = Gathered::new(alloc);
         for i in 0..ops.len() {

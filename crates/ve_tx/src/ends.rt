@@ -1,6 +1,7 @@
 // Operations between other ends.
 ghost use Rattle.std.specs.Prelude.{◌≡◌, ◌≤◌, ◌++◌, IfOk, length};
 ghost use Rattle.ve_tx.specs.Ends.{core_start, core_end, core_of, retain_of};
+ghost use Rattle.ve_tx.specs.Gathered.{gathered};
 ghost use Rattle.ve_tx.specs.Operation.{with_positions};
 
 use crate::Op;
@@ -41,7 +42,7 @@ pub fn with_ends(
     kept: &[Option<usize>],
     last: usize,
 ) -> Result<Gathered, Memory>
-    ensures { IfOk result (λ made. with_positions made.ops.items made.kept.items ≡ retain_of first ++ (core_of ops.now (with_positions ops.now kept.now) ++ retain_of last)) }
+    ensures { IfOk result (λ made. gathered made ≡ retain_of first ++ (core_of ops.now (with_positions ops.now kept.now) ++ retain_of last)) }
 {
     let mut made = Gathered::new(alloc);
     made.retain(first)?;

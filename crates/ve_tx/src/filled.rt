@@ -1,5 +1,6 @@
 // The positions of removed attributes.
 ghost use Rattle.std.specs.Prelude.{◌≡◌, ◌≤◌, ◌+◌, ◌^◌, List, Some, None, drop, IfOk, All};
+ghost use Rattle.ve_base.specs.Limits.{max_total_length};
 ghost use Rattle.model_items.specs.declared.plain_item.PlainItem.{PlainItem};
 ghost use Rattle.model_items.specs.Plain.{plain_list, CitesWell};
 ghost use Rattle.model_change.specs.Attributes.{position_kept};
@@ -8,6 +9,7 @@ ghost use Rattle.model_change.specs.Inverse as inverse;
 ghost use Rattle.ve_tx.specs.Filled.{standing, passed, op_filled, MayBeMade};
 ghost use Rattle.ve_tx.specs.Making.{headed, IsOpening};
 ghost use Rattle.ve_tx.specs.Normal.{size, total_size};
+ghost use Rattle.ve_tx.specs.Gathered.{gathered};
 ghost use Rattle.ve_tx.specs.Operation.{operation_by_value, by_value, with_position, with_positions};
 
 use crate::Op;
@@ -29,7 +31,7 @@ struct Cursor {
 
 /// Past so many items. A changed head stays after with its item.
 fn past(cursor: Cursor, count: usize) -> Cursor
-    requires { cursor.at + count ≤ 2 ^ 60 }
+    requires { cursor.at + count ≤ max_total_length }
     ensures at { result.at ≡ cursor.at + count }
     ensures standing { (items : List PlainItem) → standing items result.at result.head ≡ drop count (standing items cursor.at cursor.head) }
 {
@@ -68,7 +70,7 @@ fn step(
     list: &Linear,
     store: &Store,
 ) -> Result<(Cursor, Option<usize>), Memory>
-    requires fits { cursor.at + size op.now ≤ 2 ^ 60 }
+    requires fits { cursor.at + size op.now ≤ max_total_length }
     requires list { All (CitesWell store.now) list.now.items }
     requires allowed { MayBeMade (operation_by_value store.now (with_position op.now kept)) (standing (plain_list store.now list.now.items) cursor.at cursor.head) }
     ensures at { IfOk result (λ next. next.0.at ≤ cursor.at + size op.now) }
@@ -103,11 +105,11 @@ pub fn filled(
     list: &Linear,
     store: &Store,
 ) -> Result<Gathered, Memory>
-    requires within { total_size ops.now ≤ 2 ^ 60 }
+    requires within { total_size ops.now ≤ max_total_length }
     requires list { All (CitesWell store.now) list.now.items }
     requires allowed { bad_attribute_at 0 (by_value store.now (with_positions ops.now kept.now)) (plain_list store.now list.now.items) ≡ None }
     ensures ops { IfOk result (λ made. made.ops.items ≡ ops.now) }
-    ensures filled { IfOk result (λ made. by_value store.now (with_positions made.ops.items made.kept.items) ≡ inverse.filled (by_value store.now (with_positions ops.now kept.now)) (plain_list store.now list.now.items)) }
+    ensures filled { IfOk result (λ made. by_value store.now (gathered made) ≡ inverse.filled (by_value store.now (with_positions ops.now kept.now)) (plain_list store.now list.now.items)) }
 {
     let mut made = Gathered::new(alloc);
     let mut cursor = Cursor { at: 0, head: None };

@@ -1,7 +1,8 @@
 // Operations as they are put together.
 ghost use Rattle.std.specs.Prelude.{◌≡◌, ◌≤◌, ◌++◌, ◌∷◌, [], None, IfOk, OnOk, vec_len};
 ghost use Rattle.ve_tx.specs.Ends.{retain_of};
-ghost use Rattle.ve_tx.specs.Operation.{with_position, with_positions};
+ghost use Rattle.ve_tx.specs.Gathered.{gathered};
+ghost use Rattle.ve_tx.specs.Operation.{with_position};
 ghost use Rattle.ve_tx.specs.Turned.{inserted_at};
 
 use crate::Op;
@@ -33,7 +34,7 @@ impl Gathered {
         requires within { at ≤ vec_len self.old.ops }
         ensures even { OnOk result (vec_len self.new.ops ≡ vec_len self.new.kept) }
         ensures within { OnOk result (at ≤ vec_len self.new.ops) }
-        ensures ok { OnOk result (with_positions self.new.ops.items self.new.kept.items ≡ inserted_at at (with_position op kept) (with_positions self.old.ops.items self.old.kept.items)) }
+        ensures ok { OnOk result (gathered self.new ≡ inserted_at at (with_position op kept) (gathered self.old)) }
     {
         self.ops.insert(at, op)?;
         self.kept.insert(at, kept)?;
@@ -45,7 +46,7 @@ impl Gathered {
         requires even { vec_len self.old.ops ≡ vec_len self.old.kept }
         ensures even { OnOk result (vec_len self.new.ops ≡ vec_len self.new.kept) }
         ensures ops { OnOk result (self.new.ops.items ≡ self.old.ops.items ++ op ∷ []) }
-        ensures ok { OnOk result (with_positions self.new.ops.items self.new.kept.items ≡ with_positions self.old.ops.items self.old.kept.items ++ with_position op kept ∷ []) }
+        ensures ok { OnOk result (gathered self.new ≡ gathered self.old ++ with_position op kept ∷ []) }
     {
         self.ops.push(op)?;
         self.kept.push(kept)?;
@@ -56,7 +57,7 @@ impl Gathered {
     pub fn retain(&mut self, count: usize) -> Result<(), Memory>
         requires even { vec_len self.old.ops ≡ vec_len self.old.kept }
         ensures even { OnOk result (vec_len self.new.ops ≡ vec_len self.new.kept) }
-        ensures ok { OnOk result (with_positions self.new.ops.items self.new.kept.items ≡ with_positions self.old.ops.items self.old.kept.items ++ retain_of count) }
+        ensures ok { OnOk result (gathered self.new ≡ gathered self.old ++ retain_of count) }
     {
         if count > 0 {
             self.push(Op::Retain(count), None)?;
@@ -69,7 +70,7 @@ impl Gathered {
         requires even { vec_len self.old.ops ≡ vec_len self.old.kept }
         ensures even { OnOk result (vec_len self.new.ops ≡ vec_len self.new.kept) }
         ensures len { IfOk result (λ len. len ≡ vec_len self.new.ops) }
-        ensures ok { OnOk result (with_positions self.new.ops.items self.new.kept.items ≡ with_positions self.old.ops.items self.old.kept.items ++ with_position op None ∷ []) }
+        ensures ok { OnOk result (gathered self.new ≡ gathered self.old ++ with_position op None ∷ []) }
     {
         self.push(op, None)?;
         Ok(self.ops.len())

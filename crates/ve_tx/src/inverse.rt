@@ -1,5 +1,6 @@
 // What undoes operations.
 ghost use Rattle.std.specs.Prelude.{◌≡◌, ◌≤◌, ◌∷◌, None, IfOk, OnOk, vec_len, slice_index_or};
+ghost use Rattle.ve_tx.specs.Gathered.{gathered};
 ghost use Rattle.ve_tx.specs.Operation.{with_position, with_positions};
 ghost use Rattle.ve_tx.specs.Turned.{op_back, turned, finished};
 
@@ -46,7 +47,7 @@ fn put_back(
     requires within { start ≤ vec_len back.old.ops }
     ensures even { OnOk result (vec_len back.new.ops ≡ vec_len back.new.kept) }
     ensures within { IfOk result (λ next. next ≤ vec_len back.new.ops) }
-    ensures ok { IfOk result (λ next. (rest : _) → finished (with_positions back.new.ops.items back.new.kept.items) next rest ≡ finished (with_positions back.old.ops.items back.old.kept.items) start (with_position op.now kept ∷ rest)) }
+    ensures ok { IfOk result (λ next. (rest : _) → finished (gathered back.new) next rest ≡ finished (gathered back.old) start (with_position op.now kept ∷ rest)) }
 {
     let undone = undoing(alloc, op)?;
     match op {

@@ -1,4 +1,17 @@
-//! Edits as values: transactions of retain, replace and attribute operations along a list of items.
+//! Edits as values: transactions of retain, replace and attribute operations along a list of items that cite a store. It
+//! doesn't choose edits: which change means what a user asks is made above.
+//!
+//! - `Op`, `OpList` and `Transaction` are what an edit is. A transaction is in normal form and keeps positions beside its
+//!   operations (specs/Operation.antt, specs/Normal.antt); what it means by value is model_change's.
+//! - specs/Cites.antt says which values it cites, and specs/Applied.antt what it does to a list: whether it applies, the
+//!   new list, the first fault, and the store after it.
+//! - `Transaction::change` makes the one splice of a `Change` (specs/Changed.antt, specs/Making.antt), and `apply` splices.
+//! - `inverse` (specs/Turned.antt), `filled` (specs/Filled.antt), `with_ends` (specs/Ends.antt) and `active_range`
+//!   (specs/Range.antt) make other transactions of one, as the model does.
+//! - `Entry` is transactions that are undone together (specs/Entry.antt). `Parcel` is an entry over its own values, to be
+//!   sent (specs/Parcel.antt). `Draft` is a transaction with values that no store has yet.
+//!
+//! The laws are clauses of these calls: `undone` of `inverse`, `restorable` of `filled`, `applied` of `apply`.
 #![tactic(auto)]
 
 #[cfg(test)]

@@ -1,15 +1,13 @@
 // Whether operations are in normal form.
 ghost use Rattle.std.specs.Prelude.{◌≡◌, ◌+◌, ◌<◌, ◌^◌, IfSome, IfNone};
+ghost use Rattle.ve_base.specs.Limits.{max_total_length};
 ghost use Rattle.model_items.specs.Same.{text_same};
 ghost use Rattle.ve_tx.specs.Normal.{names_apart, may_stand_before, is_some_op, size, are_reduced, fit_into, are_normal};
 
 use crate::Op;
-use ve_base::Text;
+use ve_base::{MAX_TOTAL_LENGTH, Text};
 
-/// The most that all retained, removed and inserted lengths add up to.
-const LIMIT: usize = 1 << 60;
-
-pub fn is_same(one: &Text, other: &Text) -> bool
+pub fn same_text(one: &Text, other: &Text) -> bool
     ensures { result ≡ text_same one.now other.now }
 {
     one.same(other)
@@ -25,7 +23,7 @@ fn name_may_precede(name: &Text, rest: &[Op]) -> bool
             Op::Retain(_) => return true,
             Op::Replace { .. } => return false,
             Op::Attribute { name: other, .. } => {
-                if is_same(name, other) {
+                if same_text(name, other) {
                     return false;
                 }
             }
@@ -82,9 +80,9 @@ fn room_left(op: &Op, room: usize) -> Option<usize>
 }
 
 fn is_within_limit(ops: &[Op]) -> bool
-    ensures { result ≡ fit_into (2 ^ 60) ops.now }
+    ensures { result ≡ fit_into max_total_length ops.now }
 {
-    let mut room = LIMIT;
+    let mut room = MAX_TOTAL_LENGTH;
     for op in ops {
         match room_left(op, room) {
             Some(left) => room = left,
@@ -95,7 +93,7 @@ fn is_within_limit(ops: &[Op]) -> bool
 }
 
 /// Whether no operation can be left out or be one with its neighbour, attribute operations of one place have distinct
-/// names and are followed by a retain, and all lengths add up to at most 2^60.
+/// names and are followed by a retain, and all lengths add up to at most `max_total_length`.
 pub fn is_normal(ops: &[Op]) -> bool
     ensures { result ≡ are_normal ops.now }
 {

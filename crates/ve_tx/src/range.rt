@@ -1,5 +1,6 @@
 // Where operations are active.
 ghost use Rattle.std.specs.Prelude.{◌≡◌, ◌≤◌, ◌^◌, None};
+ghost use Rattle.ve_base.specs.Limits.{max_total_length};
 ghost use Rattle.ve_tx.specs.Normal.{total_size};
 ghost use Rattle.ve_tx.specs.Range.{widened, range_from};
 
@@ -16,7 +17,7 @@ fn wider(range: Option<(usize, usize)>, from: usize, to: usize) -> Option<(usize
 
 /// From the start of the first operation that isn't a retain to the end of the last, in the old list.
 pub fn range_of(ops: &[Op]) -> Option<(usize, usize)>
-    requires { total_size ops.now ≤ 2 ^ 60 }
+    requires { total_size ops.now ≤ max_total_length }
     ensures { result ≡ range_from 0 None ops.now }
 {
     let mut at = 0;

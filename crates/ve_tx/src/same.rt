@@ -1,17 +1,17 @@
-// Whether two items are one.
+// Whether two items are equal.
 ghost use Rattle.std.specs.Prelude.{◌≡◌, ◌↔◌, IsTrue};
 
 use ve_base::ValueId;
 use ve_items::Item;
 use ve_kinds::Kind;
 
-fn is_kind(one: Kind, other: Kind) -> bool
+fn same_kind(one: Kind, other: Kind) -> bool
     ensures { IsTrue result ↔ (one ≡ other) }
 {
     one == other
 }
 
-fn is_id(one: Option<ValueId>, other: Option<ValueId>) -> bool
+fn same_id(one: Option<ValueId>, other: Option<ValueId>) -> bool
     ensures { IsTrue result ↔ (one ≡ other) }
 {
     match (one, other) {
@@ -21,7 +21,7 @@ fn is_id(one: Option<ValueId>, other: Option<ValueId>) -> bool
     }
 }
 
-fn is_origin(one: Option<u32>, other: Option<u32>) -> bool
+fn same_origin(one: Option<u32>, other: Option<u32>) -> bool
     ensures { IsTrue result ↔ (one ≡ other) }
 {
     match (one, other) {
@@ -31,9 +31,9 @@ fn is_origin(one: Option<u32>, other: Option<u32>) -> bool
     }
 }
 
-/// Whether two items are one. Items that cite one store of distinct values are equal where they cite equal places, so no
+/// Whether two items are equal. Items that cite one store of distinct values are equal where they cite equal places, so no
 /// value is read.
-pub fn is_item(one: Item, other: Item) -> bool
+pub fn same_item(one: Item, other: Item) -> bool
     ensures { IsTrue result ↔ (one ≡ other) }
 {
     match (one, other) {
@@ -43,7 +43,7 @@ pub fn is_item(one: Item, other: Item) -> bool
                 ch: other_ch,
                 marks: other_marks,
             },
-        ) => ch == other_ch && is_id(marks, other_marks),
+        ) => ch == other_ch && same_id(marks, other_marks),
         (
             Item::Opening {
                 kind,
@@ -62,12 +62,12 @@ pub fn is_item(one: Item, other: Item) -> bool
                 origin: other_origin,
             },
         ) => {
-            is_kind(kind, other_kind)
+            same_kind(kind, other_kind)
                 && generated == other_generated
-                && is_id(head, other_head)
-                && is_id(marks, other_marks)
-                && is_id(pre, other_pre)
-                && is_origin(origin, other_origin)
+                && same_id(head, other_head)
+                && same_id(marks, other_marks)
+                && same_id(pre, other_pre)
+                && same_origin(origin, other_origin)
         }
         (
             Item::Closing { kind, pre },
@@ -75,7 +75,7 @@ pub fn is_item(one: Item, other: Item) -> bool
                 kind: other_kind,
                 pre: other_pre,
             },
-        ) => is_kind(kind, other_kind) && is_id(pre, other_pre),
+        ) => same_kind(kind, other_kind) && same_id(pre, other_pre),
         (Item::Char { .. }, Item::Opening { .. } | Item::Closing { .. })
         | (Item::Opening { .. }, Item::Char { .. } | Item::Closing { .. })
         | (Item::Closing { .. }, Item::Char { .. } | Item::Opening { .. }) => false,

@@ -1,13 +1,11 @@
 // Transactions in normal form.
 ghost use Rattle.std.specs.Prelude.{◌≡◌, ◌≤◌, ◌+◌, All, length, true, map, is_ok, Ok, IfOk, IfErr, OnOk, OnErr};
 ghost use Rattle.model_items.specs.Plain.{plain_list, CitesWell};
-ghost use Rattle.model_change.specs.Attributes.{AllNamesApart};
-ghost use Rattle.model_change.specs.Fault.{Applies, apply, fault};
-ghost use Rattle.model_change.specs.Inverse.{inverse, filled, IsRestorable, IsUndoneBy};
+ghost use Rattle.model_change.specs.Inverse.{inverse};
 ghost use Rattle.model_change.specs.Join.{active_range, core, with_ends};
-ghost use Rattle.model_change.specs.Store.{fill, changed_heads};
+ghost use Rattle.model_change.specs.Store.{fill};
 ghost use Rattle.model_change.specs.Transaction.{is_normal};
-ghost use Rattle.ve_items.specs.Substitution.{spliced};
+ghost use Rattle.ve_tx.specs.Applied.{AppliesTo, IsRestorableOn, Undoes, applied_to, fault_on, filled_on, spliced_by, store_after};
 ghost use Rattle.ve_tx.specs.Changed.{IsOver, IsRefusal};
 ghost use Rattle.ve_tx.specs.Cites.{TxCites};
 ghost use Rattle.ve_tx.specs.Copied.{AreCopied, ReadsAlike};
@@ -33,7 +31,7 @@ use ve_store::Store;
 
 /// Operations along a list in normal form: no retain of 0, no replace with both sides empty, no two neighbouring
 /// retains or replaces, attribute operations of one place with distinct names and followed by a retain; and all
-/// retained, removed and inserted lengths add up to at most 2^60. So each edit is written in one way.
+/// retained, removed and inserted lengths add up to at most `max_total_length`. So each edit is written in one way.
 ///
 /// It is seen as the list of its operations, each attribute operation with the position that it keeps: where an
 /// attribute that was removed stood, so that the inverse puts it back there.
@@ -118,7 +116,7 @@ impl Transaction {
     /// applies and each attribute that it removes would be put back where it was, it gives the old list back.
     pub fn inverse(&self, alloc: Global) -> Result<Transaction, Memory>
         ensures inverse { IfOk result (λ back. (values : _) → by_value values back ≡ inverse (by_value values self.now)) }
-        ensures undone { IfOk result (λ back. (values : _) (items : _) → AllNamesApart items → Applies (by_value values self.now) items → IsRestorable (by_value values self.now) items → IsUndoneBy (by_value values self.now) (by_value values back) items) }
+        ensures undone { IfOk result (λ back. (values : _) → Undoes values self.now back) }
         ensures cites { IfOk result (λ back. (values : _) → TxCites values self.now → TxCites values back) }
     {
         let back = inverted(alloc, self.ops.as_slice(), self.kept.as_slice())?;
@@ -153,10 +151,10 @@ impl Transaction {
     /// inverse puts each one back where it was.
     pub fn filled(&self, alloc: Global, list: &Linear, store: &Store) -> Result<Transaction, Memory>
         requires list { All (CitesWell store.now) list.now.items }
-        requires applies { Applies (by_value store.now self.now) (plain_list store.now list.now.items) }
+        requires applies { AppliesTo store.now self.now list.now.items }
         ensures ops { IfOk result (λ tx. map bare tx ≡ map bare self.now) }
-        ensures filled { IfOk result (λ tx. by_value store.now tx ≡ filled (by_value store.now self.now) (plain_list store.now list.now.items)) }
-        ensures restorable { IfOk result (λ tx. IsRestorable (by_value store.now tx) (plain_list store.now list.now.items)) }
+        ensures filled { IfOk result (λ tx. by_value store.now tx ≡ filled_on store.now self.now list.now.items) }
+        ensures restorable { IfOk result (λ tx. IsRestorableOn store.now tx list.now.items) }
         ensures cites { IfOk result (λ tx. (values : _) → TxCites values self.now → TxCites values tx) }
     {
         let made = filled(
@@ -179,6 +177,7 @@ impl Transaction {
     {
         range_of(self.ops.as_slice())
     }
+
     /// What changes a list as the transaction says, without changing it. The change replaces the items of the active
     /// range, and inside it those that are retained stay; splicing it into the list gives the new list and succeeds. Heads
     /// that attribute operations change are put into the store, where they are new.
@@ -195,15 +194,15 @@ impl Transaction {
     ) -> Result<Change, TxFault>
         requires list { All (CitesWell store.old) list.old.items }
         requires cites { TxCites store.old self.now }
-        ensures applied { IfOk result (λ change. apply (by_value store.old self.now) (plain_list store.old list.old.items) ≡ Ok (plain_list store.new (spliced list.old.items change.at change.removed change.items))) }
+        ensures applied { IfOk result (λ change. applied_to store.old self.now list.old.items ≡ Ok (plain_list store.new (spliced_by list.old.items change))) }
         ensures range { IfOk result (λ change. IsOver (active_range (by_value store.old self.now)) change.at change.removed) }
         ensures within { IfOk result (λ change. change.at + change.removed ≤ length list.old.items) }
         ensures room { IfOk result (λ change. length change.items ≤ list.new.spare) }
         ensures cites { IfOk result (λ change. All (CitesWell store.new) change.items) }
-        ensures store { OnOk result (store.new ≡ fill store.old (changed_heads (by_value store.old self.now) (plain_list store.old list.old.items))) }
+        ensures store { OnOk result (store.new ≡ store_after store.old self.now list.old.items) }
         ensures items { list.new.items ≡ list.old.items }
         ensures blocks { list.new.blocks ≡ list.old.blocks }
-        ensures refused { IfErr result (IsRefusal (fault (by_value store.old self.now) (plain_list store.old list.old.items))) }
+        ensures refused { IfErr result (IsRefusal (fault_on store.old self.now list.old.items)) }
         ensures list_kept { OnErr result (list.new ≡ list.old) }
         ensures store_kept { OnErr result (store.new ≡ store.old) }
     {
@@ -229,10 +228,10 @@ impl Transaction {
     pub fn apply(&self, alloc: Global, list: &mut Linear, store: &mut Store) -> Result<(), TxFault>
         requires list { All (CitesWell store.old) list.old.items }
         requires cites { TxCites store.old self.now }
-        ensures applied { OnOk result (apply (by_value store.old self.now) (plain_list store.old list.old.items) ≡ Ok (plain_list store.new list.new.items)) }
+        ensures applied { OnOk result (applied_to store.old self.now list.old.items ≡ Ok (plain_list store.new list.new.items)) }
         ensures cites { OnOk result (All (CitesWell store.new) list.new.items) }
-        ensures store { OnOk result (store.new ≡ fill store.old (changed_heads (by_value store.old self.now) (plain_list store.old list.old.items))) }
-        ensures refused { IfErr result (IsRefusal (fault (by_value store.old self.now) (plain_list store.old list.old.items))) }
+        ensures store { OnOk result (store.new ≡ store_after store.old self.now list.old.items) }
+        ensures refused { IfErr result (IsRefusal (fault_on store.old self.now list.old.items)) }
         ensures list_kept { OnErr result (list.new ≡ list.old) }
         ensures store_kept { OnErr result (store.new ≡ store.old) }
     {
