@@ -1,10 +1,12 @@
 -- Blocks one after the other, and stacks of them.
-use Rattle.std.proofs.Common.{◌≡◌, ◌+◌, ◌<◌, ◌≤◌, List, [], ◌∷◌, ◌++◌, length, refl, sym, ap, ◌∙◌, subst, append_assoc, arith, length-append}
-use Rattle.std.proofs.lemmas.List.{reverse-append, get_or_push, get_or_append_left}
+use Rattle.std.proofs.Common.{◌≡◌, ◌+◌, ◌-◌, ◌<◌, ◌≤◌, ℕ, zero, suc, List, [], ◌∷◌, ◌++◌, length, take, get_or, refl, sym, ap, ◌∙◌, subst, append_assoc, arith, length-append}
+use Rattle.std.proofs.lemmas.List.{reverse-append, get_or_push, get_or_append_left, take_more}
+use Rattle.std.specs.Prelude.{slice_set}
 use Rattle.std.specs.List.{All}
 use Rattle.std.proofs.lemmas.List.Elements.{All-push}
 use Rattle.std.proofs.lemmas.List.Concat.{flat_map-append}
 use Rattle.ve_items.specs.Blocks.{joined, IsBlock, AreBlocks}
+use Rattle.ve_items.specs.InBlock.{MayHave}
 use Rattle.ve_items.specs.Stacked.{from_top, top}
 
 pub append_nothing : {A : Type 0} (xs : List A) → xs ++ [] ≡ xs
@@ -106,3 +108,33 @@ pub no_blocks : {A : Type 0} (blocks : List (List A)) → AreBlocks blocks → j
 no_blocks [] rule none = refl
 no_blocks ([] ∷ blocks) rule none = let size = rule.0 in absurd (omega arith)
 no_blocks ((x ∷ block) ∷ blocks) rule none = cc
+
+-- one block more of a list
+pub joined_next : {A : Type 0} (blocks : List (List A)) (k : ℕ) → k < length blocks → joined (take (k + 1) blocks) ≡ joined (take k blocks) ++ get_or blocks k []
+joined_next blocks k lt = ap joined (take_more blocks k [] lt) ∙ joined_push (take k blocks) (get_or blocks k [])
+
+-- what a block may have, without the first one
+may_below : {A : Type 0} (a : List A) (blocks : List (List A)) (k size : ℕ) → MayHave (a ∷ blocks) (suc k) size → MayHave blocks k size
+may_below a blocks k size may = record {
+  some = may.some;
+  small = may.small;
+  apart_before = λ more.
+      let goes : suc k - 1 ≡ suc (k - 1) = omega (arith, more) in
+      subst (λ n. 512 < length (get_or (a ∷ blocks) n []) + size) goes (may.apart_before (omega arith));
+  apart_after = λ more.
+      let goes : suc k + 1 ≡ suc (k + 1) = omega arith in
+      subst (λ n. 512 < size + length (get_or (a ∷ blocks) n [])) goes (may.apart_after (omega (arith, more)));
+}
+
+-- one block changes, and stays apart from its neighbours
+pub rule_set : {A : Type 0} (blocks : List (List A)) (k : ℕ) (block : List A) → k < length blocks → MayHave blocks k (length block) → AreBlocks blocks →
+    AreBlocks (slice_set blocks k block)
+rule_set [] k block lt may rule = absurd (omega (arith, lt))
+rule_set (a ∷ []) zero block lt may rule = ((may.some, may.small), tt, tt)
+rule_set (a ∷ b ∷ blocks) zero block lt may rule = ((may.some, may.small), may.apart_after (omega arith), rule.2)
+rule_set (a ∷ []) (suc k) block lt may rule = absurd (omega (arith, lt))
+rule_set (a ∷ b ∷ blocks) (suc zero) block lt may rule =
+    let before = may.apart_before (omega arith) in
+    (rule.0, before, rule_set (b ∷ blocks) zero block (omega (arith, lt)) (may_below a (b ∷ blocks) zero (length block) may) rule.2)
+rule_set (a ∷ b ∷ blocks) (suc (suc k)) block lt may rule =
+    (rule.0, rule.1, rule_set (b ∷ blocks) (suc k) block (omega (arith, lt)) (may_below a (b ∷ blocks) (suc k) (length block) may) rule.2)

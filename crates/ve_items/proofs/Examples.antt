@@ -1,7 +1,7 @@
 -- The definitions at small lists.
 use Rattle.std.proofs.Common.{◌≡◌, ℕ, [], ◌∷◌, refl, arith}
 use Rattle.ve_items.specs.Blocks.{joined, AreBlocks}
-use Rattle.ve_items.specs.Ends.{StandsAt}
+use Rattle.ve_items.specs.InBlock.{StandsAt}
 use Rattle.ve_items.specs.Stacked.{from_top, top}
 use Rattle.ve_items.specs.Substitution.{spliced}
 

@@ -1,8 +1,10 @@
 -- Pieces of a list put together, and a range taken out of a list's first block.
-use Rattle.std.proofs.Common.{◌≡◌, ◌+◌, ◌-◌, ◌≤◌, inl, inr, ℕ, List, [], ◌++◌, length, take, drop, min, sym, ap, ◌∙◌, append_assoc, take-append-drop, arith, length-append, length-drop, length-take}
+use Rattle.std.proofs.Common.{◌≡◌, ◌+◌, ◌-◌, ◌≤◌, ◌<◌, inl, inr, ℕ, zero, suc, List, [], ◌∷◌, ◌++◌, length, take, drop, get_or, min, sym, ap, ◌∙◌, append_assoc, take-append-drop, arith, length-append, length-drop, length-take}
 use Rattle.std.proofs.lemmas.List.{take-append-le, drop-append-le, take_all}
 use Rattle.std.proofs.lemmas.Bool.{cases_lt}
 use Rattle.std.proofs.Math.Seq.{take-add, take-append-add, drop-append-add, drop-length}
+use Rattle.std.specs.Prelude.{slice_set}
+use Rattle.ve_items.specs.Blocks.{joined}
 use Rattle.ve_items.specs.Substitution.{spliced}
 use Rattle.ve_items.proofs.Blocks.{append_nothing}
 
@@ -80,3 +82,39 @@ spliced_end list items end e =
     ap (λ l. take end list ++ items ++ l) none
     ∙ append_nothing (take end list ++ items)
     ∙ ap (λ l. l ++ items) (take_all end list (omega arith))
+
+pub length_spliced : {A : Type 0} (list items : List A) (at removed : ℕ) → at + removed ≤ length list → length (spliced list at removed items) + removed ≡ length list + length items
+length_spliced list items at removed within =
+    let first = length-append (take at list ++ items) (drop (at + removed) list) in
+    let second = length-append (take at list) items in
+    omega (arith, within, first, second, length-take at list, length-drop (at + removed) list)
+
+-- a splice before what follows, and after what stands before
+spliced_before : {A : Type 0} (prefix suffix items : List A) (at removed : ℕ) → at + removed ≤ length prefix → spliced (prefix ++ suffix) at removed items ≡ spliced prefix at removed items ++ suffix
+spliced_before prefix suffix items at removed within =
+    ap (λ l. l ++ items ++ drop (at + removed) (prefix ++ suffix)) (take-append-le at prefix suffix (omega (arith, within)))
+    ∙ ap (λ l. take at prefix ++ items ++ l) (drop-append-le (at + removed) prefix suffix within)
+    ∙ sym (append_assoc (take at prefix ++ items) (drop (at + removed) prefix) suffix)
+
+spliced_after : {A : Type 0} (prefix suffix items : List A) (at removed : ℕ) → spliced (prefix ++ suffix) (length prefix + at) removed items ≡ prefix ++ spliced suffix at removed items
+spliced_after prefix suffix items at removed =
+    let e : length prefix + at + removed ≡ length prefix + (at + removed) = omega arith in
+    ap (λ l. l ++ items ++ drop (length prefix + at + removed) (prefix ++ suffix)) (take-append-add prefix suffix at)
+    ∙ ap (λ n. (prefix ++ take at suffix) ++ items ++ drop n (prefix ++ suffix)) e
+    ∙ ap (λ l. (prefix ++ take at suffix) ++ items ++ l) (drop-append-add prefix suffix (at + removed))
+    ∙ ap (λ l. l ++ drop (at + removed) suffix) (append_assoc prefix (take at suffix) items)
+    ∙ append_assoc prefix (take at suffix ++ items) (drop (at + removed) suffix)
+
+-- a splice within one block is one of the list
+pub block_is_spliced : {A : Type 0} (blocks : List (List A)) (k offset removed : ℕ) (items : List A) → k < length blocks → offset + removed ≤ length (get_or blocks k []) →
+    joined (slice_set blocks k (spliced (get_or blocks k []) offset removed items)) ≡ spliced (joined blocks) (length (joined (take k blocks)) + offset) removed items
+block_is_spliced [] k offset removed items lt within = absurd (omega (arith, lt))
+block_is_spliced (a ∷ blocks) zero offset removed items lt within =
+    let e : offset ≡ 0 + offset = omega arith in
+    sym (spliced_before a (joined blocks) items offset removed within) ∙ ap (λ n. spliced (a ++ joined blocks) n removed items) e
+block_is_spliced (a ∷ blocks) (suc k) offset removed items lt within =
+    let before = joined (take k blocks) in
+    let e : length a + (length before + offset) ≡ length (a ++ before) + offset = omega (arith, length-append a before) in
+    ap (λ l. a ++ l) (block_is_spliced blocks k offset removed items (omega (arith, lt)) within)
+    ∙ sym (spliced_after a (joined blocks) items (length before + offset) removed)
+    ∙ ap (λ n. spliced (a ++ joined blocks) n removed items) e

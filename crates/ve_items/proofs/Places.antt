@@ -5,7 +5,7 @@ use Rattle.std.proofs.lemmas.List.{drop_more, drop-drop, take-append-le, drop-ap
 use Rattle.std.proofs.lemmas.Option.{get_or_from_slice_get, slice_get-get_or}
 use Rattle.std.proofs.Math.Seq.{take-add, drop-append-add}
 use Rattle.ve_items.specs.Blocks.{joined}
-use Rattle.ve_items.specs.Ends.{StandsAt}
+use Rattle.ve_items.specs.InBlock.{StandsAt}
 use Rattle.ve_items.proofs.Blocks.{joined_append}
 
 -- the blocks before one, that one, and the blocks after it

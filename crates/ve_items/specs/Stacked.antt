@@ -1,5 +1,5 @@
 -- Blocks on a stack, the last one on top.
-use Rattle.std.specs.Prelude.{ℕ, ◌-◌, List, [], length, reverse, slice_index_or}
+use Rattle.std.specs.Prelude.{ℕ, ◌+◌, ◌-◌, List, [], length, reverse, slice_index_or}
 use Rattle.model_items.specs.declared.item.Item.{Item}
 use Rattle.ve_items.specs.Blocks.{joined}
 
@@ -16,3 +16,7 @@ from_top blocks = joined (reverse blocks)
 -- the top block, or an empty one
 abbrev pub top : {A : Type 0} → List (List A) → List A
 top blocks = slice_index_or blocks (length blocks - 1) []
+
+-- how many blocks stand in two stacks and a pool together
+abbrev pub all_blocks : (before after : Pile) → ℕ → ℕ
+all_blocks before after pool = length before.blocks + length after.blocks + pool

@@ -1,15 +1,14 @@
 // One block of a list: a short run of items in memory that it has taken beforehand.
-ghost use Rattle.std.specs.Prelude.{◌≡◌, ◌≤◌, ◌+◌, ◌++◌, [], IfOk, OnOk, length, take, drop, vec_len};
+ghost use Rattle.std.specs.Prelude.{◌≡◌, ◌≤◌, ◌<◌, ◌+◌, ◌-◌, ◌++◌, [], IfOk, length, take, drop};
+ghost use Rattle.ve_base.specs.Limits.{max_block};
+ghost use Rattle.ve_items.specs.Substitution.{spliced};
 
 use model_items::Item;
 use std::alloc::Global;
 use std::marker::Model;
-use ve_base::Memory;
+use ve_base::{MAX_BLOCK, Memory};
 
-/// The most items that a block holds.
-pub const MOST: usize = 512;
-
-/// A block, seen as the list of its items. It has memory for `MOST` of them from the start.
+/// A block, seen as the list of its items. It has memory for `MAX_BLOCK` of them from the start.
 #[derive(Drop)]
 pub struct Block {
     items: Vec<Item>,
@@ -17,13 +16,14 @@ pub struct Block {
 
 impl Model for Block {
     ghost use Rattle.std.specs.Prelude.{List, ◌≤◌, vec_capacity};
+    ghost use Rattle.ve_base.specs.Limits.{max_block};
     ghost use Rattle.model_items.specs.declared.item.Item.{Item};
 
     ghost Value = { List Item };
 
     ghost view = { λ b. b.items.items };
 
-    ghost invariant = { λ b. 512 ≤ vec_capacity b.items };
+    ghost invariant = { λ b. max_block ≤ vec_capacity b.items };
 }
 
 impl Block {
@@ -32,7 +32,7 @@ impl Block {
         ensures { IfOk result (λ block. block ≡ []) }
     {
         Ok(Block {
-            items: Vec::with_capacity(alloc, MOST)?,
+            items: Vec::with_capacity(alloc, MAX_BLOCK)?,
         })
     }
 
@@ -56,7 +56,7 @@ impl Block {
 
     /// Appends what fits. It takes no memory.
     pub fn append(&mut self, more: &[Item])
-        requires { length self.old + length more.now ≤ 512 }
+        requires { length self.old + length more.now ≤ max_block }
         ensures { self.new ≡ self.old ++ more.now }
     {
         let appended = self.items.extend_from_slice(more).is_ok();
@@ -70,25 +70,44 @@ impl Block {
         self.items.truncate(len);
     }
 
-    /// Takes the items from one place up to another out.
-    pub fn cut_out(&mut self, from: usize, to: usize)
-        requires order { from ≤ to }
-        requires within { to ≤ length self.old }
-        ensures { self.new ≡ take from self.old ++ drop to self.old }
+    /// Takes so many items out from a place on.
+    pub fn cut_out(&mut self, at: usize, many: usize)
+        requires { at + many ≤ length self.old }
+        ensures { self.new ≡ take at self.old ++ drop (at + many) self.old }
     {
+        // one item, as most often: the rest moves once
+        if many == 1 {
+            self.items.remove(at);
+            return;
+        }
         let len = self.items.len();
-        self.items[from..].rotate_left(to - from);
-        self.items.truncate(len - (to - from));
+        self.items[at..].rotate_left(many);
+        self.items.truncate(len - many);
     }
-}
 
-/// Takes memory until a pool has so many blocks. The blocks that it gets stay, whatever the result.
-pub fn stock(pool: &mut Vec<Block>, alloc: Global, blocks: usize) -> Result<(), Memory>
-    ensures keeps { vec_len pool.old ≤ vec_len pool.new }
-    ensures ok { OnOk result (blocks ≤ vec_len pool.new) }
-{
-    while pool.len() < blocks {
-        pool.push(Block::new(alloc)?)?;
+    /// Puts items in from a place on. It takes no memory.
+    fn put_in(&mut self, at: usize, items: &[Item])
+        requires within { at ≤ length self.old }
+        requires fits { length self.old + length items.now ≤ max_block }
+        ensures { self.new ≡ take at self.old ++ items.now ++ drop at self.old }
+    {
+        // one item, as most often: the rest moves once
+        if let [item] = items {
+            let inserted = self.items.insert(at, *item).is_ok();
+            prove!(inserted);
+            return;
+        }
+        self.append(items);
+        self.items[at..].rotate_right(items.len());
     }
-    Ok(())
+
+    /// Puts items in the place of the `removed` ones from `at` on. It takes no memory.
+    pub fn splice(&mut self, at: usize, removed: usize, items: &[Item])
+        requires within { at + removed ≤ length self.old }
+        requires fits { length self.old - removed + length items.now ≤ max_block }
+        ensures { self.new ≡ spliced self.old at removed items.now }
+    {
+        self.cut_out(at, removed);
+        self.put_in(at, items);
+    }
 }

@@ -1,6 +1,8 @@
 // The two halves of a splice, each over a list's blocks.
-ghost use Rattle.std.specs.Prelude.{◌≡◌, ◌≤◌, ◌<◌, ◌+◌, ◌/◌, ◌^◌, ◌++◌, [], length, take, drop, vec_len};
+ghost use Rattle.std.specs.Prelude.{◌≡◌, ◌≤◌, ◌<◌, ◌+◌, ◌/◌, ◌^◌, ◌++◌, [], length, take, drop, vec_len, vec_capacity};
 ghost use Rattle.ve_items.specs.Blocks.{joined, AreBlocks};
+ghost use Rattle.ve_items.specs.Room.{more_blocks};
+ghost use Rattle.ve_items.specs.Substitution.{without};
 
 use crate::block::Block;
 use crate::moves::{cut, fill, gather, seek, take_out};
@@ -22,13 +24,15 @@ pub fn remove(
     requires fits { length (joined before.old.blocks) < 2 ^ 64 }
     requires room_before { length before.old.blocks ≤ before.old.room }
     requires room_after { length before.old.blocks ≤ after.old.room }
+    requires capacity { length before.old.blocks + vec_len pool.old ≤ vec_capacity pool.old }
     ensures rule { AreBlocks before.new.blocks }
     ensures closed { after.new.blocks ≡ [] }
-    ensures items { joined before.new.blocks ≡ take at (joined before.old.blocks) ++ drop (at + removed) (joined before.old.blocks) }
+    ensures items { joined before.new.blocks ≡ without (joined before.old.blocks) at removed }
     ensures count { length before.new.blocks ≤ length before.old.blocks }
     ensures room_before { before.new.room ≡ before.old.room }
     ensures room_after { after.new.room ≡ after.old.room }
-    ensures pool { vec_len pool.old ≤ vec_len pool.new }
+    ensures kept { length before.new.blocks + vec_len pool.new ≡ length before.old.blocks + vec_len pool.old }
+    ensures capacity { vec_capacity pool.old ≤ vec_capacity pool.new }
 {
     if removed == 0 {
         return;
@@ -50,16 +54,19 @@ pub fn insert(
     requires closed { after.old.blocks ≡ [] }
     requires within { at ≤ length (joined before.old.blocks) }
     requires fits { length (joined before.old.blocks) + length items.now < 2 ^ 64 }
-    requires room_before { 0 < length items.now → length before.old.blocks + (length items.now / 512 + 2) ≤ before.old.room }
+    requires room_before { 0 < length items.now → length before.old.blocks + more_blocks (length items.now) ≤ before.old.room }
     requires room_after { length before.old.blocks ≤ after.old.room }
-    requires pool { 0 < length items.now → length items.now / 512 + 2 ≤ vec_len pool.old }
+    requires pool { 0 < length items.now → more_blocks (length items.now) ≤ vec_len pool.old }
+    requires capacity { length before.old.blocks + vec_len pool.old ≤ vec_capacity pool.old }
     ensures rule { AreBlocks before.new.blocks }
     ensures closed { after.new.blocks ≡ [] }
     ensures items { joined before.new.blocks ≡ take at (joined before.old.blocks) ++ items.now ++ drop at (joined before.old.blocks) }
-    ensures count { length before.new.blocks ≤ length before.old.blocks + (length items.now / 512 + 2) }
+    ensures count { length before.new.blocks ≤ length before.old.blocks + more_blocks (length items.now) }
     ensures none { length items.now ≡ 0 → length before.new.blocks ≤ length before.old.blocks }
     ensures room_before { before.new.room ≡ before.old.room }
     ensures room_after { after.new.room ≡ after.old.room }
+    ensures kept { length before.new.blocks + vec_len pool.new ≡ length before.old.blocks + vec_len pool.old }
+    ensures capacity { vec_capacity pool.old ≤ vec_capacity pool.new }
 {
     if items.is_empty() {
         return;

@@ -1,11 +1,12 @@
 // The list of a page, kept in blocks.
-ghost use Rattle.std.specs.Prelude.{◌≡◌, ◌≤◌, ◌<◌, ◌+◌, ◌↔◌, [], Some, OnOk, OnErr, IsOk, IfOk, IsTrue, length, slice_get, slice_range};
+ghost use Rattle.std.specs.Prelude.{◌≡◌, ◌≤◌, ◌<◌, ◌+◌, ◌↔◌, [], Some, OnOk, OnErr, IsOk, IfOk, IsTrue, ◌-◌, ◌++◌, length, max, slice_get, slice_range};
 ghost use Rattle.ve_items.specs.Blocks.{joined, AreBlocks};
 ghost use Rattle.ve_items.specs.Substitution.{spliced};
 
 use crate::Items;
-use crate::block::{Block, MOST, stock};
+use crate::block::Block;
 use crate::edit::{insert, remove};
+use crate::room::{take_for_all, take_for_one};
 use crate::stack::Stack;
 use crate::table::Table;
 use model_items::Item;
@@ -14,10 +15,12 @@ use std::marker::Model;
 use ve_base::Memory;
 
 /// The items of a page in their order, seen as their list, the blocks in which they are kept, and a
-/// number, `spare`: a splice of that many items takes no memory. Places and lengths count items.
+/// number, `spare`: splices of that many items together take no memory. Places and lengths count items.
 ///
-/// A block holds 1 to 512 items, and two neighbours hold more than 512 together. So a splice moves
-/// the items of the blocks that it touches and the table of blocks, and no others.
+/// A block holds 1 to `MAX_BLOCK` items, and two neighbours hold more than that together. A splice
+/// within one block moves the items of that block alone, where every rule of the blocks stays; another
+/// one moves the items of the blocks that it touches and the table of blocks from there on. Blocks are
+/// made with `FILLED_BLOCK` items, so that later ones find room. Those that get empty stay with the list.
 #[derive(Drop)]
 pub struct Linear {
     table: Table,
@@ -30,22 +33,23 @@ pub struct Linear {
 }
 
 impl Model for Linear {
-    ghost use Rattle.std.specs.Prelude.{vec_len};
+    ghost use Rattle.std.specs.Prelude.{vec_len, vec_capacity};
     ghost use Rattle.ve_items.specs.Blocks.{joined};
     ghost use Rattle.ve_items.specs.Room.{IsReady};
-    ghost use Rattle.ve_items.specs.Row.{Row};
+    ghost use Rattle.ve_items.specs.ItemList.{ItemList};
 
-    ghost Value = { Row };
+    ghost Value = { ItemList };
 
     ghost view = { λ l. record { items = joined l.table.blocks; spare = l.spare; blocks = l.table.blocks } };
 
-    ghost invariant = { λ l. IsReady l.table l.aside (vec_len l.pool) l.spare };
+    ghost invariant = { λ l. IsReady l.table l.aside (vec_len l.pool) (vec_capacity l.pool) l.spare };
 }
 
 impl Linear {
     /// The empty list. It takes no memory.
     pub fn new(alloc: Global) -> Linear
-        ensures { result.items ≡ [] }
+        ensures items { result.items ≡ [] }
+        ensures spare { result.spare ≡ 0 }
     {
         Linear {
             table: Table::new(alloc),
@@ -130,48 +134,64 @@ impl Linear {
 
     /// A list of equal items.
     pub fn copy(&self, alloc: Global) -> Result<Linear, Memory>
-        ensures { IfOk result (λ copy. copy.items ≡ self.now.items) }
+        ensures items { IfOk result (λ copy. copy.items ≡ self.now.items) }
+        ensures spare { IfOk result (λ copy. copy.spare ≡ 0) }
     {
         let mut copy = Linear::new(alloc);
         for k in 0..self.table.len() {
-            let end = copy.len();
-            copy.splice(end, 0, self.table.block(k))?;
+            copy.extend(self.table.block(k))?;
         }
         Ok(copy)
     }
 
-    /// Takes the memory that one splice of so many items may need: room in the table of blocks and
-    /// empty blocks. An `Err` changes nothing.
+    /// Takes the memory that splices of so many items together may need, however they are parted: room
+    /// in the table of blocks and empty blocks. An `Err` changes nothing.
     pub fn reserve(&mut self, more: usize) -> Result<(), Memory>
         ensures items { self.new.items ≡ self.old.items }
         ensures blocks { self.new.blocks ≡ self.old.blocks }
-        ensures ok { OnOk result (more ≤ self.new.spare) }
+        ensures ok { OnOk result (self.new.spare ≡ max self.old.spare more) }
         ensures err { OnErr result (self.new ≡ self.old) }
         ensures fits { more ≤ self.old.spare → IsOk result }
     {
         if more <= self.spare {
             return Ok(());
         }
-        if more > usize::MAX - self.table.items() {
-            return Err(Memory);
-        }
-        let blocks = more / MOST + 2;
-        self.table.reserve(blocks)?;
-        self.aside.reserve(self.table.len() + blocks)?;
-        stock(&mut self.pool, self.alloc, blocks)?;
+        take_for_all(
+            &mut self.table,
+            &mut self.aside,
+            &mut self.pool,
+            self.alloc,
+            self.spare,
+            more,
+        )?;
         self.spare = more;
         Ok(())
     }
 
-    /// Puts items in the place of the `removed` items from `at` on. It succeeds where `spare` has
-    /// room for them, and uses `spare` up. An `Err` changes nothing.
+    /// Puts items in the place of the `removed` items from `at` on. It succeeds where `spare` has room
+    /// for them, and uses up so much of it; where `spare` has less, it takes memory, and all of `spare`
+    /// is used up. An `Err` changes nothing.
     pub fn splice(&mut self, at: usize, removed: usize, items: &[Item]) -> Result<(), Memory>
         requires { at + removed ≤ length self.old.items }
         ensures ok { OnOk result (self.new.items ≡ spliced self.old.items at removed items.now) }
+        ensures spare { OnOk result (self.new.spare ≡ self.old.spare - length items.now) }
         ensures err { OnErr result (self.new ≡ self.old) }
         ensures fits { length items.now ≤ self.old.spare → IsOk result }
     {
-        self.reserve(items.len())?;
+        let left = self.spare.saturating_sub(items.len());
+        if let Some((k, offset)) = self.table.place_for(at, removed, items.len()) {
+            self.table.splice(k, offset, removed, items);
+            self.spare = left;
+            return Ok(());
+        }
+        take_for_one(
+            &mut self.table,
+            &mut self.aside,
+            &mut self.pool,
+            self.alloc,
+            self.spare,
+            items.len(),
+        )?;
         remove(
             &mut self.table,
             &mut self.aside,
@@ -180,7 +200,19 @@ impl Linear {
             removed,
         );
         insert(&mut self.table, &mut self.aside, &mut self.pool, at, items);
-        self.spare = 0;
+        self.spare = left;
         Ok(())
+    }
+
+    /// Appends items, as a splice at the end does. Who reads a page in pieces of `FILLED_BLOCK` items
+    /// gets a block for each piece, and needs no list beside this one.
+    pub fn extend(&mut self, items: &[Item]) -> Result<(), Memory>
+        ensures ok { OnOk result (self.new.items ≡ self.old.items ++ items.now) }
+        ensures spare { OnOk result (self.new.spare ≡ self.old.spare - length items.now) }
+        ensures err { OnErr result (self.new ≡ self.old) }
+        ensures fits { length items.now ≤ self.old.spare → IsOk result }
+    {
+        let end = self.len();
+        self.splice(end, 0, items)
     }
 }

@@ -1,6 +1,7 @@
 // Blocks on a stack, in a table with room that was taken beforehand.
-ghost use Rattle.std.specs.Prelude.{◌≡◌, ◌≤◌, ◌<◌, ◌+◌, ◌^◌, ◌++◌, ◌∷◌, [], Some, OnOk, OnErr, IsOk, length, max, slice_get, option_to_list};
-ghost use Rattle.ve_items.specs.Blocks.{joined};
+ghost use Rattle.std.specs.Prelude.{◌≡◌, ◌≤◌, ◌<◌, ◌+◌, ◌-◌, ◌^◌, ◌++◌, ◌∷◌, [], Some, OnOk, OnErr, IsOk, length, max, slice_get, slice_index_or, slice_set, option_to_list};
+ghost use Rattle.ve_base.specs.Limits.{max_block};
+ghost use Rattle.ve_items.specs.Substitution.{spliced_block};
 
 use crate::block::Block;
 use model_items::Item;
@@ -82,5 +83,16 @@ impl Stack {
         ensures room { self.new.room ≡ self.old.room }
     {
         self.blocks.pop()
+    }
+
+    /// Puts items in the place of the `removed` ones from `at` on in one block. It takes no memory.
+    pub fn splice(&mut self, k: usize, at: usize, removed: usize, items: &[Item])
+        requires among { k < length self.old.blocks }
+        requires within { at + removed ≤ length (slice_index_or self.old.blocks k []) }
+        requires fits { length (slice_index_or self.old.blocks k []) - removed + length items.now ≤ max_block }
+        ensures blocks { self.new.blocks ≡ spliced_block self.old.blocks k at removed items.now }
+        ensures room { self.new.room ≡ self.old.room }
+    {
+        self.blocks[k].splice(at, removed, items);
     }
 }

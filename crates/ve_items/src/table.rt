@@ -1,33 +1,36 @@
-// The table of a list's blocks, with the place at which each block ends.
-ghost use Rattle.std.specs.Prelude.{◌≡◌, ◌≤◌, ◌<◌, ◌+◌, ◌^◌, ◌++◌, ◌∷◌, [], Some, None, OnOk, OnErr, length, max, slice_get, option_to_list};
+// The table of a list's blocks, with how many items each of them holds.
+ghost use Rattle.std.specs.Prelude.{◌≡◌, ◌≤◌, ◌<◌, ◌+◌, ◌-◌, ◌^◌, ◌++◌, ◌∷◌, [], Some, None, OnOk, OnErr, IfSome, IsSome, IsTrue};
+ghost use Rattle.std.specs.Prelude.{length, max, slice_get, slice_index_or, slice_set, option_to_list};
+ghost use Rattle.ve_base.specs.Limits.{max_block};
 ghost use Rattle.ve_items.specs.Blocks.{joined};
-ghost use Rattle.ve_items.specs.Ends.{StandsAt};
+ghost use Rattle.ve_items.specs.InBlock.{StandsAt, TouchesAt, MayChange, MayHave};
+ghost use Rattle.ve_items.specs.Substitution.{spliced_block};
 
 use crate::block::Block;
 use crate::stack::Stack;
 use model_items::Item;
 use std::alloc::Global;
 use std::marker::Model;
-use ve_base::Memory;
+use ve_base::{MAX_BLOCK, Memory};
+use ve_lengths::Lengths;
 
 /// Blocks in their order, seen as the list of them and the number of blocks that there is room for.
-/// A place is found by a search over the ends of the blocks.
+/// A place is found by the sizes of the blocks.
 #[derive(Drop)]
 pub struct Table {
     stack: Stack,
-    ends: Vec<usize>,
+    sizes: Lengths,
 }
 
 impl Model for Table {
-    ghost use Rattle.std.specs.Prelude.{◌≤◌, vec_capacity};
+    ghost use Rattle.std.specs.Prelude.{◌≡◌, ◌≤◌, length, map};
     ghost use Rattle.ve_items.specs.Stacked.{Pile};
-    ghost use Rattle.ve_items.specs.Ends.{AreEnds};
 
     ghost Value = { Pile };
 
     ghost view = { λ t. t.stack };
 
-    ghost invariant = { λ t. AreEnds t.stack.blocks t.ends.items × (t.stack.room ≤ vec_capacity t.ends) };
+    ghost invariant = { λ t. (t.sizes.lens ≡ map length t.stack.blocks) × (t.stack.room ≤ t.sizes.room) };
 }
 
 impl Table {
@@ -37,7 +40,7 @@ impl Table {
     {
         Table {
             stack: Stack::new(alloc),
-            ends: Vec::new(alloc),
+            sizes: Lengths::new(alloc),
         }
     }
 
@@ -53,7 +56,7 @@ impl Table {
     pub fn items(&self) -> usize
         ensures { result ≡ length (joined self.now.blocks) }
     {
-        self.ends.last().copied().unwrap_or(0)
+        self.sizes.total()
     }
 
     /// Lends the items of a block.
@@ -70,7 +73,7 @@ impl Table {
         ensures ok { OnOk result (self.new.room ≡ max self.old.room (length self.old.blocks + more)) }
         ensures err { OnErr result (self.new ≡ self.old) }
     {
-        self.ends.reserve(more)?;
+        self.sizes.reserve(more)?;
         self.stack.reserve(more)
     }
 
@@ -81,9 +84,7 @@ impl Table {
         ensures blocks { self.new.blocks ≡ self.old.blocks ++ block ∷ [] }
         ensures room { self.new.room ≡ self.old.room }
     {
-        let end = self.items() + block.len();
-        let pushed = self.ends.push(end).is_ok();
-        prove!(pushed);
+        self.sizes.push(block.len());
         self.stack.push(block);
     }
 
@@ -94,7 +95,7 @@ impl Table {
         ensures room { self.new.room ≡ self.old.room }
     {
         let block = self.stack.pop()?;
-        self.ends.pop();
+        self.sizes.pop();
         Some(block)
     }
 
@@ -103,20 +104,73 @@ impl Table {
         requires { at < length (joined self.now.blocks) }
         ensures { StandsAt self.now.blocks at result.0 result.1 }
     {
-        let mut low = 0;
-        let mut high = self.ends.len();
-        while low < high {
-            let middle = low + (high - low) / 2;
-            if self.ends[middle] <= at {
-                low = middle + 1;
-            } else {
-                high = middle;
-            }
+        self.sizes.find(at)
+    }
+
+    /// How many items a block holds.
+    fn size(&self, k: usize) -> usize
+        requires { k < length self.now.blocks }
+        ensures { result ≡ length (slice_index_or self.now.blocks k []) }
+    {
+        self.sizes.get(k)
+    }
+
+    /// The block with the item at a place, or at the list's end the last block, and the place in it.
+    fn touched(&self, at: usize) -> Option<(usize, usize)>
+        requires { at ≤ length (joined self.now.blocks) }
+        ensures { IfSome result (λ place. TouchesAt self.now.blocks at place.0 place.1) }
+    {
+        if at < self.items() {
+            return Some(self.find(at));
         }
-        if low == 0 {
-            (0, at)
+        let last = self.len().checked_sub(1)?;
+        Some((last, self.size(last)))
+    }
+
+    /// The block and the place in it where a range can be replaced by so many items while no other block changes, if there is one.
+    pub fn place_for(&self, at: usize, removed: usize, more: usize) -> Option<(usize, usize)>
+        requires { at + removed ≤ length (joined self.now.blocks) }
+        ensures place { IfSome result (λ place. MayChange self.now.blocks at removed more place.0 place.1) }
+        ensures fits { IsSome result → length (joined self.now.blocks) + more < 2 ^ 64 }
+    {
+        let (k, offset) = self.touched(at)?;
+        let size = self.size(k);
+        if removed > size - offset || more > usize::MAX - self.items() {
+            return None;
+        }
+        let changed = (size - removed).saturating_add(more);
+        if self.may_have(k, changed) {
+            Some((k, offset))
         } else {
-            (low, at - self.ends[low - 1])
+            None
         }
+    }
+
+    /// Whether a block may hold so many items beside its neighbours.
+    fn may_have(&self, k: usize, size: usize) -> bool
+        requires { k < length self.now.blocks }
+        ensures { IsTrue result → MayHave self.now.blocks k size }
+    {
+        let count = self.len();
+        let first = k == 0;
+        let last = k + 1 == count;
+        size > 0
+            && size <= MAX_BLOCK
+            && (first || self.size(k - 1) > MAX_BLOCK - size)
+            && (last || self.size(k + 1) > MAX_BLOCK - size)
+    }
+
+    /// Puts items in the place of the `removed` ones from `at` on in one block. It takes no memory, and no other block changes.
+    pub fn splice(&mut self, k: usize, at: usize, removed: usize, items: &[Item])
+        requires among { k < length self.old.blocks }
+        requires within { at + removed ≤ length (slice_index_or self.old.blocks k []) }
+        requires small { length (slice_index_or self.old.blocks k []) - removed + length items.now ≤ max_block }
+        requires fits { length (joined self.old.blocks) + length items.now < 2 ^ 64 }
+        ensures blocks { self.new.blocks ≡ spliced_block self.old.blocks k at removed items.now }
+        ensures room { self.new.room ≡ self.old.room }
+    {
+        self.sizes.grow(k, items.len());
+        self.sizes.shrink(k, removed);
+        self.stack.splice(k, at, removed, items);
     }
 }

@@ -79,6 +79,19 @@ fn item_513_begins_a_second_block(rt: HostRuntime) -> Result<(), Fail> {
 }
 
 #[test]
+fn a_new_block_leaves_room(rt: HostRuntime) -> Result<(), Fail> {
+    let alloc = rt.alloc();
+    let mut list = Linear::new(alloc);
+    list.extend(run_of(alloc, 0, 640)?.as_slice())?;
+    assert_eq!(rt; list.blocks(), 2);
+    assert_eq!(rt; list.block(0).len(), 320);
+    list.splice(0, 0, run_of(alloc, 640, 192)?.as_slice())?;
+    assert_eq!(rt; list.blocks(), 2);
+    assert_eq!(rt; list.block(0).len(), 512);
+    Ok(())
+}
+
+#[test]
 fn memory_is_found(rt: HostRuntime) -> Result<(), Fail> {
     let alloc = rt.alloc();
     let mut items = run_of(alloc, 0, 3)?;

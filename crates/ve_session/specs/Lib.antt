@@ -3,4 +3,4 @@ pub mod Reader
 pub mod Written
 pub mod World
 pub mod Laws
-pub use Rattle.ve_items.specs.Row
+pub use Rattle.ve_items.specs.ItemList

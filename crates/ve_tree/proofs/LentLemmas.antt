@@ -4,7 +4,7 @@ use Rattle.std.proofs.lemmas.List.{take-take, take_all, length-take-le, nil_from
 use Rattle.std.proofs.lemmas.Option.{slice_get_within, get_or_from_slice_get}
 use Rattle.model_items.specs.declared.item.Item.{Item}
 use Rattle.ve_items.specs.Blocks.{joined, AreBlocks}
-use Rattle.ve_items.proofs.Ends.{joined_next}
+use Rattle.ve_items.proofs.Blocks.{joined_next}
 use Rattle.ve_tree.specs.Lent.{Rest, IsLent}
 
 take_over : (xs ys : List Item) (n : ℕ) → take (length xs + n) (xs ++ ys) ≡ xs ++ take n ys

@@ -1,4 +1,4 @@
-use Rattle.std.proofs.Common.{◌≡◌, ◌+◌, ◌-◌, ◌/◌, ◌≤◌, ◌++◌, length, take, vec_len}
+use Rattle.std.proofs.Common.{◌≡◌, ◌+◌, ◌-◌, ◌/◌, ◌≤◌, ◌++◌, length, take, vec_len, vec_capacity}
 use Rattle.ve_items.specs.Blocks.{joined, AreBlocks}
 use Rattle.ve_items.proofs.moves.fill.Given as goal
 
@@ -7,8 +7,10 @@ invariant-loop-done l = record {
   rule : AreBlocks l.before.blocks;
   done : l.done ≤ length l.items;
   items : joined l.before.blocks ≡ joined l.initial.before.blocks ++ take l.done l.items;
-  count : length l.before.blocks + (length l.items - l.done + 511) / 512 ≤ length l.initial.before.blocks + (length l.items + 511) / 512;
-  pool : (length l.items - l.done + 511) / 512 ≤ vec_len l.pool;
+  count : length l.before.blocks + (length l.items - l.done + 319) / 320 ≤ length l.initial.before.blocks + (length l.items + 319) / 320;
+  pool : (length l.items - l.done + 319) / 320 ≤ vec_len l.pool;
+  kept : length l.before.blocks + vec_len l.pool ≡ length l.initial.before.blocks + vec_len l.initial.pool;
+  capacity : vec_capacity l.initial.pool ≤ vec_capacity l.pool;
   room : l.before.room ≡ l.initial.before.room;
 }
 

@@ -22,6 +22,7 @@ loop-block-preserved c =
       items = items_put c.loop-block.before.blocks c.put.new.before.blocks _ _ _ was c.put.ensures.items ∙ inv.items;
       count = omega (arith, inv.count, c.put.ensures.count);
       room_before = cc;
-      pool = omega (arith, inv.pool, c.put.ensures.pool);
+      kept = omega (arith, inv.kept, c.put.ensures.kept);
+      capacity = omega (arith, inv.capacity, c.put.ensures.capacity);
       room_after = cc;
     }

@@ -1,4 +1,4 @@
-use Rattle.std.proofs.Common.{◌≡◌, ◌+◌, ◌≤◌, ◌++◌, length, vec_len}
+use Rattle.std.proofs.Common.{◌≡◌, ◌+◌, ◌≤◌, ◌++◌, length, vec_len, vec_capacity}
 use Rattle.std.specs.List.{All}
 use Rattle.ve_items.specs.Blocks.{joined, IsBlock, AreBlocks}
 use Rattle.ve_items.specs.Stacked.{from_top}
@@ -11,7 +11,8 @@ invariant-loop-block l = record {
   items : joined l.before.blocks ++ from_top l.after.blocks ≡ joined l.initial.before.blocks ++ from_top l.initial.after.blocks;
   count : length l.before.blocks + length l.after.blocks ≤ length l.initial.before.blocks + length l.initial.after.blocks;
   room_before : l.before.room ≡ l.initial.before.room;
-  pool : vec_len l.initial.pool ≤ vec_len l.pool;
+  kept : length l.before.blocks + length l.after.blocks + vec_len l.pool ≡ length l.initial.before.blocks + length l.initial.after.blocks + vec_len l.initial.pool;
+  capacity : vec_capacity l.initial.pool ≤ vec_capacity l.pool;
   room_after : l.after.room ≡ l.initial.after.room;
 }
 

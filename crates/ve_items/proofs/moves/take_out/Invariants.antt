@@ -1,4 +1,4 @@
-use Rattle.std.proofs.Common.{◌≡◌, ◌+◌, ◌^◌, ◌<◌, ◌≤◌, ◌++◌, length, vec_len, take, drop}
+use Rattle.std.proofs.Common.{◌≡◌, ◌+◌, ◌^◌, ◌<◌, ◌≤◌, ◌++◌, length, vec_len, vec_capacity, take, drop}
 use Rattle.std.specs.List.{All}
 use Rattle.ve_items.specs.Blocks.{joined, IsBlock, AreBlocks}
 use Rattle.ve_items.specs.Stacked.{from_top, top}
@@ -14,7 +14,8 @@ invariant-loop-left l = record {
   fits : length (joined l.before.blocks) + length (from_top l.after.blocks) < 2 ^ 64;
   count : length l.before.blocks + length l.after.blocks ≤ length l.initial.before.blocks + length l.initial.after.blocks;
   room_before : l.before.room ≡ l.initial.before.room;
-  pool : vec_len l.initial.pool ≤ vec_len l.pool;
+  kept : length l.before.blocks + length l.after.blocks + vec_len l.pool ≡ length l.initial.before.blocks + length l.initial.after.blocks + vec_len l.initial.pool;
+  capacity : vec_capacity l.initial.pool ≤ vec_capacity l.pool;
   room_after : l.after.room ≡ l.initial.after.room;
 }
 

@@ -1,8 +1,8 @@
--- What a list of items is seen as.
+-- What the list of a page is seen as.
 use Rattle.std.specs.Prelude.{ℕ, List}
 use Rattle.model_items.specs.declared.item.Item.{Item}
 
-pub record Row : Type 0 where
+pub record ItemList : Type 0 where
   pub items : List Item
   -- how many more fit without memory
   pub spare : ℕ

@@ -1,0 +1,30 @@
+-- Places in one block of a list.
+use Rattle.std.specs.Prelude.{ℕ, ◌≡◌, ◌+◌, ◌-◌, ◌<◌, ◌≤◌, List, [], length, take, slice_index_or}
+use Rattle.ve_base.specs.Limits.{max_block}
+use Rattle.ve_items.specs.Blocks.{joined}
+
+-- the item at a place, as a block and a place in that block
+pub record StandsAt {A : Type 0} (blocks : List (List A)) (at block offset : ℕ) : Type 0 where
+  pub among : block < length blocks
+  pub inside : offset < length (slice_index_or blocks block [])
+  pub place : length (joined (take block blocks)) + offset ≡ at
+
+-- a place in a block, or at its end
+pub record TouchesAt {A : Type 0} (blocks : List (List A)) (at block offset : ℕ) : Type 0 where
+  pub among : block < length blocks
+  pub inside : offset ≤ length (slice_index_or blocks block [])
+  pub place : length (joined (take block blocks)) + offset ≡ at
+
+-- a block may hold so many items, and stays apart from its neighbours then
+pub record MayHave {A : Type 0} (blocks : List (List A)) (block size : ℕ) : Type 0 where
+  pub some : 0 < size
+  pub small : size ≤ max_block
+  pub apart_before : 0 < block → max_block < length (slice_index_or blocks (block - 1) []) + size
+  pub apart_after : block + 1 < length blocks → max_block < size + length (slice_index_or blocks (block + 1) [])
+
+-- a range that lies in one block, which may have so many items in its place
+pub record MayChange {A : Type 0} (blocks : List (List A)) (at removed more block offset : ℕ) : Type 0 where
+  pub among : block < length blocks
+  pub place : length (joined (take block blocks)) + offset ≡ at
+  pub inside : offset + removed ≤ length (slice_index_or blocks block [])
+  pub size : MayHave blocks block (length (slice_index_or blocks block []) - removed + more)
