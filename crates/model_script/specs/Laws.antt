@@ -6,7 +6,8 @@ use Rattle.model_script.specs.Output.{Meaning, replies, state_after, cost_of, wr
 -- The lines of a script are its whole lines, and then what follows the last newline, where that isn't empty.
 abbrev pub ScriptIsItsLines : Type 0
 ScriptIsItsLines = (script : List ℕ) (lines : List (List ℕ))
-    → (lines ≡ lines_of script) ↔ ((whole : List (List ℕ)) × (rest : List ℕ) × IsCut script whole rest × (lines ≡ whole ++ last_line rest))
+    → (lines ≡ lines_of script)
+    ↔ ((whole : List (List ℕ)) × (rest : List ℕ) × IsCut script whole rest × (lines ≡ whole ++ last_line rest))
 
 -- Each line has one reply.
 abbrev pub EachLineIsAnswered : (W R : Type 0) → Type 0
@@ -28,4 +29,5 @@ CostFollowsOn W R = (m : Meaning W R) (world : W) (lines more : List (List ℕ))
 -- What is written for a script that begins with whole lines is what is written for these, and then what is written for the rest.
 abbrev pub OutputFollowsOn : (W R : Type 0) → Type 0
 OutputFollowsOn W R = (spelled : R → List ℕ) (m : Meaning W R) (world : W) (lines : List (List ℕ)) (rest : List ℕ) → AreLines lines
-    → output spelled m world (with_newlines lines ++ rest) ≡ written spelled m world lines ++ output spelled m (state_after m world lines) rest
+    → output spelled m world (with_newlines lines ++ rest)
+    ≡ written spelled m world lines ++ output spelled m (state_after m world lines) rest

@@ -1,10 +1,8 @@
 -- What a line of a script asks.
 use Rattle.std.specs.Prelude.{ℕ, ◌&&◌, nat_le, false, if◌then◌else◌, List, [], ◌∷◌, length, map, codes, Bool, Option, Some, None, option_map, Result, Ok, Err}
-use Rattle.std.specs.Str.{is_utf8}
 use Rattle.ve_base.specs.Limits.{max_batch, max_sites}
 use Rattle.serde_json.specs.Data.{Data, object, Members}
 use Rattle.serde_json.specs.Find.{as_bool}
-use Rattle.serde_json.specs.Read.{read}
 use Rattle.model_edit.specs.declared.selection.Dir.{Dir}
 use Rattle.model_edit.specs.declared.selection.Dir.TheVariants.{Back, Ahead}
 use Rattle.model_edit.specs.declared.selection.By.{By}
@@ -18,7 +16,7 @@ use Rattle.model_world.specs.declared.field.Field.{Field}
 use Rattle.model_world.specs.declared.field.Field.TheVariants as field
 use Rattle.model_world.specs.declared.refusal.Refusal.{Refusal}
 use Rattle.model_world.specs.declared.refusal.Refusal.TheVariants.{BadJson, BadCommand}
-use Rattle.model_world.specs.Values.{such_that, number_in, number_between, source_in, list_in, word_in}
+use Rattle.model_world.specs.Values.{line_json, such_that, number_in, number_between, source_in, list_in, word_in}
 use Rattle.model_world.specs.Members.{Reader, ◌>>=◌, needed, defaulted, made}
 use Rattle.model_world.specs.Changes.{some_text_in, changes, reader_in, change_in}
 
@@ -154,10 +152,6 @@ command_in _ = Err (BadCommand field.Do)
 abbrev pub command_or_refusal : Option Data → Result Command Refusal
 command_or_refusal None = Err BadJson
 command_or_refusal (Some json) = command_in json
-
--- a line as JSON; one that is not UTF-8 is none
-abbrev pub line_json : List ℕ → Option Data
-line_json line = if is_utf8 line then read line else None
 
 -- what a line asks, or why it asks nothing
 abbrev pub command : List ℕ → Result Command Refusal

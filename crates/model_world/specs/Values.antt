@@ -1,9 +1,15 @@
 -- What a JSON value is read as. None comes where the value is not well formed for it.
 use Rattle.std.specs.Prelude.{ℕ, Bool, not, ◌&&◌, nat_le, nat_lt, if◌then◌else◌, List, [], ◌∷◌, length, bytes_eq, chars, Option, Some, None, option_map, option_and_then}
 use Rattle.std.specs.List.{list_any}
+use Rattle.std.specs.Str.{is_utf8}
+use Rattle.serde_json.specs.Read.{read}
 use Rattle.serde_json.specs.Data.{Data, null, Items, no_items, item, Members}
 use Rattle.serde_json.specs.Find.{get_member, as_number, as_str, as_array, as_u64}
 use Rattle.model_spelling.specs.Grammar.{is_barred}
+
+-- a line as JSON; one that is not UTF-8 is none
+abbrev pub line_json : List ℕ → Option Data
+line_json line = if is_utf8 line then read line else None
 
 -- what is well formed is read on
 infixl 10 ◌>>=◌

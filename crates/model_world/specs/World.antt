@@ -25,7 +25,10 @@ pub data World : Type 0 where
 abbrev pub Answer : Type 0
 Answer = Result (Reply × World) Reply
 
--- ---- the answer to a line. The causes of a refusal come in this order: the line's length, JSON, the first bad member, no page, no such site, and then those of the request.
+-- ---- the answer to a line
+
+-- The causes of a refusal come in this order: the line's length, JSON, the first bad member, no page, no such site, and then
+-- those of the request.
 
 abbrev pub opened_or_no : ℕ → Result Opened Refusal → Answer
 opened_or_no sites (Err refusal) = Err (No refusal)

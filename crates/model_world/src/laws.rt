@@ -7,8 +7,8 @@ pub fn refusals_change_nothing()
     ensures { RefusalsChangeNothing }
 {}
 
-/// A batch is all of its changes, each made on what those before it make, or none: then it is refused at the first change that is refused there, for the
-/// same cause.
+/// A batch is all of its changes, each made on what those before it make, or none: then it is refused at the first
+/// change that is refused there, for the same cause.
 #[tactic(auto, using(crate::proofs::BatchLemmas::batch_is_whole, crate::proofs::BatchLemmas::whole_is_batch, crate::proofs::BatchLemmas::batch_stops_at_first))]
 pub fn batches_are_whole()
     ensures whole { BatchIsWhole }

@@ -17,8 +17,9 @@ pub enum HtmlWord {
     TooDeep,
 }
 
-/// Why a line is refused. Nothing changes then. Places, offsets and ranges count items, with these exceptions, which count bytes of the page or of the
-/// fragment: `Html`, `TooDeep` to `open`, and `TooManyMarks` to `open` and to `insert`.
+/// Why a line is refused. Nothing changes then. Places, offsets and ranges count items, with these exceptions, which
+/// count bytes of the page or of the fragment: `Html`, `TooDeep` to `open`, and `TooManyMarks` to `open` and to
+/// `insert`.
 #[derive(Clone, Copy, Debug, PartialEq, Eq)]
 pub enum Refusal {
     /// The line has `len` bytes, which are more than 8,388,608.

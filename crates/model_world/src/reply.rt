@@ -32,7 +32,8 @@ pub enum Reply {
     },
     /// To `send`: how many entries were sent.
     Sent(usize),
-    /// To `serve`: how many of the submission's entries were accepted; where one was not, the active ranges in conflict, the committed one first.
+    /// To `serve`: how many of the submission's entries were accepted; where one was not,
+    /// the active ranges in conflict, the committed one first.
     Served {
         accepted: usize,
         total: usize,

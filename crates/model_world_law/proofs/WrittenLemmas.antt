@@ -23,7 +23,8 @@ use Rattle.model_world.specs.Members as members
 use Rattle.model_world.specs.Attributes.{name_in, attrs_in, branch_in, kinds_in, shapes_in}
 use Rattle.model_world.specs.Operations.{ops_in}
 use Rattle.model_world.specs.Changes.{some_text_in, some_source_in, text_marks_in, text_read, insert_read, remove_read, split_read, mark_read, wrap_read, convert_read, attr_read, apply_read, changes, reader_in, if_well_formed, change_with, change_in}
-use Rattle.model_world.specs.Commands.{some_number_in, dir_in, by_in, at_read, table_read, show_read, is_batch, batch_read, select_read, move_read, type_read, erase_read, revoke_read, requests, ask_read, open_read, commands, or_bad_command, read_by, command_in, command_or_refusal, line_json}
+use Rattle.model_world.specs.Commands.{some_number_in, dir_in, by_in, at_read, table_read, show_read, is_batch, batch_read, select_read, move_read, type_read, erase_read, revoke_read, requests, ask_read, open_read, commands, or_bad_command, read_by, command_in, command_or_refusal}
+use Rattle.model_world.specs.Values.{line_json}
 use Rattle.model_world_law.specs.Fit.{IsWritten, AllWritten, RequestWritten, LinesAreWritten}
 use Rattle.model_edit_law.specs.ApartLaws.{ShapesApart}
 use Rattle.model_world_law.proofs.ReadLemmas.{Of-then, Of-then_with, Of-such_that, Of-passing, Of-always, Of-choice, Of-list_in, Of-member_in, Of-member_or, Of-weaken, shapes_apart, ops_written, Of, OfOk, Each, OpsWritten}

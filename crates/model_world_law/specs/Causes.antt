@@ -1,7 +1,6 @@
 -- No refusal is told for want of memory, which is no cause, or for an item that differs, which never comes. So `store_full` tells of the store alone.
 use Rattle.std.specs.Prelude.{◌≡◌, ◌<◌, ℕ, length, Result, Ok, Err}
 use Rattle.ve_base.specs.Limits.{max_values}
-use Rattle.ve_base.specs.Limits.{max_values}
 use Rattle.model_change.specs.Transaction.{Transaction}
 use Rattle.model_site.specs.Replica.{Replica, performed}
 use Rattle.model_site_law.specs.Sound.{Sound}

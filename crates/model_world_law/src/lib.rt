@@ -1,56 +1,17 @@
-//! What always holds of a world, whatever lines it was given. Definitions of these laws stand in specs/; each public function here does nothing, and its
-//! contract is a law that is proved.
+//! What always holds of a world, whatever lines it was given. It has laws alone: what they speak of is `model_world`'s and
+//! the layers' below it. Definitions stand in specs/, in this order:
+//!
+//! - `Fit`: what a line that is read can ask, and that what it asks is what the layers below expect ([`layers_fit`]);
+//! - `ShownLaws`: items that a line can write, and that they are shown so that they are read back ([`shown_is_read`]);
+//! - `Causes`: when a refusal tells of a full store ([`store_full_is_full`]);
+//! - `Reached`: which events make a world ([`every_world_is_reached`]), what each of its sites holds
+//!   ([`every_site_holds`]), when sites have one list ([`sites_meet`]), and when a page is written as it was opened
+//!   ([`unedited_is_written_back`]).
 #![tactic(auto)]
 
-ghost use Rattle.model_world_law.specs.Fit.{LinesAreWritten, ChangesFit, MovesFit, PagesAreSound};
-ghost use Rattle.model_world_law.specs.Causes.{StoreFullIsFull, MovesFillStore};
-ghost use Rattle.model_world_law.specs.ShownLaws.{ShownIsRead};
-ghost use Rattle.model_world_law.specs.Reached.{EveryWorldIsReached, EverySiteHolds, SitesMeet, UneditedIsWrittenBack};
+mod laws;
 
-/// A line that is read asks for operations in normal form, and for no opening with two attributes of one name. On a sound list, one that is lawful and
-/// has names apart, every change that was read gives a reduced transaction that puts in names apart, and so do rows, columns and moved list items.
-/// Every page that opens is a sound list.
-pub fn layers_fit()
-    ensures lines { LinesAreWritten }
-    ensures changes { ChangesFit }
-    ensures moves { MovesFit }
-    ensures pages { PagesAreSound }
-{}
-
-/// Items that a line can write, elements without origin with well-written attributes, marks and whitespace, are shown so that they are read back.
-#[tactic(auto, using(crate::proofs::ShownItemLemmas::shown_is_read))]
-pub fn shown_is_read()
-    ensures { ShownIsRead }
-{}
-
-/// Want of memory, and an item that is not the one to be removed, are never the cause of a refusal of a change, a row, a column or a moved list item:
-/// `store_full` is told only where the store would have too many values.
-#[tactic(auto, using(crate::proofs::CauseLemmas::store_full_is_full, crate::proofs::CauseLemmas::moves_fill_store))]
-pub fn store_full_is_full()
-    ensures changes { StoreFullIsFull }
-    ensures moves { MovesFillStore }
-{}
-
-/// Whatever lines a world is given, it is what some events make of the sites that began on its page, events that the laws of sites and server speak of.
-#[tactic(auto, using(crate::proofs::ReachLemmas::every_world_is_reached))]
-pub fn every_world_is_reached()
-    ensures { EveryWorldIsReached }
-{}
-
-/// So each site of every world has a sound list, the replay of what it has seen and made; its store has what the list cites; its selection stands in
-/// the list; the server's answers count what it still holds as sent; and with everything undone, and nothing taken, it has the page's items and the first store.
-pub fn every_site_holds()
-    ensures { EverySiteHolds }
-{}
-
-/// Sites that have seen as much, and have nothing pending, have one list, and so write one page.
-#[tactic(auto, using(crate::proofs::ReachLemmas::all_sites_meet))]
-pub fn sites_meet()
-    ensures { SitesMeet }
-{}
-
-/// A site that has the page's items again writes the page as it was opened, byte for byte.
-#[tactic(auto, using(crate::proofs::ReachLemmas::unedited_is_written_back))]
-pub fn unedited_is_written_back()
-    ensures { UneditedIsWrittenBack }
-{}
+pub use laws::{
+    every_site_holds, every_world_is_reached, layers_fit, shown_is_read, sites_meet,
+    store_full_is_full, unedited_is_written_back,
+};

@@ -1,11 +1,13 @@
-// Reading a line of a script.
-ghost use Rattle.std.specs.Prelude.{◌≡◌, ◌≢◌, ◌==◌, ◌||◌, Ok, Err, IfOk, IfErr, option_map, option_and_then};
+// Reading a line of a script. Each member is looked up once, and its text is taken out of the line's value rather than copied.
+ghost use Rattle.std.specs.Prelude.{◌≡◌, ◌≢◌, ◌==◌, ◌||◌, Ok, Err, IfOk, IfErr, option_map, option_and_then, string_bytes};
 ghost use Rattle.std.specs.List.{list_any};
-ghost use Rattle.serde_json.specs.View.{view};
-ghost use Rattle.ve_json.specs.Line.{read_line, number_in, text_in, is_typed, open_in, text_command_in, command_in, command, has_unread};
+ghost use Rattle.serde_json.specs.Find.{as_str, get_member};
+ghost use Rattle.serde_json.specs.View.{view, members_view};
+ghost use Rattle.model_world.specs.Values.{line_json, number_in};
+ghost use Rattle.ve_json.specs.Line.{text_member, is_typed, open_in, text_command_in, word_in, command_in, command, has_unread};
 
 use crate::Command;
-use serde_json::Value;
+use serde_json::{Map, Value};
 use std::alloc::Global;
 use thiserror::Error;
 use ve_base::{Memory, Text};
@@ -21,6 +23,14 @@ pub enum LineFault {
     Memory,
 }
 
+/// The word of a command that is answered.
+#[derive(Clone, Copy, Debug, PartialEq, Eq)]
+enum Word {
+    Open,
+    Text,
+    Html,
+}
+
 impl From<Memory> for LineFault {
     ghost use Rattle.std.specs.Prelude.{◌≡◌};
     ghost use Rattle.ve_json.specs.declared.line.LineFault.TheVariants as fault;
@@ -34,7 +44,7 @@ impl From<Memory> for LineFault {
 
 /// A line as JSON, where it is JSON.
 fn read_line(alloc: Global, line: &[u8]) -> Result<Option<Value>, Memory>
-    ensures { IfOk result (λ value. option_map view value ≡ read_line line.now) }
+    ensures { IfOk result (λ value. option_map view value ≡ line_json line.now) }
 {
     match Value::from_slice(alloc, line) {
         Ok(value) => Ok(Some(value)),
@@ -48,11 +58,33 @@ fn read_line(alloc: Global, line: &[u8]) -> Result<Option<Value>, Memory>
     }
 }
 
-/// The member of this name, where it is a text.
-fn text_in<'v>(value: &'v Value, name: &str) -> Option<&'v str>
-    ensures { option_map (λ text. text.now) result ≡ text_in name.now (view value.now) }
+/// The member of this name, taken out of an object.
+fn take_member(mut members: Map<String, Value>, name: &str) -> Option<Value>
+    ensures { option_map view result ≡ get_member name.now (members_view members.entries) }
 {
-    value.get(name).and_then(Value::as_str)
+    members.remove(name)
+}
+
+/// The text, where the value is one.
+fn text_of(value: Value) -> Option<String>
+    ensures { option_map string_bytes result ≡ as_str (view value) }
+{
+    match value {
+        Value::String(text) => Some(text),
+        Value::Null | Value::Bool(_) | Value::Number(_) | Value::Array(_) | Value::Object(_) =>
+            None,
+    }
+}
+
+/// The member of this name, taken out of the line, where it is a text.
+fn take_text(value: Value, name: &str) -> Option<String>
+    ensures { option_map string_bytes result ≡ text_member name.now (view value) }
+{
+    match value {
+        Value::Object(members) => text_of(take_member(members, name)?),
+        Value::Null | Value::Bool(_) | Value::Number(_) | Value::String(_) | Value::Array(_) =>
+            None,
+    }
 }
 
 /// The number, where it is written as digits and is below 2^32.
@@ -79,33 +111,27 @@ fn is_typed(text: &str) -> bool
     !text.is_empty() && !has_control(text.as_bytes())
 }
 
-fn open_in(alloc: Global, value: &Value) -> Result<Option<Command>, Memory>
-    ensures { IfOk result (λ command. command ≡ open_in (view value.now)) }
+fn open_in(value: Value) -> Option<Command>
+    ensures { result ≡ open_in (view value) }
 {
-    let Some(page) = text_in(value, "page") else {
-        return Ok(None);
-    };
-    Ok(Some(Command::OpenPage {
-        page: Text::from_str(alloc, page)?,
-    }))
+    let page = take_text(value, "page")?;
+    Some(Command::OpenPage {
+        page: Text::from_string(page),
+    })
 }
 
-fn text_command_in(alloc: Global, value: &Value) -> Result<Option<Command>, Memory>
-    ensures { IfOk result (λ command. command ≡ text_command_in (view value.now)) }
+fn text_command_in(value: Value) -> Option<Command>
+    ensures { result ≡ text_command_in (view value) }
 {
-    let Some(at) = value.get("at").and_then(number_in) else {
-        return Ok(None);
-    };
-    let Some(text) = text_in(value, "text") else {
-        return Ok(None);
-    };
-    if !is_typed(text) {
-        return Ok(None);
+    let at = value.get("at").and_then(number_in)?;
+    let text = take_text(value, "text")?;
+    if !is_typed(text.as_str()) {
+        return None;
     }
-    Ok(Some(Command::Text {
+    Some(Command::Text {
         at,
-        text: Text::from_str(alloc, text)?,
-    }))
+        text: Text::from_string(text),
+    })
 }
 
 /// Whether it has a member of several sites or of marks, which no command here reads.
@@ -115,23 +141,31 @@ fn has_unread(value: &Value) -> bool
     value.get("site").is_some() || value.get("sites").is_some() || value.get("marks").is_some()
 }
 
-fn command_in(alloc: Global, value: &Value) -> Result<Option<Command>, Memory>
-    ensures { IfOk result (λ command. command ≡ command_in (view value.now)) }
+fn word_in(value: &Value) -> Option<Word>
+    ensures { result ≡ word_in (view value.now) }
 {
-    if has_unread(value) {
-        return Ok(None);
-    }
-    let Some(word) = text_in(value, "do") else {
-        return Ok(None);
-    };
+    let word = value.get("do").and_then(Value::as_str)?;
     if word == "open" {
-        open_in(alloc, value)
+        Some(Word::Open)
     } else if word == "text" {
-        text_command_in(alloc, value)
+        Some(Word::Text)
     } else if word == "html" {
-        Ok(Some(Command::Html))
+        Some(Word::Html)
     } else {
-        Ok(None)
+        None
+    }
+}
+
+fn command_in(value: Value) -> Option<Command>
+    ensures { result ≡ command_in (view value) }
+{
+    if has_unread(&value) {
+        return None;
+    }
+    match word_in(&value)? {
+        Word::Open => open_in(value),
+        Word::Text => text_command_in(value),
+        Word::Html => Some(Command::Html),
     }
 }
 
@@ -145,5 +179,5 @@ pub fn command(alloc: Global, line: &[u8]) -> Result<Command, LineFault>
     let Some(value) = read_line(alloc, line)? else {
         return Err(LineFault::BadJson);
     };
-    command_in(alloc, &value)?.ok_or(LineFault::NotYet)
+    command_in(value).ok_or(LineFault::NotYet)
 }

@@ -2,6 +2,7 @@
 use Rattle.std.specs.Prelude.{◌≡◌, ℕ, ◌+◌, ◌++◌, ◌<◌, ◌≤◌, ◌⊎◌, List, [], ◌∷◌, length, Option}
 use Rattle.std.specs.Io.KnownBytes.{Appends, Consumes, IsAtEnd}
 use Rattle.ve_base.specs.Limits.{max_script}
+use Rattle.ve_base.specs.Outside.{Rose}
 use Rattle.model_script.specs.Lines.{lines_of, newline, with_newlines, IsLine, AreLines, IsCut}
 use Rattle.model_script.specs.Output.{Meaning, state_after, cost_of, written, output}
 use Rattle.ve_json.specs.declared.reply.Reply.{Reply}
@@ -44,9 +45,14 @@ pub record Answered {W : Type 0} (m : Meaning W Reply) (before after : Scene W) 
   pub cut : IsCut script whole rest
   pub answers : Answers m before after whole
 
+-- Neither the source nor the sink failed: neither count of faults rose.
+abbrev pub NoFaults : (reads_before reads writes_before writes : ℕ) → Type 0
+NoFaults reads_before reads writes_before writes = (Rose reads_before reads → ⊥) × (Rose writes_before writes → ⊥)
+
 -- `line` is the next one in `more`: a newline ends it; or it is all of `more` and isn't empty, and nothing can follow.
 abbrev pub IsNextLine : List ℕ → List ℕ → Type 0 → Type 0
-IsNextLine line more is_end = ((later : List ℕ) × (more ≡ line ++ newline ∷ later)) ⊎ (is_end × (0 < length line) × (more ≡ line))
+IsNextLine line more is_end =
+    ((later : List ℕ) × (more ≡ line ++ newline ∷ later)) ⊎ (is_end × (0 < length line) × (more ≡ line))
 
 -- A write failed within the reply to `line`: the lines before it were answered, the machine took it, and a prefix of its reply was written.
 pub record BrokeOff {W : Type 0} (m : Meaning W Reply) (before after : Scene W) (script : List ℕ) (is_end : Type 0) : Type 0 where
@@ -85,7 +91,8 @@ pub record Ran {W : Type 0} (m : Meaning W Reply) (left_before left : Option (Li
   pub answers : Answers m before after (lines_of script)
 
 -- Between two reads it stopped: each line that a newline had ended was answered.
-pub record Stopped {W : Type 0} (m : Meaning W Reply) (left_before left : Option (List ℕ)) (before after : Scene W) (extra : List ℕ) : Type 0 where
+pub record Stopped {W : Type 0} (m : Meaning W Reply) (left_before left : Option (List ℕ)) (before after : Scene W)
+    (extra : List ℕ) : Type 0 where
   pub script : List ℕ
   pub took : Took left_before left script extra
   pub rest : List ℕ

@@ -13,14 +13,14 @@ abbrev pub usage_line : List ℕ
 usage_line = codes "usage: vemodel run | make | soak [--start N] [--edits N]\n"
 
 -- the number that the program ends with
-abbrev pub number_of : Status → ℕ
-number_of Done = 0
-number_of Usage = 2
-number_of ReadFault = 3
-number_of WriteFault = 4
-number_of InputTooLong = 5
-number_of Memory = 6
-number_of Help = 0
+abbrev pub exit_number : Status → ℕ
+exit_number Done = 0
+exit_number Usage = 2
+exit_number ReadFault = 3
+exit_number WriteFault = 4
+exit_number InputTooLong = 5
+exit_number Memory = 6
+exit_number Help = 0
 
 -- the status of a run that stopped
 abbrev pub status_of : Stop → Status

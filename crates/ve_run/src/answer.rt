@@ -36,10 +36,12 @@ pub fn answer<K: Sink, M: Machine, L: Ledger>(
 ) -> Result<(), Stop>
     ensures stepped { OnOk result (Stepped M.meaning
         (scene world.old steps.old (K.held sink.old)) (scene world.new steps.new (K.held sink.new)) line.now) }
-    ensures written { OnOk result (Appends (K.held sink.old) (K.held sink.new) (reply_line (M.meaning.reply world.old line.now))) }
+    ensures written { OnOk result
+        (Appends (K.held sink.old) (K.held sink.new) (reply_line (M.meaning.reply world.old line.now))) }
     ensures stepped_at_fault { IsErrOf result Stop.WriteFault → Stepped M.meaning
         (scene world.old steps.old (K.held sink.old)) (scene world.new steps.new (K.held sink.new)) line.now }
-    ensures prefix { IsErrOf result Stop.WriteFault → AppendsPrefix (K.held sink.old) (K.held sink.new) (reply_line (M.meaning.reply world.old line.now)) }
+    ensures prefix { IsErrOf result Stop.WriteFault
+        → AppendsPrefix (K.held sink.old) (K.held sink.new) (reply_line (M.meaning.reply world.old line.now)) }
     ensures rose { IsErrOf result Stop.WriteFault → Rose (K.faults sink.old) (K.faults sink.new) }
     ensures starved { IsErrOf result Stop.Memory → K.held sink.new ≡ K.held sink.old }
     ensures sink_alone { IsErrOf result Stop.ReadFault ⊎ IsErrOf result Stop.InputTooLong → ⊥ }

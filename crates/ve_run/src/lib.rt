@@ -1,7 +1,13 @@
 //! A script's lines, run on a machine: each line is answered, and its reply written, before the next is taken.
 //!
 //! Nothing here knows what a line asks. A [`Machine`] says what it replies to a line and what state it is in then, and
-//! [`run`] promises of every machine, source and sink that exactly those replies are written.
+//! [`run`] promises of every machine, source and sink that exactly those replies are written. What a machine means, the
+//! lines of a script and its output are `model_script`'s, and what a source and a sink are is `ve_base`'s. Its own
+//! definitions, in reading order:
+//!
+//! - `Run`: what a run changes, at one moment (`Scene`); what was answered; and how a run ends (`Ran`, `Stopped`, `Broke`,
+//!   `Starved`, `WrotePrefix`), which the clauses of `run` cite;
+//! - `Status`: the words that a run is asked for by, the usage line, and the number of a status.
 #![tactic(auto)]
 
 mod answer;

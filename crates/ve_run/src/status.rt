@@ -1,6 +1,6 @@
 // How a run ends.
 ghost use Rattle.std.specs.Prelude.{◌≡◌};
-ghost use Rattle.ve_run.specs.Status.{number_of, status_of};
+ghost use Rattle.ve_run.specs.Status.{exit_number, status_of};
 
 use crate::stop::Stop;
 
@@ -26,7 +26,7 @@ pub enum Status {
 impl Status {
     /// The number that the program ends with: 0 where all is well.
     pub fn number(self) -> u8
-        ensures { result ≡ number_of self }
+        ensures { result ≡ exit_number self }
     {
         match self {
             Status::Done | Status::Help => 0,

@@ -60,7 +60,7 @@ impl<'a> Sink for Drip<'a> {
 
 /// A script, how it comes and goes, and what is to be written.
 #[derive(Clone, Copy)]
-struct Row {
+struct Case {
     words: &'static [&'static str],
     script: &'static [u8],
     /// The sizes of its first pieces.
@@ -77,7 +77,7 @@ struct Row {
     answered: usize,
 }
 
-const USUAL: Row = Row {
+const USUAL: Case = Case {
     words: &["run"],
     script: b"a\nb\nc\n",
     cuts: &[],
@@ -98,19 +98,19 @@ fn only(alloc: Global, call: Option<usize>) -> Result<Calls, Memory> {
     Ok(calls)
 }
 
-fn source_of(alloc: Global, row: &Row) -> Result<MemSource, Memory> {
+fn source_of(alloc: Global, case: &Case) -> Result<MemSource, Memory> {
     let mut bytes = Bytes::new(alloc);
-    bytes.push(row.script)?;
+    bytes.push(case.script)?;
     let mut cuts = Cuts::new(alloc);
-    for cut in row.cuts {
+    for cut in case.cuts {
         cuts.push((*cut).max(1))?;
     }
-    Ok(MemSource::new(bytes, cuts, only(alloc, row.read)?))
+    Ok(MemSource::new(bytes, cuts, only(alloc, case.read)?))
 }
 
-fn words_of(alloc: Global, row: &Row) -> Result<Vec<Text>, Memory> {
+fn words_of(alloc: Global, case: &Case) -> Result<Vec<Text>, Memory> {
     let mut words = Vec::new(alloc);
-    for word in row.words {
+    for word in case.words {
         words.push(Text::from_str(alloc, word)?)?;
     }
     Ok(words)
@@ -127,7 +127,7 @@ struct Outcome {
 fn ran_with<L: Ledger>(
     rt: &HostRuntime,
     blank: Blank,
-    row: &Row,
+    case: &Case,
     drips: bool,
 ) -> Result<Outcome, Memory>
     requires name { blank.name ≡ L.name }
@@ -135,15 +135,15 @@ fn ran_with<L: Ledger>(
     requires one { blank.parts ≡ 1 }
 {
     let alloc = rt.alloc();
-    let words = words_of(alloc, row)?;
-    let mut source = source_of(alloc, row)?;
+    let words = words_of(alloc, case)?;
+    let mut source = source_of(alloc, case)?;
     let mut world = Counter {
         answered: 0,
-        most: row.most,
+        most: case.most,
     };
     let mut steps: Steps<L> = Steps::start(rt, blank);
     let mut room = [0u8; 64];
-    let mut sink = MemSink::new(&mut room[..row.room.min(64)], only(alloc, row.write)?);
+    let mut sink = MemSink::new(&mut room[..case.room.min(64)], only(alloc, case.write)?);
     let mut written = Bytes::new(alloc);
     let status = if drips {
         let mut drip = Drip { sink };
@@ -178,42 +178,42 @@ fn ran_with<L: Ledger>(
 
 #[test]
 fn every_line_is_answered_in_turn(rt: HostRuntime) -> Result<(), Fail> {
-    let rows = [
+    let cases = [
         USUAL,
         // one byte a read, and pieces of odd sizes
-        Row {
+        Case {
             cuts: &[1, 1, 1, 1, 1, 1],
             ..USUAL
         },
-        Row {
+        Case {
             cuts: &[3, 1, 2],
             ..USUAL
         },
         // a last line without a newline, an empty one, and one with a carriage return
-        Row {
+        Case {
             script: b"a\nb\nc",
             cuts: &[5],
             ..USUAL
         },
-        Row {
+        Case {
             script: b"\n\n\r",
             ..USUAL
         },
-        Row {
+        Case {
             script: b"",
             written: b"",
             answered: 0,
             ..USUAL
         },
         // what had ended is answered, and what hadn't isn't
-        Row {
+        Case {
             read: Some(0),
             status: Status::ReadFault,
             written: b"",
             answered: 0,
             ..USUAL
         },
-        Row {
+        Case {
             cuts: &[2],
             read: Some(1),
             status: Status::ReadFault,
@@ -221,7 +221,7 @@ fn every_line_is_answered_in_turn(rt: HostRuntime) -> Result<(), Fail> {
             answered: 1,
             ..USUAL
         },
-        Row {
+        Case {
             cuts: &[3],
             read: Some(1),
             status: Status::ReadFault,
@@ -229,28 +229,28 @@ fn every_line_is_answered_in_turn(rt: HostRuntime) -> Result<(), Fail> {
             answered: 1,
             ..USUAL
         },
-        Row {
+        Case {
             room: 7,
             status: Status::WriteFault,
             written: b"ok 1\nok",
             answered: 2,
             ..USUAL
         },
-        Row {
+        Case {
             most: 1,
             status: Status::Memory,
             written: b"ok 1\n",
             answered: 1,
             ..USUAL
         },
-        Row {
+        Case {
             words: &[],
             status: Status::Usage,
             written: b"usage: vemodel run | make | soak [--start N] [--edits N]\n",
             answered: 0,
             ..USUAL
         },
-        Row {
+        Case {
             words: &["run", "run"],
             room: 5,
             status: Status::WriteFault,
@@ -259,12 +259,12 @@ fn every_line_is_answered_in_turn(rt: HostRuntime) -> Result<(), Fail> {
             ..USUAL
         },
     ];
-    for (number, row) in rows.iter().enumerate() {
+    for (number, case) in cases.iter().enumerate() {
         for drips in [false, true] {
-            let outcome = ran_with::<Brand>(&rt, Blank::new(1), row, drips)?;
-            assert_eq!(rt; outcome.written.as_slice(), row.written, "row {number}");
-            assert_eq!(rt; outcome.status, row.status, "row {number}");
-            assert_eq!(rt; outcome.answered, row.answered, "row {number}");
+            let outcome = ran_with::<Brand>(&rt, Blank::new(1), case, drips)?;
+            assert_eq!(rt; outcome.written.as_slice(), case.written, "case {number}");
+            assert_eq!(rt; outcome.status, case.status, "case {number}");
+            assert_eq!(rt; outcome.answered, case.answered, "case {number}");
         }
     }
     Ok(())
@@ -272,11 +272,11 @@ fn every_line_is_answered_in_turn(rt: HostRuntime) -> Result<(), Fail> {
 
 #[test]
 fn a_failed_write_stops_the_machine(rt: HostRuntime) -> Result<(), Fail> {
-    let row = Row {
+    let case = Case {
         write: Some(1),
         ..USUAL
     };
-    let outcome = ran_with::<Brand>(&rt, Blank::new(1), &row, false)?;
+    let outcome = ran_with::<Brand>(&rt, Blank::new(1), &case, false)?;
     assert_eq!(rt; outcome.written.as_slice(), b"ok 1\n".as_slice());
     assert_eq!(rt; outcome.status, Status::WriteFault);
     assert_eq!(rt; outcome.answered, 2);

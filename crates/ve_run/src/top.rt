@@ -6,7 +6,7 @@ ghost use Rattle.ve_base.specs.Outside.{Rose};
 ghost use Rattle.model_script.specs.Lines.{lines_of};
 ghost use Rattle.model_script.specs.Output.{output, state_after};
 ghost use Rattle.ve_json.specs.Spelled.{spelled};
-ghost use Rattle.ve_run.specs.Run.{scene, AppendsPrefix, Ran, Stopped, Broke, Starved, WrotePrefix};
+ghost use Rattle.ve_run.specs.Run.{scene, AppendsPrefix, Ran, Stopped, Broke, Starved, WrotePrefix, NoFaults};
 ghost use Rattle.ve_run.specs.Status.{IsRun, usage_line};
 
 use crate::answer::write_all;
@@ -27,7 +27,7 @@ fn is_run(words: &[Text]) -> bool
 
 /// Reads lines, steps the machine with each, and writes each reply before the next step.
 ///
-/// The words are those after the program's name. With the one word `run` at most 2^26 + 1 bytes are taken from the
+/// The words are those after the program's name. With the one word `run` at most [`MAX_SCRIPT`](ve_base::MAX_SCRIPT) bytes and one more are taken from the
 /// source, and each reply is written as one piece with its newline. With other words the usage line is written.
 pub fn run<S: Source, K: Sink, M: Machine, L: Ledger>(
     alloc: Global,
@@ -52,7 +52,7 @@ pub fn run<S: Source, K: Sink, M: Machine, L: Ledger>(
         × Rose (S.faults source.old) (S.faults source.new)
         × Stopped M.meaning (S.left source.old) (S.left source.new)
         (scene world.old steps.old (K.held sink.old)) (scene world.new steps.new (K.held sink.new)) [] }
-    // The same, where 2^26 bytes and one more were taken: all lines that end within the first 2^26.
+    // The same, where as many bytes as a script may have and one more were taken: all lines that end before that one.
     ensures too_long { result ≡ Status.InputTooLong → IsRun words.now
         × ((extra : ℕ) × Stopped M.meaning (S.left source.old) (S.left source.new)
         (scene world.old steps.old (K.held sink.old)) (scene world.new steps.new (K.held sink.new)) (extra ∷ [])) }
@@ -74,10 +74,12 @@ pub fn run<S: Source, K: Sink, M: Machine, L: Ledger>(
     ensures no_help { result ≡ Status.Help → ⊥ }
 
     // It doesn't give up by itself.
-    ensures complete { IsRun words.now → (Rose (S.faults source.old) (S.faults source.new) → ⊥) → (Rose (K.faults sink.old) (K.faults sink.new) → ⊥)
-        → IsSomeAnd (S.left source.old) (λ script. length script ≤ max_script) → (result ≡ Status.Done) ⊎ (result ≡ Status.Memory) }
-    ensures complete_past_limit { IsRun words.now → (Rose (S.faults source.old) (S.faults source.new) → ⊥) → (Rose (K.faults sink.old) (K.faults sink.new) → ⊥)
-        → IsSomeAnd (S.left source.old) (λ script. max_script < length script) → (result ≡ Status.InputTooLong) ⊎ (result ≡ Status.Memory) }
+    ensures complete { IsRun words.now → NoFaults (S.faults source.old) (S.faults source.new) (K.faults sink.old) (K.faults sink.new)
+        → IsSomeAnd (S.left source.old) (λ script. length script ≤ max_script)
+        → (result ≡ Status.Done) ⊎ (result ≡ Status.Memory) }
+    ensures complete_past_limit { IsRun words.now → NoFaults (S.faults source.old) (S.faults source.new) (K.faults sink.old) (K.faults sink.new)
+        → IsSomeAnd (S.left source.old) (λ script. max_script < length script)
+        → (result ≡ Status.InputTooLong) ⊎ (result ≡ Status.Memory) }
     ensures source_later { S.faults source.old ≤ S.faults source.new }
     ensures sink_later { K.faults sink.old ≤ K.faults sink.new }
     ensures counted { steps.old ≤ steps.new }

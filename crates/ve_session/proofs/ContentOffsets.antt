@@ -1,31 +1,46 @@
 -- Content offsets are those within a paragraph, and what is put there stands in that paragraph.
-use Rattle.std.proofs.Common.{◌≡◌, ◌≤◌, ◌<◌, ◌⊎◌, inl, inr, ⊎_elim, ℕ, zero, suc, ◌+◌, ◌-◌, ◌++◌, List, [], ◌∷◌, length, take, drop, reverse, find, Bool, true, false, nat_le, Option, Some, None, refl, sym, ap, ◌∙◌, subst, append_assoc, length-append, length-take-le, arith}
-use Rattle.std.proofs.Math.Seq.{take-append_seam, drop-append_seam, take-append-add}
+use Rattle.std.proofs.Common.{◌≡◌, ◌≤◌, ◌<◌, ◌⊎◌, inl, inr, ⊎_elim, ℕ, zero, suc, ◌+◌, ◌-◌, ◌++◌, List, [], ◌∷◌, length, take, drop, Bool, true, false, nat_le, Some, refl, sym, ap, ◌∙◌, append_assoc, length-append, length-take-le, arith}
+use Rattle.std.proofs.Math.Seq.{take-append_seam, drop-append_seam}
 use Rattle.std.proofs.lemmas.Grind.{flat_map-append}
-use Rattle.std.proofs.lemmas.List.{length-map, map-append, reverse-append, take-append-drop}
-use Rattle.std.proofs.lemmas.List.Folds.{find-append}
-use Rattle.std.specs.Option.{option_or}
+use Rattle.std.proofs.lemmas.List.{length-map, map-append, take-append-drop}
+use Rattle.std.specs.List.{slice_get}
 use Rattle.ve_kinds.specs.declared.kind.Kind.TheVariants.{P}
 use Rattle.model_items.specs.declared.item.Item.{Item}
 use Rattle.ve_session.specs.Plain.{opening, closing, character, characters, paragraph_items, items_of, internal_list}
-use Rattle.ve_session.specs.World.{is_bracket, last_bracket, opens_content}
+use Rattle.ve_session.specs.World.{is_content_after, is_content}
 use Rattle.ve_session.specs.Laws.{offset_after, TypesIntoParagraph, ContentIsInParagraphs}
-use Rattle.ve_session.proofs.Paragraphs.{items, and_left, and_right}
-use Rattle.ve_session.proofs.Prefixes.{is_content-by}
+use Rattle.ve_session.proofs.Paragraphs.{items}
 
--- ---- the last bracket of a list
+no_more : (n : ℕ) → n + 0 ≡ n
+no_more n = omega arith
 
-last_bracket-append : (xs ys : List Item) → last_bracket (xs ++ ys) ≡ option_or (last_bracket ys) (last_bracket xs)
-last_bracket-append xs ys = ap (find is_bracket) (reverse-append xs ys) ∙ find-append is_bracket (reverse ys) (reverse xs)
+-- ---- the item before an offset
 
-last_bracket-characters : (text : List ℕ) → last_bracket (characters text) ≡ None
-last_bracket-characters [] = refl
-last_bracket-characters (ch ∷ text) =
-    last_bracket-append (character ch ∷ []) (characters text) ∙ ap (λ o. option_or o (last_bracket (character ch ∷ []))) (last_bracket-characters text)
+at_seam : (pre : List Item) (x : Item) (ys : List Item) → slice_get (pre ++ (x ∷ ys)) (length pre) ≡ Some x
+at_seam [] x ys = refl
+at_seam (p ∷ pre) x ys = at_seam pre x ys
 
--- what ends in characters
-last_bracket-before : (xs : List Item) (text : List ℕ) → last_bracket (xs ++ characters text) ≡ last_bracket xs
-last_bracket-before xs text = last_bracket-append xs (characters text) ∙ ap (λ o. option_or o (last_bracket xs)) (last_bracket-characters text)
+suc_plus : (a b : ℕ) → suc a + b ≡ suc (a + b)
+suc_plus a b = omega arith
+
+none_plus : (n : ℕ) → 0 + n ≡ n
+none_plus n = omega arith
+
+past_seam : (pre ys : List Item) (m : ℕ) → slice_get (pre ++ ys) (length pre + m) ≡ slice_get ys m
+past_seam [] ys m = ap (slice_get ys) (none_plus m)
+past_seam (p ∷ pre) ys m = ap (slice_get (p ∷ (pre ++ ys))) (suc_plus (length pre) m) ∙ past_seam pre ys m
+
+one_on : (pre : List Item) (x : Item) (n : ℕ) → length pre + suc n ≡ length (pre ++ x ∷ []) + n
+one_on pre x n = let l = length-append pre (x ∷ []) in omega arith
+
+-- within characters that follow an item after which characters may stand
+within_text : (pre : List Item) (x : Item) (text : List ℕ) (ys : List Item) → is_content_after (Some x) ≡ true
+    → is_content (pre ++ ((x ∷ characters text) ++ ys)) (suc (length pre + length text)) ≡ true
+within_text pre x [] ys h = ap (λ n. is_content_after (slice_get (pre ++ (x ∷ ys)) n)) (no_more (length pre)) ∙ ap is_content_after (at_seam pre x ys) ∙ h
+within_text pre x (ch ∷ text) ys h =
+    ap (λ is. is_content is (suc (length pre + suc (length text)))) (sym (append_assoc pre (x ∷ []) ((character ch ∷ characters text) ++ ys)))
+    ∙ ap (λ n. is_content ((pre ++ x ∷ []) ++ ((character ch ∷ characters text) ++ ys)) (suc n)) (one_on pre x (length text))
+    ∙ within_text (pre ++ x ∷ []) (character ch) text ys refl
 
 -- ---- a page's items, cut within a paragraph
 
@@ -52,15 +67,15 @@ length-prefix before left =
     let m = length-map left character in
     omega arith
 
-content : (before : List (List ℕ)) (left : List ℕ) → last_bracket (prefix before left) ≡ Some (opening P)
-unfolding prefix
-content before left =
-    ap last_bracket (sym (append_assoc (items before) (opening P ∷ []) (characters left)))
-    ∙ last_bracket-before (items before ++ opening P ∷ []) left
-    ∙ last_bracket-append (items before) (opening P ∷ [])
+sum_on : (a b : ℕ) → a + 1 + b ≡ suc (a + b)
+sum_on a b = omega arith
 
-within_prefix : (xs ys : List Item) (n : ℕ) → n ≡ length xs → n ≤ length (xs ++ ys)
-within_prefix xs ys n h = let l = length-append xs ys in omega arith
+content : (before : List (List ℕ)) (left : List ℕ) (ys : List Item) → is_content (prefix before left ++ ys) (offset_after before left) ≡ true
+unfolding prefix
+content before left ys =
+    ap (λ is. is_content is (offset_after before left)) (append_assoc (items before) (opening P ∷ characters left) ys)
+    ∙ ap (is_content (items before ++ ((opening P ∷ characters left) ++ ys))) (sum_on (length (items before)) (length left))
+    ∙ within_text (items before) (opening P) left ys refl
 
 -- what stands before and after the end of a prefix
 taken : (xs ys all : List Item) (n : ℕ) → n ≡ length xs → all ≡ xs ++ ys → take n all ≡ xs
@@ -68,9 +83,6 @@ taken xs ys all n h e = ap (λ m. take m all) h ∙ ap (take (length xs)) e ∙ 
 
 dropped : (xs ys all : List Item) (n : ℕ) → n ≡ length xs → all ≡ xs ++ ys → drop n all ≡ ys
 dropped xs ys all n h e = ap (λ m. drop m all) h ∙ ap (drop (length xs)) e ∙ drop-append_seam xs ys
-
-no_more : (n : ℕ) → n + 0 ≡ n
-no_more n = omega arith
 
 joined : (left text right : List ℕ) (after : List (List ℕ)) (before : List (List ℕ)) → prefix before left ++ (characters text ++ suffix right after) ≡ prefix before (left ++ text) ++ suffix right after
 unfolding prefix
@@ -84,8 +96,7 @@ types_into_paragraph before after left right text =
     let at = offset_after before left in
     let e = cut before after left right in
     let n = length-prefix before left in (
-      is_content-by all at (Some (opening P)) (subst (λ is. at ≤ length is) (sym e) (within_prefix (prefix before left) (suffix right after) at n))
-          (ap last_bracket (taken (prefix before left) (suffix right after) all at n e) ∙ content before left),
+      ap (λ is. is_content is at) e ∙ content before left (suffix right after),
       ap (λ is. (is ++ characters text) ++ drop (at + 0) all) (taken (prefix before left) (suffix right after) all at n e)
           ∙ ap (λ m. (prefix before left ++ characters text) ++ drop m all) (no_more at)
           ∙ ap (λ is. (prefix before left ++ characters text) ++ is) (dropped (prefix before left) (suffix right after) all at n e)
@@ -95,10 +106,6 @@ types_into_paragraph before after left right text =
     )
 
 -- ---- every content offset is such a cut
-
-bracket_after : (o : Option Item) → opens_content (option_or o (Some (closing P))) ≡ true → opens_content o ≡ true
-bracket_after None h = cc h
-bracket_after (Some item) h = h
 
 one_page : (text : List ℕ) (ps : List (List ℕ)) → items_of (text ∷ ps) ≡ opening P ∷ (characters text ++ (closing P ∷ items_of ps))
 one_page text ps = simp append_assoc
@@ -110,14 +117,6 @@ record Cut (paragraphs : List (List ℕ)) (at : ℕ) : Type 0 where
   after : List (List ℕ)
   whole : paragraphs ≡ before ++ (left ++ right) ∷ after
   place : at ≡ offset_after before left
-
--- after the characters of a paragraph
-past : (text : List ℕ) (is : List Item) (m : ℕ) → take (suc (length text + suc m)) (opening P ∷ (characters text ++ (closing P ∷ is))) ≡ (opening P ∷ characters text ++ closing P ∷ []) ++ take m is
-past text is m =
-    ap (λ xs. opening P ∷ xs)
-    (ap (λ l. take (l + suc m) (characters text ++ (closing P ∷ is))) (sym (length-map text character))
-    ∙ take-append-add (characters text) (closing P ∷ is) (suc m)
-    ∙ sym (append_assoc (characters text) (closing P ∷ []) (take m is)))
 
 le_from : (a b : ℕ) → nat_le a b ≡ true → a ≤ b
 le_from a b h = grind arith
@@ -136,23 +135,22 @@ length-paragraph text is =
     let m = length-map text character in
     omega arith
 
-length-page : (text : List ℕ) (ps : List (List ℕ)) → length (items_of (text ∷ ps)) ≡ length text + 2 + length (items_of ps)
-length-page text ps = ap length (append_assoc (paragraph_items text) (items ps) internal_list) ∙ length-paragraph text (items_of ps)
+-- after a closing the offset is as at the beginning of what follows
+after_closing : (is : List Item) (m : ℕ) → is_content_after (slice_get (closing P ∷ is) m) ≡ is_content is m
+after_closing is zero = refl
+after_closing is (suc m) = refl
 
--- what the last bracket after a paragraph says
-passed : (text : List ℕ) (ps : List (List ℕ)) (n m : ℕ) → n ≡ length text + suc m → opens_content (last_bracket (take (suc n) (items_of (text ∷ ps)))) ≡ true → opens_content (last_bracket (take m (items_of ps))) ≡ true
-passed text ps n m e k =
-    bracket_after (last_bracket (take m (items_of ps)))
-    (subst (λ o. opens_content o ≡ true)
-    (ap (λ is. last_bracket (take (suc n) is)) (one_page text ps)
-    ∙ ap (λ q. last_bracket (take (suc q) (opening P ∷ (characters text ++ (closing P ∷ items_of ps))))) e
-    ∙ ap last_bracket (past text (items_of ps) m)
-    ∙ last_bracket-append (opening P ∷ characters text ++ closing P ∷ []) (take m (items_of ps))
-    ∙ ap (option_or (last_bracket (take m (items_of ps)))) (last_bracket-append (opening P ∷ characters text) (closing P ∷ [])))
-    k)
+one_more : (n l m : ℕ) → n ≡ l + suc m → n ≡ suc (l + m)
+one_more n l m e = omega arith
 
-rest_within : (text : List ℕ) (ps : List (List ℕ)) (n m : ℕ) → n ≡ length text + suc m → suc n ≤ length (items_of (text ∷ ps)) → m ≤ length (items_of ps)
-rest_within text ps n m e h = let l = length-page text ps in omega arith
+-- after a paragraph
+passed : (text : List ℕ) (ps : List (List ℕ)) (n m : ℕ) → n ≡ length text + suc m → is_content (items_of (text ∷ ps)) (suc n) ≡ is_content (items_of ps) m
+passed text ps n m e =
+    ap (λ is. is_content is (suc n)) (one_page text ps)
+    ∙ ap (λ k. is_content_after (slice_get (opening P ∷ (characters text ++ (closing P ∷ items_of ps))) k)) (one_more n (length text) m e)
+    ∙ ap (λ l. is_content_after (slice_get (characters text ++ (closing P ∷ items_of ps)) (l + m))) (sym (length-map text character))
+    ∙ ap is_content_after (past_seam (characters text) (closing P ∷ items_of ps) m)
+    ∙ after_closing (items_of ps) m
 
 here : (text : List ℕ) (ps : List (List ℕ)) (n : ℕ) → n ≤ length text → Cut (text ∷ ps) (suc n)
 here text ps n h = record {
@@ -174,20 +172,18 @@ later text ps n m e r = record {
   place = let p = r.place in let l = length-paragraph text (items r.before) in omega arith;
 }
 
-cut_at : (paragraphs : List (List ℕ)) (at : ℕ) → at ≤ length (items_of paragraphs) → opens_content (last_bracket (take at (items_of paragraphs))) ≡ true → Cut paragraphs at
-cut_at [] zero h k = cc k
-cut_at [] (suc zero) h k = cc k
-cut_at [] (suc (suc zero)) h k = cc k
-cut_at [] (suc (suc (suc n))) h k = absurd (omega arith)
-cut_at (text ∷ ps) zero h k = cc k
-cut_at (text ∷ ps) (suc n) h k =
+cut_at : (paragraphs : List (List ℕ)) (at : ℕ) → is_content (items_of paragraphs) at ≡ true → Cut paragraphs at
+cut_at [] zero k = cc k
+cut_at [] (suc zero) k = cc k
+cut_at [] (suc (suc zero)) k = cc k
+cut_at [] (suc (suc (suc n))) k = cc k
+cut_at (text ∷ ps) zero k = cc k
+cut_at (text ∷ ps) (suc n) k =
     ⊎_elim (here text ps n)
-    (λ w. later text ps n w.0 w.1 (cut_at ps w.0 (rest_within text ps n w.0 w.1 h) (passed text ps n w.0 w.1 k)))
+    (λ w. later text ps n w.0 w.1 (cut_at ps w.0 (sym (passed text ps n w.0 w.1) ∙ k)))
     (place_by n (length text) (nat_le n (length text)) refl)
 
 pub content_is_in_paragraphs : ContentIsInParagraphs
 content_is_in_paragraphs ps at h =
-    let fits = and_left (nat_le at (length (items_of ps))) (opens_content (last_bracket (take at (items_of ps)))) h in
-    let opens = and_right (nat_le at (length (items_of ps))) (opens_content (last_bracket (take at (items_of ps)))) h in
-    let r = cut_at ps at (le_from at (length (items_of ps)) fits) opens in
+    let r = cut_at ps at h in
     (r.before, r.left, r.right, r.after, r.whole, r.place)

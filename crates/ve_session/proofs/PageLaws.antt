@@ -5,12 +5,13 @@ use Rattle.std.specs.Str.{encode_utf8_all}
 use Rattle.model_items.specs.declared.item.Item.{Item}
 use Rattle.ve_json.specs.declared.reply.Reply.TheVariants.{Page}
 use Rattle.ve_json.specs.Line.{command}
-use Rattle.ve_session.specs.Plain.{max_page, Spells, items_of, internal_list}
+use Rattle.ve_base.specs.Limits.{max_page}
+use Rattle.ve_session.specs.Plain.{Spells, items_of, internal_list}
 use Rattle.ve_session.specs.Reader.{items_from, page_items}
 use Rattle.ve_session.specs.Written.{html_of, written}
 use Rattle.ve_session.specs.World.{stepped, opened}
 use Rattle.ve_session.specs.Laws.{ReadsParagraphs, SpellsOnce, WritesAsRead, OpensAndWrites}
-use Rattle.ve_session.specs.declared.place.Place.TheVariants.{Between}
+use Rattle.ve_session.specs.declared.reader.Reading.TheVariants.{Between}
 use Rattle.ve_session.proofs.Paragraphs.{items, reads_spelled, reads_only, map_some, texts_in, texts_in-items, html_of-items}
 
 if_true : {A : Type 0} (b : Bool) (o : Option A) (y : A) → (if b then o else None) ≡ Some y → (b ≡ true) × (o ≡ Some y)

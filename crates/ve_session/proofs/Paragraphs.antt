@@ -3,12 +3,13 @@ use Rattle.std.proofs.Common.{◌≡◌, ◌⊎◌, inl, inr, ℕ, ◌==◌, ◌
 use Rattle.std.specs.List.{flat_map, list_all}
 use Rattle.ve_kinds.specs.declared.kind.Kind.TheVariants.{P}
 use Rattle.model_items.specs.declared.item.Item.{Item}
+use Rattle.model_script.specs.Lines.{onto_first}
 use Rattle.model_items.specs.declared.item.Item.TheVariants.{Char, Opening, Closing}
 use Rattle.ve_session.specs.Plain.{opening, closing, character, characters, is_plain, are_plain, paragraph, paragraph_items}
-use Rattle.ve_session.specs.Reader.{step, put, items_from}
+use Rattle.ve_session.specs.Reader.{read_char, put, items_from}
 use Rattle.ve_session.specs.Written.{html_of, escaped}
-use Rattle.ve_session.specs.declared.place.Place.{Place}
-use Rattle.ve_session.specs.declared.place.Place.TheVariants.{Between, StartLess, StartName, Within, EndLess, EndSlash, EndName}
+use Rattle.ve_session.specs.declared.reader.Reading.{Reading}
+use Rattle.ve_session.specs.declared.reader.Reading.TheVariants.{Between, StartLess, StartName, Within, EndLess, EndSlash, EndName}
 
 -- ---- the rest of a page, from within a paragraph of which `text` is left
 
@@ -36,7 +37,7 @@ and_both : (a b : Bool) → a ≡ true → b ≡ true → (a && b) ≡ true
 and_both true b h k = k
 and_both false b h k = cc h
 
-plain_step : (ch : ℕ) → is_plain ch ≡ true → step Within ch ≡ Some (Within, Some (character ch))
+plain_step : (ch : ℕ) → is_plain ch ≡ true → read_char Within ch ≡ Some (Within, Some (character ch))
 plain_step ch h = grind arith
 
 -- ---- what paragraphs spell is read
@@ -55,7 +56,7 @@ reads_spelled (text ∷ ps) h =
 
 -- ---- what is read, paragraphs spell
 
-abbrev pub spelled_from : Place → List ℕ → List (List ℕ) → List ℕ
+abbrev pub spelled_from : Reading → List ℕ → List (List ℕ) → List ℕ
 spelled_from Between text ps = spelled ps
 spelled_from StartLess text ps = 112 ∷ 62 ∷ rest text ps
 spelled_from StartName text ps = 62 ∷ rest text ps
@@ -64,7 +65,7 @@ spelled_from EndLess text ps = 47 ∷ 112 ∷ 62 ∷ spelled ps
 spelled_from EndSlash text ps = 112 ∷ 62 ∷ spelled ps
 spelled_from EndName text ps = 62 ∷ spelled ps
 
-abbrev pub items_at : Place → List ℕ → List (List ℕ) → List Item
+abbrev pub items_at : Reading → List ℕ → List (List ℕ) → List Item
 items_at Between text ps = items ps
 items_at StartLess text ps = opening P ∷ rest_items text ps
 items_at StartName text ps = opening P ∷ rest_items text ps
@@ -73,7 +74,7 @@ items_at EndLess text ps = closing P ∷ items ps
 items_at EndSlash text ps = closing P ∷ items ps
 items_at EndName text ps = closing P ∷ items ps
 
-pub record Reads (place : Place) (page : List ℕ) (read : List Item) : Type 0 where
+pub record Reads (place : Reading) (page : List ℕ) (read : List Item) : Type 0 where
   pub text : List ℕ
   pub ps : List (List ℕ)
   pub plain : list_all is_plain text ≡ true
@@ -85,13 +86,13 @@ if_same : {A : Type 0} (ch k : ℕ) (x y : A) → (if ch == k then Some x else N
 if_same ch k x y h = grind arith
 
 -- what stands within a paragraph
-within_step : (ch : ℕ) (s : Place × Option Item) → step Within ch ≡ Some s → ((ch ≡ 60) × ((EndLess, None) ≡ s)) ⊎ ((is_plain ch ≡ true) × ((Within, Some (character ch)) ≡ s))
+within_step : (ch : ℕ) (s : Reading × Option Item) → read_char Within ch ≡ Some s → ((ch ≡ 60) × ((EndLess, None) ≡ s)) ⊎ ((is_plain ch ≡ true) × ((Within, Some (character ch)) ≡ s))
 within_step ch s h = grind arith
 
 cons : {A : Type 0} {a b : A} {xs ys : List A} → a ≡ b → xs ≡ ys → a ∷ xs ≡ b ∷ ys
 cons e f = cc (e, f)
 
-within : (ch : ℕ) (chs : List ℕ) (s : Place × Option Item) (read : List Item) → ((ch ≡ 60) × ((EndLess, None) ≡ s)) ⊎ ((is_plain ch ≡ true) × ((Within, Some (character ch)) ≡ s)) → Reads s.0 chs read → Reads Within (ch ∷ chs) (put s.1 read)
+within : (ch : ℕ) (chs : List ℕ) (s : Reading × Option Item) (read : List Item) → ((ch ≡ 60) × ((EndLess, None) ≡ s)) ⊎ ((is_plain ch ≡ true) × ((Within, Some (character ch)) ≡ s)) → Reads s.0 chs read → Reads Within (ch ∷ chs) (put s.1 read)
 within ch chs s read (inl q) r =
     subst (λ t. Reads t.0 chs read → Reads Within (ch ∷ chs) (put t.1 read)) q.1
     (λ r. record { text = []; ps = r.ps; plain = refl; each = r.each; spelling = cons q.0 r.spelling; meaning = r.meaning }) r
@@ -100,7 +101,7 @@ within ch chs s read (inr q) r =
     (λ r. record { text = ch ∷ r.text; ps = r.ps; plain = and_both (is_plain ch) (list_all is_plain r.text) q.0 r.plain; each = r.each; spelling = cons refl r.spelling; meaning = cons refl r.meaning }) r
 
 -- One character more is read.
-back : (place : Place) (ch : ℕ) (chs : List ℕ) (s : Place × Option Item) (read : List Item) → step place ch ≡ Some s → Reads s.0 chs read → Reads place (ch ∷ chs) (put s.1 read)
+back : (place : Reading) (ch : ℕ) (chs : List ℕ) (s : Reading × Option Item) (read : List Item) → read_char place ch ≡ Some s → Reads s.0 chs read → Reads place (ch ∷ chs) (put s.1 read)
 back Between ch chs s read h r =
     let q = if_same ch 60 (StartLess, None) s h in
     subst (λ t. Reads t.0 chs read → Reads Between (ch ∷ chs) (put t.1 read)) q.1
@@ -138,7 +139,7 @@ pub map_some : {A B : Type 0} (f : A → B) (o : Option A) (y : B) → option_ma
 map_some f None y h = cc h
 map_some f (Some x) y h = (x, refl, some_same (f x) y h)
 
-pub reads_only : (place : Place) (page : List ℕ) (read : List Item) → items_from place page ≡ Some read → Reads place page read
+pub reads_only : (place : Reading) (page : List ℕ) (read : List Item) → items_from place page ≡ Some read → Reads place page read
 reads_only Between [] read h = record { text = []; ps = []; plain = refl; each = refl; spelling = refl; meaning = sym (some_same [] read h) }
 reads_only StartLess [] read h = cc h
 reads_only StartName [] read h = cc h
@@ -147,15 +148,11 @@ reads_only EndLess [] read h = cc h
 reads_only EndSlash [] read h = cc h
 reads_only EndName [] read h = cc h
 reads_only place (ch ∷ chs) read h =
-    let s = and_then_some (λ s. option_map (put s.1) (items_from s.0 chs)) (step place ch) read h in
+    let s = and_then_some (λ s. option_map (put s.1) (items_from s.0 chs)) (read_char place ch) read h in
     let m = map_some (put s.0.1) (items_from s.0.0 chs) read s.2 in
     subst (Reads place (ch ∷ chs)) m.2 (back place ch chs s.0 m.0 s.1 (reads_only s.0.0 chs m.0 m.1))
 
 -- ---- a page's items give its paragraphs back
-
-abbrev pub onto_first : ℕ → List (List ℕ) → List (List ℕ)
-onto_first ch [] = (ch ∷ []) ∷ []
-onto_first ch (text ∷ texts) = (ch ∷ text) ∷ texts
 
 abbrev pub texts_in : List Item → List (List ℕ)
 texts_in [] = []

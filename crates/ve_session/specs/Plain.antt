@@ -1,15 +1,13 @@
--- Plain pages, and the items of a page. A paragraph is its characters, a page is its paragraphs in order.
+-- Plain pages, and the items of a page. They stand in for whole pages, as `model_page` defines them.
+-- A paragraph is its characters, a page is its paragraphs in order.
 use Rattle.std.specs.Prelude.{◌≡◌, ℕ, ◌==◌, ◌&&◌, ◌++◌, ◌≤◌, List, [], ◌∷◌, length, map, Bool, true, false, not, None, codes}
 use Rattle.std.specs.List.{flat_map, list_all}
 use Rattle.std.specs.Str.{encode_utf8_all}
+use Rattle.ve_base.specs.Limits.{max_page}
 use Rattle.ve_kinds.specs.declared.kind.Kind.{Kind}
 use Rattle.ve_kinds.specs.declared.kind.Kind.TheVariants.{P, InternalList}
 use Rattle.model_items.specs.declared.item.Item.{Item}
 use Rattle.model_items.specs.declared.item.Item.TheVariants.{Char, Opening, Closing}
-
--- how many bytes a page may have
-abbrev pub max_page : ℕ
-max_page = 4194304
 
 -- items that cite nothing
 abbrev pub opening : Kind → Item

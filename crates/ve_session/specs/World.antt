@@ -1,9 +1,11 @@
--- What a world answers to a line, and the world after it.
-use Rattle.std.specs.Prelude.{ℕ, ◌+◌, ◌&&◌, List, length, take, reverse, find, Bool, true, false, nat_le, if◌then◌else◌, Option, Some, None, Result, Ok, Err}
+-- What a world of plain pages answers to a line, and the world after it. It stands in for the whole world, as `model_world` defines it.
+use Rattle.std.specs.Prelude.{ℕ, zero, suc, ◌+◌, ◌&&◌, List, length, slice_get, Bool, true, false, nat_le, if◌then◌else◌, Option, Some, None, Result, Ok, Err}
+use Rattle.ve_base.specs.Limits.{max_items}
 use Rattle.model_script.specs.Output.{Meaning}
-use Rattle.ve_kinds.specs.Table.{is_content_branch}
 use Rattle.model_items.specs.declared.item.Item.{Item}
-use Rattle.model_items.specs.declared.item.Item.TheVariants.{Char, Opening, Closing}
+use Rattle.model_items.specs.declared.offset_class.OffsetClass.{OffsetClass}
+use Rattle.model_items.specs.declared.offset_class.OffsetClass.TheVariants.{Content, Structural, Inside}
+use Rattle.ve_offsets.specs.Classes.{class_after}
 use Rattle.ve_items.specs.Substitution.{spliced}
 use Rattle.ve_json.specs.declared.commands.Command.{Command}
 use Rattle.ve_json.specs.declared.commands.Command.TheVariants.{OpenPage, Text, Html}
@@ -31,28 +33,20 @@ begun = record { page = None; is_spent = false }
 abbrev pub spent : State
 spent = record { page = None; is_spent = true }
 
--- how many items a page may have after a text was put into it
-abbrev pub max_items : ℕ
-max_items = 4194304
+-- Characters may stand in an offset of this class.
+abbrev pub is_content_class : OffsetClass → Bool
+is_content_class Content = true
+is_content_class Structural = false
+is_content_class Inside = false
 
-abbrev pub is_bracket : Item → Bool
-is_bracket (Char ch marks) = false
-is_bracket (Opening kind generated head marks pre origin) = true
-is_bracket (Closing kind pre) = true
+abbrev pub is_content_after : Option Item → Bool
+is_content_after None = false
+is_content_after (Some item) = is_content_class (class_after item)
 
-abbrev pub opens_content : Option Item → Bool
-opens_content None = false
-opens_content (Some (Char ch marks)) = false
-opens_content (Some (Opening kind generated head marks pre origin)) = is_content_branch kind
-opens_content (Some (Closing kind pre)) = false
-
--- the last opening or closing
-abbrev pub last_bracket : List Item → Option Item
-last_bracket items = find is_bracket (reverse items)
-
--- The offset stands among the characters of a content branch: the last bracket before it opens one.
+-- Characters may stand at the offset: the item before it gives it that class, as it does in every lawful list.
 abbrev pub is_content : List Item → ℕ → Bool
-is_content items at = nat_le at (length items) && opens_content (last_bracket (take at items))
+is_content items zero = false
+is_content items (suc n) = is_content_after (slice_get items n)
 
 -- A text has its place there.
 abbrev pub can_insert : List Item → ℕ → List ℕ → Bool

@@ -3,34 +3,31 @@ ghost use Rattle.std.specs.Prelude.{◌≡◌, ◌≤◌, ◌<◌, ◌++◌, ◌
 ghost use Rattle.ve_session.specs.Plain.{internal_list, characters};
 ghost use Rattle.ve_session.specs.Reader.{items_from, page_items};
 ghost use Rattle.ve_session.specs.Written.{html_of, written};
-ghost use Rattle.ve_session.specs.declared.place.Place.TheVariants.{Between};
+ghost use Rattle.ve_session.specs.declared.reader.Reading.TheVariants.{Between};
 ghost use Rattle.std.specs.Str.{chars};
 
-use crate::place::{Place, character, closing, opening};
+use crate::reader::{Reading, character, closing, opening};
 use std::alloc::Global;
-use ve_base::{Memory, Text};
+use ve_base::{MAX_PAGE, Memory, Text};
 use ve_items::{Item, Items, Linear};
 use ve_kinds::Kind;
-
-/// The most bytes of a page.
-const MAX_PAGE: usize = 4_194_304;
 
 /// The items that a page's characters end, where the page is plain.
 fn read_items(alloc: Global, page: &[char]) -> Result<Option<Items>, Memory>
     ensures { IfOk result (λ read. read ≡ items_from Between page.now) }
 {
     let mut items = Items::new(alloc);
-    let mut place = Place::Between;
+    let mut reading = Reading::Between;
     for ch in page {
-        let Some((next, ended)) = place.step(*ch) else {
+        let Some((next, ended)) = reading.read_char(*ch) else {
             return Ok(None);
         };
         if let Some(item) = ended {
             items.push(item)?;
         }
-        place = next;
+        reading = next;
     }
-    if place == Place::Between {
+    if reading == Reading::Between {
         Ok(Some(items))
     } else {
         Ok(None)

@@ -18,7 +18,7 @@ const FIRST_LINE: usize = 33;
 
 /// A script, how it comes and goes, and what is to be written.
 #[derive(Clone, Copy)]
-struct Row {
+struct Case {
     script: &'static [u8],
     /// The sizes of its first pieces.
     cuts: &'static [usize],
@@ -31,7 +31,7 @@ struct Row {
     written: &'static [u8],
 }
 
-const USUAL: Row = Row {
+const USUAL: Case = Case {
     script: FIRST,
     cuts: &[],
     read: None,
@@ -49,26 +49,26 @@ fn only(alloc: Global, call: Option<usize>) -> Result<Calls, Memory> {
     Ok(calls)
 }
 
-fn source_of(alloc: Global, row: &Row) -> Result<MemSource, Memory> {
+fn source_of(alloc: Global, case: &Case) -> Result<MemSource, Memory> {
     let mut bytes = Bytes::new(alloc);
-    bytes.push(row.script)?;
+    bytes.push(case.script)?;
     let mut cuts = Cuts::new(alloc);
-    for cut in row.cuts {
+    for cut in case.cuts {
         cuts.push((*cut).max(1))?;
     }
-    Ok(MemSource::new(bytes, cuts, only(alloc, row.read)?))
+    Ok(MemSource::new(bytes, cuts, only(alloc, case.read)?))
 }
 
-fn ran<L: Ledger>(rt: &HostRuntime, blank: Blank, row: &Row) -> Result<(Status, Bytes), Memory>
+fn ran<L: Ledger>(rt: &HostRuntime, blank: Blank, case: &Case) -> Result<(Status, Bytes), Memory>
     requires name { blank.name ≡ L.name }
     requires parts { blank.parts ≡ L.parts }
     requires one { blank.parts ≡ 1 }
 {
     let alloc = rt.alloc();
     let words = [Text::from_str(alloc, "run")?];
-    let mut source = source_of(alloc, row)?;
+    let mut source = source_of(alloc, case)?;
     let mut room = [0u8; 128];
-    let mut sink = MemSink::new(&mut room[..row.room.min(128)], only(alloc, row.write)?);
+    let mut sink = MemSink::new(&mut room[..case.room.min(128)], only(alloc, case.write)?);
     let mut world = World::new(alloc);
     let mut steps: Steps<L> = Steps::start(rt, blank);
     let status = run(
@@ -86,78 +86,78 @@ fn ran<L: Ledger>(rt: &HostRuntime, blank: Blank, row: &Row) -> Result<(Status, 
 
 #[test]
 fn scripts_are_answered(rt: HostRuntime) -> Result<(), Fail> {
-    let rows = [
+    let cases = [
         USUAL,
-        Row {
+        Case {
             cuts: &[1, 1, 1, 5, 31, 1, 1],
             ..USUAL
         },
         // the last line has no newline
-        Row {
+        Case {
             script: b"{\"do\":\"open\",\"page\":\"<p>ab</p>\"}",
             written: b"ok 6\n",
             ..USUAL
         },
-        Row {
+        Case {
             script: b"",
             written: b"",
             ..USUAL
         },
         // no JSON, no text, nothing that is asked, and no page
-        Row {
+        Case {
             script: b"{\n\n\xff\n[]\n{\"do\":\"html\"}\n",
             written: b"no bad_json\nno bad_json\nno bad_json\nno not_yet\nno not_open\n",
             ..USUAL
         },
         // a refused page leaves the one that is open, and a refused text changes nothing
-        Row {
+        Case {
             script: b"{\"do\":\"open\",\"page\":\"<p>ab</p>\"}\n{\"do\":\"open\",\"page\":\"<b>\"}\n{\"do\":\"text\",\"at\":0,\"text\":\"X\"}\n{\"do\":\"html\"}\n",
             written: b"ok 6\nno not_yet\nno not_yet\nok \"<p>ab</p>\"\n",
             ..USUAL
         },
         // the text is escaped in the page
-        Row {
+        Case {
             script: b"{\"do\":\"open\",\"page\":\"<p></p>\"}\n{\"do\":\"text\",\"at\":1,\"text\":\"a<&>\\u00a0\"}\n{\"do\":\"html\"}\n",
             written: b"ok 4\nok 9\nok \"<p>a&lt;&amp;&gt;&nbsp;</p>\"\n",
             ..USUAL
         },
         // faults
-        Row {
+        Case {
             read: Some(0),
             status: Status::ReadFault,
             written: b"",
             ..USUAL
         },
-        Row {
+        Case {
             cuts: &[FIRST_LINE],
             read: Some(1),
             status: Status::ReadFault,
             written: b"ok 6\n",
             ..USUAL
         },
-        Row {
+        Case {
             write: Some(0),
             status: Status::WriteFault,
             written: b"",
             ..USUAL
         },
-        Row {
+        Case {
             write: Some(2),
             status: Status::WriteFault,
             written: b"ok 6\nok 7\n",
             ..USUAL
         },
-        Row {
+        Case {
             room: 7,
             status: Status::WriteFault,
             written: b"ok 6\nok",
             ..USUAL
         },
     ];
-    for (number, row) in rows.iter().enumerate() {
-        let (status, written) = ran::<Brand>(&rt, Blank::new(1), row)?;
-        assert_eq!(rt; written.as_slice(), row.written, "row {number}");
-        assert_eq!(rt; status, row.status, "row {number}");
+    for (number, case) in cases.iter().enumerate() {
+        let (status, written) = ran::<Brand>(&rt, Blank::new(1), case)?;
+        assert_eq!(rt; written.as_slice(), case.written, "case {number}");
+        assert_eq!(rt; status, case.status, "case {number}");
     }
     Ok(())
 }

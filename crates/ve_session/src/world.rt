@@ -10,14 +10,11 @@ use crate::page::{characters, html_of, read_page};
 use std::alloc::Global;
 use std::marker::Model;
 use std::sync::ledger::Ledger;
-use ve_base::{Memory, Steps, Text};
+use ve_base::{MAX_ITEMS, Memory, Steps, Text};
 use ve_items::{Item, Linear};
 use ve_json::{Command, LineFault, Refusal, Reply, command};
-use ve_kinds::is_content_branch;
+use ve_kinds::{is_content_branch, is_inline_leaf};
 use ve_run::Machine;
-
-/// The most items of a page after a text was put into it.
-const MAX_ITEMS: usize = 4_194_304;
 
 /// The page that is open, if one is. After it ran out of memory a world is spent.
 #[derive(Drop)]
@@ -36,28 +33,25 @@ impl Model for World {
     ghost view = { λ w. record { page = option_map (λ list. list.items) w.page; is_spent = w.is_spent } };
 }
 
-/// Whether the offset stands among the characters of a content branch. It looks back to the nearest bracket only.
+/// Whether characters may stand at the offset, by the item before it.
 fn is_content(list: &Linear, at: usize) -> bool
     ensures { result ≡ is_content list.now.items at }
 {
-    if at > list.len() {
+    if at == 0 || at > list.len() {
         return false;
     }
-    let mut before = at;
-    while before > 0 {
-        match list.get(before - 1) {
-            Item::Char { .. } => before -= 1,
-            Item::Opening { kind, .. } => return is_content_branch(kind),
-            Item::Closing { .. } => return false,
-        }
+    match list.get(at - 1) {
+        Item::Char { .. } => true,
+        Item::Opening { kind, .. } => is_content_branch(kind),
+        Item::Closing { kind, .. } => is_inline_leaf(kind),
     }
-    false
 }
 
 /// Puts a text into a list, where it has its place there.
 fn insert(alloc: Global, list: &mut Linear, at: usize, text: &Text) -> Result<bool, Memory>
     ensures answer { IfOk result (λ done. done ≡ can_insert list.old.items at text.now) }
-    ensures items { IfOk result (λ done. list.new.items ≡ (if done then spliced list.old.items at 0 (characters text.now) else list.old.items)) }
+    ensures items { IfOk result (λ done.
+        list.new.items ≡ (if done then spliced list.old.items at 0 (characters text.now) else list.old.items)) }
 {
     if !is_content(list, at) {
         return Ok(false);

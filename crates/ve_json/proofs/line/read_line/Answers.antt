@@ -3,13 +3,13 @@ use Rattle.std.proofs.lemmas.Str.{is_utf8-from_IsUtf8, IsUtf8-from_is_utf8}
 use Rattle.std.specs.Str.{IsUtf8, is_utf8}
 use Rattle.serde_json.specs.Data.{Data}
 use Rattle.serde_json.specs.Read.{read}
-use Rattle.ve_json.specs.Line.{read_line}
+use Rattle.model_world.specs.Values.{line_json}
 use Rattle.ve_json.proofs.line.read_line.Goals as goal
 
-read_some : (line : List ℕ) (d : Data) → IsUtf8 line → read line ≡ Some d → Some d ≡ read_line line
+read_some : (line : List ℕ) (d : Data) → IsUtf8 line → read line ≡ Some d → Some d ≡ line_json line
 read_some line d utf8 e = sym e ∙ ap (λ b. if b then read line else None) (sym (is_utf8-from_IsUtf8 line utf8))
 
-read_none : (line : List ℕ) (b : Bool) → is_utf8 line ≡ b → (IsUtf8 line → read line ≡ None) → None ≡ read_line line
+read_none : (line : List ℕ) (b : Bool) → is_utf8 line ≡ b → (IsUtf8 line → read line ≡ None) → None ≡ line_json line
 read_none line true e h = sym (h (IsUtf8-from_is_utf8 line e)) ∙ ap (λ b. if b then read line else None) (sym e)
 read_none line false e h = ap (λ b. if b then read line else None) (sym e)
 

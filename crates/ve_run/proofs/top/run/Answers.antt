@@ -45,9 +45,9 @@ not_past (Some s) (Some ys) script x h short =
     ]
 
 pub returns-in-Err-run_script-clause-complete : goal.returns-in-Err-run_script-clause-complete
-returns-in-Err-run_script-clause-complete g c _ no_read no_write short =
+returns-in-Err-run_script-clause-complete g c _ no_faults short =
     by_cause _ c.in-Err-run_script.stop
     (λ e. inr (c.status.ensures ∙ ap status_of e))
-    (λ e. absurd (no_read (c.run_script.ensures.read_cause (cc (e, c.in-Err-run_script.is)))))
-    (λ e. absurd (no_write (c.run_script.ensures.write_cause (cc (e, c.in-Err-run_script.is)))))
+    (λ e. absurd (no_faults.0 (c.run_script.ensures.read_cause (cc (e, c.in-Err-run_script.is)))))
+    (λ e. absurd (no_faults.1 (c.run_script.ensures.write_cause (cc (e, c.in-Err-run_script.is)))))
     (λ e. let (x, stopped) = c.run_script.ensures.too_long (cc (e, c.in-Err-run_script.is)) in absurd (not_past _ _ stopped.script x stopped.took short))

@@ -1,14 +1,14 @@
 // The characters of a plain page: paragraphs of characters that need no reference.
 ghost use Rattle.std.specs.Prelude.{◌≡◌};
 ghost use Rattle.ve_session.specs.Plain.{is_plain, opening, closing, character};
-ghost use Rattle.ve_session.specs.Reader.{step};
+ghost use Rattle.ve_session.specs.Reader.{read_char};
 
 use ve_items::Item;
 use ve_kinds::Kind;
 
 /// Where a reader of a page stands: between paragraphs, within one, or in a tag after these of its characters.
 #[derive(Clone, Copy, Debug, PartialEq, Eq)]
-pub enum Place {
+pub enum Reading {
     Between,
     StartLess,
     StartName,
@@ -53,20 +53,20 @@ fn is_plain(ch: char) -> bool
     ch != '<' && ch != '>' && ch != '&' && ch != '\u{a0}' && ch != '\0' && ch != '\r'
 }
 
-impl Place {
+impl Reading {
     /// Where a character leads, and the item that it ends.
-    pub fn step(self, ch: char) -> Option<(Place, Option<Item>)>
-        ensures { result ≡ step self ch }
+    pub fn read_char(self, ch: char) -> Option<(Reading, Option<Item>)>
+        ensures { result ≡ read_char self ch }
     {
         match self {
-            Place::Between if ch == '<' => Some((Place::StartLess, None)),
-            Place::StartLess if ch == 'p' => Some((Place::StartName, None)),
-            Place::StartName if ch == '>' => Some((Place::Within, Some(opening(Kind::P)))),
-            Place::Within if ch == '<' => Some((Place::EndLess, None)),
-            Place::Within if is_plain(ch) => Some((Place::Within, Some(character(ch)))),
-            Place::EndLess if ch == '/' => Some((Place::EndSlash, None)),
-            Place::EndSlash if ch == 'p' => Some((Place::EndName, None)),
-            Place::EndName if ch == '>' => Some((Place::Between, Some(closing(Kind::P)))),
+            Reading::Between if ch == '<' => Some((Reading::StartLess, None)),
+            Reading::StartLess if ch == 'p' => Some((Reading::StartName, None)),
+            Reading::StartName if ch == '>' => Some((Reading::Within, Some(opening(Kind::P)))),
+            Reading::Within if ch == '<' => Some((Reading::EndLess, None)),
+            Reading::Within if is_plain(ch) => Some((Reading::Within, Some(character(ch)))),
+            Reading::EndLess if ch == '/' => Some((Reading::EndSlash, None)),
+            Reading::EndSlash if ch == 'p' => Some((Reading::EndName, None)),
+            Reading::EndName if ch == '>' => Some((Reading::Between, Some(closing(Kind::P)))),
             _ => None,
         }
     }

@@ -1,7 +1,7 @@
 use Rattle.model_world_law.proofs.WrittenLemmas.{lines_are_written}
 use Rattle.model_world_law.proofs.ChangeLemmas.{changes_fit, pages_are_sound}
 use Rattle.model_world_law.proofs.BuilderLemmas.{moves_fit}
-use Rattle.model_world_law.proofs.layers_fit.Goals as goal
+use Rattle.model_world_law.proofs.laws.layers_fit.Goals as goal
 
 pub returns-clause-lines : goal.returns-clause-lines
 returns-clause-lines c = lines_are_written
