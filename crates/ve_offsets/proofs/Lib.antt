@@ -2,7 +2,9 @@ pub mod ClassLemmas
 pub mod NearestLemmas
 pub mod ShapeLemmas
 pub mod StateLemmas
-pub mod LevelLemmas
-pub mod PartingLemmas
 pub mod OpenLemmas
 mod OffsetExamples
+pub mod RootLemmas
+pub mod WayUpLemmas
+pub mod RangeLemmas
+pub mod NearestModelLemmas

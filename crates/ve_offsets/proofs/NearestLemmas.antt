@@ -3,7 +3,8 @@ use Rattle.std.proofs.Common.{◌≡◌, ◌≢◌, ◌≤◌, ◌<◌, ◌+◌,
 use Rattle.std.proofs.lemmas.Bool.{cases_lt, true≢false}
 use Rattle.model_items.specs.declared.item.Item.{Item}
 use Rattle.ve_offsets.specs.Classes.{IsContent}
-use Rattle.ve_offsets.specs.Nearest.{distance, IsNearestContent, HasNoContent, IsContentBefore, IsContentAfter}
+use Rattle.model_items.specs.Offsets.{distance}
+use Rattle.ve_offsets.specs.Nearest.{IsNearestContent, HasNoContent, IsContentBefore, IsContentAfter}
 
 -- nothing nearer is content
 pub record NoneNearer (items : List Item) (o away : ℕ) : Type 0 where

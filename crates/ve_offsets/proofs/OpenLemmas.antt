@@ -13,9 +13,10 @@ use Rattle.model_items.specs.Tree.{Open, opens_with, opens_after}
 use Rattle.model_items.proofs.LawLemmas.{if_ok, Ok-same, opened_before, closed_before, joined-ok, after_parts, after_from_Lawful}
 use Rattle.model_items.proofs.NodeAtLemmas.{open_is_stack}
 use Rattle.ve_tree.specs.IsTree.{unvalued}
-use Rattle.ve_offsets.specs.Unmatched.{unmatched_after, opens_at, AllBegin, UnmatchedAreOpen}
+use Rattle.model_items.specs.Offsets.{opens_at}
+use Rattle.ve_offsets.specs.Unmatched.{unmatched_after, AllBegin, UnmatchedAreOpen}
 
-opens_append : (opens : List Open) (at : ℕ) (xs ys : List PlainItem) → opens_after opens at (xs ++ ys) ≡ opens_after (opens_after opens at xs) (at + length xs) ys
+pub opens_append : (opens : List Open) (at : ℕ) (xs ys : List PlainItem) → opens_after opens at (xs ++ ys) ≡ opens_after (opens_after opens at xs) (at + length xs) ys
 opens_append opens at [] ys = let n : at ≡ at + 0 = omega arith in ap (λ n. opens_after opens n ys) n
 opens_append opens at (x ∷ xs) ys =
     let n : suc at + length xs ≡ at + suc (length xs) = omega arith in
@@ -76,7 +77,7 @@ unmatched_are_open items from to lawful order within =
     let halves = after_parts (take from all) (drop from all) start finish (ap (after start) (take-append-drop from all) ∙ after_from_Lawful all lawful) in
     let thirds = after_parts (take span (drop from all)) (drop span (drop from all)) halves.0 finish (ap (after halves.0) (take-append-drop span (drop from all)) ∙ halves.2) in
     let is_part : take span (drop from all) ≡ unvalued part = ap (take span) (drop-map from items) ∙ take-map (plain []) span (drop from items) in
-    let base = opens_at items from in
+    let base = opens_at all from in
     let deep : length base ≡ length halves.0.stack = sym (length-map base (λ (o : Open). o.kind)) ∙ ap (λ l. length l) (open_is_stack (take from all) halves.0 halves.1) in
     let w = went part halves.0 thirds.0 from from base [] 0 (omega arith) tt (omega arith) (omega (arith, deep)) (ap (after halves.0) (sym is_part) ∙ thirds.1) in
     let whole : to ≡ from + span = omega (arith, order) in

@@ -241,7 +241,7 @@ way_enter slots items o state child left node kind lawful w here sort lt some = 
         }
 
 -- the state at the offset
-unvalued_state : (items : List Item) (o : ℕ) (s : State) → after start (take o (unvalued items)) ≡ Ok s → IsStateAt items o s
+pub unvalued_state : (items : List Item) (o : ℕ) (s : State) → after start (take o (unvalued items)) ≡ Ok s → IsStateAt items o s
 unvalued_state items o s h = ap (after start) (sym (take-map (plain []) o items)) ∙ h
 
 -- before a node

@@ -2,5 +2,4 @@ pub mod Classes
 pub mod Nearest
 pub mod States
 pub mod Unmatched
-pub mod Levels
 pub mod Docs

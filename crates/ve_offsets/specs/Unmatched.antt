@@ -3,7 +3,8 @@ use Rattle.std.specs.Prelude.{◌≡◌, ◌≤◌, ℕ, zero, suc, ◌-◌, Lis
 use Rattle.model_items.specs.declared.item.Item.{Item}
 use Rattle.model_items.specs.declared.item.Item.TheVariants.{Char, Opening, Closing}
 use Rattle.model_items.specs.Law.{Lawful}
-use Rattle.model_items.specs.Tree.{Open, opens_after}
+use Rattle.model_items.specs.Tree.{Open}
+use Rattle.model_items.specs.Offsets.{opens_at}
 use Rattle.ve_tree.specs.IsTree.{unvalued}
 
 -- How many closings and openings of some items are unmatched, with one more item: an opening is, until its closing comes; a closing is the partner of
@@ -22,10 +23,6 @@ unmatched_after counts (item ∷ items) = unmatched_after (unmatched_with item c
 abbrev pub unmatched_in : List Item → ℕ → ℕ → ℕ × ℕ
 unmatched_in items from to = unmatched_after (0, 0) (take (to - from) (drop from items))
 
--- the nodes that are open at an offset, innermost first
-abbrev pub opens_at : List Item → ℕ → List Open
-opens_at items o = opens_after [] 0 (take o (unvalued items))
-
 -- all of them begin at a place or after it
 abbrev pub AllBegin : ℕ → List Open → Type 0
 AllBegin from [] = Unit {0}
@@ -37,8 +34,8 @@ pub record IsOpenedAndClosed (items : List Item) (from to : ℕ) : Type 0 where
   pub begun : List Open
   pub in_range : AllBegin from begun
   pub openings : length begun ≡ (unmatched_in items from to).1
-  pub closings : (unmatched_in items from to).0 ≤ length (opens_at items from)
-  pub open_at_end : opens_at items to ≡ begun ++ drop (unmatched_in items from to).0 (opens_at items from)
+  pub closings : (unmatched_in items from to).0 ≤ length (opens_at (unvalued items) from)
+  pub open_at_end : opens_at (unvalued items) to ≡ begun ++ drop (unmatched_in items from to).0 (opens_at (unvalued items) from)
 
 abbrev pub UnmatchedAreOpen : Type 0
 UnmatchedAreOpen = (items : List Item) (from to : ℕ) → Lawful (unvalued items) → from ≤ to → to ≤ length items → IsOpenedAndClosed items from to

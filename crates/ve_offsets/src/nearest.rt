@@ -1,5 +1,7 @@
 // The nearest content offset.
 ghost use Rattle.std.specs.Prelude.{◌≡◌, ◌≤◌, ◌↔◌, IsTrue, IfSome, IfNone, length};
+ghost use Rattle.model_items.specs.Offsets as model;
+ghost use Rattle.ve_tree.specs.IsTree.{unvalued};
 ghost use Rattle.ve_offsets.specs.Docs.{IsDoc};
 ghost use Rattle.ve_offsets.specs.Nearest.{IsNearestContent, HasNoContent, IsContentBefore, IsContentAfter};
 
@@ -30,8 +32,8 @@ fn is_content_after(doc: Doc<'_>, o: usize, away: usize) -> bool
     is_content(doc, o + away)
 }
 
-/// The content offset nearest to an offset, the lower one of two at the same distance, and none where the list has none.
-pub fn nearest_content(doc: Doc<'_>, o: usize) -> Option<usize>
+/// The content offset nearest to an offset, found by going out from it to both sides.
+fn search(doc: Doc<'_>, o: usize) -> Option<usize>
     requires doc { IsDoc doc }
     requires within { o ≤ length doc.list.now.items }
     ensures nearest { IfSome result (λ p. IsNearestContent doc.entry.list.now.items o p) }
@@ -51,4 +53,13 @@ pub fn nearest_content(doc: Doc<'_>, o: usize) -> Option<usize>
         }
         away += 1;
     }
+}
+
+/// The content offset nearest to an offset, the lower one of two at the same distance, and none where the list has none.
+pub fn nearest_content(doc: Doc<'_>, o: usize) -> Option<usize>
+    requires doc { IsDoc doc }
+    requires within { o ≤ length doc.list.now.items }
+    ensures { result ≡ model.nearest_content (unvalued doc.entry.list.now.items) o }
+{
+    search(doc, o)
 }

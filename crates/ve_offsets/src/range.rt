@@ -1,95 +1,61 @@
-// The brackets of a range whose partners are not in it, counted by the tree's links.
-ghost use Rattle.std.specs.Prelude.{◌≡◌, ◌≤◌, length};
+// The brackets of a range whose partners are not in it.
+ghost use Rattle.std.specs.Prelude.{◌≡◌, ◌≤◌, ◌<◌, ◌+◌, ◌^◌, length};
 ghost use Rattle.ve_offsets.specs.Docs.{IsDoc};
-ghost use Rattle.ve_tree.specs.Named.{Named, bare};
-ghost use Rattle.ve_offsets.specs.Levels.{levels_in, IsRow, IsInRow, IsParting};
-ghost use Rattle.ve_offsets.specs.Unmatched.{unmatched_in, UnmatchedAreOpen};
+ghost use Rattle.ve_offsets.specs.Unmatched.{unmatched_with, unmatched_after, unmatched_in, UnmatchedAreOpen};
 
 use crate::Doc;
-use ve_tree::{Arena, NodeId, NodeWhat};
+use ve_items::Item;
 
-/// A place in a row of siblings: so many items after the start of one.
-#[derive(Clone, Copy)]
-struct InRow {
-    next: Option<NodeId>,
-    left: usize,
-}
-
-/// How many nodes of a row, one inside the other, hold a place.
-fn levels(arena: &Arena, place: InRow) -> usize
-    requires { IsInRow arena.now place.next }
-    ensures { (f : Named) → IsRow arena.now place.next f → result ≡ levels_in (bare f) place.left }
+/// How many closings and openings are unmatched with one more item.
+fn with_item(counts: (usize, usize), item: Item) -> (usize, usize)
+    requires closings { counts.0 + 1 < 2 ^ 64 }
+    requires openings { counts.1 + 1 < 2 ^ 64 }
+    ensures { result ≡ unmatched_with item counts }
 {
-    let mut depth = 0;
-    let mut next = place.next;
-    let mut left = place.left;
-    while let Some(child) = next {
-        let node = arena.node(child);
-        if node.len <= left {
-            left -= node.len;
-            next = node.after;
-        } else if left == 0 {
-            return depth;
-        } else {
-            match node.what {
-                NodeWhat::Run => return depth,
-                NodeWhat::Node(_) => {
-                    depth += 1;
-                    left -= 1;
-                    next = node.first;
-                }
+    let (closings, openings) = counts;
+    match item {
+        Item::Char { .. } => counts,
+        Item::Opening { .. } => (closings, openings + 1),
+        Item::Closing { .. } => {
+            if openings == 0 {
+                (closings + 1, 0)
+            } else {
+                (closings, openings - 1)
             }
         }
     }
-    depth
 }
 
-/// Where the ends of a range part: the place of its start in the innermost row in which both lie.
-fn parting(doc: Doc<'_>, from: usize, to: usize) -> InRow
-    requires doc { IsDoc doc }
-    requires order { from ≤ to }
-    requires within { to ≤ length doc.list.now.items }
-    ensures { IsParting doc.entry.tree.now.arena doc.entry.list.now.items from to result.next result.left }
+/// How many closings and openings are unmatched with some more items.
+fn with_items(counts: (usize, usize), items: &[Item]) -> (usize, usize)
+    requires closings { counts.0 + length items.now < 2 ^ 64 }
+    requires openings { counts.1 + length items.now < 2 ^ 64 }
+    ensures counts { result ≡ unmatched_after counts items.now }
+    ensures closings { result.0 ≤ counts.0 + length items.now }
+    ensures openings { result.1 ≤ counts.1 + length items.now }
 {
-    let arena = &doc.tree.arena;
-    let span = to - from;
-    let mut next = arena.node(doc.tree.root).first;
-    let mut left = from;
-    while let Some(child) = next {
-        let node = arena.node(child);
-        if node.len <= left {
-            left -= node.len;
-            next = node.after;
-        } else if left == 0 {
-            return InRow { next, left };
-        } else if node.len - left <= span {
-            return InRow { next, left };
-        } else {
-            match node.what {
-                NodeWhat::Run => return InRow { next, left },
-                NodeWhat::Node(_) => {
-                    left -= 1;
-                    next = node.first;
-                }
-            }
-        }
+    let mut now = counts;
+    for k in 0..items.len() {
+        now = with_item(now, items[k]);
     }
-    InRow { next, left }
+    now
 }
 
-/// How many closings and openings of a range are unmatched: their partners are not in it. It follows links from the root, and reads no item.
+/// How many closings and openings of a range are unmatched: their partners are not in it. It reads the items of the range, and no other.
 pub fn unmatched(doc: Doc<'_>, from: usize, to: usize) -> (usize, usize)
     requires doc { IsDoc doc }
     requires order { from ≤ to }
     requires within { to ≤ length doc.list.now.items }
     ensures { result ≡ unmatched_in doc.entry.list.now.items from to }
 {
-    let start = parting(doc, from, to);
-    let end = InRow {
-        next: start.next,
-        left: start.left + (to - from),
-    };
-    (levels(&doc.tree.arena, start), levels(&doc.tree.arena, end))
+    let mut counts = (0, 0);
+    let mut at = from;
+    while at < to {
+        let piece = doc.list.piece(at, to);
+        counts = with_items(counts, piece);
+        at += piece.len();
+    }
+    counts
 }
 
 /// The unmatched closings of a range close the innermost of the nodes that are open at its start, and its unmatched openings are those of the nodes

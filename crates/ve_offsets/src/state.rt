@@ -1,14 +1,16 @@
 // The open kinds at an offset, found by the tree's links.
-ghost use Rattle.std.specs.Prelude.{◌≡◌, ◌≤◌, ◌<◌, IsOk, Ok, length};
+ghost use Rattle.std.specs.Prelude.{◌≡◌, ◌≤◌, ◌<◌, ℕ, IsOk, Ok, length, take};
 ghost use Rattle.model_items.specs.Law as law;
 ghost use Rattle.ve_offsets.specs.Docs.{IsDoc};
-ghost use Rattle.ve_offsets.specs.States.{IsStateAt};
+ghost use Rattle.ve_offsets.specs.States.{IsStateAt, IsRound, IsRoundSome};
+ghost use Rattle.ve_tree.specs.IsTree.{unvalued};
 
 use crate::Doc;
+use ve_base::MAX_OPEN_KINDS;
 use ve_items::Item;
 use ve_kinds::Kind;
 use ve_lawful::State;
-use ve_tree::NodeWhat;
+use ve_tree::{NodeId, NodeWhat};
 
 /// Opens a node of a kind, where it may be opened.
 fn enter(state: &mut State, kind: Kind)
@@ -45,40 +47,40 @@ fn finished() -> State
     }
 }
 
+/// Enters the nodes round a node from the outermost in, and then the node itself; of the root nothing. There are at most so many of them.
+fn enter_round(state: &mut State, doc: Doc<'_>, n: NodeId, levels: usize)
+    requires doc { IsDoc doc }
+    requires start { state.old ≡ law.start }
+    requires round { IsRoundSome doc.tree.now.arena doc.tree.now.root (unvalued doc.list.now.items) n levels }
+    ensures { (o : ℕ) → o < length doc.entry.list.now.items → IsRound doc.entry.tree.now.arena doc.entry.tree.now.root (unvalued doc.entry.list.now.items) n o → law.after law.start (take o (unvalued doc.entry.list.now.items)) ≡ Ok state.new }
+{
+    if n.0 == doc.tree.root.0 {
+        return;
+    }
+    let node = doc.tree.arena.node(n);
+    let Some(parent) = node.parent else {
+        unreachable!()
+    };
+    let NodeWhat::Node(kind) = node.what else {
+        unreachable!()
+    };
+    enter_round(state, doc, parent, levels - 1);
+    enter(state, kind);
+}
+
 /// The state before the list's end: the kinds of the nodes round the offset, entered from the root down.
 fn state_within(doc: Doc<'_>, o: usize) -> State
     requires doc { IsDoc doc }
     requires within { o < length doc.list.now.items }
     ensures { IsStateAt doc.entry.list.now.items o result }
 {
-    let arena = &doc.tree.arena;
     let mut state = State::root();
-    let mut next = arena.node(doc.tree.root).first;
-    // how many items there are from where `next` begins to the offset
-    let mut left = o;
-    while let Some(child) = next {
-        let node = arena.node(child);
-        if node.len <= left {
-            left -= node.len;
-            next = node.after;
-        } else if left == 0 {
-            return state;
-        } else {
-            match node.what {
-                NodeWhat::Run => return state,
-                NodeWhat::Node(kind) => {
-                    enter(&mut state, kind);
-                    left -= 1;
-                    next = node.first;
-                }
-            }
-        }
-    }
+    enter_round(&mut state, doc, doc.tree.node_at(o), MAX_OPEN_KINDS);
     state
 }
 
-/// The open kinds at an offset, and whether the internal list was opened before it: the law's state after the items before the offset. It follows
-/// links from the root, and reads no item.
+/// The open kinds at an offset, and whether the internal list was opened before it: the law's state after the items before the offset. It goes up
+/// from the innermost node round the offset, and reads no item.
 pub fn state_at(doc: Doc<'_>, o: usize) -> State
     requires doc { IsDoc doc }
     requires within { o ≤ length doc.list.now.items }
