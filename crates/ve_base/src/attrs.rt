@@ -1,8 +1,8 @@
 // The attributes of an element: names with values, each name once.
-ghost use Rattle.std.specs.Prelude.{◌≡◌, ◌↔◌, ◌++◌, ◌∷◌, [], Contains, IfOk, OnOk, OnErr, IsTrue};
+ghost use Rattle.std.specs.Prelude.{◌≡◌, ◌↔◌, ◌++◌, ◌∷◌, [], Contains, OnOk, OnErr, IsTrue};
 ghost use Rattle.std.specs.Str.{chars};
 
-use crate::{Memory, Text};
+use crate::{Memory, Same, Text, TryCopy};
 use std::alloc::Global;
 use std::marker::Model;
 
@@ -31,21 +31,17 @@ impl Model for Attrs {
     ghost invariant = { λ a. NamesApart a.list.items };
 }
 
-impl Attr {
-    /// An equal attribute.
-    pub fn copy(&self, alloc: Global) -> Result<Attr, Memory>
-        ensures { IfOk result (λ copy. copy ≡ self.now) }
-    {
+impl TryCopy for Attr {
+    fn copy(&self, alloc: Global) -> Result<Attr, Memory> {
         Ok(Attr {
             name: self.name.copy(alloc)?,
             value: self.value.copy(alloc)?,
         })
     }
+}
 
-    /// Whether both have one name and one value.
-    pub fn same(&self, other: &Attr) -> bool
-        ensures { IsTrue result ↔ (self.now ≡ other.now) }
-    {
+impl Same for Attr {
+    fn same(&self, other: &Attr) -> bool {
         self.name.same(&other.name) && self.value.same(&other.value)
     }
 }
@@ -98,22 +94,20 @@ impl Attrs {
         }
         false
     }
+}
 
-    /// Equal attributes.
-    pub fn copy(&self, alloc: Global) -> Result<Attrs, Memory>
-        ensures { IfOk result (λ copy. copy ≡ self.now) }
-    {
+impl TryCopy for Attrs {
+    fn copy(&self, alloc: Global) -> Result<Attrs, Memory> {
         let mut list = Vec::new(alloc);
         for attr in &self.list {
             list.push(attr.copy(alloc)?)?;
         }
         Ok(Attrs { list })
     }
+}
 
-    /// Whether both are the same attributes in one order.
-    pub fn same(&self, other: &Attrs) -> bool
-        ensures { IsTrue result ↔ (self.now ≡ other.now) }
-    {
+impl Same for Attrs {
+    fn same(&self, other: &Attrs) -> bool {
         if self.list.len() != other.list.len() {
             return false;
         }

@@ -1,7 +1,7 @@
 // How large the pieces are that a source in memory gives.
-ghost use Rattle.std.specs.Prelude.{◌≡◌, ◌↔◌, ◌<◌, ◌++◌, ◌∷◌, [], All, IfOk, OnOk, OnErr, IsTrue};
+ghost use Rattle.std.specs.Prelude.{◌≡◌, ◌<◌, ◌++◌, ◌∷◌, [], All, OnOk, OnErr};
 
-use crate::Memory;
+use crate::{Memory, Same, TryCopy};
 use std::alloc::Global;
 use std::marker::Model;
 
@@ -51,20 +51,18 @@ impl Cuts {
     {
         self.list.as_slice()
     }
+}
 
-    /// Whether both are the same sizes in one order.
-    pub fn same(&self, other: &Cuts) -> bool
-        ensures { IsTrue result ↔ (self.now ≡ other.now) }
-    {
-        self.as_slice() == other.as_slice()
-    }
-
-    /// An equal list.
-    pub fn copy(&self, alloc: Global) -> Result<Cuts, Memory>
-        ensures { IfOk result (λ copy. copy ≡ self.now) }
-    {
+impl TryCopy for Cuts {
+    fn copy(&self, alloc: Global) -> Result<Cuts, Memory> {
         Ok(Cuts {
             list: Vec::from_slice(alloc, &self.list)?,
         })
+    }
+}
+
+impl Same for Cuts {
+    fn same(&self, other: &Cuts) -> bool {
+        self.as_slice() == other.as_slice()
     }
 }

@@ -1,7 +1,7 @@
 // What an opening carries beside its kind: attributes, kept source, and what a reference names.
-ghost use Rattle.std.specs.Prelude.{◌≡◌, ◌↔◌, [], IfOk, IsTrue, None};
+ghost use Rattle.std.specs.Prelude.{◌≡◌, ◌↔◌, IsTrue};
 
-use crate::{Attrs, Memory, Text};
+use crate::{Attrs, Memory, Same, Text, TryCopy};
 use std::alloc::Global;
 
 /// The name of a reference within its group: given in the page, or a number that the reader chose.
@@ -30,21 +30,17 @@ pub struct Head {
     pub owner: bool,
 }
 
-impl Key {
-    /// An equal key.
-    pub fn copy(&self, alloc: Global) -> Result<Key, Memory>
-        ensures { IfOk result (λ copy. copy ≡ self.now) }
-    {
+impl TryCopy for Key {
+    fn copy(&self, alloc: Global) -> Result<Key, Memory> {
         match self {
             Key::Named(name) => Ok(Key::Named(name.copy(alloc)?)),
             Key::Auto(number) => Ok(Key::Auto(*number)),
         }
     }
+}
 
-    /// Whether both are one name or one number.
-    pub fn same(&self, other: &Key) -> bool
-        ensures { IsTrue result ↔ (self.now ≡ other.now) }
-    {
+impl Same for Key {
+    fn same(&self, other: &Key) -> bool {
         match (self, other) {
             (Key::Named(name), Key::Named(other)) => name.same(other),
             (Key::Auto(number), Key::Auto(other)) => *number == *other,
@@ -53,41 +49,18 @@ impl Key {
     }
 }
 
-impl RefKey {
-    /// An equal key.
-    pub fn copy(&self, alloc: Global) -> Result<RefKey, Memory>
-        ensures { IfOk result (λ copy. copy ≡ self.now) }
-    {
+impl TryCopy for RefKey {
+    fn copy(&self, alloc: Global) -> Result<RefKey, Memory> {
         Ok(RefKey {
             group: self.group.copy(alloc)?,
             key: self.key.copy(alloc)?,
         })
     }
+}
 
-    /// Whether both are one key of one group.
-    pub fn same(&self, other: &RefKey) -> bool
-        ensures { IsTrue result ↔ (self.now ≡ other.now) }
-    {
+impl Same for RefKey {
+    fn same(&self, other: &RefKey) -> bool {
         self.group.same(&other.group) && self.key.same(&other.key)
-    }
-}
-
-fn reference_copy(alloc: Global, reference: &Option<RefKey>) -> Result<Option<RefKey>, Memory>
-    ensures { IfOk result (λ copy. copy ≡ reference.now) }
-{
-    match reference {
-        Some(key) => Ok(Some(key.copy(alloc)?)),
-        None => Ok(None),
-    }
-}
-
-fn references_same(one: &Option<RefKey>, other: &Option<RefKey>) -> bool
-    ensures { IsTrue result ↔ (one.now ≡ other.now) }
-{
-    match (one, other) {
-        (Some(key), Some(other)) => key.same(other),
-        (None, None) => true,
-        (Some(_), None) | (None, Some(_)) => false,
     }
 }
 
@@ -114,31 +87,29 @@ impl Head {
         self.tag.is_empty()
             && self.attrs.is_empty()
             && self.raw.is_empty()
-            && references_same(&self.reference, &None)
+            && self.reference.is_none()
             && !self.owner
     }
+}
 
-    /// An equal head.
-    pub fn copy(&self, alloc: Global) -> Result<Head, Memory>
-        ensures { IfOk result (λ copy. copy ≡ self.now) }
-    {
+impl TryCopy for Head {
+    fn copy(&self, alloc: Global) -> Result<Head, Memory> {
         Ok(Head {
             tag: self.tag.copy(alloc)?,
             attrs: self.attrs.copy(alloc)?,
             raw: self.raw.copy(alloc)?,
-            reference: reference_copy(alloc, &self.reference)?,
+            reference: self.reference.copy(alloc)?,
             owner: self.owner,
         })
     }
+}
 
-    /// Whether each part of both is equal.
-    pub fn same(&self, other: &Head) -> bool
-        ensures { IsTrue result ↔ (self.now ≡ other.now) }
-    {
+impl Same for Head {
+    fn same(&self, other: &Head) -> bool {
         self.tag.same(&other.tag)
             && self.attrs.same(&other.attrs)
             && self.raw.same(&other.raw)
-            && references_same(&self.reference, &other.reference)
+            && self.reference.same(&other.reference)
             && self.owner == other.owner
     }
 }

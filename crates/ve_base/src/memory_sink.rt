@@ -35,6 +35,7 @@ fn put(room: &mut [u8], len: usize, piece: &[u8]) -> usize
     requires { len ≤ length room.old }
     ensures size { result ≡ min (length piece.now) (length room.old - len) }
     ensures held { take (len + result) room.new ≡ take len room.old ++ take result piece.now }
+    ensures rest { drop (len + result) room.new ≡ drop (len + result) room.old }
 {
     let taken = piece.len().min(room.len() - len);
     room[len..len + taken].copy_from_slice(&piece[..taken]);

@@ -70,12 +70,13 @@ fn after_use(used: usize, cuts: usize) -> usize
     if used < cuts { used + 1 } else { cuts }
 }
 
-/// Copies the bytes from a place on to the prefix of the room, at most so many.
+/// Copies the bytes from a place on to the start of the room, at most so many.
 fn give(bytes: &[u8], from: usize, most: usize, room: &mut [u8]) -> usize
     requires from { from ≤ length bytes.now }
     requires most { most ≤ length room.old }
     ensures size { result ≡ min (length (drop from bytes.now)) most }
     ensures prefix { take result room.new ≡ take result (drop from bytes.now) }
+    ensures rest { drop result room.new ≡ drop result room.old }
 {
     let given = (bytes.len() - from).min(most);
     room[..given].copy_from_slice(&bytes[from..from + given]);
@@ -98,7 +99,9 @@ impl Source for MemSource {
         ensures fails { IsErr result ↔ Contains self.old.fails self.old.calls }
         ensures size { IfOk result (λ n. n ≡ piece_size self.old (length room.old)) }
         ensures ok { OnOk result (self.new ≡ after_piece self.old (length room.old)) }
+        ensures rest { IfOk result (λ n. drop n room.new ≡ drop n room.old) }
         ensures err { OnErr result (self.new ≡ after_fault self.old) }
+        ensures room { OnErr result (room.new ≡ room.old) }
     {
         let call = self.calls;
         self.calls = call.saturating_add(1);
@@ -159,6 +162,7 @@ impl Source for NeverSource {
 
         ensures size { result ≡ Ok (min (length self.old) (length room.old)) }
         ensures after { self.new ≡ drop (min (length self.old) (length room.old)) self.old }
+        ensures rest { IfOk result (λ n. drop n room.new ≡ drop n room.old) }
     {
         let given = give(self.bytes.as_slice(), self.given, room.len(), room);
         self.given += given;

@@ -1,9 +1,10 @@
 // What no clause says: that each call that takes memory succeeds where there is memory, and what errors print.
 use crate::{
     Attr, Attrs, Bytes, Calls, Cuts, Failed, Head, Key, Mark, Marks, MemSink, MemSource, Memory,
-    RefKey, Sink, Source, Text, Value,
+    NeverSink, RefKey, Same, Sink, Source, Steps, Text, TryCopy, Value,
 };
 use std::alloc::Global;
+use std::marker::Brand;
 use std::test::Fail;
 
 fn link(alloc: Global) -> Result<Mark, Memory> {
@@ -86,6 +87,23 @@ fn a_full_sink_fails(rt: HostRuntime) -> Result<(), Fail> {
     assert_eq!(rt; sink.write(b"d"), Err(Failed));
     assert_eq!(rt; sink.write(b""), Ok(0));
     assert_eq!(rt; sink.held(), b"abc".as_slice());
+    Ok(())
+}
+
+#[test]
+fn nothing_is_written_past_what_was_taken(rt: HostRuntime) -> Result<(), Fail> {
+    let mut room = [7u8; 4];
+    {
+        let mut sink = NeverSink::new(&mut room);
+        assert_eq!(rt; sink.write(b"ab"), Ok(2));
+    }
+    assert_eq!(rt; room, [b'a', b'b', 7, 7]);
+    Ok(())
+}
+
+#[test]
+fn a_count_takes_no_bytes(rt: HostRuntime) -> Result<(), Fail> {
+    assert_eq!(rt; size_of::<Steps<Brand>>(), 0);
     Ok(())
 }
 

@@ -4,7 +4,7 @@ ghost use Rattle.ve_store.specs.HashInput.{text_input, attrs_input, marks_input,
 
 use std::hash::{Hash, Hasher};
 use std::marker::Model;
-use ve_base::{Attr, Head, Key, Mark, RefKey, Text, Value};
+use ve_base::{Attr, Head, Key, Mark, RefKey, Same, Text, Value};
 
 /// A value that is looked up by its hash. Equal are equal values alone.
 #[derive(Drop)]

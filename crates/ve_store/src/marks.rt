@@ -11,7 +11,7 @@ ghost use Rattle.ve_store.specs.Marked.{with_marks, values_marked};
 
 use crate::{NewValues, Store};
 use std::alloc::Global;
-use ve_base::{Mark, Marks, Memory, Value, ValueId};
+use ve_base::{Mark, Marks, Memory, Same, TryCopy, Value, ValueId};
 
 fn same_mark(one: &Mark, other: &Mark) -> bool
     ensures { result ≡ mark_same one.now other.now }
@@ -28,10 +28,7 @@ fn has_mark(marks: &[Mark], mark: &Mark) -> bool
 fn appended(alloc: Global, marks: &[Mark], mark: &Mark) -> Result<Marks, Memory>
     ensures { IfOk result (λ all. all ≡ marks.now ++ mark.now ∷ []) }
 {
-    let mut all = Marks::new(alloc);
-    for one in marks {
-        all.push(one.copy(alloc)?)?;
-    }
+    let mut all = Marks::copy_of(alloc, marks)?;
     all.push(mark.copy(alloc)?)?;
     Ok(all)
 }

@@ -11,7 +11,7 @@ use crate::hashed::Hashed;
 use indexmap::IndexSet;
 use std::alloc::Global;
 use std::marker::Model;
-use ve_base::{MAX_VALUES, Memory, Value, ValueId};
+use ve_base::{MAX_VALUES, Memory, TryCopy, Value, ValueId};
 
 /// A list of distinct values, which items cite by their places. A value is found by its hash.
 #[derive(Drop)]
@@ -94,10 +94,16 @@ impl Store {
         }
     }
 
-    /// An equal store.
-    pub fn copy(&self, alloc: Global) -> Result<Store, Memory>
-        ensures { IfOk result (λ copy. copy ≡ self.now) }
+    /// Keeps the first `n` values.
+    pub fn truncate(&mut self, n: usize)
+        ensures { self.new ≡ take n self.old }
     {
+        self.values.truncate(n);
+    }
+}
+
+impl TryCopy for Store {
+    fn copy(&self, alloc: Global) -> Result<Store, Memory> {
         let mut copy = Store::new(alloc);
         let len = self.len();
         for place in 0..len {
@@ -105,12 +111,5 @@ impl Store {
             copy.admit(value)?;
         }
         Ok(copy)
-    }
-
-    /// Keeps the first `n` values.
-    pub fn truncate(&mut self, n: usize)
-        ensures { self.new ≡ take n self.old }
-    {
-        self.values.truncate(n);
     }
 }

@@ -2,7 +2,7 @@
 use crate::{NewValues, Store, StoreFault, with_mark, without_mark};
 use std::alloc::Global;
 use std::test::Fail;
-use ve_base::{Attrs, MAX_VALUES, Mark, Memory, Text, Value, ValueId};
+use ve_base::{Attrs, MAX_VALUES, Mark, Memory, Text, TryCopy, Value, ValueId};
 
 fn white(alloc: Global, text: &str) -> Result<Value, Memory> {
     Ok(Value::White(Text::from_str(alloc, text)?))

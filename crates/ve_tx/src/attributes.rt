@@ -11,7 +11,7 @@ ghost use Rattle.ve_tx.specs.Checked.{change_of};
 
 use crate::normal::same_text;
 use std::alloc::Global;
-use ve_base::{Attr, Attrs, Head, Memory, Text, Value, ValueId};
+use ve_base::{Attr, Attrs, Head, Memory, Text, TryCopy, Value, ValueId};
 use ve_items::{Item, Linear};
 use ve_kinds::is_element;
 use ve_store::Store;

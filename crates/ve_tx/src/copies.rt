@@ -10,11 +10,10 @@ ghost use Rattle.ve_tx.specs.Parcel.{operation_cited, transaction_cited};
 
 use crate::gathered::Gathered;
 use crate::inverse::position_at;
-use crate::op::text_copy;
 use crate::{Op, ValueList};
 use indexmap::IndexSet;
 use std::alloc::Global;
-use ve_base::{Memory, ValueId};
+use ve_base::{Memory, TryCopy, ValueId};
 use ve_items::{Item, Items};
 use ve_store::Store;
 
@@ -137,8 +136,8 @@ impl Copies {
             }
             Op::Attribute { name, from, to } => Ok(Op::Attribute {
                 name: name.copy(alloc)?,
-                from: text_copy(alloc, from)?,
-                to: text_copy(alloc, to)?,
+                from: from.copy(alloc)?,
+                to: to.copy(alloc)?,
             }),
         }
     }

@@ -8,7 +8,7 @@ use crate::Op;
 use crate::gathered::Gathered;
 use crate::inverse::position_at;
 use std::alloc::Global;
-use ve_base::Memory;
+use ve_base::{Memory, TryCopy};
 
 /// How many operations stand before those between the first and the last retain.
 fn core_start(ops: &[Op]) -> usize

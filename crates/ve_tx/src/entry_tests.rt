@@ -6,7 +6,7 @@ ghost use Rattle.ve_tx.specs.declared.op.Op.TheVariants as op;
 use crate::{Draft, Entry, EntryList, Op, OpList, Parcel, ParcelList, Transaction, TxList};
 use std::alloc::Global;
 use std::test::Fail;
-use ve_base::{Attrs, Mark, Marks, Memory, Text, Value, ValueId};
+use ve_base::{Attrs, Mark, Marks, Memory, Text, TryCopy, Value, ValueId};
 use ve_items::{Item, Items, Linear};
 use ve_store::{NewValues, Store};
 

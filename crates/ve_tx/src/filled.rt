@@ -18,7 +18,7 @@ use crate::gathered::Gathered;
 use crate::inverse::position_at;
 use crate::making::{next_head, present_head};
 use std::alloc::Global;
-use ve_base::{Head, Memory, Text};
+use ve_base::{Head, Memory, Text, TryCopy};
 use ve_items::Linear;
 use ve_store::Store;
 

@@ -6,9 +6,8 @@ ghost use Rattle.ve_tx.specs.Turned.{op_back, turned, finished};
 
 use crate::Op;
 use crate::gathered::Gathered;
-use crate::op::text_copy;
 use std::alloc::Global;
-use ve_base::Memory;
+use ve_base::{Memory, TryCopy};
 
 fn undoing(alloc: Global, op: &Op) -> Result<Op, Memory>
     ensures { IfOk result (λ back. back ≡ op_back op.now) }
@@ -21,8 +20,8 @@ fn undoing(alloc: Global, op: &Op) -> Result<Op, Memory>
         }),
         Op::Attribute { name, from, to } => Ok(Op::Attribute {
             name: name.copy(alloc)?,
-            from: text_copy(alloc, to)?,
-            to: text_copy(alloc, from)?,
+            from: to.copy(alloc)?,
+            to: from.copy(alloc)?,
         }),
     }
 }

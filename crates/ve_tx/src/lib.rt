@@ -37,15 +37,11 @@ mod same;
 #[cfg(test)]
 mod tests;
 mod transaction;
-mod tx_list;
-mod value_list;
 
 pub use change::Change;
 pub use draft::Draft;
 pub use entry::{Entry, EntryList};
 pub use model_change::TxFault;
 pub use op::{Op, OpList};
-pub use parcel::{Parcel, ParcelList};
-pub use transaction::Transaction;
-pub use tx_list::TxList;
-pub use value_list::ValueList;
+pub use parcel::{Parcel, ParcelList, ValueList};
+pub use transaction::{Transaction, TxList};

@@ -17,7 +17,7 @@ use crate::Op;
 use crate::attributes::changed;
 use crate::inverse::position_at;
 use std::alloc::Global;
-use ve_base::{Head, Memory, Text, Value, ValueId};
+use ve_base::{Head, Memory, Text, TryCopy, Value, ValueId};
 use ve_items::{Item, Items, Linear};
 use ve_store::Store;
 

@@ -5,7 +5,7 @@ ghost use Rattle.model_items.specs.Same.{text_same};
 ghost use Rattle.ve_tx.specs.Normal.{names_apart, may_stand_before, is_some_op, size, are_reduced, fit_into, are_normal};
 
 use crate::Op;
-use ve_base::{MAX_TOTAL_LENGTH, Text};
+use ve_base::{MAX_TOTAL_LENGTH, Same, Text};
 
 pub fn same_text(one: &Text, other: &Text) -> bool
     ensures { result ≡ text_same one.now other.now }

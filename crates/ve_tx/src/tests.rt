@@ -2,7 +2,7 @@
 use crate::{Op, OpList, Transaction};
 use std::alloc::Global;
 use std::test::Fail;
-use ve_base::{Memory, Text};
+use ve_base::{Memory, Text, TryCopy};
 use ve_items::{Item, Items};
 
 fn letters(alloc: Global, text: &str) -> Result<Items, Memory> {

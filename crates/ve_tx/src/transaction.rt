@@ -19,13 +19,12 @@ use crate::ends::with_ends;
 use crate::filled::filled;
 use crate::inverse::inverted;
 use crate::normal::is_normal;
-use crate::op::copy_all;
 use crate::range::range_of;
 use crate::{Change, Op, OpList};
 use model_change::TxFault;
 use std::alloc::Global;
 use std::marker::Model;
-use ve_base::Memory;
+use ve_base::{ListOf, Memory, TryCopy};
 use ve_items::Linear;
 use ve_store::Store;
 
@@ -41,6 +40,9 @@ pub struct Transaction {
     // beside each operation the position that it keeps; where there is none beside it, none
     kept: Vec<Option<usize>>,
 }
+
+/// Transactions one after the other.
+pub type TxList = ListOf<Transaction>;
 
 impl Model for Transaction {
     ghost use Rattle.std.specs.Prelude.{List};
@@ -66,9 +68,10 @@ impl Transaction {
         if !is_normal(ops.as_slice()) {
             return Err(ops);
         }
-        let OpList { list, alloc } = ops;
+        let ops = ops.into_vec();
+        let alloc = *ops.allocator();
         Ok(Transaction {
-            ops: list,
+            ops,
             kept: Vec::new(alloc),
         })
     }
@@ -79,16 +82,6 @@ impl Transaction {
         ensures normal { IsNormal self.now }
     {
         self.ops.as_slice()
-    }
-
-    /// An equal transaction.
-    pub fn copy(&self, alloc: Global) -> Result<Transaction, Memory>
-        ensures { IfOk result (λ copy. copy ≡ self.now) }
-    {
-        Ok(Transaction {
-            ops: copy_all(alloc, self.ops.as_slice())?,
-            kept: Vec::from_slice(alloc, self.kept.as_slice())?,
-        })
     }
 
     /// The same transaction, citing copies of what it cites in the store.
@@ -241,5 +234,14 @@ impl Transaction {
             .is_ok();
         prove!(spliced);
         Ok(())
+    }
+}
+
+impl TryCopy for Transaction {
+    fn copy(&self, alloc: Global) -> Result<Transaction, Memory> {
+        Ok(Transaction {
+            ops: OpList::copy_of(alloc, self.ops.as_slice())?.into_vec(),
+            kept: Vec::from_slice(alloc, self.kept.as_slice())?,
+        })
     }
 }

@@ -13,8 +13,9 @@ returns-then-not-is_normal-clause-normal c values =
 
 pub invariant_of-result : goal.invariant_of-result
 invariant_of-result c =
-    let fine : are_normal c.ops.inside.list.items ≡ true = grind (arith, common_steps) in
-    normal-tested c.ops.inside.list.items c.new.result.items fine
+    let taken : c.into_vec-ops.result.items ≡ c.args.ops = c.into_vec-ops.ensures in
+    let fine : are_normal c.into_vec-ops.result.items ≡ true = grind (arith, common_steps) in
+    normal-tested c.into_vec-ops.result.items c.new.result.items fine
 
 pub returns-clause-normal : goal.returns-clause-normal
 returns-clause-normal c values =
@@ -23,4 +24,4 @@ returns-clause-normal c values =
 
 pub returns-clause-ok : goal.returns-clause-ok
 returns-clause-ok c =
-    ap (with_positions c.ops.inside.list.items) c.new.ensures.items ∙ (unkept-with_positions c.ops.inside.list.items ∙ ap unkept c.ops.view_is)
+    ap (with_positions c.into_vec-ops.result.items) c.new.ensures.items ∙ (unkept-with_positions c.into_vec-ops.result.items ∙ ap unkept c.into_vec-ops.ensures)
