@@ -1,7 +1,7 @@
 // What no clause says: that the calls which take memory succeed where there is memory, and what refusals print.
 use crate::{BuildFault, Kinds, Shape, Shapes, TableFault};
 use std::test::Fail;
-use ve_base::Attrs;
+use ve_base::{Attrs, TryCopy};
 use ve_kinds::Kind;
 
 #[test]
@@ -16,6 +16,8 @@ fn plans_are_filled(rt: HostRuntime) -> Result<(), Fail> {
         attrs: Attrs::new(alloc),
     })?;
     assert_eq!(rt; shapes.as_slice().len(), 1);
+    assert_eq!(rt; kinds.copy(alloc)?.as_slice(), kinds.as_slice());
+    assert_eq!(rt; shapes.copy(alloc)?.as_slice().len(), 1);
     Ok(())
 }
 

@@ -1,9 +1,6 @@
 // The references of a page, as a table.
-ghost use Rattle.std.specs.Prelude.{◌≡◌, ◌++◌, ◌∷◌, [], OnOk, OnErr};
-
 use std::alloc::Global;
-use std::marker::Model;
-use ve_base::{Memory, RefKey};
+use ve_base::{ListOf, Memory, RefKey, TryCopy};
 
 /// A reference of a list of items. Places count the items before them.
 #[derive(Drop)]
@@ -21,43 +18,16 @@ pub struct RefRow {
 }
 
 /// The references of a list, in order.
-#[derive(Drop)]
-pub struct RefTable {
-    rows: Vec<RefRow>,
-}
+pub type RefTable = ListOf<RefRow>;
 
-impl Model for RefTable {
-    ghost use Rattle.std.specs.Prelude.{List};
-    ghost use Rattle.model_page.specs.declared.ref_table.RefRow.{RefRow};
-
-    ghost Value = { List RefRow };
-
-    ghost view = { λ t. t.rows.items };
-}
-
-impl RefTable {
-    /// No rows. It takes no memory.
-    pub fn new(alloc: Global) -> RefTable
-        ensures { result ≡ [] }
-    {
-        RefTable {
-            rows: Vec::new(alloc),
-        }
-    }
-
-    /// Appends a row. An `Err` changes nothing.
-    pub fn push(&mut self, row: RefRow) -> Result<(), Memory>
-        ensures ok { OnOk result (self.new ≡ self.old ++ row ∷ []) }
-        ensures err { OnErr result (self.new ≡ self.old) }
-    {
-        self.rows.push(row)?;
-        Ok(())
-    }
-
-    /// Lends the rows in order.
-    pub fn as_slice(&self) -> &[RefRow]
-        ensures { result.now ≡ self.now }
-    {
-        self.rows.as_slice()
+impl TryCopy for RefRow {
+    fn copy(&self, alloc: Global) -> Result<RefRow, Memory> {
+        Ok(RefRow {
+            at: self.at,
+            key: self.key.copy(alloc)?,
+            number: self.number,
+            carrier: self.carrier,
+            body_at: self.body_at,
+        })
     }
 }

@@ -1,11 +1,7 @@
 // The changes of a page that a line can ask for.
-ghost use Rattle.std.specs.Prelude.{◌≡◌, ◌++◌, ◌∷◌, [], OnOk, OnErr};
-
 use crate::PlainList;
 use model_edit::WrapPlan;
-use std::alloc::Global;
-use std::marker::Model;
-use ve_base::{Mark, Memory, Text};
+use ve_base::{ListOf, Mark, Text};
 use ve_kinds::Kind;
 
 /// Which marks typed characters get.
@@ -29,46 +25,7 @@ pub enum OpWords {
 }
 
 /// Operations, in order.
-#[derive(Drop)]
-pub struct OpWordList {
-    list: Vec<OpWords>,
-}
-
-impl Model for OpWordList {
-    ghost use Rattle.std.specs.Prelude.{List};
-    ghost use Rattle.model_world.specs.declared.change.OpWords.{OpWords};
-
-    ghost Value = { List OpWords };
-
-    ghost view = { λ o. o.list.items };
-}
-
-impl OpWordList {
-    /// No operations. It takes no memory.
-    pub fn new(alloc: Global) -> OpWordList
-        ensures { result ≡ [] }
-    {
-        OpWordList {
-            list: Vec::new(alloc),
-        }
-    }
-
-    /// Appends an operation. An `Err` changes nothing.
-    pub fn push(&mut self, op: OpWords) -> Result<(), Memory>
-        ensures ok { OnOk result (self.new ≡ self.old ++ op ∷ []) }
-        ensures err { OnErr result (self.new ≡ self.old) }
-    {
-        self.list.push(op)?;
-        Ok(())
-    }
-
-    /// Lends them in order.
-    pub fn as_slice(&self) -> &[OpWords]
-        ensures { result.now ≡ self.now }
-    {
-        self.list.as_slice()
-    }
-}
+pub type OpWordList = ListOf<OpWords>;
 
 /// A change of the page: what a batch may hold. Offsets, places and ranges count items.
 #[derive(Drop)]
@@ -130,43 +87,4 @@ pub enum Change {
 }
 
 /// Changes, to be made in turn.
-#[derive(Drop)]
-pub struct ChangeList {
-    list: Vec<Change>,
-}
-
-impl Model for ChangeList {
-    ghost use Rattle.std.specs.Prelude.{List};
-    ghost use Rattle.model_world.specs.declared.change.Change.{Change};
-
-    ghost Value = { List Change };
-
-    ghost view = { λ c. c.list.items };
-}
-
-impl ChangeList {
-    /// No changes. It takes no memory.
-    pub fn new(alloc: Global) -> ChangeList
-        ensures { result ≡ [] }
-    {
-        ChangeList {
-            list: Vec::new(alloc),
-        }
-    }
-
-    /// Appends a change. An `Err` changes nothing.
-    pub fn push(&mut self, change: Change) -> Result<(), Memory>
-        ensures ok { OnOk result (self.new ≡ self.old ++ change ∷ []) }
-        ensures err { OnErr result (self.new ≡ self.old) }
-    {
-        self.list.push(change)?;
-        Ok(())
-    }
-
-    /// Lends them in order.
-    pub fn as_slice(&self) -> &[Change]
-        ensures { result.now ≡ self.now }
-    {
-        self.list.as_slice()
-    }
-}
+pub type ChangeList = ListOf<Change>;
