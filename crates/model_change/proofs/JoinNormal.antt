@@ -127,7 +127,7 @@ middle_apart (Replace removed inserted ∷ ops) n rest h some = refl
 middle_apart (Attribute c ∷ ops) n rest h some = refl
 
 -- a transaction's middle between two other retains
-reshaped_reduced : (t : Transaction) (before suffix : ℕ) → is_reduced t ≡ true → is_active t ≡ true → (old_length (core t) < reach (core t) → 1 ≤ suffix) →
+pub reshaped_reduced : (t : Transaction) (before suffix : ℕ) → is_reduced t ≡ true → is_active t ≡ true → (old_length (core t) < reach (core t) → 1 ≤ suffix) →
     is_reduced (with_ends before (core t) suffix) ≡ true
 reshaped_reduced t before suffix reduced active needs =
     let inner = reduced-without_first t reduced in

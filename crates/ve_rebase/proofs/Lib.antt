@@ -1,0 +1,4 @@
+pub mod SpanLemmas
+pub mod ReadLemmas
+pub mod PlaceLemmas
+pub mod ConflictLemmas

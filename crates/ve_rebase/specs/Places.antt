@@ -1,0 +1,41 @@
+-- Attribute operations with their places, as one pass along the operations finds them. No value that the operations cite is read, and no position.
+use Rattle.std.specs.Prelude.{ℕ, ◌+◌, ◌≤◌, Bool, false, ◌&&◌, ◌||◌, nat_lt, if◌then◌else◌, List, [], ◌∷◌, length, Option, None}
+use Rattle.model_items.specs.Same.{text_same}
+use Rattle.model_change.specs.Attributes.{AttrChange, adds_or_removes}
+use Rattle.ve_tx.specs.declared.op.Op.{Op}
+use Rattle.ve_tx.specs.declared.op.Op.TheVariants.{Retain, Replace, Attribute}
+
+-- how many old items an operation passes
+abbrev pub passes : Op → ℕ
+passes (Retain count) = count
+passes (Replace removed inserted) = length removed
+passes (Attribute name from to) = 0
+
+abbrev pub change_of : List ℕ → Option (List ℕ) → Option (List ℕ) → AttrChange
+change_of name from to = record { name = name; from = from; to = to; kept = None }
+
+-- the changes with their places, from a place on
+abbrev pub places : ℕ → List Op → List (ℕ × AttrChange)
+places at [] = []
+places at (Retain count ∷ ops) = places (at + count) ops
+places at (Replace removed inserted ∷ ops) = places (at + length removed) ops
+places at (Attribute name from to ∷ ops) = (at, change_of name from to) ∷ places at ops
+
+-- an operation's change, if it has one, before the others
+abbrev pub placed : ℕ → Op → List (ℕ × AttrChange) → List (ℕ × AttrChange)
+placed at (Retain count) cs = cs
+placed at (Replace removed inserted) cs = cs
+placed at (Attribute name from to) cs = (at, change_of name from to) ∷ cs
+
+-- a change of this name, which adds or removes or doesn't, meets one of those at the first place of the operations
+abbrev pub meets_first : List ℕ → Bool → List Op → Bool
+meets_first name moves [] = false
+meets_first name moves (Retain count ∷ ops) = if nat_lt 0 count then false else meets_first name moves ops
+meets_first name moves (Replace removed inserted ∷ ops) = if nat_lt 0 (length removed) then false else meets_first name moves ops
+meets_first name moves (Attribute other from to ∷ ops) =
+    (text_same name other || (moves && adds_or_removes (change_of other from to))) || meets_first name moves ops
+
+-- no change stands before a place
+abbrev pub AllFrom : ℕ → List (ℕ × AttrChange) → Type 0
+AllFrom n [] = Unit {0}
+AllFrom n (c ∷ cs) = (n ≤ c.0) × AllFrom n cs
