@@ -53,4 +53,3 @@ joined_second a b =
 -- the ranges overlap
 abbrev pub meet : Span → Span → Bool
 meet a b = (a.active && b.active) && (not (nat_le (end a) b.first) && not (nat_le (end b) a.first))
-

@@ -6,7 +6,7 @@ ghost use Rattle.model_change.specs.Join.{meets_one, some_meet};
 ghost use Rattle.ve_tx.specs.Normal.{total_size};
 ghost use Rattle.ve_rebase.specs.Places.{passes, places, placed, change_of, meets_first, AllFrom};
 
-use ve_base::Text;
+use ve_base::{Same, Text};
 use ve_tx::Op;
 
 /// How many operations are passed, and the place in the old list after them.
@@ -16,7 +16,7 @@ struct Cursor {
     at: usize,
 }
 
-fn is_same(one: &Text, other: &Text) -> bool
+fn same_text(one: &Text, other: &Text) -> bool
     ensures { result ≡ text_same one.now other.now }
 {
     one.same(other)
@@ -48,7 +48,7 @@ fn adds_or_removes(from: &Option<Text>, to: &Option<Text>) -> bool
 fn clashes(name: &Text, moves: bool, other: &Text, from: &Option<Text>, to: &Option<Text>) -> bool
     ensures { result ≡ (text_same name.now other.now || (moves && adds_or_removes (change_of other.now from.now to.now))) }
 {
-    is_same(name, other) || moves && adds_or_removes(from, to)
+    same_text(name, other) || moves && adds_or_removes(from, to)
 }
 
 /// Whether a change of this name, which adds or removes an attribute where `moves` is true, meets one of those that stand at the first place of

@@ -56,7 +56,10 @@ fn ranges_that_touch_do_not_conflict(rt: HostRuntime) -> Result<(), Fail> {
     let apart = Some((false, false));
     let clash = Some((true, true));
     assert_eq!(rt; found(alloc, &["1", "-ab", "3"], &["3", "-c", "2"])?, apart);
-    assert_eq!(rt; found(alloc, &["1", "-ab", "3"], &["2", "-bc", "2"])?, clash);
+    assert_eq!(rt;
+        found(alloc, &["1", "-ab", "3"], &["2", "-bc", "2"])?,
+        clash
+    );
     assert_eq!(rt; found(alloc, &["1", "+x", "5"], &["1", "+y", "5"])?, apart);
     assert_eq!(rt; found(alloc, &["2", "+x", "4"], &["1", "-ab", "3"])?, clash);
     assert_eq!(rt; found(alloc, &["=id", "6"], &["=id", "6"])?, clash);

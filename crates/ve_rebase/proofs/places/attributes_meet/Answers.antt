@@ -26,7 +26,7 @@ loop-i-preserved c =
     let rest = places c.pass-met.result.0.at (drop c.pass-met.result.0.passed c.args.others.now) in
     let step = meets_next at i ops o ds rest c.pass-met.result.1 c.loop-i-test.true c.index-ops-i.is c.pass-met.ensures.met in
     let passed : c.passes-at.result ≡ passes o =
-        c.passes-at.ensures ∙ ap passes (same_op i ops o c.index-ops-i-in-loop-i.result c.loop-i-test.true c.index-ops-i.is c.index-ops-i-in-loop-i.is) in
+    c.passes-at.ensures ∙ ap passes (same_op i ops o c.index-ops-i-in-loop-i.result c.loop-i-test.true c.index-ops-i.is c.index-ops-i-in-loop-i.is) in
     record {
       small = subst (λ n. at + n + total_size (drop (i + 1) ops) ≤ 2 ^ 62) (sym passed)
           (room_next at i (2 ^ 62) ops o c.loop-i-test.true c.index-ops-i.is c.loop-i.invariant.small);

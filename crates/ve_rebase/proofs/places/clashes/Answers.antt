@@ -7,4 +7,4 @@ pub returns-then-moves : goal.returns-then-moves
 returns-then-moves c =
     let change = change_of c.args.other.now c.args.from.now c.args.to.now in
     c.adds_or_removes.ensures c.args.other.now
-    ∙ sym (ap (λ b. b || (c.args.moves && adds_or_removes change)) (sym c.is_same.ensures ∙ c.if-is_same.false) ∙ ap (λ m. m && adds_or_removes change) c.if-moves.true)
+    ∙ sym (ap (λ b. b || (c.args.moves && adds_or_removes change)) (sym c.same_text.ensures ∙ c.if-same_text.false) ∙ ap (λ m. m && adds_or_removes change) c.if-moves.true)
