@@ -1,6 +1,6 @@
 #!/bin/sh
 # Runs a script with one allocation refused, for each number from FROM to TO, and looks at what the program answers: the
-# status is 6 and a front of the replies was written, or the refused allocation never came and all of them were.
+# status is 6 and a prefix of the replies was written, or the refused allocation never came and all of them were.
 # usage: tools/refuse-memory.sh [FROM [TO]]   with no TO, until an allocation of that number never comes
 set -eu
 
@@ -18,9 +18,9 @@ while [ "$number" -le "$to" ]; do
     (cd "$top/crates/vemodel" && rt try --fail-alloc "$number" -- run) \
         <"$script" >"$work/written" 2>"$work/said" || status=$?
     size=$(wc -c <"$work/written")
-    head -c "$size" "$whole" >"$work/front"
-    if ! cmp -s "$work/written" "$work/front"; then
-        echo "allocation $number refused: what was written is no front of the replies" >&2
+    head -c "$size" "$whole" >"$work/prefix"
+    if ! cmp -s "$work/written" "$work/prefix"; then
+        echo "allocation $number refused: what was written is no prefix of the replies" >&2
         exit 1
     fi
     if [ "$status" -eq 0 ] && cmp -s "$work/written" "$whole"; then
