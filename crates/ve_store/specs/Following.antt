@@ -7,6 +7,7 @@ use Rattle.ve_base.specs.declared.value.Value.TheVariants as value
 use Rattle.ve_base.specs.declared.value.ValueId.{ValueId}
 use Rattle.model_items.specs.Plain.{marks_in, value_at}
 use Rattle.model_items.specs.Same.{mark_same, value_same}
+use Rattle.model_items.specs.Marks.{without_mark}
 
 pub record Following : Type 0 where
   -- the length of the store
@@ -25,6 +26,10 @@ together store new = store ++ new.values
 abbrev pub marks_at : List Value → Option ValueId → List Mark
 marks_at values marks = marks_in (value_at values marks)
 
+-- the marks that an item cites, in the store or in what follows it
+abbrev pub marks_cited : List Value → Following → Option ValueId → List Mark
+marks_cited store new marks = marks_at (together store new) marks
+
 -- what is cited, if anything is, is the first place where the value stands, or else the end
 abbrev pub IsFirstPlace : List Value → Value → Option ValueId → Type 0
 IsFirstPlace values v id = IfSome id (λ place. place.0 ≡ position_or_len (value_same v) values)
@@ -33,3 +38,7 @@ IsFirstPlace values v id = IfSome id (λ place. place.0 ≡ position_or_len (val
 abbrev pub IsPlaceMarked : List Value → Option ValueId → Mark → Option ValueId → Type 0
 IsPlaceMarked values marks mark id =
     list_any (mark_same mark) (marks_at values marks) ≡ false → IsFirstPlace values (value.Marks (marks_at values marks ++ mark ∷ [])) id
+
+-- the first place of an item's marks without one
+abbrev pub IsPlaceUnmarked : List Value → Option ValueId → Mark → Option ValueId → Type 0
+IsPlaceUnmarked values marks mark id = IsFirstPlace values (value.Marks (without_mark mark (marks_at values marks))) id

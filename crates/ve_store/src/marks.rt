@@ -5,9 +5,9 @@ ghost use Rattle.ve_base.specs.declared.value.Value.TheVariants as value;
 ghost use Rattle.model_change.specs.Store.{admitted};
 ghost use Rattle.model_items.specs.Plain.{CitesMarks};
 ghost use Rattle.model_items.specs.Same.{mark_same};
-ghost use Rattle.ve_store.specs.Following.{Grows, IsFirstPlace, IsPlaceMarked, marks_at, together};
+ghost use Rattle.ve_store.specs.Following.{Grows, IsPlaceMarked, IsPlaceUnmarked, marks_at, marks_cited, together};
 ghost use Rattle.model_items.specs.Marks.{with_mark, without_mark};
-ghost use Rattle.ve_store.specs.Marked.{with_marks, values_marked};
+ghost use Rattle.ve_store.specs.Marked.{values_marked, values_unmarked};
 
 use crate::{NewValues, Store};
 use std::alloc::Global;
@@ -71,9 +71,9 @@ pub fn with_mark(
 ) -> Result<Option<ValueId>, Memory>
     requires follows { new.old.after ≡ length store.now }
     requires cites { CitesMarks (together store.now new.old) marks }
-    ensures cited { IfOk result (λ id. marks_at (together store.now new.new) id ≡ with_mark mark.now (marks_at (together store.now new.old) marks)) }
-    ensures ok { OnOk result (together store.now new.new ≡ values_marked (together store.now new.old) (marks_at (together store.now new.old) marks) mark.now) }
-    ensures same { list_any (mark_same mark.now) (marks_at (together store.now new.old) marks) ≡ true → result ≡ Ok marks }
+    ensures cited { IfOk result (λ id. marks_cited store.now new.new id ≡ with_mark mark.now (marks_cited store.now new.old marks)) }
+    ensures ok { OnOk result (together store.now new.new ≡ values_marked (together store.now new.old) (marks_cited store.now new.old marks) mark.now) }
+    ensures same { list_any (mark_same mark.now) (marks_cited store.now new.old marks) ≡ true → result ≡ Ok marks }
     ensures place { IfOk result (IsPlaceMarked (together store.now new.old) marks mark.now) }
     ensures cites { IfOk result (CitesMarks (together store.now new.new)) }
     ensures grows { Grows new.old new.new }
@@ -98,9 +98,9 @@ pub fn without_mark(
 ) -> Result<Option<ValueId>, Memory>
     requires follows { new.old.after ≡ length store.now }
     requires cites { CitesMarks (together store.now new.old) marks }
-    ensures cited { IfOk result (λ id. marks_at (together store.now new.new) id ≡ without_mark mark.now (marks_at (together store.now new.old) marks)) }
-    ensures ok { OnOk result (together store.now new.new ≡ with_marks (together store.now new.old) (without_mark mark.now (marks_at (together store.now new.old) marks))) }
-    ensures place { IfOk result (IsFirstPlace (together store.now new.old) (value.Marks (without_mark mark.now (marks_at (together store.now new.old) marks)))) }
+    ensures cited { IfOk result (λ id. marks_cited store.now new.new id ≡ without_mark mark.now (marks_cited store.now new.old marks)) }
+    ensures ok { OnOk result (together store.now new.new ≡ values_unmarked (together store.now new.old) (marks_cited store.now new.old marks) mark.now) }
+    ensures place { IfOk result (IsPlaceUnmarked (together store.now new.old) marks mark.now) }
     ensures cites { IfOk result (CitesMarks (together store.now new.new)) }
     ensures grows { Grows new.old new.new }
     ensures err { OnErr result (new.new ≡ new.old) }
