@@ -1,4 +1,9 @@
 //! The program: a script from standard input, its replies to standard output.
+//!
+//! It hands `run` a world without a page, and ends with the status's number. Standard input and output are adapted
+//! here (`adapters`) in a few lines: each error raises a count, so `run`'s clauses on faults hold of them. What a
+//! terminal or a pipe gave or got is known to no clause, and a stored run of the program shows it. Nothing else may
+//! touch the outside.
 #![tactic(auto)]
 
 mod adapters;
