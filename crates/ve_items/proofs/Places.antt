@@ -69,3 +69,13 @@ range_length items block from offset many le =
     let size = length-take-le many (drop offset block) (omega (arith, length-drop offset block)) in
     let same : many ≡ from + length (take many (drop offset block)) - from = omega arith in
     ap (λ n. take n (drop from items)) same
+
+-- a range that ends after a place, and doesn't begin before the place's block
+pub range_to : {A : Type 0} (blocks : List (List A)) (block : List A) (at k offset many : ℕ) → StandsAt blocks at k offset → slice_get blocks k ≡ Some block → 0 < many → many ≤ offset + 1 →
+    take many (drop (offset + 1 - many) block) ≡ take many (drop (at + 1 - many) (joined blocks))
+range_to blocks block at k offset many h is some le =
+    let place = h.place in
+    let inside = h.inside in
+    let within = inside_block blocks block at k offset h is in
+    let begins : StandsAt blocks (at + 1 - many) k (offset + 1 - many) = record { among = h.among; inside = omega arith; place = omega arith } in
+    range_at blocks block (at + 1 - many) k (offset + 1 - many) many begins is (omega arith)

@@ -116,6 +116,21 @@ impl Linear {
         &block[offset..end]
     }
 
+    /// Lends the items that end at a place, from another place on, as far back as the last one's block
+    /// goes. So a walk from a range's end takes piece after piece.
+    pub fn last_piece(&self, from: usize, to: usize) -> &[Item]
+        requires order { from < to }
+        requires within { to ≤ length self.now.items }
+        ensures some { 0 < length result.now }
+        ensures within { from + length result.now ≤ to }
+        ensures items { result.now ≡ slice_range self.now.items (to - length result.now) to }
+    {
+        let (k, offset) = self.table.find(to - 1);
+        let block = self.table.block(k);
+        let end = offset + 1;
+        &block[end - end.min(to - from)..end]
+    }
+
     /// A copy of the items from one place up to another.
     pub fn slice(&self, alloc: Global, from: usize, to: usize) -> Result<Items, Memory>
         requires order { from ≤ to }

@@ -13,9 +13,9 @@ use Rattle.model_items.proofs.TreeLemmas.{tree_spells}
 use Rattle.ve_arena.specs.declared.node.NodeId.{NodeId}
 use Rattle.ve_arena.specs.declared.node.NodeWhat.{NodeWhat}
 use Rattle.ve_arena.specs.declared.node.NodeWhat.TheVariants as what
-use Rattle.ve_tree.specs.Named.{Named, NoNode, NamedRun, NamedBranch, bare}
+use Rattle.ve_tree.specs.Named.{Named, NoNode, NamedRun, NamedBranch, unnumbered}
 use Rattle.ve_tree.specs.IsTree.{IsTree}
-use Rattle.ve_tree.specs.Places.{NodePlace, places}
+use Rattle.ve_tree.specs.Places.{NodePlace, node_places}
 use Rattle.ve_tree.proofs.WalkLemmas.{Slots}
 use Rattle.ve_tree.proofs.ClimbLemmas.{contains_cases}
 use Rattle.ve_offsets.proofs.ShapeLemmas.{step_by, after_by, after-shapes}
@@ -89,25 +89,25 @@ no_root_rs (Letter ∷ xs) ys h = no_root_rs xs ys h
 no_root_rs (Begin kind ∷ xs) ys h = no_root_rs xs ys h.1
 no_root_rs (End kind ∷ xs) ys h = no_root_rs xs ys h
 
-no_root_in : (f : Named) (p at : ℕ) (y : NodePlace) → NoRoot (shapes (bare f)) → Contains (places p at f) y → y.sort ≢ what.Node Root
+no_root_in : (f : Named) (p at : ℕ) (y : NodePlace) → NoRoot (shapes (unnumbered f)) → Contains (node_places p at f) y → y.sort ≢ what.Node Root
 no_root_in NoNode p at y h c e = absurd (omega (arith, c.1))
-no_root_in (NamedRun n count later) p at y h c e = elim (contains_cases _ y (places p (at + count) later) c) [
+no_root_in (NamedRun n count later) p at y h c e = elim (contains_cases _ y (node_places p (at + count) later) c) [
   | inl same ↦ let bad : ◌≡◌ {A = NodeWhat} what.Run (what.Node Root) = ap (λ (z : NodePlace). z.sort) same ∙ e in absurd (cc)
-  | inr there ↦ no_root_in later p (at + count) y (no_root_rs (replicate count Letter) (shapes (bare later)) h) there e
+  | inr there ↦ no_root_in later p (at + count) y (no_root_rs (replicate count Letter) (shapes (unnumbered later)) h) there e
 ]
 no_root_in (NamedBranch n kind inside later) p at y h c e =
-    let len = item_count (bare inside) + 2 in
-    elim (contains_cases _ y (places n (suc at) inside ++ places p (at + len) later) c) [
+    let len = item_count (unnumbered inside) + 2 in
+    elim (contains_cases _ y (node_places n (suc at) inside ++ node_places p (at + len) later) c) [
       | inl same ↦ let both : ◌≡◌ {A = NodeWhat} (what.Node kind) (what.Node Root) = ap (λ (z : NodePlace). z.sort) same ∙ e in h.0 (cc)
-      | inr there ↦ elim (Contains-append_cases (places n (suc at) inside) (places p (at + len) later) y there) [
-        | inl in_ ↦ no_root_in inside n (suc at) y (no_root_ls (shapes (bare inside)) (End kind ∷ shapes (bare later)) h.1) in_ e
-        | inr after_ ↦ no_root_in later p (at + len) y (no_root_rs (shapes (bare inside)) (End kind ∷ shapes (bare later)) h.1) after_ e
+      | inr there ↦ elim (Contains-append_cases (node_places n (suc at) inside) (node_places p (at + len) later) y there) [
+        | inl in_ ↦ no_root_in inside n (suc at) y (no_root_ls (shapes (unnumbered inside)) (End kind ∷ shapes (unnumbered later)) h.1) in_ e
+        | inr after_ ↦ no_root_in later p (at + len) y (no_root_rs (shapes (unnumbered inside)) (End kind ∷ shapes (unnumbered later)) h.1) after_ e
       ]
     ]
 
 -- no node under the root of a tree is one
-pub under_no_root : {slots : Slots} {root : NodeId} {items : List PlainItem} (tree : IsTree slots root items) (y : NodePlace) → Contains (places root.0 0 tree.named) y → y.sort ≢ what.Node Root
+pub under_no_root : {slots : Slots} {root : NodeId} {items : List PlainItem} (tree : IsTree slots root items) (y : NodePlace) → Contains (node_places root.0 0 tree.named) y → y.sort ≢ what.Node Root
 under_no_root {root = root} {items = items} tree y c =
-    let spelt : shapes (bare tree.named) ≡ map shape_of items = ap shapes tree.is_tree ∙ tree_spells items tree.lawful in
+    let spelt : shapes (unnumbered tree.named) ≡ map shape_of items = ap shapes tree.is_tree ∙ tree_spells items tree.lawful in
     let well = ap (after_by start) spelt ∙ sym (after-shapes items start) ∙ after_from_Lawful items tree.lawful in
-    no_root_in tree.named root.0 0 y (no_root (shapes (bare tree.named)) start finish well) c
+    no_root_in tree.named root.0 0 y (no_root (shapes (unnumbered tree.named)) start finish well) c

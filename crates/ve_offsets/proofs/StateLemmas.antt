@@ -15,8 +15,8 @@ use Rattle.ve_arena.specs.declared.node.NodeWhat.{NodeWhat}
 use Rattle.ve_arena.specs.declared.node.NodeWhat.TheVariants as what
 use Rattle.ve_arena.specs.declared.node.ArenaNode.{ArenaNode}
 use Rattle.ve_arena.specs.Arena.{slot_at}
-use Rattle.ve_tree.specs.Links.{number_of, link_in, links_of, first_or, Row}
-use Rattle.ve_tree.specs.Named.{Named, NoNode, NamedRun, NamedBranch, bare, heads, IsShown, Shows}
+use Rattle.ve_tree.specs.Links.{number_of, link_in, links_of, first_or, AreSiblings}
+use Rattle.ve_tree.specs.Named.{Named, NoNode, NamedRun, NamedBranch, unnumbered, heads, IsShown, Shows}
 use Rattle.ve_tree.specs.IsTree.{IsTree, unvalued}
 use Rattle.ve_tree.proofs.WalkLemmas.{Slots, NoEmptyRun, tree-runs}
 use Rattle.model_items.proofs.NodeAtLemmas.{count_all}
@@ -42,16 +42,16 @@ replicate-add (suc m) n x = let e : suc m + n ≡ suc (m + n) = omega arith in a
 pub record OnTheWay (slots : Slots) (items : List PlainItem) (o : ℕ) (state : State) (next : Option NodeId) (left : ℕ) (f : Named) : Type 0 where
   pub pre : List Shape
   pub rest : List Shape
-  pub whole : pre ++ (shapes (bare f) ++ rest) ≡ map shape_of items
+  pub whole : pre ++ (shapes (unnumbered f) ++ rest) ≡ map shape_of items
   pub sum : length pre + left ≡ o
   pub before : after_by start pre ≡ Ok state
-  pub room : left ≤ item_count (bare f)
+  pub room : left ≤ item_count (unnumbered f)
   pub next_is : option_map number_of next ≡ first_or (heads f) None
   pub inner : ℕ
   pub edge : Option ℕ
-  pub row : Row (links_of slots).parent (links_of slots).before (links_of slots).after inner edge (heads f) None
+  pub row : AreSiblings (links_of slots).parent (links_of slots).before (links_of slots).after inner edge (heads f) None
   pub shown : Shows slots f
-  pub runs : NoEmptyRun (bare f)
+  pub runs : NoEmptyRun (unnumbered f)
 
 pub record StateWalk (slots : Slots) (items : List PlainItem) (o : ℕ) (state : State) (next : Option NodeId) (left : ℕ) : Type 0 where
   pub forest : Named
@@ -146,9 +146,9 @@ way_skip slots items o state child left node lawful within w here le = by_forest
     by_forest (NamedRun h count later) w =
         let n = is_next slots child node h _ _ _ here (same_number child h w.next_is) w.shown.0 in
         let g = Run count Empty in
-        let split : shapes (Run count (bare later)) ≡ shapes g ++ shapes (bare later) = ap (λ xs. xs ++ shapes (bare later)) (sym (append-nil (replicate count Letter))) in
-        let p = pass_on items o state left w.pre (shapes (bare later) ++ w.rest) g lawful within
-        (ap (λ xs. w.pre ++ xs) (sym (append_assoc (shapes g) (shapes (bare later)) w.rest) ∙ ap (λ xs. xs ++ w.rest) (sym split)) ∙ w.whole) w.sum w.before (omega (arith, n.len_is, le)) in (
+        let split : shapes (Run count (unnumbered later)) ≡ shapes g ++ shapes (unnumbered later) = ap (λ xs. xs ++ shapes (unnumbered later)) (sym (append-nil (replicate count Letter))) in
+        let p = pass_on items o state left w.pre (shapes (unnumbered later) ++ w.rest) g lawful within
+        (ap (λ xs. w.pre ++ xs) (sym (append_assoc (shapes g) (shapes (unnumbered later)) w.rest) ∙ ap (λ xs. xs ++ w.rest) (sym split)) ∙ w.whole) w.sum w.before (omega (arith, n.len_is, le)) in (
           omega (arith, n.len_is, w.runs.0),
           record {
             forest = later;
@@ -170,11 +170,11 @@ way_skip slots items o state child left node lawful within w here le = by_forest
         )
     by_forest (NamedBranch h kind inside later) w =
         let n = is_next slots child node h _ _ _ here (same_number child h w.next_is) w.shown.0 in
-        let g = Branch kind (bare inside) Empty in
-        let split : shapes (Branch kind (bare inside) (bare later)) ≡ shapes g ++ shapes (bare later) =
-        ap (λ xs. Begin kind ∷ xs) (sym (append_assoc (shapes (bare inside)) (End kind ∷ []) (shapes (bare later)))) in
-        let p = pass_on items o state left w.pre (shapes (bare later) ++ w.rest) g lawful within
-        (ap (λ xs. w.pre ++ xs) (sym (append_assoc (shapes g) (shapes (bare later)) w.rest) ∙ ap (λ xs. xs ++ w.rest) (sym split)) ∙ w.whole) w.sum w.before (omega (arith, n.len_is, le)) in (
+        let g = Branch kind (unnumbered inside) Empty in
+        let split : shapes (Branch kind (unnumbered inside) (unnumbered later)) ≡ shapes g ++ shapes (unnumbered later) =
+        ap (λ xs. Begin kind ∷ xs) (sym (append_assoc (shapes (unnumbered inside)) (End kind ∷ []) (shapes (unnumbered later)))) in
+        let p = pass_on items o state left w.pre (shapes (unnumbered later) ++ w.rest) g lawful within
+        (ap (λ xs. w.pre ++ xs) (sym (append_assoc (shapes g) (shapes (unnumbered later)) w.rest) ∙ ap (λ xs. xs ++ w.rest) (sym split)) ∙ w.whole) w.sum w.before (omega (arith, n.len_is, le)) in (
           omega (arith, n.len_is),
           record {
             forest = later;
@@ -216,17 +216,17 @@ way_enter slots items o state child left node kind lawful w here sort lt some = 
     by_forest (NamedBranch h k inside later) w =
         let n = is_next slots child node h _ _ _ here (same_number child h w.next_is) w.shown.0 in
         let same = kinds k n.sort_is in
-        let more : List Shape = (shapes (bare inside) ++ End k ∷ shapes (bare later)) ++ w.rest in
+        let more : List Shape = (shapes (unnumbered inside) ++ End k ∷ shapes (unnumbered later)) ++ w.rest in
         let opens = enters w.pre more k state w.before (goes_well items _ lawful w.whole) in
-        let joined : shapes (bare inside) ++ (End k ∷ (shapes (bare later) ++ w.rest)) ≡ more = sym (append_assoc (shapes (bare inside)) (End k ∷ shapes (bare later)) w.rest) in
+        let joined : shapes (unnumbered inside) ++ (End k ∷ (shapes (unnumbered later) ++ w.rest)) ≡ more = sym (append_assoc (shapes (unnumbered inside)) (End k ∷ shapes (unnumbered later)) w.rest) in
         record {
           opens = (opens.0, subst (λ k. opened state k ≡ Ok opens.0) same opens.1);
           on = λ u e. record {
             forest = inside;
             on = record {
               pre = w.pre ++ (Begin k ∷ []);
-              rest = End k ∷ (shapes (bare later) ++ w.rest);
-              whole = append_assoc w.pre (Begin k ∷ []) (shapes (bare inside) ++ (End k ∷ (shapes (bare later) ++ w.rest))) ∙ ap (λ xs. w.pre ++ (Begin k ∷ xs)) joined ∙ w.whole;
+              rest = End k ∷ (shapes (unnumbered later) ++ w.rest);
+              whole = append_assoc w.pre (Begin k ∷ []) (shapes (unnumbered inside) ++ (End k ∷ (shapes (unnumbered later) ++ w.rest))) ∙ ap (λ xs. w.pre ++ (Begin k ∷ xs)) joined ∙ w.whole;
               sum = omega (arith, w.sum, length-append w.pre (Begin k ∷ []), some);
               before = by_whole w.pre (Begin k ∷ []) start state u w.before (by_one (Begin k) state u (subst (λ k. opened state k ≡ Ok u) (sym same) e));
               room = omega (arith, n.len_is, lt);
@@ -247,7 +247,7 @@ unvalued_state items o s h = ap (after start) (sym (take-map (plain []) o items)
 -- before a node
 pub way_here : (slots : Slots) (items : List Item) (o : ℕ) (state : State) (next : Option NodeId) → StateWalk slots (unvalued items) o state next 0 → IsStateAt items o state
 way_here slots items o state next w =
-    unvalued_state items o state (reached w.on.pre (shapes (bare w.forest) ++ w.on.rest) (unvalued items) o state w.on.whole (omega (arith, w.on.sum)) w.on.before)
+    unvalued_state items o state (reached w.on.pre (shapes (unnumbered w.forest) ++ w.on.rest) (unvalued items) o state w.on.whole (omega (arith, w.on.sum)) w.on.before)
 
 -- past the last sibling
 pub way_end : (slots : Slots) (items : List Item) (o : ℕ) (state : State) (left : ℕ) → StateWalk slots (unvalued items) o state None left → IsStateAt items o state
@@ -271,13 +271,13 @@ way_run slots items o state child left node lawful within w here sort lt = by_fo
     by_forest (NamedRun h count later) w =
         let n = is_next slots child node h _ _ _ here (same_number child h w.next_is) w.shown.0 in
         let g = Run left Empty in
-        let post : List Shape = replicate (count - left) Letter ++ (shapes (bare later) ++ w.rest) in
+        let post : List Shape = replicate (count - left) Letter ++ (shapes (unnumbered later) ++ w.rest) in
         let e : left + (count - left) ≡ count = omega (arith, n.len_is, lt) in
-        let split : shapes g ++ post ≡ shapes (bare (NamedRun h count later)) ++ w.rest =
+        let split : shapes g ++ post ≡ shapes (unnumbered (NamedRun h count later)) ++ w.rest =
         ap (λ xs. xs ++ post) (append-nil (replicate left Letter))
-        ∙ sym (append_assoc (replicate left Letter) (replicate (count - left) Letter) (shapes (bare later) ++ w.rest))
-        ∙ ap (λ xs. xs ++ (shapes (bare later) ++ w.rest)) (sym (replicate-add left (count - left) Letter) ∙ ap (λ n. replicate n Letter) e)
-        ∙ sym (append_assoc (replicate count Letter) (shapes (bare later)) w.rest) in
+        ∙ sym (append_assoc (replicate left Letter) (replicate (count - left) Letter) (shapes (unnumbered later) ++ w.rest))
+        ∙ ap (λ xs. xs ++ (shapes (unnumbered later) ++ w.rest)) (sym (replicate-add left (count - left) Letter) ∙ ap (λ n. replicate n Letter) e)
+        ∙ sym (append_assoc (replicate count Letter) (shapes (unnumbered later)) w.rest) in
         let p = pass_on (unvalued items) o state left w.pre post g lawful (omega (arith, within, length-map items (plain [])))
         (ap (λ xs. w.pre ++ xs) split ∙ w.whole) w.sum w.before (omega arith) in
         unvalued_state items o state (reached (w.pre ++ shapes g) post (unvalued items) o state p.whole (omega (arith, p.sum)) p.before)

@@ -19,7 +19,7 @@ use Rattle.ve_arena.specs.declared.node.NodeWhat.TheVariants as what
 use Rattle.ve_arena.specs.declared.node.ArenaNode.{ArenaNode}
 use Rattle.ve_arena.specs.Arena.{slot_at}
 use Rattle.ve_tree.specs.IsTree.{IsTree}
-use Rattle.ve_tree.specs.Places.{NodePlace, places, IsNodeAt}
+use Rattle.ve_tree.specs.Places.{NodePlace, node_places, IsNodeAt}
 use Rattle.ve_tree.proofs.WalkLemmas.{Slots, Walk, walk_stop, contains-here}
 use Rattle.ve_tree.proofs.ClimbLemmas.{len_under, sort_under, tree_listed}
 use Rattle.ve_tree.proofs.NearLemmas.{listed, under_root, passes, parent_number, not_empty}
@@ -30,7 +30,7 @@ use Rattle.ve_offsets.proofs.RootLemmas.{not_root, under_no_root}
 
 -- the parent of a node is the innermost node where it begins
 pub parent_holds : {slots : Slots} {root : NodeId} {items : List PlainItem} (tree : IsTree slots root items) (y : NodePlace) (n : NodeId) (node : ArenaNode) (parent : NodeId) →
-    Contains (places root.0 0 tree.named) y → y.number ≡ n.0 → slot_at slots n.0 ≡ Some node → node.parent ≡ Some parent → IsNodeAt tree parent (node_at items y.from)
+    Contains (node_places root.0 0 tree.named) y → y.number ≡ n.0 → slot_at slots n.0 ≡ Some node → node.parent ≡ Some parent → IsNodeAt tree parent (node_at items y.from)
 parent_holds tree y n node parent c number here is_parent =
     let l = tree_listed tree y (listed tree y c) in
     let ends = len_under tree y n node (listed tree y c) number here in
@@ -170,7 +170,7 @@ root_round {root = root} {items = items} tree n o is_root at = by_opens (opens_a
     by_opens [] e = e
     by_opens (x ∷ outer) e =
         let there = opened_at items o x outer tree.lawful e in
-        let own = one_place tree _ _ at.listed (contains-here _ (places root.0 0 tree.named)) is_root in
+        let own = one_place tree _ _ at.listed (contains-here _ (node_places root.0 0 tree.named)) is_root in
         let sorts = ap (λ (z : NodePlace). z.sort) own in
         let kind : x.kind ≡ (node_at items o).kind = ap (λ opens. (place_with opens o (drop o items)).kind) (sym e) in
         let both : ◌≡◌ {A = NodeWhat} (what.Node x.kind) (what.Node Root) = ap what.Node kind ∙ sorts in
@@ -182,7 +182,7 @@ pub record Round {slots : Slots} {root : NodeId} {items : List PlainItem} (tree 
   pub outer : List Open
   pub opens_are : opens_after [] 0 (take o items) ≡ x ∷ outer
   pub place : NodePlace
-  pub listed : Contains (places root.0 0 tree.named) place
+  pub listed : Contains (node_places root.0 0 tree.named) place
   pub number_is : place.number ≡ n.0
   pub from_is : place.from ≡ x.from
   pub sort_is : place.sort ≡ what.Node x.kind

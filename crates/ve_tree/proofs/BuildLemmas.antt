@@ -14,7 +14,7 @@ use Rattle.ve_arena.specs.Arena.{slot_at, new_node, with_len, Puts, Changes}
 use Rattle.ve_tree.specs.Links.{link_in}
 use Rattle.ve_tree.specs.Named.{heads}
 use Rattle.ve_tree.specs.IsTree.{unvalued, IsTree}
-use Rattle.ve_tree.specs.Grown.{with_children, reading_from, closes, closes_from, count_from, IsOpening, ReadChildren}
+use Rattle.ve_tree.specs.Grown.{with_children, reading_from, closes, closes_from, count_from, OpensNode, ReadChildren}
 use Rattle.ve_tree.proofs.ReadLemmas.{item_at, opening-inside, count-whole}
 
 root_made : (s0 s1 s2 : List (Option ArenaNode)) (root : NodeId) (len : ℕ) → Puts s0 s1 root (Some (new_node (what.Node Root))) → Changes s1 s2 root (with_len len) →
@@ -23,7 +23,7 @@ root_made s0 s1 s2 root len made write = write.here ∙ ap (option_map (with_len
 
 -- the list's first items are read
 whole : (items : List Item) (from : ℕ) → Lawful (unvalued items) → from ≤ length items → closes_from items from ≡ [] →
-    ((m : ℕ) (x : Item) → suc m ≡ from → slice_get items m ≡ Some x → IsOpening x) → from ≡ 0
+    ((m : ℕ) (x : Item) → suc m ≡ from → slice_get items m ≡ Some x → OpensNode x) → from ≡ 0
 whole items zero lawful within closed ended = refl
 whole items (suc k) lawful within closed ended =
     let here = item_at items k (omega (arith, within)) in

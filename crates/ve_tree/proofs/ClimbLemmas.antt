@@ -9,10 +9,10 @@ use Rattle.ve_arena.specs.declared.node.NodeWhat.{NodeWhat}
 use Rattle.ve_arena.specs.declared.node.NodeWhat.TheVariants as what
 use Rattle.ve_arena.specs.declared.node.ArenaNode.{ArenaNode}
 use Rattle.ve_arena.specs.Arena.{slot_at}
-use Rattle.ve_tree.specs.Links.{number_of, link_in, links_of, Row}
-use Rattle.ve_tree.specs.Named.{Named, NoNode, NamedRun, NamedBranch, bare, heads, Shows}
+use Rattle.ve_tree.specs.Links.{number_of, link_in, links_of, AreSiblings}
+use Rattle.ve_tree.specs.Named.{Named, NoNode, NamedRun, NamedBranch, unnumbered, heads, Shows}
 use Rattle.ve_tree.specs.IsTree.{IsTree}
-use Rattle.ve_tree.specs.Places.{NodePlace, places, tree_places}
+use Rattle.ve_tree.specs.Places.{NodePlace, node_places, tree_places}
 use Rattle.ve_tree.proofs.WalkLemmas.{Slots, NoEmptyRun, contains-here, contains-later, tree-runs}
 
 pub contains_cases : {X : Type 0} (y x : X) (xs : List X) → Contains (y ∷ xs) x → (y ≡ x) ⊎ Contains xs x
@@ -97,12 +97,12 @@ from_parts slots own inside later p at start inner_end end parts y c =
       ]
     ]
 
-listed_above : (slots : Slots) (f : Named) (p at : ℕ) (start : Option ℕ) (y : NodePlace) → Row (links_of slots).parent (links_of slots).before (links_of slots).after p start (heads f) None →
-    Shows slots f → NoEmptyRun (bare f) → Contains (places p at f) y → IsAbove slots (places p at f) p at start (at + item_count (bare f)) y
+listed_above : (slots : Slots) (f : Named) (p at : ℕ) (start : Option ℕ) (y : NodePlace) → AreSiblings (links_of slots).parent (links_of slots).before (links_of slots).after p start (heads f) None →
+    Shows slots f → NoEmptyRun (unnumbered f) → Contains (node_places p at f) y → IsAbove slots (node_places p at f) p at start (at + item_count (unnumbered f)) y
 listed_above slots NoNode p at start y row shown runs c = absurd (omega (arith, c.1))
 listed_above slots (NamedRun h count later) p at start y row shown runs c =
-    let e : (at + count) + item_count (bare later) ≡ at + (count + item_count (bare later)) = omega arith in
-    from_parts slots (record { number = h; parent = Some p; sort = what.Run; from = at; to = at + count }) [] (places p (at + count) later) p at start at (at + (count + item_count (bare later)))
+    let e : (at + count) + item_count (unnumbered later) ≡ at + (count + item_count (unnumbered later)) = omega arith in
+    from_parts slots (record { number = h; parent = Some p; sort = what.Run; from = at; to = at + count }) [] (node_places p (at + count) later) p at start at (at + (count + item_count (unnumbered later)))
     (record {
       own_above = record {
         placed = record { sort_is = shown.0.sort_is; parent_is = row.0; len = count; len_is = shown.0.len_is; some = runs.0; in_a_node = refl; ends = refl };
@@ -111,13 +111,13 @@ listed_above slots (NamedRun h count later) p at start y row shown runs c =
       };
       within_end = omega arith;
       inside_above = λ y d. absurd (omega (arith, d.1));
-      later_above = λ y d. subst (λ end. IsAbove slots (places p (at + count) later) p (at + count) (Some h) end y) e (listed_above slots later p (at + count) (Some h) y row.3 shown.1 runs.1 d);
+      later_above = λ y d. subst (λ end. IsAbove slots (node_places p (at + count) later) p (at + count) (Some h) end y) e (listed_above slots later p (at + count) (Some h) y row.3 shown.1 runs.1 d);
     }) y c
 listed_above slots (NamedBranch h kind inside later) p at start y row shown runs c =
-    let len = item_count (bare inside) + 2 in
-    let e : (at + len) + item_count (bare later) ≡ at + (item_count (bare inside) + 2 + item_count (bare later)) = omega arith in
-    from_parts slots (record { number = h; parent = Some p; sort = what.Node kind; from = at; to = at + len }) (places h (suc at) inside) (places p (at + len) later) p at start
-    (suc at + item_count (bare inside)) (at + (item_count (bare inside) + 2 + item_count (bare later)))
+    let len = item_count (unnumbered inside) + 2 in
+    let e : (at + len) + item_count (unnumbered later) ≡ at + (item_count (unnumbered inside) + 2 + item_count (unnumbered later)) = omega arith in
+    from_parts slots (record { number = h; parent = Some p; sort = what.Node kind; from = at; to = at + len }) (node_places h (suc at) inside) (node_places p (at + len) later) p at start
+    (suc at + item_count (unnumbered inside)) (at + (item_count (unnumbered inside) + 2 + item_count (unnumbered later)))
     (record {
       own_above = record {
         placed = record { sort_is = shown.0.sort_is; parent_is = row.0; len = len; len_is = shown.0.len_is; some = omega arith; in_a_node = refl; ends = refl };
@@ -126,7 +126,7 @@ listed_above slots (NamedBranch h kind inside later) p at start y row shown runs
       };
       within_end = omega arith;
       inside_above = λ y d. listed_above slots inside h (suc at) None y shown.0.children.row shown.1 runs.0 d;
-      later_above = λ y d. subst (λ end. IsAbove slots (places p (at + len) later) p (at + len) (Some h) end y) e (listed_above slots later p (at + len) (Some h) y row.3 shown.2 runs.1 d);
+      later_above = λ y d. subst (λ end. IsAbove slots (node_places p (at + len) later) p (at + len) (Some h) end y) e (listed_above slots later p (at + len) (Some h) y row.3 shown.2 runs.1 d);
     }) y c
 
 -- every node of a tree
@@ -140,7 +140,7 @@ pub record IsListed {slots : Slots} {root : NodeId} {items : List PlainItem} (tr
 
 pub tree_listed : {slots : Slots} {root : NodeId} {items : List PlainItem} (tree : IsTree slots root items) (y : NodePlace) → Contains (tree_places tree) y → IsListed tree y
 tree_listed {slots = slots} {root = root} {items = items} tree y c =
-    elim (contains_cases _ y (places root.0 0 tree.named) c) [
+    elim (contains_cases _ y (node_places root.0 0 tree.named) c) [
       | inl same ↦ subst (IsListed tree) same (record {
         sort_is = tree.root_shown.sort_is;
         parent_is = tree.root_alone.no_parent;
@@ -199,11 +199,11 @@ climb_start tree x n c number = record { place = x; listed = c; number = number;
 -- the root, or a node in it
 data IsRootOr {slots : Slots} {root : NodeId} {items : List PlainItem} (tree : IsTree slots root items) (y : NodePlace) : Type 0 where
   AtRoot : y.number ≡ root.0 → y.from ≡ 0 → IsRootOr tree y
-  InRoot : Contains (places root.0 0 tree.named) y → IsAbove slots (places root.0 0 tree.named) root.0 0 None (0 + item_count (bare tree.named)) y → IsRootOr tree y
+  InRoot : Contains (node_places root.0 0 tree.named) y → IsAbove slots (node_places root.0 0 tree.named) root.0 0 None (0 + item_count (unnumbered tree.named)) y → IsRootOr tree y
 
 root_or : {slots : Slots} {root : NodeId} {items : List PlainItem} (tree : IsTree slots root items) (y : NodePlace) → Contains (tree_places tree) y → IsRootOr tree y
 root_or {slots = slots} {root = root} tree y c =
-    elim (contains_cases _ y (places root.0 0 tree.named) c) [
+    elim (contains_cases _ y (node_places root.0 0 tree.named) c) [
       | inl same ↦ AtRoot (ap (λ (z : NodePlace). z.number) (sym same)) (ap (λ (z : NodePlace). z.from) (sym same))
       | inr there ↦ InRoot there (listed_above slots tree.named root.0 0 None y tree.root_shown.children.row tree.shown (tree-runs tree) there)
     ]
@@ -230,9 +230,9 @@ step_before {slots = slots} {root = root} {items = items} tree x at from node be
     link : (links_of slots).before c.place.number ≡ option_map number_of (Some before)
     link = linked_before slots c.place.number at node c.number here ∙ ap (option_map number_of) is_before
 
-    suffix : (z : NodePlace) → Contains (places root.0 0 tree.named) z → z.number ≡ before.0 → z.to ≡ c.place.from → StepBefore tree x before from
+    suffix : (z : NodePlace) → Contains (node_places root.0 0 tree.named) z → z.number ≡ before.0 → z.to ≡ c.place.from → StepBefore tree x before from
     suffix z d number ends =
-        let all : Contains (tree_places tree) z = contains-later _ z (places root.0 0 tree.named) d in
+        let all : Contains (tree_places tree) z = contains-later _ z (node_places root.0 0 tree.named) d in
         let placed = (listed_above slots tree.named root.0 0 None z tree.root_shown.children.row tree.shown (tree-runs tree) d).placed in
         record {
           live = subst (λ m. IsSome (slot_at slots m)) number (some_len (slot_at slots z.number) placed.len placed.len_is);
@@ -247,7 +247,7 @@ step_before {slots = slots} {root = root} {items = items} tree x at from node be
         some_len None len h = absurd (cc)
         some_len (Some node) len h = refl
 
-    by_above : Above slots (places root.0 0 tree.named) root.0 0 None c.place → StepBefore tree x before from
+    by_above : Above slots (node_places root.0 0 tree.named) root.0 0 None c.place → StepBefore tree x before from
     by_above (AtFirst b f q) = let bad : ◌≡◌ {A = Option ℕ} None (Some before.0) = sym b ∙ link in absurd (cc)
     by_above (Following z d b e) = suffix z d (numbers_same z.number before (sym b ∙ link)) e
     by_above (Within z d b q e) = let bad : ◌≡◌ {A = Option ℕ} None (Some before.0) = sym b ∙ link in absurd (cc)
@@ -271,12 +271,12 @@ step_parent {slots = slots} {root = root} {items = items} tree x at from node pa
     parent_is : c.place.parent ≡ option_map number_of (Some parent)
     parent_is = sym (tree_listed tree c.place c.listed).parent_is ∙ up
 
-    by_above : Above slots (places root.0 0 tree.named) root.0 0 None c.place → Climb tree x parent.0 (from + 1)
+    by_above : Above slots (node_places root.0 0 tree.named) root.0 0 None c.place → Climb tree x parent.0 (from + 1)
     by_above (AtFirst b f q) = absurd (not_root (sym (numbers_same root.0 parent (sym q ∙ parent_is))))
     by_above (Following z d b e) = let bad : ◌≡◌ {A = Option ℕ} (Some z.number) None = sym b ∙ link in absurd (cc)
     by_above (Within z d b q e) = record {
       place = z;
-      listed = contains-later _ z (places root.0 0 tree.named) d;
+      listed = contains-later _ z (node_places root.0 0 tree.named) d;
       number = numbers_same z.number parent (sym q ∙ parent_is);
       sum = omega (arith, c.sum, e);
     }
@@ -301,7 +301,7 @@ step_top {slots = slots} {root = root} {items = items} tree x at from node c her
     some_parent None m h k = absurd (cc)
     some_parent (Some q) m h k = numbers_same m q h ∙ k q refl
 
-    not_inside : (z : NodePlace) → Contains (places root.0 0 tree.named) z → z.number ≢ root.0
+    not_inside : (z : NodePlace) → Contains (node_places root.0 0 tree.named) z → z.number ≢ root.0
     not_inside z d e =
         let placed = (listed_above slots tree.named root.0 0 None z tree.root_shown.children.row tree.shown (tree-runs tree) d).placed in
         no_parent z.parent placed.in_a_node (sym placed.parent_is ∙ ap (links_of slots).parent e ∙ tree.root_alone.no_parent)
@@ -310,7 +310,7 @@ step_top {slots = slots} {root = root} {items = items} tree x at from node c her
         no_parent None some e = let bad : false ≡ true = some in absurd (cc)
         no_parent (Some m) some e = absurd (cc)
 
-    by_above : Above slots (places root.0 0 tree.named) root.0 0 None c.place → c.place.from ≡ 0
+    by_above : Above slots (node_places root.0 0 tree.named) root.0 0 None c.place → c.place.from ≡ 0
     by_above (AtFirst b f q) = f
     by_above (Following z d b e) = let bad : ◌≡◌ {A = Option ℕ} (Some z.number) None = sym b ∙ link in absurd (cc)
     by_above (Within z d b q e) = absurd (not_inside z d (some_parent node.parent z.number (sym q ∙ parent_is) top))

@@ -1,8 +1,8 @@
 -- What is read from links has no number twice, so it is a tree.
 use Rattle.std.proofs.Common.{◌≡◌, ◌≢◌, ◌≤◌, ◌<◌, ◌⊎◌, inl, inr, ℕ, Option, Some, None, List, [], ◌∷◌, ◌++◌, refl, sym, ap, ◌∙◌, subst, arith}
 use Rattle.model_items.specs.Tree.{node_count}
-use Rattle.ve_tree.specs.Links.{links_of, first_or, last_or, Row, Apart, AllApart}
-use Rattle.ve_tree.specs.Named.{Named, NoNode, NamedRun, NamedBranch, bare, heads, numbers, Shows}
+use Rattle.ve_tree.specs.Links.{links_of, first_or, last_or, AreSiblings, Apart, AllApart}
+use Rattle.ve_tree.specs.Named.{Named, NoNode, NamedRun, NamedBranch, unnumbered, heads, node_numbers, Shows}
 use Rattle.ve_tree.specs.Reads.{IsRead, ReadIsTree}
 use Rattle.ve_tree.proofs.GrownLemmas.{Slots, apart-ls, apart-rs, apart-join, Disjoint, all-join}
 use Rattle.ve_tree.proofs.FitsLemmas.{same_or_not}
@@ -52,7 +52,7 @@ ParentIn slots p ms x = ((links_of slots).parent x ≡ Some p) ⊎ ((y : ℕ) ×
 parent_of : (slots : Slots) (x n p : ℕ) → x ≡ n → (links_of slots).parent n ≡ Some p → (links_of slots).parent x ≡ Some p
 parent_of slots x n p e h = ap (links_of slots).parent e ∙ h
 
-parents_in : (slots : Slots) (f : Named) (p : ℕ) (before here : Option ℕ) → IsRead slots p before here f → (x : ℕ) → In x (numbers f) → ParentIn slots p (numbers f) x
+parents_in : (slots : Slots) (f : Named) (p : ℕ) (before here : Option ℕ) → IsRead slots p before here f → (x : ℕ) → In x (node_numbers f) → ParentIn slots p (node_numbers f) x
 parents_in slots NoNode p before here r x i = absurd i
 parents_in slots (NamedRun n count later) p before here r x i =
     elim i [
@@ -65,14 +65,14 @@ parents_in slots (NamedRun n count later) p before here r x i =
 parents_in slots (NamedBranch n kind inside later) p before here r x i =
     elim i [
       | inl same ↦ inl (parent_of slots x n p same r.1.parent_is)
-      | inr more ↦ elim (in_append x (numbers inside) (numbers later) more) [
+      | inr more ↦ elim (in_append x (node_numbers inside) (node_numbers later) more) [
         | inl in_ ↦ elim (parents_in slots inside n None _ r.2 x in_) [
           | inl top ↦ inr (n, inl refl, top)
-          | inr below ↦ inr (below.0, inr (in_left below.0 (numbers inside) (numbers later) below.1), below.2)
+          | inr below ↦ inr (below.0, inr (in_left below.0 (node_numbers inside) (node_numbers later) below.1), below.2)
         ]
         | inr after_ ↦ elim (parents_in slots later p (Some n) _ r.3 x after_) [
           | inl top ↦ inl top
-          | inr below ↦ inr (below.0, inr (in_right below.0 (numbers inside) (numbers later) below.1), below.2)
+          | inr below ↦ inr (below.0, inr (in_right below.0 (node_numbers inside) (node_numbers later) below.1), below.2)
         ]
       ]
     ]
@@ -85,13 +85,13 @@ record Suffix (slots : Slots) (x most : ℕ) : Type 0 where
   read : IsRead slots p before (Some x) forest
   parent_is : (links_of slots).parent x ≡ Some p
   before_is : (links_of slots).before x ≡ before
-  small : node_count (bare forest) ≤ most
+  small : node_count (unnumbered forest) ≤ most
 
 wider : (slots : Slots) (x most more : ℕ) → most ≤ more → Suffix slots x most → Suffix slots x more
 wider slots x most more h s =
     record { forest = s.forest; p = s.p; before = s.before; read = s.read; parent_is = s.parent_is; before_is = s.before_is; small = omega (arith, s.small, h) }
 
-suffix_at : (slots : Slots) (f : Named) (p : ℕ) (before here : Option ℕ) → IsRead slots p before here f → (x : ℕ) → In x (numbers f) → Suffix slots x (node_count (bare f))
+suffix_at : (slots : Slots) (f : Named) (p : ℕ) (before here : Option ℕ) → IsRead slots p before here f → (x : ℕ) → In x (node_numbers f) → Suffix slots x (node_count (unnumbered f))
 suffix_at slots NoNode p before here r x i = absurd i
 suffix_at slots (NamedRun n count later) p before here r x i =
     elim i [
@@ -117,7 +117,7 @@ suffix_at slots (NamedBranch n kind inside later) p before here r x i =
         before_is = ap (links_of slots).before same ∙ r.1.before_is;
         small = omega arith;
       }
-      | inr more ↦ elim (in_append x (numbers inside) (numbers later) more) [
+      | inr more ↦ elim (in_append x (node_numbers inside) (node_numbers later) more) [
         | inl in_ ↦ wider slots x _ _ (omega arith) (suffix_at slots inside n None _ r.2 x in_)
         | inr after_ ↦ wider slots x _ _ (omega arith) (suffix_at slots later p (Some n) _ r.3 x after_)
       ]
@@ -125,14 +125,14 @@ suffix_at slots (NamedBranch n kind inside later) p before here r x i =
 
 -- from one node on one forest is read, so a smaller one isn't
 not_smaller : (slots : Slots) (f : Named) (n p most : ℕ) (before : Option ℕ) → IsRead slots p before (Some n) f → (links_of slots).parent n ≡ Some p → (links_of slots).before n ≡ before →
-    most < node_count (bare f) → Suffix slots n most → ⊥
+    most < node_count (unnumbered f) → Suffix slots n most → ⊥
 not_smaller slots f n p most before read parent_is before_is less s =
     let above = one_number _ s.p p s.parent_is parent_is in
     let beside = sym s.before_is ∙ before_is in
     let other = subst (λ p. IsRead slots p before (Some n) s.forest) above (subst (λ b. IsRead slots s.p b (Some n) s.forest) beside s.read) in
     let same = one_is_read slots p before (Some n) f s.forest read other in
-    let size : node_count (bare f) ≡ node_count (bare s.forest) = ap (λ f. node_count (bare f)) same in
-    no_less most (node_count (bare f)) (node_count (bare s.forest)) less size s.small
+    let size : node_count (unnumbered f) ≡ node_count (unnumbered s.forest) = ap (λ f. node_count (unnumbered f)) same in
+    no_less most (node_count (unnumbered f)) (node_count (unnumbered s.forest)) less size s.small
   where
     no_less : (m a b : ℕ) → m < a → a ≡ b → b ≤ m → ⊥
     no_less m a b h e k = omega (arith, h, e, k)
@@ -146,41 +146,41 @@ not_among slots n q p ms own h a ne =
     ]
 
 apart_under : (slots : Slots) (g : Named) (q p : ℕ) (before here : Option ℕ) (ms : List ℕ) → IsRead slots q before here g → ((x : ℕ) → In x ms → ParentIn slots p ms x) →
-    Apart q ms → q ≢ p → Apart p (numbers g) → Disjoint (numbers g) ms
+    Apart q ms → q ≢ p → Apart p (node_numbers g) → Disjoint (node_numbers g) ms
 apart_under slots NoNode q p before here ms r closed a ne b = tt
 apart_under slots (NamedRun n count later) q p before here ms r closed a ne b =
     (apart_unless n ms (λ i. not_among slots n q p ms r.1.parent_is (closed n i) a ne), apart_under slots later q p (Some n) _ ms r.3 closed a ne b.1)
 apart_under slots (NamedBranch n kind inside later) q p before here ms r closed a ne b =
     let here_ = apart_unless n ms (λ i. not_among slots n q p ms r.1.parent_is (closed n i) a ne) in (
       here_,
-      disjoint_append (numbers inside) (numbers later) ms
-          (apart_under slots inside n p None _ ms r.2 closed here_ (λ e. b.0 (sym e)) (apart-ls p (numbers inside) (numbers later) b.1))
-          (apart_under slots later q p (Some n) _ ms r.3 closed a ne (apart-rs p (numbers inside) (numbers later) b.1)),
+      disjoint_append (node_numbers inside) (node_numbers later) ms
+          (apart_under slots inside n p None _ ms r.2 closed here_ (λ e. b.0 (sym e)) (apart-ls p (node_numbers inside) (node_numbers later) b.1))
+          (apart_under slots later q p (Some n) _ ms r.3 closed a ne (apart-rs p (node_numbers inside) (node_numbers later) b.1)),
     )
 
-all_distinct : (slots : Slots) (f : Named) (p : ℕ) (before here : Option ℕ) → IsRead slots p before here f → Apart p (numbers f) → AllApart (numbers f)
+all_distinct : (slots : Slots) (f : Named) (p : ℕ) (before here : Option ℕ) → IsRead slots p before here f → Apart p (node_numbers f) → AllApart (node_numbers f)
 all_distinct slots NoNode p before here r a = tt
 all_distinct slots (NamedRun n count later) p before here r a = (
-  apart_unless n (numbers later) (λ i. not_smaller slots (NamedRun n count later) n p _ before (refl, r.1, r.2, r.3) r.1.parent_is r.1.before_is (omega arith) (suffix_at slots later p (Some n) _ r.3 n i)),
+  apart_unless n (node_numbers later) (λ i. not_smaller slots (NamedRun n count later) n p _ before (refl, r.1, r.2, r.3) r.1.parent_is r.1.before_is (omega arith) (suffix_at slots later p (Some n) _ r.3 n i)),
   all_distinct slots later p (Some n) _ r.3 a.1,
 )
 all_distinct slots (NamedBranch n kind inside later) p before here r a =
     let own : IsRead slots p before (Some n) (NamedBranch n kind inside later) = (refl, r.1, r.2, r.3) in
-    let in_ = apart_unless n (numbers inside)
+    let in_ = apart_unless n (node_numbers inside)
     (λ i. not_smaller slots (NamedBranch n kind inside later) n p _ before own r.1.parent_is r.1.before_is (omega arith) (suffix_at slots inside n None _ r.2 n i)) in
-    let after_ = apart_unless n (numbers later)
+    let after_ = apart_unless n (node_numbers later)
     (λ i. not_smaller slots (NamedBranch n kind inside later) n p _ before own r.1.parent_is r.1.before_is (omega arith) (suffix_at slots later p (Some n) _ r.3 n i)) in (
-      apart-join n (numbers inside) (numbers later) in_ after_,
-      all-join (numbers inside) (numbers later)
+      apart-join n (node_numbers inside) (node_numbers later) in_ after_,
+      all-join (node_numbers inside) (node_numbers later)
           (all_distinct slots inside n None _ r.2 in_)
-          (all_distinct slots later p (Some n) _ r.3 (apart-rs p (numbers inside) (numbers later) a.1))
-          (apart_under slots inside n p None _ (numbers later) r.2 (parents_in slots later p (Some n) _ r.3) after_ (λ e. a.0 (sym e)) (apart-ls p (numbers inside) (numbers later) a.1)),
+          (all_distinct slots later p (Some n) _ r.3 (apart-rs p (node_numbers inside) (node_numbers later) a.1))
+          (apart_under slots inside n p None _ (node_numbers later) r.2 (parents_in slots later p (Some n) _ r.3) after_ (λ e. a.0 (sym e)) (apart-ls p (node_numbers inside) (node_numbers later) a.1)),
     )
 
 -- siblings that are read are linked
 record AreLinked (slots : Slots) (p : ℕ) (before here : Option ℕ) (f : Named) : Type 0 where
   here_is : here ≡ first_or (heads f) None
-  row : Row (links_of slots).parent (links_of slots).before (links_of slots).after p before (heads f) None
+  row : AreSiblings (links_of slots).parent (links_of slots).before (links_of slots).after p before (heads f) None
   last_is : (links_of slots).last p ≡ last_or before (heads f)
   shown : Shows slots f
 
@@ -207,7 +207,7 @@ are_linked slots (NamedBranch n kind inside later) p before here r =
 pub read_is_tree : ReadIsTree
 read_is_tree slots root items f t =
     let linked = are_linked slots f root.0 None _ t.read in
-    let apart_root = apart_unless root.0 (numbers f) (λ i. has_none (parents_in slots f root.0 None _ t.read root.0 i)) in
+    let apart_root = apart_unless root.0 (node_numbers f) (λ i. has_none (parents_in slots f root.0 None _ t.read root.0 i)) in
     record {
       lawful = t.lawful;
       named = f;
@@ -226,5 +226,5 @@ read_is_tree slots root items f t =
     none_is : (y : ℕ) → (links_of slots).parent root.0 ≡ Some y → ⊥
     none_is y e = let bad : ◌≡◌ {A = Option ℕ} None (Some y) = sym t.root_alone.no_parent ∙ e in cc
 
-    has_none : ParentIn slots root.0 (numbers f) root.0 → ⊥
+    has_none : ParentIn slots root.0 (node_numbers f) root.0 → ⊥
     has_none h = elim h [ inl top ↦ none_is root.0 top | inr below ↦ none_is below.0 below.2 ]

@@ -4,8 +4,8 @@ use Rattle.ve_arena.specs.declared.node.NodeId.{NodeId}
 use Rattle.ve_arena.specs.declared.node.NodeWhat.{NodeWhat}
 use Rattle.ve_arena.specs.declared.node.ArenaNode.{ArenaNode}
 use Rattle.ve_arena.specs.Arena.{slot_at, new_node, with_len, with_first, with_before, Changes}
-use Rattle.ve_tree.specs.Links.{number_of, link_in, links_of, first_or, last_or, Row, Children, Apart, AllApart}
-use Rattle.ve_tree.specs.Named.{Named, NoNode, NamedRun, NamedBranch, heads, numbers, IsShown, Shows}
+use Rattle.ve_tree.specs.Links.{number_of, link_in, links_of, first_or, last_or, AreSiblings, Children, Apart, AllApart}
+use Rattle.ve_tree.specs.Named.{Named, NoNode, NamedRun, NamedBranch, heads, node_numbers, IsShown, Shows}
 use Rattle.ve_tree.specs.Grown.{id_of, with_ends, with_children, IsChildless, AllVacant, Grown, first_in, MadeOnly, MadeBefore, MadeFirst}
 
 abbrev pub Slots : Type 0
@@ -89,14 +89,14 @@ same-trans : (a b c : Slots) (ns : List ℕ) → AllSame a b ns → AllSame b c 
 same-trans a b c [] h k = tt
 same-trans a b c (n ∷ ns) h k = (h.0 ∙ k.0, same-trans a b c ns h.1 k.1)
 
-same-heads : (new old : Slots) (f : Named) → AllSame new old (numbers f) → AllSame new old (heads f)
+same-heads : (new old : Slots) (f : Named) → AllSame new old (node_numbers f) → AllSame new old (heads f)
 same-heads new old NoNode h = tt
 same-heads new old (NamedRun n count later) h = (h.0, same-heads new old later h.1)
-same-heads new old (NamedBranch n kind inside later) h = (h.0, same-heads new old later (same-rs new old (numbers inside) (numbers later) h.1))
+same-heads new old (NamedBranch n kind inside later) h = (h.0, same-heads new old later (same-rs new old (node_numbers inside) (node_numbers later) h.1))
 
 pub row-same : (new old : Slots) (p : ℕ) (start : Option ℕ) (ns : List ℕ) (end : Option ℕ) → AllSame new old ns →
-    Row (links_of old).parent (links_of old).before (links_of old).after p start ns end →
-    Row (links_of new).parent (links_of new).before (links_of new).after p start ns end
+    AreSiblings (links_of old).parent (links_of old).before (links_of old).after p start ns end →
+    AreSiblings (links_of new).parent (links_of new).before (links_of new).after p start ns end
 row-same new old p start [] end h r = tt
 row-same new old p start (n ∷ ns) end h r = (
   ap (link_in (λ node. node.parent)) h.0 ∙ r.0,
@@ -141,31 +141,31 @@ shown-core new old n sort len kids c same s = record {
   };
 }
 
-pub shows-same : (new old : Slots) (f : Named) → AllSame new old (numbers f) → Shows old f → Shows new f
+pub shows-same : (new old : Slots) (f : Named) → AllSame new old (node_numbers f) → Shows old f → Shows new f
 shows-same new old NoNode same s = tt
 shows-same new old (NamedRun n count later) same s =
     (shown-core new old n _ count [] (ap (option_map core) same.0) tt s.0, shows-same new old later same.1 s.1)
 shows-same new old (NamedBranch n kind inside later) same s =
-    let in_ = same-ls new old (numbers inside) (numbers later) same.1 in (
+    let in_ = same-ls new old (node_numbers inside) (node_numbers later) same.1 in (
       shown-core new old n _ _ (heads inside) (ap (option_map core) same.0) (same-heads new old inside in_) s.0,
       shows-same new old inside in_ s.1,
-      shows-same new old later (same-rs new old (numbers inside) (numbers later) same.1) s.2,
+      shows-same new old later (same-rs new old (node_numbers inside) (node_numbers later) same.1) s.2,
     )
 
 -- a vacant number is none of a forest that is shown
-pub shows-apart : (slots : Slots) (n : ℕ) (f : Named) → slot_at slots n ≡ None → Shows slots f → Apart n (numbers f)
+pub shows-apart : (slots : Slots) (n : ℕ) (f : Named) → slot_at slots n ≡ None → Shows slots f → Apart n (node_numbers f)
 shows-apart slots n NoNode v s = tt
 shows-apart slots n (NamedRun m count later) v s = (not-shown m s.0, shows-apart slots n later v s.1)
   where
     not-shown : (m : ℕ) {sort : NodeWhat} {len : ℕ} {kids : List ℕ} → IsShown slots m sort len kids → n ≢ m
     not-shown m h e = none_or_some (λ (node : ArenaNode). node.what) (slot_at slots m) _ h.sort_is (sym (ap (slot_at slots) e) ∙ v)
 shows-apart slots n (NamedBranch m kind inside later) v s =
-    (not-shown m s.0, apart-join n (numbers inside) (numbers later) (shows-apart slots n inside v s.1) (shows-apart slots n later v s.2))
+    (not-shown m s.0, apart-join n (node_numbers inside) (node_numbers later) (shows-apart slots n inside v s.1) (shows-apart slots n later v s.2))
   where
     not-shown : (m : ℕ) {sort : NodeWhat} {len : ℕ} {kids : List ℕ} → IsShown slots m sort len kids → n ≢ m
     not-shown m h e = none_or_some (λ (node : ArenaNode). node.what) (slot_at slots m) _ h.sort_is (sym (ap (slot_at slots) e) ∙ v)
 
-vacant-apart : (slots : Slots) (f : Named) (ns : List ℕ) → AllVacant slots ns → Shows slots f → Disjoint ns (numbers f)
+vacant-apart : (slots : Slots) (f : Named) (ns : List ℕ) → AllVacant slots ns → Shows slots f → Disjoint ns (node_numbers f)
 vacant-apart slots f [] v s = tt
 vacant-apart slots f (n ∷ ns) v s = (shows-apart slots n f v.0 s, vacant-apart slots f ns v.1 s)
 
@@ -185,9 +185,9 @@ vacant-join slots (n ∷ ls) rs l r = (l.0, vacant-join slots ls rs l.1 r)
 record Added (cur s1 : Slots) (n p : ℕ) (sort : NodeWhat) (node : ArenaNode) (f : Named) : Type 0 where
   made : slot_at s1 n ≡ Some (record (new_node sort) { parent = Some (id_of p); after = option_map id_of (first_or (heads f) None) })
   above : slot_at s1 p ≡ Some (with_children (n ∷ heads f) node)
-  row : Row (links_of s1).parent (links_of s1).before (links_of s1).after p (Some n) (heads f) None
+  row : AreSiblings (links_of s1).parent (links_of s1).before (links_of s1).after p (Some n) (heads f) None
   shown : Shows s1 f
-  others : (q : ℕ) → Apart q (n ∷ p ∷ numbers f) → slot_at s1 q ≡ slot_at cur q
+  others : (q : ℕ) → Apart q (n ∷ p ∷ node_numbers f) → slot_at s1 q ≡ slot_at cur q
 
 -- p, whose children are the forest's, is a node with these ends
 pub above_is : (old cur : Slots) (p : ℕ) (f : Named) (node : ArenaNode) → slot_at old p ≡ Some node → Grown old cur p f →
@@ -208,8 +208,8 @@ before-before n (Some node) m h = refl
 
 -- the first sibling has n before it, and those after it are as before
 row-added : (cur s1 : Slots) (n p h : ℕ) (hs : List ℕ) → slot_at s1 h ≡ option_map (with_before (Some (id_of n))) (slot_at cur h) → AllSame s1 cur hs →
-    Row (links_of cur).parent (links_of cur).before (links_of cur).after p None (h ∷ hs) None →
-    Row (links_of s1).parent (links_of s1).before (links_of s1).after p (Some n) (h ∷ hs) None
+    AreSiblings (links_of cur).parent (links_of cur).before (links_of cur).after p None (h ∷ hs) None →
+    AreSiblings (links_of s1).parent (links_of s1).before (links_of s1).after p (Some n) (h ∷ hs) None
 row-added cur s1 n p h hs beside same r = (
   ap (link_in (λ node. node.parent)) beside ∙ before-parent (id_of n) (slot_at cur h) ∙ r.0,
   ap (link_in (λ node. node.before)) beside ∙ before-before (id_of n) (slot_at cur h) p r.0,
@@ -237,9 +237,9 @@ added old cur s1 n p sort node (NamedRun h count later) here g vacant m =
     let above = above_is old cur p f node here g in
     let made : MadeBefore cur s1 n p h sort = subst (λ o. MadeFirst (first_in o) cur s1 n p sort) above m in
     let apart_n = shows-apart cur n f vacant g.shown in
-    let same : AllSame s1 cur (numbers later) = same-where s1 cur (n ∷ p ∷ h ∷ []) (numbers later) (λ q a. made.others q a.0 a.1.0 a.1.1.0)
-    (disjoint-cons (numbers later) n (p ∷ h ∷ []) apart_n.1
-    (disjoint-cons (numbers later) p (h ∷ []) g.apart.0.1 (disjoint-turned h (numbers later) g.apart.1.0))) in
+    let same : AllSame s1 cur (node_numbers later) = same-where s1 cur (n ∷ p ∷ h ∷ []) (node_numbers later) (λ q a. made.others q a.0 a.1.0 a.1.1.0)
+    (disjoint-cons (node_numbers later) n (p ∷ h ∷ []) apart_n.1
+    (disjoint-cons (node_numbers later) p (h ∷ []) g.apart.0.1 (disjoint-turned h (node_numbers later) g.apart.1.0))) in
     record {
       made = made.made;
       above = made.above ∙ ap (option_map (with_first (Some (id_of n)))) above;
@@ -252,11 +252,11 @@ added old cur s1 n p sort node (NamedBranch h kind inside later) here g vacant m
     let above = above_is old cur p f node here g in
     let made : MadeBefore cur s1 n p h sort = subst (λ o. MadeFirst (first_in o) cur s1 n p sort) above m in
     let apart_n = shows-apart cur n f vacant g.shown in
-    let rest = numbers inside ++ numbers later in
+    let rest = node_numbers inside ++ node_numbers later in
     let same : AllSame s1 cur rest = same-where s1 cur (n ∷ p ∷ h ∷ []) rest (λ q a. made.others q a.0 a.1.0 a.1.1.0)
     (disjoint-cons rest n (p ∷ h ∷ []) apart_n.1 (disjoint-cons rest p (h ∷ []) g.apart.0.1 (disjoint-turned h rest g.apart.1.0))) in
-    let in_ = same-ls s1 cur (numbers inside) (numbers later) same in
-    let after_ = same-rs s1 cur (numbers inside) (numbers later) same in
+    let in_ = same-ls s1 cur (node_numbers inside) (node_numbers later) same in
+    let after_ = same-rs s1 cur (node_numbers inside) (node_numbers later) same in
     record {
       made = made.made;
       above = made.above ∙ ap (option_map (with_first (Some (id_of n)))) above;
@@ -271,21 +271,21 @@ added old cur s1 n p sort node (NamedBranch h kind inside later) here g vacant m
 
 -- n with the forest g is the first child of p, before the forest f
 pub record GrownMore (old new : Slots) (p n : ℕ) (sort : NodeWhat) (len : ℕ) (g f : Named) : Type 0 where
-  pub apart : AllApart (p ∷ n ∷ (numbers g ++ numbers f))
-  pub fresh : AllVacant old (n ∷ (numbers g ++ numbers f))
+  pub apart : AllApart (p ∷ n ∷ (node_numbers g ++ node_numbers f))
+  pub fresh : AllVacant old (n ∷ (node_numbers g ++ node_numbers f))
   pub node : IsShown new n sort len (heads g)
   pub inside : Shows new g
   pub later : Shows new f
   pub children : Children (links_of new) p (n ∷ heads f)
   pub own : slot_at new p ≡ option_map (with_children (n ∷ heads f)) (slot_at old p)
-  pub others : (q : ℕ) → Apart q (p ∷ n ∷ (numbers g ++ numbers f)) → slot_at new q ≡ slot_at old q
+  pub others : (q : ℕ) → Apart q (p ∷ n ∷ (node_numbers g ++ node_numbers f)) → slot_at new q ≡ slot_at old q
 
 pub grown_more : (old cur s1 s2 s3 : Slots) (p n : ℕ) (sort : NodeWhat) (len : ℕ) (g f : Named) (above : IsChildless old p) → Grown old cur p f →
     slot_at cur n ≡ None → MadeFirst (first_in (slot_at cur p)) cur s1 n p sort → Grown s1 s2 n g → Changes s2 s3 (id_of n) (with_len len) →
     GrownMore old s3 p n sort len g f
 grown_more old cur s1 s2 s3 p n sort len g f above G vacant made H W = record {
-  apart = ((λ e. p_not_n e, apart-join p (numbers g) (numbers f) p_g G.apart.0), (apart-join n (numbers g) (numbers f) H.apart.0 n_f, all-join (numbers g) (numbers f) H.apart.1 G.apart.1 g_f));
-  fresh = (old_n, vacant-join old (numbers g) (numbers f) (vacant-back s1 old (numbers g) s1_old_g H.fresh) G.fresh);
+  apart = ((λ e. p_not_n e, apart-join p (node_numbers g) (node_numbers f) p_g G.apart.0), (apart-join n (node_numbers g) (node_numbers f) H.apart.0 n_f, all-join (node_numbers g) (node_numbers f) H.apart.1 G.apart.1 g_f));
+  fresh = (old_n, vacant-join old (node_numbers g) (node_numbers f) (vacant-back s1 old (node_numbers g) s1_old_g H.fresh) G.fresh);
   node = record {
     sort_is = ap (option_map (λ node. node.what)) n_is;
     len_is = ap (option_map (λ node. node.len)) n_is;
@@ -309,8 +309,8 @@ grown_more old cur s1 s2 s3 p n sort len g f above G vacant made H W = record {
   };
   own = p_is ∙ sym (ap (option_map (with_children (n ∷ heads f))) above.here);
   others = λ q a.
-      let a_g = apart-ls q (numbers g) (numbers f) a.1.1 in
-      let a_f = apart-rs q (numbers g) (numbers f) a.1.1 in
+      let a_g = apart-ls q (node_numbers g) (node_numbers f) a.1.1 in
+      let a_f = apart-rs q (node_numbers g) (node_numbers f) a.1.1 in
       W.others q a.1.0 ∙ H.others q (a.1.0, a_g) ∙ A.others q (a.1.0, (a.0, a_f)) ∙ G.others q (a.0, a_f);
 }
   where
@@ -337,31 +337,31 @@ grown_more old cur s1 s2 s3 p n sort len g f above G vacant made H W = record {
     p_not_n : p ≢ n
     p_not_n e = live_cur (ap (slot_at cur) e ∙ vacant)
 
-    n_f : Apart n (numbers f)
+    n_f : Apart n (node_numbers f)
     n_f = shows-apart cur n f vacant G.shown
 
-    p_g : Apart p (numbers g)
-    p_g = vacant-not s1 p (numbers g) live_s1 H.fresh
+    p_g : Apart p (node_numbers g)
+    p_g = vacant-not s1 p (node_numbers g) live_s1 H.fresh
 
-    g_f : Disjoint (numbers g) (numbers f)
-    g_f = vacant-apart s1 f (numbers g) H.fresh A.shown
+    g_f : Disjoint (node_numbers g) (node_numbers f)
+    g_f = vacant-apart s1 f (node_numbers g) H.fresh A.shown
 
     old_n : slot_at old n ≡ None
     old_n = sym (G.others n ((λ e. p_not_n (sym e)), n_f)) ∙ vacant
 
-    s1_old_g : AllSame s1 old (numbers g)
-    s1_old_g = same-where s1 old (n ∷ p ∷ numbers f) (numbers g) (λ q a. A.others q a ∙ G.others q a.1)
-        (disjoint-cons (numbers g) n (p ∷ numbers f) H.apart.0 (disjoint-cons (numbers g) p (numbers f) p_g g_f))
+    s1_old_g : AllSame s1 old (node_numbers g)
+    s1_old_g = same-where s1 old (n ∷ p ∷ node_numbers f) (node_numbers g) (λ q a. A.others q a ∙ G.others q a.1)
+        (disjoint-cons (node_numbers g) n (p ∷ node_numbers f) H.apart.0 (disjoint-cons (node_numbers g) p (node_numbers f) p_g g_f))
 
     n_is : slot_at s3 n ≡ Some (with_len len (with_children (heads g) (record (new_node sort) { parent = Some (id_of p); after = option_map id_of (first_or (heads f) None) })))
     n_is = W.here ∙ ap (option_map (with_len len)) (H.own ∙ ap (option_map (with_children (heads g))) A.made)
 
-    s3_s2_g : AllSame s3 s2 (numbers g)
-    s3_s2_g = same-where s3 s2 (n ∷ []) (numbers g) (λ q a. W.others q a.0) (disjoint-turned n (numbers g) H.apart.0)
+    s3_s2_g : AllSame s3 s2 (node_numbers g)
+    s3_s2_g = same-where s3 s2 (n ∷ []) (node_numbers g) (λ q a. W.others q a.0) (disjoint-turned n (node_numbers g) H.apart.0)
 
-    s3_s1_f : AllSame s3 s1 (numbers f)
-    s3_s1_f = same-where s3 s1 (n ∷ numbers g) (numbers f) (λ q a. W.others q a.0 ∙ H.others q a)
-        (disjoint-cons (numbers f) n (numbers g) n_f (disjoint-swap (numbers g) (numbers f) g_f))
+    s3_s1_f : AllSame s3 s1 (node_numbers f)
+    s3_s1_f = same-where s3 s1 (n ∷ node_numbers g) (node_numbers f) (λ q a. W.others q a.0 ∙ H.others q a)
+        (disjoint-cons (node_numbers f) n (node_numbers g) n_f (disjoint-swap (node_numbers g) (node_numbers f) g_f))
 
     p_is : slot_at s3 p ≡ Some (with_children (n ∷ heads f) above.node)
     p_is = W.others p p_not_n ∙ H.others p (p_not_n, p_g) ∙ A.above

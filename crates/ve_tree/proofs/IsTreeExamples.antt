@@ -1,5 +1,5 @@
 -- The nodes of `<p>ab</p>` and its internal list, as `build` makes them: the root 0, the internal list 1, the paragraph 2, its text 3.
-use Rattle.std.proofs.Common.{◌≡◌, ℕ, zero, suc, false, Option, Some, None, List, [], ◌∷◌, take, refl, arith}
+use Rattle.std.proofs.Common.{◌≡◌, ℕ, zero, suc, false, Option, Some, None, List, [], ◌∷◌, take, drop, refl, arith}
 use Rattle.ve_kinds.specs.declared.kind.Kind.TheVariants.{Root, P, InternalList}
 use Rattle.model_items.specs.declared.item.Item.{Item}
 use Rattle.model_items.specs.declared.item.Item.TheVariants.{Char, Opening, Closing}
@@ -10,7 +10,7 @@ use Rattle.ve_arena.specs.Arena.{slot_at, new_node}
 use Rattle.ve_tree.specs.Links.{Apart}
 use Rattle.ve_tree.specs.Named.{Named, NoNode, NamedRun, NamedBranch}
 use Rattle.ve_tree.specs.IsTree.{unvalued, IsTree}
-use Rattle.ve_tree.specs.Lent.{IsLent}
+use Rattle.ve_tree.specs.Lent.{IsEndPiece}
 use Rattle.ve_tree.specs.Fits.{kids_of}
 use Rattle.ve_tree.specs.Reads.{IsReadUnder}
 
@@ -76,13 +76,6 @@ in_the_internal_list = refl
 no_node : kids_of 0 nodes 7 ≡ []
 no_node = refl
 
--- the page in one block, of which the internal list is read
-two_read : IsLent (page ∷ []) 0 (take 4 page) (record { items = page; left = 4 })
-two_read = record {
-  whole = refl;
-  rule = ((omega arith, omega arith), tt, tt);
-  among = omega arith;
-  within = omega arith;
-  items = refl;
-  some = λ l. omega arith;
-}
+-- where five items are still to be read, the list's opening may be lent
+ends_with_the_opening : IsEndPiece page 5 (drop 4 (take 5 page))
+ends_with_the_opening = record { within = omega arith; some = λ l. omega arith; piece = refl }

@@ -10,10 +10,10 @@ use Rattle.ve_arena.specs.declared.node.NodeId.{NodeId}
 use Rattle.ve_arena.specs.declared.node.ArenaNode.{ArenaNode}
 use Rattle.ve_arena.specs.Arena.{slot_at}
 use Rattle.ve_tree.specs.Links.{number_of, link_in, links_of, first_or}
-use Rattle.ve_tree.specs.Named.{Named, NoNode, NamedRun, NamedBranch, bare, heads, Shows}
+use Rattle.ve_tree.specs.Named.{Named, NoNode, NamedRun, NamedBranch, unnumbered, heads, Shows}
 use Rattle.ve_tree.specs.IsTree.{IsTree}
-use Rattle.ve_tree.specs.Places.{NodePlace, places}
-use Rattle.ve_tree.specs.Landmarks.{LandmarkRow, IsLandmark, IsLandmarkBefore, StandsAt, AreLandmarks, HasOneMore}
+use Rattle.ve_tree.specs.Places.{NodePlace, node_places}
+use Rattle.ve_tree.specs.Landmarks.{LandmarkRow, IsLandmark, IsLandmarkBefore, NodeBeginsAt, AreLandmarks, HasOneMore}
 use Rattle.ve_tree.specs.Way.{BeginsBefore, EndsBefore, IsBeforeEnd, IsMarkedTo}
 use Rattle.ve_tree.proofs.WalkLemmas.{Slots, contains-here, contains-later}
 use Rattle.ve_tree.proofs.ClimbLemmas.{contains_cases, tree_listed, len_under, root_whole}
@@ -83,7 +83,7 @@ root_landmark slots root new more m from mark items tree = elim (more.others m f
   | inl none ↦ absurd (omega (arith, none.among))
   | inr is ↦ record {
     place = _;
-    listed = contains-here _ (places root.0 0 tree.named);
+    listed = contains-here _ (node_places root.0 0 tree.named);
     number_is = ap (λ (q : NodeId). q.0) (sym is.0);
     from_is = omega (arith, is.1);
   }
@@ -136,37 +136,37 @@ record FirstPlace (all : List NodePlace) (number from : ℕ) : Type 0 where
   number_is : place.number ≡ number
   from_is : place.from ≡ from
 
-first_place : (f : Named) (p at m : ℕ) → first_or (heads f) None ≡ Some m → FirstPlace (places p at f) m at
+first_place : (f : Named) (p at m : ℕ) → first_or (heads f) None ≡ Some m → FirstPlace (node_places p at f) m at
 first_place NoNode p at m h = absurd (cc)
-first_place (NamedRun h count later) p at m e = record { place = _; listed = contains-here _ (places p (at + count) later); number_is = cc; from_is = refl }
+first_place (NamedRun h count later) p at m e = record { place = _; listed = contains-here _ (node_places p (at + count) later); number_is = cc; from_is = refl }
 first_place (NamedBranch h kind inside later) p at m e =
-    record { place = _; listed = contains-here _ (places h (suc at) inside ++ places p (at + (item_count (bare inside) + 2)) later); number_is = cc; from_is = refl }
+    record { place = _; listed = contains-here _ (node_places h (suc at) inside ++ node_places p (at + (item_count (unnumbered inside) + 2)) later); number_is = cc; from_is = refl }
 
 more_places : (all more : List NodePlace) (number from : ℕ) → ((z : NodePlace) → Contains all z → Contains more z) → FirstPlace all number from → FirstPlace more number from
 more_places all more number from wider f = record { place = f.place; listed = wider f.place f.listed; number_is = f.number_is; from_is = f.from_is }
 
-first_within : (slots : Slots) (f : Named) (p at m : ℕ) (y : NodePlace) → Shows slots f → Contains (places p at f) y → (links_of slots).first y.number ≡ Some m → FirstPlace (places p at f) m (suc y.from)
+first_within : (slots : Slots) (f : Named) (p at m : ℕ) (y : NodePlace) → Shows slots f → Contains (node_places p at f) y → (links_of slots).first y.number ≡ Some m → FirstPlace (node_places p at f) m (suc y.from)
 first_within slots NoNode p at m y shown c e = absurd (omega (arith, c.1))
 first_within slots (NamedRun h count later) p at m y shown c e =
-    elim (contains_cases _ y (places p (at + count) later) c) [
+    elim (contains_cases _ y (node_places p (at + count) later) c) [
       | inl same ↦
           let bad : ◌≡◌ {A = Option ℕ} None (Some m) = sym shown.0.children.first ∙ ap (λ (z : NodePlace). (links_of slots).first z.number) same ∙ e in
           absurd (cc)
-      | inr there ↦ more_places (places p (at + count) later) _ m (suc y.from) (λ z d. contains-later _ z (places p (at + count) later) d) (first_within slots later p (at + count) m y shown.1 there e)
+      | inr there ↦ more_places (node_places p (at + count) later) _ m (suc y.from) (λ z d. contains-later _ z (node_places p (at + count) later) d) (first_within slots later p (at + count) m y shown.1 there e)
     ]
 first_within slots (NamedBranch h kind inside later) p at m y shown c e =
-    let len = item_count (bare inside) + 2 in
-    let rest = places h (suc at) inside ++ places p (at + len) later in
+    let len = item_count (unnumbered inside) + 2 in
+    let rest = node_places h (suc at) inside ++ node_places p (at + len) later in
     elim (contains_cases _ y rest c) [
       | inl same ↦
           let here : first_or (heads inside) None ≡ Some m = sym shown.0.children.first ∙ ap (λ (z : NodePlace). (links_of slots).first z.number) same ∙ e in
-          subst (λ (from : ℕ). FirstPlace (places p at (NamedBranch h kind inside later)) m (suc from)) (ap (λ (z : NodePlace). z.from) same)
-          (more_places (places h (suc at) inside) _ m (suc at) (λ z d. contains-later _ z rest (Contains-append_left (places h (suc at) inside) (places p (at + len) later) z d))
+          subst (λ (from : ℕ). FirstPlace (node_places p at (NamedBranch h kind inside later)) m (suc from)) (ap (λ (z : NodePlace). z.from) same)
+          (more_places (node_places h (suc at) inside) _ m (suc at) (λ z d. contains-later _ z rest (Contains-append_left (node_places h (suc at) inside) (node_places p (at + len) later) z d))
           (first_place inside h (suc at) m here))
-      | inr there ↦ elim (Contains-append_cases (places h (suc at) inside) (places p (at + len) later) y there) [
-        | inl in_ ↦ more_places (places h (suc at) inside) _ m (suc y.from) (λ z d. contains-later _ z rest (Contains-append_left (places h (suc at) inside) (places p (at + len) later) z d))
+      | inr there ↦ elim (Contains-append_cases (node_places h (suc at) inside) (node_places p (at + len) later) y there) [
+        | inl in_ ↦ more_places (node_places h (suc at) inside) _ m (suc y.from) (λ z d. contains-later _ z rest (Contains-append_left (node_places h (suc at) inside) (node_places p (at + len) later) z d))
             (first_within slots inside h (suc at) m y shown.1 in_ e)
-        | inr after_ ↦ more_places (places p (at + len) later) _ m (suc y.from) (λ z d. contains-later _ z rest (Contains-append_right (places h (suc at) inside) (places p (at + len) later) z d))
+        | inr after_ ↦ more_places (node_places p (at + len) later) _ m (suc y.from) (λ z d. contains-later _ z rest (Contains-append_right (node_places h (suc at) inside) (node_places p (at + len) later) z d))
             (first_within slots later p (at + len) m y shown.2 after_ e)
       ]
     ]
@@ -189,7 +189,7 @@ root_first {slots = slots} {root = root} tree o node child here is_first =
     record { place = f.place; listed = f.listed; number_is = f.number_is; sum = omega (arith, f.from_is) }
 
 -- a landmark that is not the root
-pub landmark_begins : {slots : Slots} {root : NodeId} {items : List PlainItem} (tree : IsTree slots root items) (o : ℕ) (n : NodeId) (from : ℕ) → StandsAt tree n from → (n.0 ≡ root.0 → ⊥) → from ≤ o →
+pub landmark_begins : {slots : Slots} {root : NodeId} {items : List PlainItem} (tree : IsTree slots root items) (o : ℕ) (n : NodeId) (from : ℕ) → NodeBeginsAt tree n from → (n.0 ≡ root.0 → ⊥) → from ≤ o →
     BeginsBefore tree o n (o - from)
 landmark_begins {root = root} tree o n from s other le = record {
   place = s.place;

@@ -6,7 +6,7 @@ use Rattle.ve_arena.specs.declared.node.ArenaNode.{ArenaNode}
 use Rattle.ve_arena.specs.Arena.{slot_at}
 use Rattle.ve_tree.specs.IsTree.{IsTree}
 use Rattle.ve_tree.specs.Places.{NodePlace, tree_places}
-use Rattle.ve_tree.specs.Landmarks.{LandmarkRow, IsLandmark, StandsAt}
+use Rattle.ve_tree.specs.Landmarks.{LandmarkRow, IsLandmark, NodeBeginsAt}
 use Rattle.ve_tree.proofs.WalkLemmas.{Slots}
 use Rattle.ve_tree.proofs.ClimbLemmas.{Left, len_under, tree_listed}
 use Rattle.ve_tree.proofs.PlaceLemmas.{same_place}
@@ -20,7 +20,7 @@ pub record LeftMark {slots : Slots} {root : NodeId} {items : List PlainItem} (tr
   pub within : from + len ≤ all
 
 pub left_mark : {slots : Slots} {root : NodeId} {items : List PlainItem} (tree : IsTree slots root items) (x : NodePlace) (at : NodeId) (all left start : ℕ) (own : ArenaNode) (n : NodeId) →
-    Contains (tree_places tree) x → x.number ≡ n.0 → slot_at slots n.0 ≡ Some own → all ≡ length items → Left tree x at.0 all left → StandsAt tree at start →
+    Contains (tree_places tree) x → x.number ≡ n.0 → slot_at slots n.0 ≡ Some own → all ≡ length items → Left tree x at.0 all left → NodeBeginsAt tree at start →
     LeftMark tree x (start + (all - left)) own.len all
 left_mark tree x at all left start own n listed number here whole l s =
     let same = same_place tree l.climb.place s.place l.climb.listed s.listed (l.climb.number ∙ sym s.number_is) in

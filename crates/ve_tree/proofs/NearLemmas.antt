@@ -11,10 +11,10 @@ use Rattle.ve_arena.specs.declared.node.NodeId.{NodeId}
 use Rattle.ve_arena.specs.declared.node.NodeWhat.TheVariants as what
 use Rattle.ve_arena.specs.declared.node.ArenaNode.{ArenaNode}
 use Rattle.ve_arena.specs.Arena.{slot_at}
-use Rattle.ve_tree.specs.Links.{number_of, link_in, links_of, first_or, Row}
-use Rattle.ve_tree.specs.Named.{Named, NoNode, NamedRun, NamedBranch, bare, heads, Shows}
+use Rattle.ve_tree.specs.Links.{number_of, link_in, links_of, first_or, AreSiblings}
+use Rattle.ve_tree.specs.Named.{Named, NoNode, NamedRun, NamedBranch, unnumbered, heads, Shows}
 use Rattle.ve_tree.specs.IsTree.{IsTree}
-use Rattle.ve_tree.specs.Places.{NodePlace, places, tree_places, IsNodeAt}
+use Rattle.ve_tree.specs.Places.{NodePlace, node_places, tree_places, IsNodeAt}
 use Rattle.ve_tree.proofs.SeekLemmas.{seek}
 use Rattle.ve_tree.proofs.ClimbLemmas.{contains_cases, len_under, parent_under}
 use Rattle.ve_tree.specs.Way.{BeginsBefore, EndsBefore}
@@ -26,21 +26,21 @@ record On {slots : Slots} {root : NodeId} {items : List PlainItem} (tree : IsTre
   parent : Option ℕ
   start : Option ℕ
   listed : Contains (tree_places tree) (record { number = inner; parent = parent; sort = what.Node place.kind; from = place.from; to = place.to })
-  row : Row (links_of slots).parent (links_of slots).before (links_of slots).after inner start (heads f) None
+  row : AreSiblings (links_of slots).parent (links_of slots).before (links_of slots).after inner start (heads f) None
   shown : Shows slots f
-  all_listed : (x : NodePlace) → Contains (places inner at f) x → Contains (tree_places tree) x
-  runs : NoEmptyRun (bare f)
-  answer : seek (record { kind = Root; from = 0; to = length items }) 0 o (tree_of items) ≡ seek place at left (bare f)
+  all_listed : (x : NodePlace) → Contains (node_places inner at f) x → Contains (tree_places tree) x
+  runs : NoEmptyRun (unnumbered f)
+  answer : seek (record { kind = Root; from = 0; to = length items }) 0 o (tree_of items) ≡ seek place at left (unnumbered f)
 
 on_start : {slots : Slots} {root : NodeId} {items : List PlainItem} (tree : IsTree slots root items) (o : ℕ) → On tree o root.0 0 o tree.named
 on_start {root = root} {items = items} tree o = record {
   place = record { kind = Root; from = 0; to = length items };
   parent = None;
   start = None;
-  listed = contains-here _ (places root.0 0 tree.named);
+  listed = contains-here _ (node_places root.0 0 tree.named);
   row = tree.root_shown.children.row;
   shown = tree.shown;
-  all_listed = λ x c. contains-later _ x (places root.0 0 tree.named) c;
+  all_listed = λ x c. contains-later _ x (node_places root.0 0 tree.named) c;
   runs = tree-runs tree;
   answer = ap (seek (record { kind = Root; from = 0; to = length items }) 0 o) (sym tree.is_tree);
 }
@@ -55,17 +55,17 @@ past_run tree o inner at left h count later w le = record {
   listed = w.listed;
   row = w.row.3;
   shown = w.shown.1;
-  all_listed = λ x c. w.all_listed x (contains-later _ x (places inner (at + count) later) c);
+  all_listed = λ x c. w.all_listed x (contains-later _ x (node_places inner (at + count) later) c);
   runs = w.runs.1;
-  answer = w.answer ∙ ap (λ t. if t then seek w.place (at + count) (left - count) (bare later) else w.place) (le-leb count left le);
+  answer = w.answer ∙ ap (λ t. if t then seek w.place (at + count) (left - count) (unnumbered later) else w.place) (le-leb count left le);
 }
 
 past_branch : {slots : Slots} {root : NodeId} {items : List PlainItem} (tree : IsTree slots root items) (o inner at left h : ℕ) (kind : Kind) (inside later : Named) →
-    On tree o inner at left (NamedBranch h kind inside later) → item_count (bare inside) + 2 ≤ left →
-    On tree o inner (at + (item_count (bare inside) + 2)) (left - (item_count (bare inside) + 2)) later
+    On tree o inner at left (NamedBranch h kind inside later) → item_count (unnumbered inside) + 2 ≤ left →
+    On tree o inner (at + (item_count (unnumbered inside) + 2)) (left - (item_count (unnumbered inside) + 2)) later
 past_branch tree o inner at left h kind inside later w le =
-    let len = item_count (bare inside) + 2 in
-    let below = if nat_le 1 left then seek (record { kind = kind; from = at; to = at + len }) (suc at) (left - 1) (bare inside) else w.place in
+    let len = item_count (unnumbered inside) + 2 in
+    let below = if nat_le 1 left then seek (record { kind = kind; from = at; to = at + len }) (suc at) (left - 1) (unnumbered inside) else w.place in
     record {
       place = w.place;
       parent = w.parent;
@@ -73,31 +73,31 @@ past_branch tree o inner at left h kind inside later w le =
       listed = w.listed;
       row = w.row.3;
       shown = w.shown.2;
-      all_listed = λ x c. w.all_listed x (contains-later _ x (places h (suc at) inside ++ places inner (at + len) later)
-          (Contains-append_right (places h (suc at) inside) (places inner (at + len) later) x c));
+      all_listed = λ x c. w.all_listed x (contains-later _ x (node_places h (suc at) inside ++ node_places inner (at + len) later)
+          (Contains-append_right (node_places h (suc at) inside) (node_places inner (at + len) later) x c));
       runs = w.runs.1;
-      answer = w.answer ∙ ap (λ t. if t then seek w.place (at + len) (left - len) (bare later) else below) (le-leb len left le);
+      answer = w.answer ∙ ap (λ t. if t then seek w.place (at + len) (left - len) (unnumbered later) else below) (le-leb len left le);
     }
 
 into_branch : {slots : Slots} {root : NodeId} {items : List PlainItem} (tree : IsTree slots root items) (o inner at left h : ℕ) (kind : Kind) (inside later : Named) →
-    On tree o inner at left (NamedBranch h kind inside later) → left < item_count (bare inside) + 2 → 1 ≤ left → On tree o h (suc at) (left - 1) inside
+    On tree o inner at left (NamedBranch h kind inside later) → left < item_count (unnumbered inside) + 2 → 1 ≤ left → On tree o h (suc at) (left - 1) inside
 into_branch tree o inner at left h kind inside later w lt some =
-    let len = item_count (bare inside) + 2 in
+    let len = item_count (unnumbered inside) + 2 in
     let own : NodeExtent = record { kind = kind; from = at; to = at + len } in
-    let below = if nat_le 1 left then seek own (suc at) (left - 1) (bare inside) else w.place in
+    let below = if nat_le 1 left then seek own (suc at) (left - 1) (unnumbered inside) else w.place in
     record {
       place = own;
       parent = Some inner;
       start = None;
-      listed = w.all_listed _ (contains-here _ (places h (suc at) inside ++ places inner (at + len) later));
+      listed = w.all_listed _ (contains-here _ (node_places h (suc at) inside ++ node_places inner (at + len) later));
       row = w.shown.0.children.row;
       shown = w.shown.1;
-      all_listed = λ x c. w.all_listed x (contains-later _ x (places h (suc at) inside ++ places inner (at + len) later)
-          (Contains-append_left (places h (suc at) inside) (places inner (at + len) later) x c));
+      all_listed = λ x c. w.all_listed x (contains-later _ x (node_places h (suc at) inside ++ node_places inner (at + len) later)
+          (Contains-append_left (node_places h (suc at) inside) (node_places inner (at + len) later) x c));
       runs = w.runs.0;
       answer = w.answer
-          ∙ ap (λ t. if t then seek w.place (at + len) (left - len) (bare later) else below) (lt-leb len left lt)
-          ∙ ap (λ t. if t then seek own (suc at) (left - 1) (bare inside) else w.place) (le-leb 1 left some);
+          ∙ ap (λ t. if t then seek w.place (at + len) (left - len) (unnumbered later) else below) (lt-leb len left lt)
+          ∙ ap (λ t. if t then seek own (suc at) (left - 1) (unnumbered inside) else w.place) (le-leb 1 left some);
     }
 
 -- The walk to an offset comes by each node that begins at or before the offset, and ends at the offset or after it.
@@ -141,21 +141,21 @@ record Lies (at end : ℕ) (y : NodePlace) : Type 0 where
   in_order : y.from ≤ y.to
   before_end : y.to ≤ end
 
-lies : (f : Named) (p at : ℕ) (y : NodePlace) → Contains (places p at f) y → Lies at (at + item_count (bare f)) y
+lies : (f : Named) (p at : ℕ) (y : NodePlace) → Contains (node_places p at f) y → Lies at (at + item_count (unnumbered f)) y
 lies NoNode p at y c = absurd (omega (arith, c.1))
 lies (NamedRun h count later) p at y c =
-    elim (contains_cases _ y (places p (at + count) later) c) [
-      | inl same ↦ subst (Lies at (at + (count + item_count (bare later)))) same (record { after_start = omega arith; in_order = omega arith; before_end = omega arith })
+    elim (contains_cases _ y (node_places p (at + count) later) c) [
+      | inl same ↦ subst (Lies at (at + (count + item_count (unnumbered later)))) same (record { after_start = omega arith; in_order = omega arith; before_end = omega arith })
       | inr there ↦
           let l = lies later p (at + count) y there in
           record { after_start = omega (arith, l.after_start); in_order = l.in_order; before_end = omega (arith, l.before_end) }
     ]
 lies (NamedBranch h kind inside later) p at y c =
-    let len = item_count (bare inside) + 2 in
-    elim (contains_cases _ y (places h (suc at) inside ++ places p (at + len) later) c) [
-      | inl same ↦ subst (Lies at (at + (item_count (bare inside) + 2 + item_count (bare later)))) same
+    let len = item_count (unnumbered inside) + 2 in
+    elim (contains_cases _ y (node_places h (suc at) inside ++ node_places p (at + len) later) c) [
+      | inl same ↦ subst (Lies at (at + (item_count (unnumbered inside) + 2 + item_count (unnumbered later)))) same
           (record { after_start = omega arith; in_order = omega arith; before_end = omega arith })
-      | inr there ↦ elim (Contains-append_cases (places h (suc at) inside) (places p (at + len) later) y there) [
+      | inr there ↦ elim (Contains-append_cases (node_places h (suc at) inside) (node_places p (at + len) later) y there) [
         | inl in_ ↦
             let l = lies inside h (suc at) y in_ in
             record { after_start = omega (arith, l.after_start); in_order = l.in_order; before_end = omega (arith, l.before_end) }
@@ -166,10 +166,10 @@ lies (NamedBranch h kind inside later) p at y c =
     ]
 
 passes_on : {slots : Slots} {root : NodeId} {items : List PlainItem} (tree : IsTree slots root items) (o inner at left : ℕ) (f : Named) (y : NodePlace) (child : NodeId) →
-    On tree o inner at left f → Contains (places inner at f) y → child.0 ≡ y.number → o ≡ at + left → y.from ≤ o → o ≤ y.to → Passes tree o y child
+    On tree o inner at left f → Contains (node_places inner at f) y → child.0 ≡ y.number → o ≡ at + left → y.from ≤ o → o ≤ y.to → Passes tree o y child
 passes_on tree o inner at left NoNode y child w c is_child e from to = absurd (omega (arith, c.1))
 passes_on tree o inner at left (NamedRun h count later) y child w c is_child e from to =
-    elim (contains_cases _ y (places inner (at + count) later) c) [
+    elim (contains_cases _ y (node_places inner (at + count) later) c) [
       | inl same ↦
           comes tree o inner at left h (NamedRun h count later) y child w refl (sym (ap (λ (z : NodePlace). z.number) same)) (sym (ap (λ (z : NodePlace). z.from) same))
           (sym (ap (λ (z : NodePlace). z.parent) same)) is_child e
@@ -179,26 +179,26 @@ passes_on tree o inner at left (NamedRun h count later) y child w c is_child e f
           passes_on tree o inner (at + count) (left - count) later y child (past_run tree o inner at left h count later w le) there is_child (omega (arith, e, le)) from to
     ]
 passes_on tree o inner at left (NamedBranch h kind inside later) y child w c is_child e from to =
-    let len = item_count (bare inside) + 2 in
-    elim (contains_cases _ y (places h (suc at) inside ++ places inner (at + len) later) c) [
+    let len = item_count (unnumbered inside) + 2 in
+    elim (contains_cases _ y (node_places h (suc at) inside ++ node_places inner (at + len) later) c) [
       | inl same ↦
           comes tree o inner at left h (NamedBranch h kind inside later) y child w refl (sym (ap (λ (z : NodePlace). z.number) same)) (sym (ap (λ (z : NodePlace). z.from) same))
           (sym (ap (λ (z : NodePlace). z.parent) same)) is_child e
-      | inr there ↦ elim (Contains-append_cases (places h (suc at) inside) (places inner (at + len) later) y there) [
+      | inr there ↦ elim (Contains-append_cases (node_places h (suc at) inside) (node_places inner (at + len) later) y there) [
         | inl in_ ↦
             let l = lies inside h (suc at) y in_ in
             let some : 1 ≤ left = omega (arith, l.after_start, from, e) in
-            let lt : left < item_count (bare inside) + 2 = omega (arith, l.before_end, to, e) in
+            let lt : left < item_count (unnumbered inside) + 2 = omega (arith, l.before_end, to, e) in
             passes_on tree o h (suc at) (left - 1) inside y child (into_branch tree o inner at left h kind inside later w lt some) in_ is_child (omega (arith, e, some)) from to
         | inr after_ ↦
             let l = lies later inner (at + len) y after_ in
-            let le : item_count (bare inside) + 2 ≤ left = omega (arith, l.after_start, from, e) in
+            let le : item_count (unnumbered inside) + 2 ≤ left = omega (arith, l.after_start, from, e) in
             passes_on tree o inner (at + len) (left - len) later y child (past_branch tree o inner at left h kind inside later w le) after_ is_child (omega (arith, e, le)) from to
       ]
     ]
 
 pub passes : {slots : Slots} {root : NodeId} {items : List PlainItem} (tree : IsTree slots root items) (o : ℕ) (y : NodePlace) (child : NodeId) →
-    Contains (places root.0 0 tree.named) y → child.0 ≡ y.number → y.from ≤ o → o ≤ y.to → Passes tree o y child
+    Contains (node_places root.0 0 tree.named) y → child.0 ≡ y.number → y.from ≤ o → o ≤ y.to → Passes tree o y child
 passes {root = root} tree o y child c is_child from to = passes_on tree o root.0 0 o tree.named y child (on_start tree o) c is_child (omega arith) from to
 
 -- What follows a node of a forest under p: it is the last there, or a node follows it, or it is the last inside one.
@@ -222,66 +222,66 @@ of_inside slots all p end inner_end own y c e (LastIn z d a q t) = LastIn z d a 
 
 -- a node in front of a forest
 in_front : (slots : Slots) (own : NodePlace) (between : List NodePlace) (later : Named) (p at : ℕ) → (links_of slots).after own.number ≡ first_or (heads later) None → own.to ≡ at → own.parent ≡ Some p →
-    Follows slots (own ∷ (between ++ places p at later)) p (at + item_count (bare later)) own
+    Follows slots (own ∷ (between ++ node_places p at later)) p (at + item_count (unnumbered later)) own
 in_front slots own between NoNode p at a t q = AtLast a (omega (arith, t)) q
 in_front slots own between (NamedRun h count later) p at a t q =
     let z : NodePlace = record { number = h; parent = Some p; sort = what.Run; from = at; to = at + count } in
-    Ahead z (contains-later own z _ (Contains-append_right between (places p at (NamedRun h count later)) z (contains-here z (places p (at + count) later)))) a (sym t)
+    Ahead z (contains-later own z _ (Contains-append_right between (node_places p at (NamedRun h count later)) z (contains-here z (node_places p (at + count) later)))) a (sym t)
 in_front slots own between (NamedBranch h kind inside later) p at a t q =
-    let z : NodePlace = record { number = h; parent = Some p; sort = what.Node kind; from = at; to = at + (item_count (bare inside) + 2) } in
-    Ahead z (contains-later own z _ (Contains-append_right between (places p at (NamedBranch h kind inside later)) z
-    (contains-here z (places h (suc at) inside ++ places p (at + (item_count (bare inside) + 2)) later)))) a (sym t)
+    let z : NodePlace = record { number = h; parent = Some p; sort = what.Node kind; from = at; to = at + (item_count (unnumbered inside) + 2) } in
+    Ahead z (contains-later own z _ (Contains-append_right between (node_places p at (NamedBranch h kind inside later)) z
+    (contains-here z (node_places h (suc at) inside ++ node_places p (at + (item_count (unnumbered inside) + 2)) later)))) a (sym t)
 
-follows_in : (slots : Slots) (f : Named) (p at : ℕ) (start : Option ℕ) (y : NodePlace) → Row (links_of slots).parent (links_of slots).before (links_of slots).after p start (heads f) None →
-    Shows slots f → Contains (places p at f) y → Follows slots (places p at f) p (at + item_count (bare f)) y
+follows_in : (slots : Slots) (f : Named) (p at : ℕ) (start : Option ℕ) (y : NodePlace) → AreSiblings (links_of slots).parent (links_of slots).before (links_of slots).after p start (heads f) None →
+    Shows slots f → Contains (node_places p at f) y → Follows slots (node_places p at f) p (at + item_count (unnumbered f)) y
 follows_in slots NoNode p at start y row shown c = absurd (omega (arith, c.1))
 follows_in slots (NamedRun h count later) p at start y row shown c =
     let own : NodePlace = record { number = h; parent = Some p; sort = what.Run; from = at; to = at + count } in
-    let e : (at + count) + item_count (bare later) ≡ at + (count + item_count (bare later)) = omega arith in
-    let all : List NodePlace = own ∷ places p (at + count) later in
-    elim (contains_cases own y (places p (at + count) later) c) [
-      | inl same ↦ subst (Follows slots all p (at + (count + item_count (bare later)))) same (subst (λ end. Follows slots all p end own) e (in_front slots own [] later p (at + count) row.2 refl refl))
+    let e : (at + count) + item_count (unnumbered later) ≡ at + (count + item_count (unnumbered later)) = omega arith in
+    let all : List NodePlace = own ∷ node_places p (at + count) later in
+    elim (contains_cases own y (node_places p (at + count) later) c) [
+      | inl same ↦ subst (Follows slots all p (at + (count + item_count (unnumbered later)))) same (subst (λ end. Follows slots all p end own) e (in_front slots own [] later p (at + count) row.2 refl refl))
       | inr there ↦ subst (λ end. Follows slots all p end y) e
-          (wider slots (places p (at + count) later) all p (at + count + item_count (bare later)) y (λ z d. contains-later own z (places p (at + count) later) d)
+          (wider slots (node_places p (at + count) later) all p (at + count + item_count (unnumbered later)) y (λ z d. contains-later own z (node_places p (at + count) later) d)
           (follows_in slots later p (at + count) (Some h) y row.3 shown.1 there))
     ]
 follows_in slots (NamedBranch h kind inside later) p at start y row shown c =
-    let len = item_count (bare inside) + 2 in
+    let len = item_count (unnumbered inside) + 2 in
     let own : NodePlace = record { number = h; parent = Some p; sort = what.Node kind; from = at; to = at + len } in
-    let within = places h (suc at) inside in
-    let behind = places p (at + len) later in
-    let end = at + (item_count (bare inside) + 2 + item_count (bare later)) in
-    let e : (at + len) + item_count (bare later) ≡ end = omega arith in
+    let within = node_places h (suc at) inside in
+    let behind = node_places p (at + len) later in
+    let end = at + (item_count (unnumbered inside) + 2 + item_count (unnumbered later)) in
+    let e : (at + len) + item_count (unnumbered later) ≡ end = omega arith in
     let all : List NodePlace = own ∷ (within ++ behind) in
     elim (contains_cases own y (within ++ behind) c) [
       | inl same ↦ subst (Follows slots all p end) same (subst (λ end. Follows slots all p end own) e (in_front slots own within later p (at + len) row.2 refl refl))
       | inr there ↦ elim (Contains-append_cases within behind y there) [
-        | inl in_ ↦ of_inside slots all p end (suc at + item_count (bare inside)) own y (contains-here own (within ++ behind)) (omega arith)
-            (wider slots within all h (suc at + item_count (bare inside)) y (λ z d. contains-later own z (within ++ behind) (Contains-append_left within behind z d))
+        | inl in_ ↦ of_inside slots all p end (suc at + item_count (unnumbered inside)) own y (contains-here own (within ++ behind)) (omega arith)
+            (wider slots within all h (suc at + item_count (unnumbered inside)) y (λ z d. contains-later own z (within ++ behind) (Contains-append_left within behind z d))
             (follows_in slots inside h (suc at) None y shown.0.children.row shown.1 in_))
         | inr after_ ↦ subst (λ end. Follows slots all p end y) e
-            (wider slots behind all p (at + len + item_count (bare later)) y (λ z d. contains-later own z (within ++ behind) (Contains-append_right within behind z d))
+            (wider slots behind all p (at + len + item_count (unnumbered later)) y (λ z d. contains-later own z (within ++ behind) (Contains-append_right within behind z d))
             (follows_in slots later p (at + len) (Some h) y row.3 shown.2 after_))
       ]
     ]
 
-follows : {slots : Slots} {root : NodeId} {items : List PlainItem} (tree : IsTree slots root items) (y : NodePlace) → Contains (places root.0 0 tree.named) y →
-    Follows slots (places root.0 0 tree.named) root.0 (length items) y
+follows : {slots : Slots} {root : NodeId} {items : List PlainItem} (tree : IsTree slots root items) (y : NodePlace) → Contains (node_places root.0 0 tree.named) y →
+    Follows slots (node_places root.0 0 tree.named) root.0 (length items) y
 follows {slots = slots} {root = root} {items = items} tree y c =
-    let e : 0 + item_count (bare tree.named) ≡ length items = omega (arith, ap item_count tree.is_tree, count_all items tree.lawful) in
-    subst (λ end. Follows slots (places root.0 0 tree.named) root.0 end y) e (follows_in slots tree.named root.0 0 None y tree.root_shown.children.row tree.shown c)
+    let e : 0 + item_count (unnumbered tree.named) ≡ length items = omega (arith, ap item_count tree.is_tree, count_all items tree.lawful) in
+    subst (λ end. Follows slots (node_places root.0 0 tree.named) root.0 end y) e (follows_in slots tree.named root.0 0 None y tree.root_shown.children.row tree.shown c)
 
 -- a node is not the root, unless it is the first of all places
 pub under_root : {slots : Slots} {root : NodeId} {items : List PlainItem} (tree : IsTree slots root items) (y : NodePlace) → Contains (tree_places tree) y → y.number ≢ root.0 →
-    Contains (places root.0 0 tree.named) y
+    Contains (node_places root.0 0 tree.named) y
 under_root {root = root} tree y c other =
-    elim (contains_cases _ y (places root.0 0 tree.named) c) [
+    elim (contains_cases _ y (node_places root.0 0 tree.named) c) [
       | inl same ↦ absurd (other (sym (ap (λ (z : NodePlace). z.number) same)))
       | inr there ↦ there
     ]
 
-pub listed : {slots : Slots} {root : NodeId} {items : List PlainItem} (tree : IsTree slots root items) (y : NodePlace) → Contains (places root.0 0 tree.named) y → Contains (tree_places tree) y
-listed {root = root} tree y c = contains-later _ y (places root.0 0 tree.named) c
+pub listed : {slots : Slots} {root : NodeId} {items : List PlainItem} (tree : IsTree slots root items) (y : NodePlace) → Contains (node_places root.0 0 tree.named) y → Contains (tree_places tree) y
+listed {root = root} tree y c = contains-later _ y (node_places root.0 0 tree.named) c
 
 -- the links of a node that stands under a number
 after_is : (slots : Slots) (m : ℕ) (n : NodeId) (node : ArenaNode) → m ≡ n.0 → slot_at slots n.0 ≡ Some node → (links_of slots).after m ≡ option_map number_of node.after
@@ -304,7 +304,7 @@ step_after {slots = slots} {root = root} {items = items} tree o at left node aft
     link : (links_of slots).after p.place.number ≡ option_map number_of node.after
     link = after_is slots p.place.number at node p.number_is here
 
-    by_case : Follows slots (places root.0 0 tree.named) root.0 (length items) p.place → BeginsBefore tree o after left
+    by_case : Follows slots (node_places root.0 0 tree.named) root.0 (length items) p.place → BeginsBefore tree o after left
     by_case (AtLast a t q) = absurd (some_after node.after after (sym a ∙ link) is_after)
     by_case (Ahead z c a f) = record { place = z; listed = c; number_is = number_after z.number node.after after (sym a ∙ link) is_after; sum = omega (arith, f, p.sum) }
     by_case (LastIn z c a q t) = absurd (some_after node.after after (sym a ∙ link) is_after)
@@ -316,7 +316,7 @@ pub record StepUp {slots : Slots} {root : NodeId} {items : List PlainItem} (tree
 
 -- each node under the root has a parent, and is not empty
 pub parent_some : {slots : Slots} {root : NodeId} {items : List PlainItem} (tree : IsTree slots root items) (y : NodePlace) (n : NodeId) (node : ArenaNode) →
-    Contains (places root.0 0 tree.named) y → y.number ≡ n.0 → slot_at slots n.0 ≡ Some node → node.parent ≡ None → ⊥
+    Contains (node_places root.0 0 tree.named) y → y.number ≡ n.0 → slot_at slots n.0 ≡ Some node → node.parent ≡ None → ⊥
 parent_some tree y n node c number here none =
     let l = lies tree.named _ 0 y c in
     let p = passes tree y.from y n c (sym number) (omega arith) l.in_order in
@@ -325,7 +325,7 @@ parent_some tree y n node c number here none =
     cc
 
 pub not_empty : {slots : Slots} {root : NodeId} {items : List PlainItem} (tree : IsTree slots root items) (y : NodePlace) (n : NodeId) (node : ArenaNode) →
-    Contains (places root.0 0 tree.named) y → y.number ≡ n.0 → slot_at slots n.0 ≡ Some node → 1 ≤ node.len
+    Contains (node_places root.0 0 tree.named) y → y.number ≡ n.0 → slot_at slots n.0 ≡ Some node → 1 ≤ node.len
 not_empty tree y n node c number here =
     let l = lies tree.named _ 0 y c in
     let ends = len_under tree y n node (listed tree y c) number here in
@@ -334,7 +334,7 @@ not_empty tree y n node c number here =
 
 -- the parent of a node that the walk comes by
 pub parent_number : {slots : Slots} {root : NodeId} {items : List PlainItem} (tree : IsTree slots root items) (o : ℕ) (y : NodePlace) (n : NodeId) (node : ArenaNode) (parent : NodeId) (p : Passes tree o y n) →
-    Contains (places root.0 0 tree.named) y → y.number ≡ n.0 → slot_at slots n.0 ≡ Some node → node.parent ≡ Some parent → p.inner ≡ parent.0
+    Contains (node_places root.0 0 tree.named) y → y.number ≡ n.0 → slot_at slots n.0 ≡ Some node → node.parent ≡ Some parent → p.inner ≡ parent.0
 parent_number tree o y n node parent p c number here is_parent =
     let q = parent_under tree y n node (listed tree y c) number here in
     let both : ◌≡◌ {A = Option ℕ} (Some p.inner) (Some parent.0) = sym p.parent_is ∙ q ∙ ap (option_map number_of) is_parent in
@@ -342,7 +342,7 @@ parent_number tree o y n node parent p c number here is_parent =
 
 -- the offset is just behind the last node inside another
 found_at_end : {slots : Slots} {root : NodeId} {items : List PlainItem} (tree : IsTree slots root items) (o : ℕ) (y : NodePlace) (at : NodeId) (node : ArenaNode) (parent : NodeId) →
-    Contains (places root.0 0 tree.named) y → y.number ≡ at.0 → slot_at slots at.0 ≡ Some node → node.after ≡ None → node.parent ≡ Some parent → o ≤ length items → y.to ≡ o →
+    Contains (node_places root.0 0 tree.named) y → y.number ≡ at.0 → slot_at slots at.0 ≡ Some node → node.after ≡ None → node.parent ≡ Some parent → o ≤ length items → y.to ≡ o →
     IsNodeAt tree parent (node_at items o)
 found_at_end tree o y at node parent c number here none is_parent within e =
     let l = lies tree.named _ 0 y c in
@@ -369,7 +369,7 @@ step_up {slots = slots} {root = root} {items = items} tree o at left node parent
     same_parent : (m : ℕ) → p.place.parent ≡ Some m → m ≡ parent.0
     same_parent m e = let both : ◌≡◌ {A = Option ℕ} (Some m) (Some parent.0) = sym e ∙ over in cc
 
-    by_case : 0 < left → Follows slots (places root.0 0 tree.named) root.0 (length items) p.place → EndsBefore tree o parent (left - 1)
+    by_case : 0 < left → Follows slots (node_places root.0 0 tree.named) root.0 (length items) p.place → EndsBefore tree o parent (left - 1)
     by_case some (AtLast a t q) = absurd (omega (arith, some, t, p.sum, within))
     by_case some (Ahead z c a f) = absurd (no_after z.number node.after (sym a ∙ link) none)
     by_case some (LastIn z c a q t) = record { place = z; listed = c; number_is = same_parent z.number q; sum = omega (arith, t, p.sum, some) }

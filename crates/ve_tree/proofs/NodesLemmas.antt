@@ -5,9 +5,9 @@ use Rattle.model_items.specs.Tree.{item_count}
 use Rattle.ve_arena.specs.declared.node.NodeId.{NodeId}
 use Rattle.ve_arena.specs.declared.node.ArenaNode.{ArenaNode}
 use Rattle.ve_arena.specs.Arena.{slot_at}
-use Rattle.ve_tree.specs.Links.{number_of, link_in, links_of, first_or, last_of, last_or, Row, Apart}
-use Rattle.ve_tree.specs.Named.{Named, NoNode, NamedRun, NamedBranch, bare, heads, numbers, Shows}
-use Rattle.ve_tree.specs.Places.{NodePlace, places}
+use Rattle.ve_tree.specs.Links.{number_of, link_in, links_of, first_or, last_of, last_or, AreSiblings, Apart}
+use Rattle.ve_tree.specs.Named.{Named, NoNode, NamedRun, NamedBranch, unnumbered, heads, node_numbers, Shows}
+use Rattle.ve_tree.specs.Places.{NodePlace, node_places}
 use Rattle.ve_tree.specs.Nodes.{LeadsToNode, LinksLead, LinksLeadToNodes, NodesAreInTree}
 use Rattle.ve_tree.proofs.GrownLemmas.{apart-join}
 use Rattle.ve_tree.proofs.FitsLemmas.{same_or_not}
@@ -39,8 +39,8 @@ ends_live slots [] h = tt
 ends_live slots (n ∷ ns) h = last_live slots n ns h.0 h.1
 
 -- a number is none of a row of siblings and of what is inside them, or its links lead to nodes
-row_leads : (slots : Slots) (f : Named) (p : ℕ) (start : Option ℕ) → Row (links_of slots).parent (links_of slots).before (links_of slots).after p start (heads f) None →
-    Shows slots f → IsSome (slot_at slots p) → LeadsToNode slots start → (q : ℕ) → Apart q (numbers f) ⊎ LinksLead slots q
+row_leads : (slots : Slots) (f : Named) (p : ℕ) (start : Option ℕ) → AreSiblings (links_of slots).parent (links_of slots).before (links_of slots).after p start (heads f) None →
+    Shows slots f → IsSome (slot_at slots p) → LeadsToNode slots start → (q : ℕ) → Apart q (node_numbers f) ⊎ LinksLead slots q
 row_leads slots NoNode p start row s top before q = inl tt
 row_leads slots (NamedRun n count later) p start row s top before q =
     elim (same_or_not q n) [
@@ -67,7 +67,7 @@ row_leads slots (NamedBranch n kind inside later) p start row s top before q =
         | inr all ↦ inr all
         | inl none ↦ elim (row_leads slots later p (Some n) row.3 s.2 top here q) [
           | inr all ↦ inr all
-          | inl more ↦ inl (ne, apart-join q (numbers inside) (numbers later) none more)
+          | inl more ↦ inl (ne, apart-join q (node_numbers inside) (node_numbers later) none more)
         ]
       ]
     ]
@@ -100,27 +100,27 @@ links_lead_to_nodes slots root items n tree =
     ]
 
 -- a number is none of a forest's, or that of a node of it
-listed : (f : Named) (p at q : ℕ) → Apart q (numbers f) ⊎ ((place : NodePlace) × Contains (places p at f) place × (place.number ≡ q))
+listed : (f : Named) (p at q : ℕ) → Apart q (node_numbers f) ⊎ ((place : NodePlace) × Contains (node_places p at f) place × (place.number ≡ q))
 listed NoNode p at q = inl tt
 listed (NamedRun n count later) p at q =
     elim (same_or_not q n) [
-      | inl same ↦ inr (_, contains-here _ (places p (at + count) later), sym same)
+      | inl same ↦ inr (_, contains-here _ (node_places p (at + count) later), sym same)
       | inr ne ↦ elim (listed later p (at + count) q) [
         | inl none ↦ inl (ne, none)
-        | inr found ↦ inr (found.0, contains-later _ found.0 (places p (at + count) later) found.1, found.2)
+        | inr found ↦ inr (found.0, contains-later _ found.0 (node_places p (at + count) later) found.1, found.2)
       ]
     ]
 listed (NamedBranch n kind inside later) p at q =
-    let len = item_count (bare inside) + 2 in
-    let in_ = places n (suc at) inside in
-    let after_ = places p (at + len) later in
+    let len = item_count (unnumbered inside) + 2 in
+    let in_ = node_places n (suc at) inside in
+    let after_ = node_places p (at + len) later in
     elim (same_or_not q n) [
       | inl same ↦ inr (_, contains-here _ (in_ ++ after_), sym same)
       | inr ne ↦ elim (listed inside n (suc at) q) [
         | inr found ↦ inr (found.0, contains-later _ found.0 (in_ ++ after_) (Contains-append_left in_ after_ found.0 found.1), found.2)
         | inl none ↦ elim (listed later p (at + len) q) [
           | inr found ↦ inr (found.0, contains-later _ found.0 (in_ ++ after_) (Contains-append_right in_ after_ found.0 found.1), found.2)
-          | inl more ↦ inl (ne, apart-join q (numbers inside) (numbers later) none more)
+          | inl more ↦ inl (ne, apart-join q (node_numbers inside) (node_numbers later) none more)
         ]
       ]
     ]
@@ -128,9 +128,9 @@ listed (NamedBranch n kind inside later) p at q =
 pub nodes_are_in_tree : NodesAreInTree
 nodes_are_in_tree slots root n items tree live =
     elim (same_or_not n.0 root.0) [
-      | inl same ↦ record { items = items; tree = tree; place = _; listed = contains-here _ (places root.0 0 tree.named); number_is = sym same }
+      | inl same ↦ record { items = items; tree = tree; place = _; listed = contains-here _ (node_places root.0 0 tree.named); number_is = sym same }
       | inr ne ↦ elim (listed tree.named root.0 0 n.0) [
-        | inr found ↦ record { items = items; tree = tree; place = found.0; listed = contains-later _ found.0 (places root.0 0 tree.named) found.1; number_is = found.2 }
+        | inr found ↦ record { items = items; tree = tree; place = found.0; listed = contains-later _ found.0 (node_places root.0 0 tree.named) found.1; number_is = found.2 }
         | inl none ↦ absurd (not_live (slot_at slots n.0) live (tree.only n.0 (ne, none)))
       ]
     ]

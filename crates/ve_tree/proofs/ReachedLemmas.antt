@@ -12,9 +12,9 @@ use Rattle.ve_arena.specs.declared.node.NodeWhat.TheVariants as what
 use Rattle.ve_arena.specs.declared.node.ArenaNode.{ArenaNode}
 use Rattle.ve_arena.specs.Arena.{slot_at, Changes, with_len}
 use Rattle.ve_tree.specs.Links.{link_in, Apart}
-use Rattle.ve_tree.specs.Named.{Named, NoNode, NamedRun, NamedBranch, bare, heads, numbers, IsShown}
+use Rattle.ve_tree.specs.Named.{Named, NoNode, NamedRun, NamedBranch, unnumbered, heads, node_numbers, IsShown}
 use Rattle.ve_tree.specs.IsTree.{unvalued}
-use Rattle.ve_tree.specs.Grown.{id_of, with_children, IsChildless, Grown, first_in, MadeFirst, reading_from, closes_from, count_from, IsOpening, IsChar, ReadChildren, IsRunFrom}
+use Rattle.ve_tree.specs.Grown.{id_of, with_children, IsChildless, Grown, first_in, MadeFirst, reading_from, closes_from, count_from, OpensNode, IsChar, ReadChildren, IsRunFrom}
 use Rattle.ve_tree.proofs.GrownLemmas.{GrownMore, grown_more, above_is}
 use Rattle.ve_tree.proofs.ReadLemmas.{item_at, reading-at, reading-char, closes-start, closes-opening, reading-closing, reading-run, count-grows, count-is}
 
@@ -22,11 +22,11 @@ use Rattle.ve_tree.proofs.ReadLemmas.{item_at, reading-at, reading-char, closes-
 pub record Reached (old now : List (Option ArenaNode)) (p : ℕ) (items : List Item) (to at before after : ℕ) : Type 0 where
   pub forest : Named
   pub grown : Grown old now p forest
-  pub reads : reading_from items at ≡ record { here = bare forest; outer = (reading_from items to).outer }
-  pub count : at + item_count (bare forest) ≡ to
+  pub reads : reading_from items at ≡ record { here = unnumbered forest; outer = (reading_from items to).outer }
+  pub count : at + item_count (unnumbered forest) ≡ to
   pub closed : closes_from items at ≡ closes_from items to
   -- a character just before begins a run of its own
-  pub fresh : (m : ℕ) (x : Item) → suc m ≡ at → slice_get items m ≡ Some x → IsChar x → with_char (bare forest) ≡ Run 1 (bare forest)
+  pub fresh : (m : ℕ) (x : Item) → suc m ≡ at → slice_get items m ≡ Some x → IsChar x → with_char (unnumbered forest) ≡ Run 1 (unnumbered forest)
   pub steps : after + 6 * count_from items to ≤ before + 6 * count_from items at
 
 nothing_grown : (slots : List (Option ArenaNode)) (p : ℕ) → IsChildless slots p → Grown slots slots p NoNode
@@ -59,7 +59,7 @@ reached_start slots p items to before c begun = record {
 next_apart_in : (old now : List (Option ArenaNode)) (p : ℕ) (f : Named) → IsChildless old p → Grown old now p f → IfSome (first_in (slot_at now p)) (λ next. next.0 ≢ p)
 next_apart_in old now p f c g = subst (λ o. IfSome (first_in o) (λ next. next.0 ≢ p)) (sym (above_is old now p f c.node c.here g)) (by_first f g.apart.0)
   where
-    by_first : (f : Named) → Apart p (numbers f) → IfSome (first_in (Some (with_children (heads f) c.node))) (λ next. next.0 ≢ p)
+    by_first : (f : Named) → Apart p (node_numbers f) → IfSome (first_in (Some (with_children (heads f) c.node))) (λ next. next.0 ≢ p)
     by_first NoNode a = tt
     by_first (NamedRun n count later) a = λ e. a.0 (sym e)
     by_first (NamedBranch n kind inside later) a = λ e. a.0 (sym e)
@@ -85,10 +85,10 @@ record CharRead (items : List Item) (m at : ℕ) (f : Forest) (outer : List Fore
   counted : count_from items m ≡ suc (count_from items at)
 
 char_read : (old now : List (Option ArenaNode)) (p : ℕ) (items : List Item) (to at before after : ℕ) (r : Reached old now p items to at before after) (m : ℕ) (x : Item) →
-    suc m ≡ at → slice_get items m ≡ Some x → IsChar x → CharRead items m at (bare r.forest) (reading_from items to).outer
+    suc m ≡ at → slice_get items m ≡ Some x → IsChar x → CharRead items m at (unnumbered r.forest) (reading_from items to).outer
 char_read old now p items to at before after r m x e found char =
-    let next : reading_from items (suc m) ≡ record { here = bare r.forest; outer = (reading_from items to).outer } = ap (reading_from items) e ∙ r.reads in
-    let reads : reading_from items m ≡ record { here = Run 1 (bare r.forest); outer = (reading_from items to).outer } =
+    let next : reading_from items (suc m) ≡ record { here = unnumbered r.forest; outer = (reading_from items to).outer } = ap (reading_from items) e ∙ r.reads in
+    let reads : reading_from items m ≡ record { here = Run 1 (unnumbered r.forest); outer = (reading_from items to).outer } =
     (reading-char items m x found char).0
     ∙ ap (λ (g : Reading). record { here = with_char g.here; outer = g.outer }) next
     ∙ (λ i. record { here = r.fresh m x e found char i; outer = (reading_from items to).outer }) in
@@ -111,11 +111,11 @@ record ClosingRead (items : List Item) (m at : ℕ) (kind : Kind) (f : Forest) (
 
 closing_read : (old now : List (Option ArenaNode)) (p : ℕ) (items : List Item) (to at before after : ℕ) (r : Reached old now p items to at before after) (m : ℕ)
     (kind : Kind) (pre : Option ValueId) → suc m ≡ at → slice_get items m ≡ Some (item.Closing kind pre) →
-    ClosingRead items m at kind (bare r.forest) (reading_from items to).outer
+    ClosingRead items m at kind (unnumbered r.forest) (reading_from items to).outer
 closing_read old now p items to at before after r m kind pre e found =
-    let next : reading_from items (suc m) ≡ record { here = bare r.forest; outer = (reading_from items to).outer } = ap (reading_from items) e ∙ r.reads in
+    let next : reading_from items (suc m) ≡ record { here = unnumbered r.forest; outer = (reading_from items to).outer } = ap (reading_from items) e ∙ r.reads in
     let both = reading-closing items m kind pre found in
-    let reads : reading_from items m ≡ record { here = Empty; outer = bare r.forest ∷ (reading_from items to).outer } =
+    let reads : reading_from items m ≡ record { here = Empty; outer = unnumbered r.forest ∷ (reading_from items to).outer } =
     both.0 ∙ ap (λ (g : Reading). record { here = Empty; outer = g.here ∷ g.outer }) next in
     record {
       reads = reads;
@@ -201,13 +201,13 @@ reached_run old cur s1 s2 p n items to at before after after1 from c within r m 
     at_within : at ≤ to
     at_within = omega (arith, r.count)
 
-    both : (reading_from items from ≡ record { here = Run (suc k) (bare r.forest); outer = (reading_from items to).outer }) × (closes_from items from ≡ closes_from items (from + suc k))
-    both = reading-run items (bare r.forest) (reading_from items to).outer k from (omega (arith, len_is, at_within, within))
+    both : (reading_from items from ≡ record { here = Run (suc k) (unnumbered r.forest); outer = (reading_from items to).outer }) × (closes_from items from ≡ closes_from items (from + suc k))
+    both = reading-run items (unnumbered r.forest) (reading_from items to).outer k from (omega (arith, len_is, at_within, within))
         (λ j y low high at'. run.characters j y low (omega (arith, high, len_is)) at')
         (ap (reading_from items) len_is ∙ r.reads) (r.fresh m x e found char)
 
-    reads : reading_from items from ≡ record { here = bare forest; outer = (reading_from items to).outer }
-    reads = both.0 ∙ (λ i. record { here = Run (at_len i) (bare r.forest); outer = (reading_from items to).outer })
+    reads : reading_from items from ≡ record { here = unnumbered forest; outer = (reading_from items to).outer }
+    reads = both.0 ∙ (λ i. record { here = Run (at_len i) (unnumbered r.forest); outer = (reading_from items to).outer })
 
     counted : count_from items from ≡ suc (count_from items at)
     counted = count-is items from _ _ reads ∙ omega arith ∙ ap suc (sym (count-is items at _ _ r.reads))
@@ -227,7 +227,7 @@ record OpeningRead (items : List Item) (from at : ℕ) (kind : Kind) (g f : Fore
 
 opening_read : (items : List Item) (from at m : ℕ) (kind : Kind) (g f : Forest) (outer : List Forest) → Lawful (unvalued items) → from ≤ length items →
     reading_from items from ≡ record { here = g; outer = f ∷ outer } → closes_from items from ≡ kind ∷ closes_from items at →
-    ((k : ℕ) (x : Item) → suc k ≡ from → slice_get items k ≡ Some x → IsOpening x) → OpeningRead items from at kind g f outer
+    ((k : ℕ) (x : Item) → suc k ≡ from → slice_get items k ≡ Some x → OpensNode x) → OpeningRead items from at kind g f outer
 opening_read items zero at m kind g f outer lawful within reads closed ended =
     let e : ◌≡◌ {A = List Kind} [] (kind ∷ closes_from items at) = sym (closes-start items lawful) ∙ closed in absurd (cc)
 opening_read items (suc k) at m kind g f outer lawful within reads closed ended =
@@ -246,9 +246,9 @@ pub begins_inside : (old cur s1 s2 : List (Option ArenaNode)) (p n : ℕ) (items
     (m : ℕ) (kind : Kind) (pre : Option ValueId) → suc m ≡ at → slice_get items m ≡ Some (item.Closing kind pre) → ReadChildren s1 s2 n items from m → 1 ≤ from
 begins_inside old cur s1 s2 p n items to at before after from within lawful r m kind pre e found inner =
     let closing = closing_read old cur p items to at before after r m kind pre e found in
-    let opening = opening_read items from at m kind (bare inner.forest) (bare r.forest) (reading_from items to).outer lawful
+    let opening = opening_read items from at m kind (unnumbered inner.forest) (unnumbered r.forest) (reading_from items to).outer lawful
     (omega (arith, inner.count, r.count, within, e))
-    (inner.reads ∙ (λ i. record { here = bare inner.forest; outer = (closing.reads i).outer })) (inner.closed ∙ closing.closed) inner.ended in
+    (inner.reads ∙ (λ i. record { here = unnumbered inner.forest; outer = (closing.reads i).outer })) (inner.closed ∙ closing.closed) inner.ended in
     omega (arith, opening.place_is)
 
 -- a node is read and made, with its children
@@ -276,14 +276,14 @@ reached_branch old cur s1 s2 s3 p n items to at before after after1 after2 from 
       steps = by_counts (count_from items to) (count_from items open_.place) (count_from items from) (count_from items m) (count_from items at) r.steps closing.counted k counted;
     })
   where
-    closing : ClosingRead items m at kind (bare r.forest) (reading_from items to).outer
+    closing : ClosingRead items m at kind (unnumbered r.forest) (reading_from items to).outer
     closing = closing_read old cur p items to at before after r m kind pre e found
 
-    inner_reads : reading_from items from ≡ record { here = bare inner.forest; outer = bare r.forest ∷ (reading_from items to).outer }
-    inner_reads = inner.reads ∙ (λ i. record { here = bare inner.forest; outer = (closing.reads i).outer })
+    inner_reads : reading_from items from ≡ record { here = unnumbered inner.forest; outer = unnumbered r.forest ∷ (reading_from items to).outer }
+    inner_reads = inner.reads ∙ (λ i. record { here = unnumbered inner.forest; outer = (closing.reads i).outer })
 
-    open_ : OpeningRead items from at kind (bare inner.forest) (bare r.forest) (reading_from items to).outer
-    open_ = opening_read items from at m kind (bare inner.forest) (bare r.forest) (reading_from items to).outer lawful
+    open_ : OpeningRead items from at kind (unnumbered inner.forest) (unnumbered r.forest) (reading_from items to).outer
+    open_ = opening_read items from at m kind (unnumbered inner.forest) (unnumbered r.forest) (reading_from items to).outer lawful
         (omega (arith, inner.count, r.count, within, e)) inner_reads (inner.closed ∙ closing.closed) inner.ended
 
     place : open_.place ≡ from - 1
@@ -292,7 +292,7 @@ reached_branch old cur s1 s2 s3 p n items to at before after after1 after2 from 
     forest : Named
     forest = NamedBranch n kind inner.forest r.forest
 
-    len_is : at - (from - 1) ≡ item_count (bare inner.forest) + 2
+    len_is : at - (from - 1) ≡ item_count (unnumbered inner.forest) + 2
     len_is = omega (arith, inner.count, e, open_.place_is)
 
     more : GrownMore old s3 p n (what.Node kind) (at - (from - 1)) inner.forest r.forest

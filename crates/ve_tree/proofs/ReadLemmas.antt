@@ -15,7 +15,7 @@ use Rattle.model_items.specs.Law.{State, start, finish, top, step, after, Lawful
 use Rattle.model_items.proofs.LawLemmas.{if_ok, Ok-same, opened_before, closed_before, joined-ok, after_from_Lawful}
 use Rattle.model_items.specs.Tree.{Forest, Empty, Run, Branch, with_char, first_forest, Reading, reading, reading_with, tree_of, node_count}
 use Rattle.ve_tree.specs.IsTree.{unvalued}
-use Rattle.ve_tree.specs.Grown.{IsChar, IsOpening, reading_from, closes, closes_from, pending_count, count_from}
+use Rattle.ve_tree.specs.Grown.{IsChar, OpensNode, reading_from, closes, closes_from, pending_count, count_from}
 
 pub record IsRunSoFar (items : List Item) (from to : ℕ) : Type 0 where
   pub order : from ≤ to
@@ -84,7 +84,7 @@ openings-drop (item.Opening kind generated head marks pre origin ∷ items) (suc
 pub closes-start : (items : List Item) → Lawful (unvalued items) → closes_from items 0 ≡ []
 closes-start items lawful = closes-lawful (unvalued items) start (after_from_Lawful (unvalued items) lawful)
 
-pub closes-opening : (items : List Item) (m : ℕ) (kind : Kind) (x : Item) → Lawful (unvalued items) → slice_get items m ≡ Some x → IsOpening x →
+pub closes-opening : (items : List Item) (m : ℕ) (kind : Kind) (x : Item) → Lawful (unvalued items) → slice_get items m ≡ Some x → OpensNode x →
     closes_from items (suc m) ≡ kind ∷ drop 1 (closes_from items (suc m)) →
     (reading_with (plain [] x) (reading_from items (suc m)) ≡ record { here = Branch kind (reading_from items (suc m)).here (first_forest (reading_from items (suc m)).outer); outer = drop 1 (reading_from items (suc m)).outer })
     × (closes_from items m ≡ drop 1 (closes_from items (suc m)))
@@ -172,7 +172,7 @@ pub reading-end : (items : List Item) → reading_from items (length items) ≡ 
 reading-end items = ap (λ l. reading (unvalued l)) (drop-length items)
 
 -- an opening's closing is still to come
-pub opening-inside : (items : List Item) (m : ℕ) (x : Item) → Lawful (unvalued items) → slice_get items m ≡ Some x → IsOpening x → closes_from items (suc m) ≢ []
+pub opening-inside : (items : List Item) (m : ℕ) (x : Item) → Lawful (unvalued items) → slice_get items m ≡ Some x → OpensNode x → closes_from items (suc m) ≢ []
 unfolding OpeningsClose
 opening-inside items m (item.Char ch marks) lawful at opening e = opening
 opening-inside items m (item.Closing k pre) lawful at opening e = opening

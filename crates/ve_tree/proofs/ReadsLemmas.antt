@@ -6,8 +6,8 @@ use Rattle.model_items.proofs.TreeLemmas.{tree_spells}
 use Rattle.ve_arena.specs.declared.node.NodeId.{NodeId}
 use Rattle.ve_arena.specs.declared.node.NodeWhat.{NodeWhat}
 use Rattle.ve_arena.specs.Arena.{slot_at}
-use Rattle.ve_tree.specs.Links.{links_of, first_or, last_or, Row}
-use Rattle.ve_tree.specs.Named.{Named, NoNode, NamedRun, NamedBranch, bare, heads, Shows}
+use Rattle.ve_tree.specs.Links.{links_of, first_or, last_or, AreSiblings}
+use Rattle.ve_tree.specs.Named.{Named, NoNode, NamedRun, NamedBranch, unnumbered, heads, Shows}
 use Rattle.ve_tree.specs.IsTree.{IsTree}
 use Rattle.ve_tree.specs.Reads.{IsReadAs, IsRead, IsReadUnder, TreeIsRead, OneIsRead, OneNumbering}
 use Rattle.ve_tree.proofs.GrownLemmas.{Slots}
@@ -17,7 +17,7 @@ last_or-cons before n [] = refl
 last_or-cons before n (m ∷ ns) = refl
 
 -- siblings, read from the first one on
-row_is_read : (slots : Slots) (f : Named) (p : ℕ) (before : Option ℕ) → Row (links_of slots).parent (links_of slots).before (links_of slots).after p before (heads f) None →
+row_is_read : (slots : Slots) (f : Named) (p : ℕ) (before : Option ℕ) → AreSiblings (links_of slots).parent (links_of slots).before (links_of slots).after p before (heads f) None →
     (links_of slots).last p ≡ last_or before (heads f) → Shows slots f → IsRead slots p before (first_or (heads f) None) f
 row_is_read slots NoNode p before row last shown = (refl, last)
 row_is_read slots (NamedRun n count later) p before row last shown = (
@@ -88,4 +88,4 @@ one_is_read slots p before here (NamedBranch n kind inside later) (NamedBranch m
 pub one_numbering : OneNumbering
 one_numbering slots root items others tree other =
     let same = one_is_read slots root.0 None ((links_of slots).first root.0) tree.named other.named (tree_read slots root items tree) (tree_read slots root others other) in
-    (same, sym (tree_spells items tree.lawful) ∙ ap shapes (sym tree.is_tree ∙ ap bare same ∙ other.is_tree) ∙ tree_spells others other.lawful)
+    (same, sym (tree_spells items tree.lawful) ∙ ap shapes (sym tree.is_tree ∙ ap unnumbered same ∙ other.is_tree) ∙ tree_spells others other.lawful)

@@ -12,10 +12,10 @@ use Rattle.ve_arena.specs.declared.node.NodeWhat.{NodeWhat}
 use Rattle.ve_arena.specs.declared.node.NodeWhat.TheVariants as what
 use Rattle.ve_arena.specs.declared.node.ArenaNode.{ArenaNode}
 use Rattle.ve_arena.specs.Arena.{slot_at}
-use Rattle.ve_tree.specs.Links.{number_of, link_in, links_of, first_or, Row}
-use Rattle.ve_tree.specs.Named.{Named, NoNode, NamedRun, NamedBranch, bare, heads, IsShown, Shows}
+use Rattle.ve_tree.specs.Links.{number_of, link_in, links_of, first_or, AreSiblings}
+use Rattle.ve_tree.specs.Named.{Named, NoNode, NamedRun, NamedBranch, unnumbered, heads, IsShown, Shows}
 use Rattle.ve_tree.specs.IsTree.{IsTree}
-use Rattle.ve_tree.specs.Places.{NodePlace, places, tree_places, IsNodeAt}
+use Rattle.ve_tree.specs.Places.{NodePlace, node_places, tree_places, IsNodeAt}
 use Rattle.ve_tree.proofs.SeekLemmas.{seek, node_at-seek}
 
 abbrev pub Slots : Type 0
@@ -57,7 +57,7 @@ contains-here x xs = (0, omega arith, refl)
 pub contains-later : {X : Type 0} (y x : X) (xs : List X) → Contains xs x → Contains (y ∷ xs) x
 contains-later y x xs c = (suc c.0, omega (arith, c.1), c.2)
 
-pub tree-runs : {slots : Slots} {root : NodeId} {items : List PlainItem} (tree : IsTree slots root items) → NoEmptyRun (bare tree.named)
+pub tree-runs : {slots : Slots} {root : NodeId} {items : List PlainItem} (tree : IsTree slots root items) → NoEmptyRun (unnumbered tree.named)
 tree-runs {items = items} tree = subst NoEmptyRun (sym tree.is_tree) (reading-runs items).0
 
 -- The walk is in the node `inner`, and the siblings of a forest are still to be passed, `left` items before the offset.
@@ -68,11 +68,11 @@ pub record WalkOn {slots : Slots} {root : NodeId} {items : List PlainItem} (tree
   pub start : Option ℕ
   pub listed : Contains (tree_places tree) (record { number = inner; parent = parent; sort = what.Node place.kind; from = place.from; to = place.to })
   pub next_is : option_map number_of next ≡ first_or (heads f) None
-  pub row : Row (links_of slots).parent (links_of slots).before (links_of slots).after inner start (heads f) None
+  pub row : AreSiblings (links_of slots).parent (links_of slots).before (links_of slots).after inner start (heads f) None
   pub shown : Shows slots f
-  pub all_listed : (x : NodePlace) → Contains (places inner at f) x → Contains (tree_places tree) x
-  pub runs : NoEmptyRun (bare f)
-  pub answer : seek (record { kind = Root; from = 0; to = length items }) 0 o (tree_of items) ≡ seek place at left (bare f)
+  pub all_listed : (x : NodePlace) → Contains (node_places inner at f) x → Contains (tree_places tree) x
+  pub runs : NoEmptyRun (unnumbered f)
+  pub answer : seek (record { kind = Root; from = 0; to = length items }) 0 o (tree_of items) ≡ seek place at left (unnumbered f)
 
 pub record Walk {slots : Slots} {root : NodeId} {items : List PlainItem} (tree : IsTree slots root items) (o inner : ℕ) (next : Option NodeId) (left : ℕ) : Type 0 where
   pub forest : Named
@@ -87,11 +87,11 @@ walk_start {slots = slots} {root = root} {items = items} tree o node here = reco
     place = record { kind = Root; from = 0; to = length items };
     parent = None;
     start = None;
-    listed = contains-here _ (places root.0 0 tree.named);
+    listed = contains-here _ (node_places root.0 0 tree.named);
     next_is = sym (ap (link_in (λ node. node.first)) here) ∙ tree.root_shown.children.first;
     row = tree.root_shown.children.row;
     shown = tree.shown;
-    all_listed = λ x c. contains-later _ x (places root.0 0 tree.named) c;
+    all_listed = λ x c. contains-later _ x (node_places root.0 0 tree.named) c;
     runs = tree-runs tree;
     answer = ap (seek (record { kind = Root; from = 0; to = length items }) 0 o) (sym tree.is_tree);
   };
@@ -153,16 +153,16 @@ skip_on {slots = slots} tree o inner child left node (NamedRun h count later) w 
           next_is = sym (ap (link_in (λ node. node.after)) n.here) ∙ w.row.2;
           row = w.row.3;
           shown = w.shown.1;
-          all_listed = λ x c. w.all_listed x (contains-later _ x (places inner (w.at + count) later) c);
+          all_listed = λ x c. w.all_listed x (contains-later _ x (node_places inner (w.at + count) later) c);
           runs = w.runs.1;
-          answer = w.answer ∙ ap (λ t. if t then seek w.place (w.at + count) (left - count) (bare later) else w.place) (le-leb count left (omega (arith, n.len_is, le)));
+          answer = w.answer ∙ ap (λ t. if t then seek w.place (w.at + count) (left - count) (unnumbered later) else w.place) (le-leb count left (omega (arith, n.len_is, le)));
         };
       }),
     )
 skip_on {slots = slots} tree o inner child left node (NamedBranch h kind inside later) w here le =
-    let len = item_count (bare inside) + 2 in
+    let len = item_count (unnumbered inside) + 2 in
     let n = is_next slots child node h _ _ _ here (same_number child h w.next_is) w.shown.0 in
-    let below = if nat_le 1 left then seek (record { kind = kind; from = w.at; to = w.at + len }) (suc w.at) (left - 1) (bare inside) else w.place in (
+    let below = if nat_le 1 left then seek (record { kind = kind; from = w.at; to = w.at + len }) (suc w.at) (left - 1) (unnumbered inside) else w.place in (
       omega (arith, n.len_is),
       subst (λ len. Walk tree o inner node.after (left - len)) (sym n.len_is) (record {
         forest = later;
@@ -175,10 +175,10 @@ skip_on {slots = slots} tree o inner child left node (NamedBranch h kind inside 
           next_is = sym (ap (link_in (λ node. node.after)) n.here) ∙ w.row.2;
           row = w.row.3;
           shown = w.shown.2;
-          all_listed = λ x c. w.all_listed x (contains-later _ x (places h (suc w.at) inside ++ places inner (w.at + len) later)
-              (Contains-append_right (places h (suc w.at) inside) (places inner (w.at + len) later) x c));
+          all_listed = λ x c. w.all_listed x (contains-later _ x (node_places h (suc w.at) inside ++ node_places inner (w.at + len) later)
+              (Contains-append_right (node_places h (suc w.at) inside) (node_places inner (w.at + len) later) x c));
           runs = w.runs.1;
-          answer = w.answer ∙ ap (λ t. if t then seek w.place (w.at + len) (left - len) (bare later) else below) (le-leb len left (omega (arith, n.len_is, le)));
+          answer = w.answer ∙ ap (λ t. if t then seek w.place (w.at + len) (left - len) (unnumbered later) else below) (le-leb len left (omega (arith, n.len_is, le)));
         };
       }),
     )
@@ -196,10 +196,10 @@ enter_on {slots = slots} tree o inner child left node kind (NamedRun h count lat
     let n = is_next slots child node h _ _ _ here (same_number child h w.next_is) w.shown.0 in
     let bad : what.Node kind ≡ what.Run = sym sort ∙ n.sort_is in absurd (cc)
 enter_on {slots = slots} tree o inner child left node kind (NamedBranch h k inside later) w here sort lt some =
-    let len = item_count (bare inside) + 2 in
+    let len = item_count (unnumbered inside) + 2 in
     let n = is_next slots child node h _ _ _ here (same_number child h w.next_is) w.shown.0 in
     let own : NodeExtent = record { kind = k; from = w.at; to = w.at + len } in
-    let below = if nat_le 1 left then seek own (suc w.at) (left - 1) (bare inside) else w.place in
+    let below = if nat_le 1 left then seek own (suc w.at) (left - 1) (unnumbered inside) else w.place in
     subst (λ m. Walk tree o m node.first (left - 1)) (sym n.number) (record {
       forest = inside;
       on = record {
@@ -207,16 +207,16 @@ enter_on {slots = slots} tree o inner child left node kind (NamedBranch h k insi
         place = own;
         parent = Some inner;
         start = None;
-        listed = w.all_listed _ (contains-here _ (places h (suc w.at) inside ++ places inner (w.at + len) later));
+        listed = w.all_listed _ (contains-here _ (node_places h (suc w.at) inside ++ node_places inner (w.at + len) later));
         next_is = sym (ap (link_in (λ node. node.first)) n.here) ∙ w.shown.0.children.first;
         row = w.shown.0.children.row;
         shown = w.shown.1;
-        all_listed = λ x c. w.all_listed x (contains-later _ x (places h (suc w.at) inside ++ places inner (w.at + len) later)
-            (Contains-append_left (places h (suc w.at) inside) (places inner (w.at + len) later) x c));
+        all_listed = λ x c. w.all_listed x (contains-later _ x (node_places h (suc w.at) inside ++ node_places inner (w.at + len) later)
+            (Contains-append_left (node_places h (suc w.at) inside) (node_places inner (w.at + len) later) x c));
         runs = w.runs.0;
         answer = w.answer
-            ∙ ap (λ t. if t then seek w.place (w.at + len) (left - len) (bare later) else below) (lt-leb len left (omega (arith, n.len_is, lt)))
-            ∙ ap (λ t. if t then seek own (suc w.at) (left - 1) (bare inside) else w.place) (le-leb 1 left (omega (arith, some)));
+            ∙ ap (λ t. if t then seek w.place (w.at + len) (left - len) (unnumbered later) else below) (lt-leb len left (omega (arith, n.len_is, lt)))
+            ∙ ap (λ t. if t then seek own (suc w.at) (left - 1) (unnumbered inside) else w.place) (le-leb 1 left (omega (arith, some)));
       };
     })
 
@@ -227,7 +227,7 @@ walk_enter tree o inner child left node kind w here sort lt some = enter_on tree
 
 -- the node is found
 found : {slots : Slots} {root : NodeId} {items : List PlainItem} (tree : IsTree slots root items) (o : ℕ) (inner : NodeId) (next : Option NodeId) (left : ℕ) (f : Named) → o ≤ length items →
-    (w : WalkOn tree o inner.0 next left f) → seek w.place w.at left (bare f) ≡ w.place → IsNodeAt tree inner (node_at items o)
+    (w : WalkOn tree o inner.0 next left f) → seek w.place w.at left (unnumbered f) ≡ w.place → IsNodeAt tree inner (node_at items o)
 found {items = items} tree o inner next left f within w at_place =
     subst (IsNodeAt tree inner) (sym (node_at-seek items o tree.lawful within ∙ w.answer ∙ at_place)) (record { parent = w.parent; listed = w.listed })
 
@@ -251,16 +251,16 @@ walk_stop {slots = slots} {root = root} {items = items} tree o inner child left 
     by_forest (NamedRun h count later) w =
         let n = is_next slots child node h _ _ _ here (same_number child h w.next_is) w.shown.0 in
         found tree o inner (Some child) left (NamedRun h count later) within w
-        (ap (λ t. if t then seek w.place (w.at + count) (left - count) (bare later) else w.place) (lt-leb count left (omega (arith, n.len_is, lt))))
+        (ap (λ t. if t then seek w.place (w.at + count) (left - count) (unnumbered later) else w.place) (lt-leb count left (omega (arith, n.len_is, lt))))
     by_forest (NamedBranch h kind inside later) w =
-        let len = item_count (bare inside) + 2 in
+        let len = item_count (unnumbered inside) + 2 in
         let n = is_next slots child node h _ _ _ here (same_number child h w.next_is) w.shown.0 in
         let own : NodeExtent = record { kind = kind; from = w.at; to = w.at + len } in
-        let below = if nat_le 1 left then seek own (suc w.at) (left - 1) (bare inside) else w.place in
+        let below = if nat_le 1 left then seek own (suc w.at) (left - 1) (unnumbered inside) else w.place in
         let none : left < 1 = not_inside kind n.sort_is in
         found tree o inner (Some child) left (NamedBranch h kind inside later) within w
-        (ap (λ t. if t then seek w.place (w.at + len) (left - len) (bare later) else below) (lt-leb len left (omega (arith, n.len_is, lt)))
-        ∙ ap (λ t. if t then seek own (suc w.at) (left - 1) (bare inside) else w.place) (lt-leb 1 left none))
+        (ap (λ t. if t then seek w.place (w.at + len) (left - len) (unnumbered later) else below) (lt-leb len left (omega (arith, n.len_is, lt)))
+        ∙ ap (λ t. if t then seek own (suc w.at) (left - 1) (unnumbered inside) else w.place) (lt-leb 1 left none))
       where
         not_inside : (kind : Kind) → node.what ≡ what.Node kind → left < 1
         not_inside kind sort = by_left left stops

@@ -10,7 +10,7 @@ use Rattle.ve_arena.specs.declared.node.NodeWhat.TheVariants as what
 use Rattle.ve_arena.specs.declared.node.ArenaNode.{ArenaNode}
 use Rattle.ve_arena.specs.Arena.{slot_at}
 use Rattle.ve_tree.specs.Links.{Links, links_of, Children, Apart, AllApart}
-use Rattle.ve_tree.specs.Named.{Named, NoNode, NamedRun, NamedBranch, bare, heads, numbers}
+use Rattle.ve_tree.specs.Named.{Named, NoNode, NamedRun, NamedBranch, unnumbered, heads, node_numbers}
 use Rattle.ve_tree.specs.IsTree.{IsAlone, IsTree}
 
 -- each node's children are the list, and no list has a number twice
@@ -43,27 +43,27 @@ abbrev pub AreLabelled : List (Option ArenaNode) → Named → Type 0
 AreLabelled slots NoNode = Unit {0}
 AreLabelled slots (NamedRun n count later) = IsLabelled slots n what.Run count × AreLabelled slots later
 AreLabelled slots (NamedBranch n kind inside later) =
-    IsLabelled slots n (what.Node kind) (item_count (bare inside) + 2) × AreLabelled slots inside × AreLabelled slots later
+    IsLabelled slots n (what.Node kind) (item_count (unnumbered inside) + 2) × AreLabelled slots inside × AreLabelled slots later
 
 -- The nodes of an arena are the tree of a list, with these numbers and these children.
-pub record IsTreeOf (slots : List (Option ArenaNode)) (root : NodeId) (items : List PlainItem) (named : Named) (kids : ℕ → List ℕ) : Type 0 where
+pub record IsTreeWith (slots : List (Option ArenaNode)) (root : NodeId) (items : List PlainItem) (named : Named) (kids : ℕ → List ℕ) : Type 0 where
   pub lawful : Lawful items
-  pub is_tree : bare named ≡ tree_of items
-  pub apart : AllApart (root.0 ∷ numbers named)
+  pub is_tree : unnumbered named ≡ tree_of items
+  pub apart : AllApart (root.0 ∷ node_numbers named)
   pub top : kids root.0 ≡ heads named
   pub inside : HaveKids kids named
   pub fits : Fits (links_of slots) kids
   pub labelled : AreLabelled slots named
   pub root_labelled : IsLabelled slots root.0 (what.Node Root) (length items)
   pub root_alone : IsAlone slots root.0
-  pub only : (q : ℕ) → Apart q (root.0 ∷ numbers named) → slot_at slots q ≡ None
+  pub only : (q : ℕ) → Apart q (root.0 ∷ node_numbers named) → slot_at slots q ≡ None
 
 -- What is the tree of a list is so by its children lists,
 abbrev pub TreeFits : Type 0
 TreeFits = (slots : List (Option ArenaNode)) (root : NodeId) (items : List PlainItem) (tree : IsTree slots root items) →
-    IsTreeOf slots root items tree.named (kids_of root.0 tree.named)
+    IsTreeWith slots root items tree.named (kids_of root.0 tree.named)
 
 -- and what is so by any children lists is the tree of the list.
 abbrev pub FitsAreTree : Type 0
 FitsAreTree = (slots : List (Option ArenaNode)) (root : NodeId) (items : List PlainItem) (named : Named) (kids : ℕ → List ℕ) →
-    IsTreeOf slots root items named kids → IsTree slots root items
+    IsTreeWith slots root items named kids → IsTree slots root items

@@ -1,5 +1,5 @@
 -- How a tree is built, from the end of its list to the start: what each call adds to the arena, and how much of the list it has read.
-use Rattle.std.specs.Prelude.{◌≡◌, ◌≢◌, ℕ, suc, ◌+◌, ◌≤◌, ◌<◌, Option, Some, None, List, [], ◌∷◌, drop, option_map, slice_get}
+use Rattle.std.specs.Prelude.{◌≡◌, ◌≢◌, ℕ, suc, ◌+◌, ◌*◌, ◌≤◌, ◌<◌, Option, Some, None, List, [], ◌∷◌, drop, option_map, slice_get}
 use Rattle.ve_kinds.specs.declared.kind.Kind.{Kind}
 use Rattle.model_items.specs.declared.item.Item.{Item}
 use Rattle.model_items.specs.declared.item.Item.TheVariants as item
@@ -11,7 +11,7 @@ use Rattle.ve_arena.specs.declared.node.NodeWhat.{NodeWhat}
 use Rattle.ve_arena.specs.declared.node.ArenaNode.{ArenaNode}
 use Rattle.ve_arena.specs.Arena.{slot_at, new_node, with_first, with_before}
 use Rattle.ve_tree.specs.Links.{first_or, last_or, links_of, Children, Apart, AllApart}
-use Rattle.ve_tree.specs.Named.{Named, bare, heads, numbers, Shows}
+use Rattle.ve_tree.specs.Named.{Named, unnumbered, heads, node_numbers, Shows}
 use Rattle.ve_tree.specs.IsTree.{unvalued}
 
 abbrev pub id_of : ℕ → NodeId
@@ -38,12 +38,12 @@ AllVacant slots (n ∷ ns) = (slot_at slots n ≡ None) × AllVacant slots ns
 
 -- The nodes of a forest were made, and made the children of p, which had none. Nothing else changed.
 pub record Grown (old new : List (Option ArenaNode)) (p : ℕ) (f : Named) : Type 0 where
-  pub apart : AllApart (p ∷ numbers f)
-  pub fresh : AllVacant old (numbers f)
+  pub apart : AllApart (p ∷ node_numbers f)
+  pub fresh : AllVacant old (node_numbers f)
   pub shown : Shows new f
   pub children : Children (links_of new) p (heads f)
   pub own : slot_at new p ≡ option_map (with_children (heads f)) (slot_at old p)
-  pub others : (q : ℕ) → Apart q (p ∷ numbers f) → slot_at new q ≡ slot_at old q
+  pub others : (q : ℕ) → Apart q (p ∷ node_numbers f) → slot_at new q ≡ slot_at old q
 
 -- the first child of what stands in a slot
 abbrev pub first_in : Option ArenaNode → Option NodeId
@@ -90,10 +90,14 @@ pending_count (f ∷ fs) = suc (node_count f + pending_count fs)
 abbrev pub count_from : List Item → ℕ → ℕ
 count_from items at = node_count (reading_from items at).here + pending_count (reading_from items at).outer
 
-abbrev pub IsOpening : Item → Type 0
-IsOpening (item.Char ch marks) = ⊥
-IsOpening (item.Opening kind generated head marks pre origin) = Unit {0}
-IsOpening (item.Closing kind pre) = ⊥
+-- at most six steps were taken for each node that ends among the items from one place up to another
+abbrev pub TookSteps : List Item → (from to old new : ℕ) → Type 0
+TookSteps items from to old new = new + 6 * count_from items to ≤ old + 6 * count_from items from
+
+abbrev pub OpensNode : Item → Type 0
+OpensNode (item.Char ch marks) = ⊥
+OpensNode (item.Opening kind generated head marks pre origin) = Unit {0}
+OpensNode (item.Closing kind pre) = ⊥
 
 abbrev pub IsChar : Item → Type 0
 IsChar (item.Char ch marks) = Unit {0}
@@ -104,10 +108,10 @@ IsChar (item.Closing kind pre) = ⊥
 pub record ReadChildren (old new : List (Option ArenaNode)) (p : ℕ) (items : List Item) (from to : ℕ) : Type 0 where
   pub forest : Named
   pub grown : Grown old new p forest
-  pub reads : reading_from items from ≡ record { here = bare forest; outer = (reading_from items to).outer }
-  pub count : from + item_count (bare forest) ≡ to
+  pub reads : reading_from items from ≡ record { here = unnumbered forest; outer = (reading_from items to).outer }
+  pub count : from + item_count (unnumbered forest) ≡ to
   pub closed : closes_from items from ≡ closes_from items to
-  pub ended : (m : ℕ) (x : Item) → suc m ≡ from → slice_get items m ≡ Some x → IsOpening x
+  pub ended : (m : ℕ) (x : Item) → suc m ≡ from → slice_get items m ≡ Some x → OpensNode x
 
 -- All items from one place up to another are characters, and the one before isn't.
 pub record IsRunFrom (items : List Item) (from to : ℕ) : Type 0 where

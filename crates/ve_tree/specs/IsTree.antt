@@ -11,7 +11,7 @@ use Rattle.ve_arena.specs.declared.node.NodeWhat.TheVariants as what
 use Rattle.ve_arena.specs.declared.node.ArenaNode.{ArenaNode}
 use Rattle.ve_arena.specs.Arena.{slot_at}
 use Rattle.ve_tree.specs.Links.{links_of, Apart, AllApart}
-use Rattle.ve_tree.specs.Named.{Named, bare, heads, numbers, IsShown, Shows}
+use Rattle.ve_tree.specs.Named.{Named, unnumbered, heads, node_numbers, IsShown, Shows}
 
 -- The items without the values that they cite. The tree and the law read none.
 abbrev pub unvalued : List Item → List PlainItem
@@ -28,11 +28,11 @@ pub record IsTree (slots : List (Option ArenaNode)) (root : NodeId) (items : Lis
   pub lawful : Lawful items
   -- the tree, with a number for each node
   pub named : Named
-  pub is_tree : bare named ≡ tree_of items
-  pub apart : AllApart (root.0 ∷ numbers named)
+  pub is_tree : unnumbered named ≡ tree_of items
+  pub apart : AllApart (root.0 ∷ node_numbers named)
   pub shown : Shows slots named
   -- the root is as long as the list, and stands under nothing and beside nothing
   pub root_shown : IsShown slots root.0 (what.Node Root) (length items) (heads named)
   pub root_alone : IsAlone slots root.0
   -- no node besides
-  pub only : (q : ℕ) → Apart q (root.0 ∷ numbers named) → slot_at slots q ≡ None
+  pub only : (q : ℕ) → Apart q (root.0 ∷ node_numbers named) → slot_at slots q ≡ None

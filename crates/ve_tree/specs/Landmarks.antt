@@ -24,7 +24,7 @@ pub record IsLandmarkBefore (row : LandmarkRow) (o : ℕ) (n : NodeId) (from : �
   pub before : from ≤ o
 
 -- it is a node of the tree, and begins there
-pub record StandsAt {slots : List (Option ArenaNode)} {root : NodeId} {items : List PlainItem} (tree : IsTree slots root items) (n : NodeId) (from : ℕ) : Type 0 where
+pub record NodeBeginsAt {slots : List (Option ArenaNode)} {root : NodeId} {items : List PlainItem} (tree : IsTree slots root items) (n : NodeId) (from : ℕ) : Type 0 where
   pub place : NodePlace
   pub listed : Contains (tree_places tree) place
   pub number_is : place.number ≡ n.0
@@ -32,7 +32,7 @@ pub record StandsAt {slots : List (Option ArenaNode)} {root : NodeId} {items : L
 
 -- whatever list the tree is of
 abbrev pub IsAt : List (Option ArenaNode) → NodeId → NodeId → ℕ → Type 0
-IsAt slots root n from = (items : List PlainItem) (tree : IsTree slots root items) → StandsAt tree n from
+IsAt slots root n from = (items : List PlainItem) (tree : IsTree slots root items) → NodeBeginsAt tree n from
 
 -- each of them is a node of the tree, and begins where the gaps say
 abbrev pub AreLandmarks : List (Option ArenaNode) → NodeId → LandmarkRow → Type 0

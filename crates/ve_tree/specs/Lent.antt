@@ -1,18 +1,22 @@
--- A list that is read from its end, in blocks as it lends them.
-use Rattle.std.specs.Prelude.{◌≡◌, ◌≤◌, ◌<◌, ℕ, List, ◌++◌, length, take}
+-- A list that is read from its end, piece by piece as it is lent.
+use Rattle.std.specs.Prelude.{◌≡◌, ◌≤◌, ◌<◌, ◌+◌, ◌-◌, ◌^◌, ℕ, List, length, slice_range}
 use Rattle.model_items.specs.declared.item.Item.{Item}
-use Rattle.ve_items.specs.Blocks.{joined, AreBlocks}
+use Rattle.ve_items.specs.Substitution.{spliced}
 
 -- the items of the list, and how many of them are still to be read
 pub record Rest : Type 0 where
   pub items : List Item
   pub left : ℕ
 
--- The items still to be read are the first blocks and what is left of the one that is lent, which has one where any is left.
-pub record IsLent (blocks : List (List Item)) (before : ℕ) (lent : List Item) (rest : Rest) : Type 0 where
-  pub whole : joined blocks ≡ rest.items
-  pub rule : AreBlocks blocks
-  pub among : before ≤ length blocks
-  pub within : rest.left ≤ length rest.items
-  pub items : take rest.left rest.items ≡ joined (take before blocks) ++ lent
-  pub some : 0 < rest.left → 0 < length lent
+-- The piece is the end of what is still to be read, and has an item where any is left.
+pub record IsEndPiece (items : List Item) (left : ℕ) (lent : List Item) : Type 0 where
+  pub within : length lent ≤ left
+  pub some : 0 < left → 0 < length lent
+  pub piece : lent ≡ slice_range items (left - length lent) left
+
+-- A list in which items take the place of a range is read as far as `left`, and its end is lent.
+pub record IsLent (list : List Item) (at removed : ℕ) (items : List Item) (left : ℕ) (lent : List Item) : Type 0 where
+  pub counted : length list < 2 ^ 64
+  pub range : at + removed ≤ length list
+  pub within : left ≤ length (spliced list at removed items)
+  pub end : IsEndPiece (spliced list at removed items) left lent

@@ -44,16 +44,16 @@ last_or start [] = start
 last_or start (n ∷ ns) = Some (last_of n ns)
 
 -- the nodes are children of p and siblings in this order, between two neighbours
-abbrev pub Row : (ℕ → Option ℕ) → (ℕ → Option ℕ) → (ℕ → Option ℕ) → ℕ → Option ℕ → List ℕ → Option ℕ → Type 0
-Row parent before after p start [] end = Unit {0}
-Row parent before after p start (n ∷ ns) end =
-    (parent n ≡ Some p) × (before n ≡ start) × (after n ≡ first_or ns end) × Row parent before after p (Some n) ns end
+abbrev pub AreSiblings : (ℕ → Option ℕ) → (ℕ → Option ℕ) → (ℕ → Option ℕ) → ℕ → Option ℕ → List ℕ → Option ℕ → Type 0
+AreSiblings parent before after p start [] end = Unit {0}
+AreSiblings parent before after p start (n ∷ ns) end =
+    (parent n ≡ Some p) × (before n ≡ start) × (after n ≡ first_or ns end) × AreSiblings parent before after p (Some n) ns end
 
 -- the children of p are the list
 pub record Children (links : Links) (p : ℕ) (ns : List ℕ) : Type 0 where
   pub first : links.first p ≡ first_or ns None
   pub last : links.last p ≡ last_or None ns
-  pub row : Row links.parent links.before links.after p None ns None
+  pub row : AreSiblings links.parent links.before links.after p None ns None
 
 -- the number is none of the list
 abbrev pub Apart : ℕ → List ℕ → Type 0

@@ -17,10 +17,10 @@ pub data Named : Type 0 where
   NamedBranch : (n : ℕ) (kind : Kind) (inside later : Named) → Named
 
 -- without the numbers
-abbrev pub bare : Named → Forest
-bare NoNode = Empty
-bare (NamedRun n count later) = Run count (bare later)
-bare (NamedBranch n kind inside later) = Branch kind (bare inside) (bare later)
+abbrev pub unnumbered : Named → Forest
+unnumbered NoNode = Empty
+unnumbered (NamedRun n count later) = Run count (unnumbered later)
+unnumbered (NamedBranch n kind inside later) = Branch kind (unnumbered inside) (unnumbered later)
 
 -- the numbers of the nodes that stand side by side
 abbrev pub heads : Named → List ℕ
@@ -29,10 +29,10 @@ heads (NamedRun n count later) = n ∷ heads later
 heads (NamedBranch n kind inside later) = n ∷ heads later
 
 -- the numbers of all nodes, in the order of their starts
-abbrev pub numbers : Named → List ℕ
-numbers NoNode = []
-numbers (NamedRun n count later) = n ∷ numbers later
-numbers (NamedBranch n kind inside later) = n ∷ (numbers inside ++ numbers later)
+abbrev pub node_numbers : Named → List ℕ
+node_numbers NoNode = []
+node_numbers (NamedRun n count later) = n ∷ node_numbers later
+node_numbers (NamedBranch n kind inside later) = n ∷ (node_numbers inside ++ node_numbers later)
 
 -- the arena has under a number a node of this sort, this length in items and these children, linked to it and to each other
 pub record IsShown (slots : List (Option ArenaNode)) (n : ℕ) (sort : NodeWhat) (len : ℕ) (kids : List ℕ) : Type 0 where
@@ -45,4 +45,4 @@ abbrev pub Shows : List (Option ArenaNode) → Named → Type 0
 Shows slots NoNode = Unit {0}
 Shows slots (NamedRun n count later) = IsShown slots n what.Run count [] × Shows slots later
 Shows slots (NamedBranch n kind inside later) =
-    IsShown slots n (what.Node kind) (item_count (bare inside) + 2) (heads inside) × Shows slots inside × Shows slots later
+    IsShown slots n (what.Node kind) (item_count (unnumbered inside) + 2) (heads inside) × Shows slots inside × Shows slots later

@@ -10,7 +10,7 @@ use Rattle.ve_arena.specs.declared.node.NodeWhat.TheVariants as what
 use Rattle.ve_arena.specs.declared.node.ArenaNode.{ArenaNode}
 use Rattle.ve_arena.specs.Arena.{slot_at}
 use Rattle.ve_tree.specs.Links.{links_of, Apart}
-use Rattle.ve_tree.specs.Named.{Named, NoNode, NamedRun, NamedBranch, bare, numbers}
+use Rattle.ve_tree.specs.Named.{Named, NoNode, NamedRun, NamedBranch, unnumbered, node_numbers}
 use Rattle.ve_tree.specs.IsTree.{IsAlone, IsTree}
 use Rattle.ve_tree.specs.Fits.{IsLabelled}
 
@@ -31,7 +31,7 @@ IsRead slots p before here NoNode = (here ≡ None) × ((links_of slots).last p 
 IsRead slots p before here (NamedRun n count later) =
     (here ≡ Some n) × IsReadAs slots n p before what.Run count × HasNoChild slots n × IsRead slots p (Some n) ((links_of slots).after n) later
 IsRead slots p before here (NamedBranch n kind inside later) =
-    (here ≡ Some n) × IsReadAs slots n p before (what.Node kind) (item_count (bare inside) + 2) × IsRead slots n None ((links_of slots).first n) inside
+    (here ≡ Some n) × IsReadAs slots n p before (what.Node kind) (item_count (unnumbered inside) + 2) × IsRead slots n None ((links_of slots).first n) inside
     × IsRead slots p (Some n) ((links_of slots).after n) later
 
 -- The forest that is read from a root's first child on.
@@ -41,11 +41,11 @@ IsReadUnder slots root f = IsRead slots root.0 None ((links_of slots).first root
 -- A lawful list's tree is read under a root that is as long as the list and stands alone, and no node stands besides.
 pub record IsTreeRead (slots : List (Option ArenaNode)) (root : NodeId) (items : List PlainItem) (f : Named) : Type 0 where
   pub lawful : Lawful items
-  pub is_tree : bare f ≡ tree_of items
+  pub is_tree : unnumbered f ≡ tree_of items
   pub root_labelled : IsLabelled slots root.0 (what.Node Root) (length items)
   pub root_alone : IsAlone slots root.0
   pub read : IsReadUnder slots root f
-  pub only : (q : ℕ) → Apart q (root.0 ∷ numbers f) → slot_at slots q ≡ None
+  pub only : (q : ℕ) → Apart q (root.0 ∷ node_numbers f) → slot_at slots q ≡ None
 
 -- Of the tree of a list, the tree is read, with the numbers that its nodes have,
 abbrev pub TreeIsRead : Type 0

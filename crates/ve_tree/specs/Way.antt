@@ -5,20 +5,20 @@ use Rattle.ve_arena.specs.declared.node.NodeId.{NodeId}
 use Rattle.ve_arena.specs.declared.node.ArenaNode.{ArenaNode}
 use Rattle.ve_arena.specs.Arena.{node_under}
 use Rattle.ve_tree.specs.IsTree.{IsTree}
-use Rattle.ve_tree.specs.Places.{NodePlace, places}
+use Rattle.ve_tree.specs.Places.{NodePlace, node_places}
 use Rattle.ve_tree.specs.Landmarks.{LandmarkRow, AreLandmarks}
 
 -- a node under the root begins `left` items before the offset
 pub record BeginsBefore {slots : List (Option ArenaNode)} {root : NodeId} {items : List PlainItem} (tree : IsTree slots root items) (o : ℕ) (n : NodeId) (left : ℕ) : Type 0 where
   pub place : NodePlace
-  pub listed : Contains (places root.0 0 tree.named) place
+  pub listed : Contains (node_places root.0 0 tree.named) place
   pub number_is : place.number ≡ n.0
   pub sum : place.from + left ≡ o
 
 -- a node under the root ends `left` items before the offset
 pub record EndsBefore {slots : List (Option ArenaNode)} {root : NodeId} {items : List PlainItem} (tree : IsTree slots root items) (o : ℕ) (n : NodeId) (left : ℕ) : Type 0 where
   pub place : NodePlace
-  pub listed : Contains (places root.0 0 tree.named) place
+  pub listed : Contains (node_places root.0 0 tree.named) place
   pub number_is : place.number ≡ n.0
   pub sum : place.to + left ≡ o
 

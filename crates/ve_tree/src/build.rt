@@ -1,10 +1,10 @@
 // Building the tree of a list, from the list's end to its start, so that each node is made at its end and becomes the first child of its parent.
-ghost use Rattle.std.specs.Prelude.{◌≡◌, ◌≢◌, ◌+◌, ◌*◌, ◌-◌, ◌≤◌, ◌<◌, None, IfOk, OnOk, IfSome, length};
+ghost use Rattle.std.specs.Prelude.{◌≡◌, ◌≢◌, ◌+◌, ◌-◌, ◌≤◌, ◌<◌, None, IfOk, OnOk, IfSome, length};
 ghost use Rattle.model_items.specs.Law.{Lawful};
 ghost use Rattle.model_items.specs.Tree as forest;
 ghost use Rattle.ve_arena.specs.Arena.{slot_at, IsLive};
 ghost use Rattle.ve_tree.specs.IsTree.{unvalued};
-ghost use Rattle.ve_tree.specs.Grown.{IsChildless, MadeFirst, first_in, reading_from, count_from, ReadChildren, IsRunFrom};
+ghost use Rattle.ve_tree.specs.Grown.{IsChildless, MadeFirst, first_in, reading_from, TookSteps, ReadChildren, IsRunFrom};
 
 use crate::unread::Unread;
 use std::sync::ledger::Ledger;
@@ -68,8 +68,8 @@ pub fn read_children<L: Ledger>(
     requires begun { (reading_from rest.old.items rest.old.left).here ≡ forest.Empty }
     ensures items { OnOk result (rest.new.items ≡ rest.old.items) }
     ensures read { OnOk result (ReadChildren arena.old arena.new parent.0 rest.old.items rest.new.left rest.old.left) }
-    ensures steps_ok { OnOk result (steps.new + 6 * count_from rest.old.items rest.old.left ≤ steps.old + 6 * count_from rest.old.items rest.new.left) }
-    ensures steps { steps.new + 6 * count_from rest.old.items rest.old.left ≤ steps.old + 6 * count_from rest.old.items 0 }
+    ensures steps_ok { OnOk result (TookSteps rest.old.items rest.new.left rest.old.left steps.old steps.new) }
+    ensures steps { TookSteps rest.old.items 0 rest.old.left steps.old steps.new }
 {
     'sibling: while rest.left() > 0 {
         let end = rest.left();

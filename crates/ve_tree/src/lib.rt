@@ -1,7 +1,7 @@
 //! The tree of a page's flat list, kept as linked nodes: a node for each opening with its closing, one for each longest run of characters, and the
 //! root over all. After the document tree of VisualEditor's `ve.dm`.
 //!
-//! It knows a node's kind, length and links, and of some nodes, the landmarks, where they begin. It doesn't know the items: no call but `build` reads one.
+//! It knows a node's kind, length and links, and of some nodes, the landmarks, where they begin. It doesn't know the items: no call but `build` and `build_spliced` reads one.
 //! A look-up begins at the landmark before the offset and goes along siblings, up at the end of a row, and down; a node's range is found by going left and
 //! up to the next landmark. Landmarks are hints: what is proved of them is that they are true. That they are near is how they are put.
 //!

@@ -1,20 +1,17 @@
 // From a node whose place is known to the innermost node round an offset, and to the node that begins next.
-ghost use Rattle.std.specs.Prelude.{◌≡◌, ◌≤◌, ◌<◌, List, IfSome};
-ghost use Rattle.model_items.specs.declared.plain_item.PlainItem.{PlainItem};
-ghost use Rattle.model_items.specs.Tree as model;
-ghost use Rattle.ve_tree.specs.IsTree.{IsTree};
-ghost use Rattle.ve_tree.specs.Places.{IsNodeAt};
+ghost use Rattle.std.specs.Prelude.{◌≡◌, ◌≤◌, ◌<◌, IfSome};
+ghost use Rattle.ve_tree.specs.Places.{IsInnermost};
 ghost use Rattle.ve_tree.specs.Way.{IsBefore, IsBeforeEnd, EndsBeforeEnd, IsSomeTree, IsInside};
-ghost use Rattle.ve_tree.specs.TreeOf.{HoldsOffset};
+ghost use Rattle.ve_tree.specs.TreeOf.{HasOffset};
 
 use crate::{Arena, NodeId, NodeWhat, Tree};
 
 /// The innermost node round an offset that lies in a node, or at its start: the node's parent, the node, or one inside it.
 fn node_inside(tree: &Tree, near: NodeId, left: usize, o: usize) -> NodeId
-    requires offset { HoldsOffset tree.now o }
+    requires offset { HasOffset tree.now o }
     requires near { IsBefore tree.now.arena tree.now.root o near left }
     requires inside { IsInside tree.now.arena near left }
-    ensures { (items : List PlainItem) (is_tree : IsTree tree.now.arena tree.now.root items) → IsNodeAt is_tree result (model.node_at items o) }
+    ensures { IsInnermost tree.now.arena tree.now.root o result }
 {
     let Some(parent) = tree.arena.node(near).parent else {
         unreachable!()
@@ -47,9 +44,9 @@ fn node_inside(tree: &Tree, near: NodeId, left: usize, o: usize) -> NodeId
 /// The innermost node round an offset, text nodes aside, found from a node that begins so many items before it: along its siblings, up where there are no
 /// more, and down into the one that holds the offset. Each step passes an item at least, so there are no more than lie between the two places.
 pub fn node_near(tree: &Tree, near: NodeId, left: usize, o: usize) -> NodeId
-    requires offset { HoldsOffset tree.now o }
+    requires offset { HasOffset tree.now o }
     requires near { IsBefore tree.now.arena tree.now.root o near left }
-    ensures { (items : List PlainItem) (is_tree : IsTree tree.now.arena tree.now.root items) → IsNodeAt is_tree result (model.node_at items o) }
+    ensures { IsInnermost tree.now.arena tree.now.root o result }
 {
     let len = tree.arena.node(near).len;
     if left < len {

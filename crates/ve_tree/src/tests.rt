@@ -4,7 +4,7 @@ ghost use Rattle.model_items.specs.Law.{Lawful};
 ghost use Rattle.model_items.specs.Tree.{tree_of, node_count};
 ghost use Rattle.ve_arena.specs.Arena.{IsLive};
 ghost use Rattle.ve_tree.specs.IsTree.{IsTree, unvalued};
-ghost use Rattle.ve_tree.specs.TreeOf.{HoldsOffset};
+ghost use Rattle.ve_tree.specs.TreeOf.{HasOffset};
 
 use crate::{NodeId, NodeWhat, Tree};
 use std::alloc::Global;
@@ -50,7 +50,7 @@ struct NodeRow {
 
 /// The node that starts next after a node, which stands at a depth: its first child, or the next sibling of the innermost node round it that has one.
 fn next_node(tree: &Tree, n: NodeId, depth: usize) -> Option<(NodeId, usize)>
-    requires tree { HoldsOffset tree.now 0 }
+    requires tree { HasOffset tree.now 0 }
     requires live { IsLive tree.now.arena n }
     ensures { IfSome result (λ next. IsLive tree.now.arena next.0) }
 {
@@ -71,7 +71,7 @@ fn next_node(tree: &Tree, n: NodeId, depth: usize) -> Option<(NodeId, usize)>
 
 /// All nodes of a tree, in the order of their starts.
 fn rows_of(alloc: Global, tree: &Tree) -> Result<Vec<NodeRow>, Memory>
-    requires { HoldsOffset tree.now 0 }
+    requires { HasOffset tree.now 0 }
 {
     let mut rows = Vec::new(alloc);
     let mut next = Some((tree.root, 0));
@@ -234,7 +234,7 @@ fn tree_of_paragraphs<L: Ledger>(
     many: usize,
     steps: &mut Steps<L>,
 ) -> Result<Tree, Memory>
-    ensures tree { IfOk result (λ tree. HoldsOffset tree 0) }
+    ensures tree { IfOk result (λ tree. HasOffset tree 0) }
     ensures steps { steps.new ≤ steps.old + 8 * (2 * many + 3) }
 {
     let list = paragraphs(alloc, many)?;
@@ -252,7 +252,7 @@ struct Walked {
 
 /// Counts the nodes, and asks for the range of some: the nodes after the root are a paragraph and its text by turns, and a paragraph takes three items.
 fn walk(tree: &Tree) -> Walked
-    requires { HoldsOffset tree.now 0 }
+    requires { HasOffset tree.now 0 }
 {
     let mut seen = Walked {
         nodes: 0,

@@ -1,14 +1,12 @@
 // The tree of a list.
-ghost use Rattle.std.specs.Prelude.{◌≡◌, ◌+◌, ◌*◌, ◌≤◌, List, Some, IfOk, Contains, option_map};
+ghost use Rattle.std.specs.Prelude.{◌≡◌, ◌+◌, ◌*◌, ◌≤◌, Some, IfOk, option_map, length};
 ghost use Rattle.model_items.specs.Law.{Lawful};
-ghost use Rattle.model_items.specs.declared.plain_item.PlainItem.{PlainItem};
-ghost use Rattle.model_items.specs.Tree.{tree_of, node_count};
-ghost use Rattle.model_items.specs.Tree as model;
 ghost use Rattle.ve_arena.specs.Arena.{IsLive};
 ghost use Rattle.ve_tree.specs.Links.{number_of};
-ghost use Rattle.ve_tree.specs.IsTree.{IsTree, unvalued};
-ghost use Rattle.ve_tree.specs.Places.{NodePlace, tree_places, IsNodeAt, sort_of, IsBranch};
-ghost use Rattle.ve_tree.specs.TreeOf.{IsTreeOf, HoldsOffset, HoldsNode};
+ghost use Rattle.ve_tree.specs.IsTree.{unvalued};
+ghost use Rattle.ve_tree.specs.Places.{sort_of, IsInnermost, OfItsPlace, IsBranch};
+ghost use Rattle.ve_items.specs.Substitution.{spliced};
+ghost use Rattle.ve_tree.specs.TreeOf.{IsTreeOf, most_steps, HasOffset, HasNode};
 
 use crate::build::read_children;
 use crate::landmarks::Landmarks;
@@ -19,7 +17,7 @@ use crate::{Arena, NodeId, NodeWhat};
 use std::alloc::Global;
 use std::sync::ledger::Ledger;
 use ve_base::{Memory, Steps};
-use ve_items::Linear;
+use ve_items::{Item, Linear};
 use ve_kinds::Kind;
 
 /// Linked nodes and the number of their root, with some nodes whose places are known. That they are the tree of a list is a condition or a promise of each
@@ -41,12 +39,36 @@ impl Tree {
     ) -> Result<Tree, Memory>
         requires { Lawful (unvalued list.now.items) }
         ensures tree { IfOk result (λ tree. IsTreeOf tree (unvalued list.now.items)) }
-        ensures steps { steps.new ≤ steps.old + 8 * (node_count (tree_of (unvalued list.now.items)) + 2) }
+        ensures steps { steps.new ≤ steps.old + most_steps (unvalued list.now.items) }
     {
+        Tree::build_spliced(alloc, list, 0, 0, &[], steps)
+    }
+
+    /// The tree of what a list becomes when items take the place of the `removed` items from `at` on, which has to be lawful. Nothing is copied, so all
+    /// memory that a change of a page needs can be had before it begins. It takes the steps that `build` takes.
+    pub fn build_spliced<L: Ledger>(
+        alloc: Global,
+        list: &Linear,
+        at: usize,
+        removed: usize,
+        items: &[Item],
+        steps: &mut Steps<L>,
+    ) -> Result<Tree, Memory>
+        requires range { at + removed ≤ length list.now.items }
+        requires lawful { Lawful (unvalued (spliced list.now.items at removed items.now)) }
+        ensures tree { IfOk result (λ tree. IsTreeOf tree (unvalued (spliced list.now.items at removed items.now))) }
+        ensures steps { steps.new ≤ steps.old + most_steps (unvalued (spliced list.now.items at removed items.now)) }
+    {
+        let kept = list.len() - removed;
+        if items.len() > usize::MAX - kept {
+            return Err(Memory);
+        }
+        let len = kept + items.len();
         let mut arena = Arena::new(alloc);
         let root = arena.make(NodeWhat::Node(Kind::Root), steps)?;
-        arena.set_len(root, list.len(), steps);
-        read_children(&mut arena, &mut Unread::new(list), root, steps)?;
+        arena.set_len(root, len, steps);
+        let mut rest = Unread::new(list, at, removed, items, len);
+        read_children(&mut arena, &mut rest, root, steps)?;
         let landmarks = landmarks_of(alloc, &arena, root);
         Ok(Tree {
             arena,
@@ -58,8 +80,8 @@ impl Tree {
     /// The innermost node round an offset, text nodes aside: its opening stands before the offset, and its closing at it or after. The root is round
     /// every offset. It follows links from the landmark before the offset, and reads no item.
     pub fn node_at(&self, o: usize) -> NodeId
-        requires { HoldsOffset self.now o }
-        ensures { (items : List PlainItem) (tree : IsTree self.now.arena self.now.root items) → IsNodeAt tree result (model.node_at items o) }
+        requires { HasOffset self.now o }
+        ensures { IsInnermost self.now.arena self.now.root o result }
     {
         if let Some((near, from)) = self.landmarks.before(o)
             && near.0 != self.root.0
@@ -76,7 +98,7 @@ impl Tree {
     pub fn kind_of(&self, n: NodeId) -> Kind
         requires { IsBranch self.now.arena n }
         ensures arena { sort_of self.now.arena n ≡ Some (NodeWhat.Node result) }
-        ensures place { (items : List PlainItem) (tree : IsTree self.now.arena self.now.root items) (place : NodePlace) → Contains (tree_places tree) place → place.number ≡ n.0 → place.sort ≡ NodeWhat.Node result }
+        ensures place { OfItsPlace self.now.arena self.now.root n (λ place. place.sort ≡ NodeWhat.Node result) }
     {
         match self.arena.node(n).what {
             NodeWhat::Node(kind) => kind,
@@ -87,7 +109,7 @@ impl Tree {
     /// The node that a node stands in, and none for the root.
     pub fn parent_of(&self, n: NodeId) -> Option<NodeId>
         requires { IsLive self.now.arena n }
-        ensures { (items : List PlainItem) (tree : IsTree self.now.arena self.now.root items) (place : NodePlace) → Contains (tree_places tree) place → place.number ≡ n.0 → place.parent ≡ option_map number_of result }
+        ensures { OfItsPlace self.now.arena self.now.root n (λ place. place.parent ≡ option_map number_of result) }
     {
         self.arena.node(n).parent
     }
@@ -95,8 +117,8 @@ impl Tree {
     /// The places of the list where a node begins and ends, its brackets included; for the root 0 and the length. It follows links to the left and up,
     /// to the next landmark, and reads no item.
     pub fn range_of(&self, n: NodeId) -> (usize, usize)
-        requires { HoldsNode self.now n }
-        ensures { (items : List PlainItem) (tree : IsTree self.now.arena self.now.root items) (place : NodePlace) → Contains (tree_places tree) place → place.number ≡ n.0 → result ≡ (place.from, place.to) }
+        requires { HasNode self.now n }
+        ensures { OfItsPlace self.now.arena self.now.root n (λ place. result ≡ (place.from, place.to)) }
     {
         let all = self.arena.node(self.root).len;
         let len = self.arena.node(n).len;
