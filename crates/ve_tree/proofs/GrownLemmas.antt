@@ -6,7 +6,7 @@ use Rattle.ve_arena.specs.declared.node.ArenaNode.{ArenaNode}
 use Rattle.ve_arena.specs.Arena.{slot_at, new_node, with_len, with_first, with_before, Changes}
 use Rattle.ve_tree.specs.Links.{number_of, link_in, links_of, first_or, last_or, AreSiblings, Children, Apart, AllApart}
 use Rattle.ve_tree.specs.Named.{Named, NoNode, NamedRun, NamedBranch, heads, node_numbers, IsShown, Shows}
-use Rattle.ve_tree.specs.Grown.{id_of, with_ends, with_children, IsChildless, AllVacant, Grown, first_in, MadeOnly, MadeBefore, MadeFirst}
+use Rattle.ve_tree.specs.Grown.{id_of, with_both_ends, with_children, IsChildless, AllVacant, Grown, first_in, MadeOnly, MadeBefore, MadeFirst}
 
 abbrev pub Slots : Type 0
 Slots = List (Option ArenaNode)
@@ -227,7 +227,7 @@ added old cur s1 n p sort node NoNode here g vacant m =
     let made : MadeOnly cur s1 n p sort = subst (λ o. MadeFirst (first_in o) cur s1 n p sort) above m in
     record {
       made = made.made;
-      above = made.above ∙ ap (option_map (with_ends (Some (id_of n)) (Some (id_of n)))) above;
+      above = made.above ∙ ap (option_map (with_both_ends (Some (id_of n)) (Some (id_of n)))) above;
       row = tt;
       shown = tt;
       others = λ q a. made.others q a.0 a.1.0;

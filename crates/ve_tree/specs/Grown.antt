@@ -18,11 +18,11 @@ abbrev pub id_of : ℕ → NodeId
 id_of n = record { 0 = n }
 
 -- a node with its first and last child
-abbrev pub with_ends : Option NodeId → Option NodeId → ArenaNode → ArenaNode
-with_ends first last node = record node { first = first; last = last }
+abbrev pub with_both_ends : Option NodeId → Option NodeId → ArenaNode → ArenaNode
+with_both_ends first last node = record node { first = first; last = last }
 
 abbrev pub with_children : List ℕ → ArenaNode → ArenaNode
-with_children ns node = with_ends (option_map id_of (first_or ns None)) (option_map id_of (last_or None ns)) node
+with_children ns node = with_both_ends (option_map id_of (first_or ns None)) (option_map id_of (last_or None ns)) node
 
 -- there is a node, and it has no children
 pub record IsChildless (slots : List (Option ArenaNode)) (n : ℕ) : Type 0 where
@@ -53,7 +53,7 @@ first_in (Some node) = node.first
 -- p had no child, and now has n
 pub record MadeOnly (old new : List (Option ArenaNode)) (n p : ℕ) (sort : NodeWhat) : Type 0 where
   pub made : slot_at new n ≡ Some (record (new_node sort) { parent = Some (id_of p) })
-  pub above : slot_at new p ≡ option_map (with_ends (Some (id_of n)) (Some (id_of n))) (slot_at old p)
+  pub above : slot_at new p ≡ option_map (with_both_ends (Some (id_of n)) (Some (id_of n))) (slot_at old p)
   pub others : (q : ℕ) → q ≢ n → q ≢ p → slot_at new q ≡ slot_at old q
 
 -- the first child of p was `next`, and n now stands before it

@@ -39,8 +39,8 @@ pub record IsNodeAt {slots : List (Option ArenaNode)} {root : NodeId} {items : L
   pub listed : Contains (tree_places tree) (record { number = n.0; parent = parent; sort = what.Node place.kind; from = place.from; to = place.to })
 
 -- whatever list the tree is of, it is the innermost node round the offset
-abbrev pub IsInnermost : List (Option ArenaNode) → NodeId → ℕ → NodeId → Type 0
-IsInnermost slots root o n = (items : List PlainItem) (tree : IsTree slots root items) → IsNodeAt tree n (node_at items o)
+abbrev pub IsNodeRound : List (Option ArenaNode) → NodeId → ℕ → NodeId → Type 0
+IsNodeRound slots root o n = (items : List PlainItem) (tree : IsTree slots root items) → IsNodeAt tree n (node_at items o)
 
 -- whatever list the tree is of, this holds of the node's place
 abbrev pub OfItsPlace : List (Option ArenaNode) → NodeId → NodeId → (NodePlace → Type 0) → Type 0

@@ -1,6 +1,6 @@
 // From a node whose place is known to the innermost node round an offset, and to the node that begins next.
 ghost use Rattle.std.specs.Prelude.{◌≡◌, ◌≤◌, ◌<◌, IfSome};
-ghost use Rattle.ve_tree.specs.Places.{IsInnermost};
+ghost use Rattle.ve_tree.specs.Places.{IsNodeRound};
 ghost use Rattle.ve_tree.specs.Way.{IsBefore, IsBeforeEnd, EndsBeforeEnd, IsSomeTree, IsInside};
 ghost use Rattle.ve_tree.specs.TreeOf.{HasOffset};
 
@@ -11,7 +11,7 @@ fn node_inside(tree: &Tree, near: NodeId, left: usize, o: usize) -> NodeId
     requires offset { HasOffset tree.now o }
     requires near { IsBefore tree.now.arena tree.now.root o near left }
     requires inside { IsInside tree.now.arena near left }
-    ensures { IsInnermost tree.now.arena tree.now.root o result }
+    ensures { IsNodeRound tree.now.arena tree.now.root o result }
 {
     let Some(parent) = tree.arena.node(near).parent else {
         unreachable!()
@@ -46,7 +46,7 @@ fn node_inside(tree: &Tree, near: NodeId, left: usize, o: usize) -> NodeId
 pub fn node_near(tree: &Tree, near: NodeId, left: usize, o: usize) -> NodeId
     requires offset { HasOffset tree.now o }
     requires near { IsBefore tree.now.arena tree.now.root o near left }
-    ensures { IsInnermost tree.now.arena tree.now.root o result }
+    ensures { IsNodeRound tree.now.arena tree.now.root o result }
 {
     let len = tree.arena.node(near).len;
     if left < len {

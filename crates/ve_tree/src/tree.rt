@@ -4,7 +4,7 @@ ghost use Rattle.model_items.specs.Law.{Lawful};
 ghost use Rattle.ve_arena.specs.Arena.{IsLive};
 ghost use Rattle.ve_tree.specs.Links.{number_of};
 ghost use Rattle.ve_tree.specs.IsTree.{unvalued};
-ghost use Rattle.ve_tree.specs.Places.{sort_of, IsInnermost, OfItsPlace, IsBranch};
+ghost use Rattle.ve_tree.specs.Places.{sort_of, IsNodeRound, OfItsPlace, IsBranch};
 ghost use Rattle.ve_items.specs.Substitution.{spliced};
 ghost use Rattle.ve_tree.specs.TreeOf.{IsTreeOf, most_steps, HasOffset, HasNode};
 
@@ -81,7 +81,7 @@ impl Tree {
     /// every offset. It follows links from the landmark before the offset, and reads no item.
     pub fn node_at(&self, o: usize) -> NodeId
         requires { HasOffset self.now o }
-        ensures { IsInnermost self.now.arena self.now.root o result }
+        ensures { IsNodeRound self.now.arena self.now.root o result }
     {
         if let Some((near, from)) = self.landmarks.before(o)
             && near.0 != self.root.0
