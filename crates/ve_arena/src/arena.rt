@@ -1,6 +1,7 @@
 // The arena: making, freeing and linking nodes, one step each.
 ghost use Rattle.std.specs.Prelude.{◌≡◌, ◌+◌, [], None, Some, IfOk, OnErr};
-ghost use Rattle.ve_arena.specs.Arena.{node_under, IsLive, Changes, Puts, new_node, with_parent, with_first, with_last, with_before, with_after, with_len};
+ghost use Rattle.ve_arena.specs.Arena.{node_under, IsLive, Changes, Puts, new_node};
+ghost use Rattle.ve_arena.specs.Arena.{with_parent, with_first, with_last, with_before, with_after, with_len};
 
 use crate::{ArenaNode, NodeId, NodeWhat};
 use slab::Slab;

@@ -2,6 +2,7 @@ pub mod ClassLemmas
 pub mod NearestLemmas
 pub mod ShapeLemmas
 pub mod StateLemmas
+pub mod UnmatchedLemmas
 pub mod OpenLemmas
 mod OffsetExamples
 pub mod RootLemmas

@@ -1,5 +1,5 @@
 -- The unmatched brackets of a range are those of the nodes that it closes and opens.
-use Rattle.std.proofs.Common.{◌≡◌, ◌≤◌, ◌+◌, ◌-◌, ℕ, zero, suc, List, [], ◌∷◌, ◌++◌, length, take, drop, Ok, refl, sym, ap, ◌∙◌, arith, drop-drop}
+use Rattle.std.proofs.Common.{◌≡◌, ◌≤◌, ◌+◌, ◌-◌, ℕ, zero, suc, List, [], ◌∷◌, ◌++◌, length, take, drop, Ok, refl, sym, ap, ◌∙◌, subst, arith, drop-drop}
 use Rattle.std.proofs.Math.Seq.{take-add}
 use Rattle.std.proofs.lemmas.List.{take-map, take-append-drop, length-map, length-take-le}
 use Rattle.ve_kinds.specs.Table.{is_content_branch}
@@ -7,21 +7,14 @@ use Rattle.model_items.specs.declared.item.Item.{Item}
 use Rattle.model_items.specs.declared.item.Item.TheVariants.{Char, Opening, Closing}
 use Rattle.model_items.specs.declared.law_fault.LawFault.{LawFault}
 use Rattle.model_items.specs.Plain.{plain}
-use Rattle.model_items.specs.Law.{State, start, finish, top, step, after}
-use Rattle.model_items.specs.declared.plain_item.PlainItem.{PlainItem}
-use Rattle.model_items.specs.Tree.{Open, opens_with, opens_after}
+use Rattle.model_items.specs.Law.{State, start, finish, top, step, after, Lawful}
+use Rattle.model_items.specs.Tree.{Open, opens_after}
 use Rattle.model_items.proofs.LawLemmas.{if_ok, Ok-same, opened_before, closed_before, joined-ok, after_parts, after_from_Lawful}
 use Rattle.model_items.proofs.NodeAtLemmas.{open_is_stack}
+use Rattle.ve_offsets.proofs.UnmatchedLemmas.{closings_left, openings_left, opens_append, unmatched_is_left}
 use Rattle.ve_tree.specs.IsTree.{unvalued}
-use Rattle.model_items.specs.Offsets.{opens_at}
-use Rattle.ve_offsets.specs.Unmatched.{unmatched_after, AllBegin, UnmatchedAreOpen}
-
-pub opens_append : (opens : List Open) (at : ℕ) (xs ys : List PlainItem) → opens_after opens at (xs ++ ys) ≡ opens_after (opens_after opens at xs) (at + length xs) ys
-opens_append opens at [] ys = let n : at ≡ at + 0 = omega arith in ap (λ n. opens_after opens n ys) n
-opens_append opens at (x ∷ xs) ys =
-    let n : suc at + length xs ≡ at + suc (length xs) = omega arith in
-    opens_append (opens_with x at opens) (suc at) xs ys
-    ∙ ap (λ n. opens_after (opens_after (opens_with x at opens) (suc at) xs) n ys) n
+use Rattle.model_items.specs.Offsets.{opens_at, unmatched}
+use Rattle.ve_offsets.specs.Unmatched.{unmatched_after, unmatched_in, AllBegin, UnmatchedAreOpen}
 
 -- after some items, of the nodes that were open `closed` are closed, and the begun ones are open
 record Went (items : List Item) (from at : ℕ) (base begun : List Open) (closed : ℕ) : Type 0 where
@@ -68,6 +61,49 @@ drop-map zero l = refl
 drop-map (suc n) [] = refl
 drop-map (suc n) (x ∷ l) = drop-map n l
 
+-- the walk pairs the openings and closings that are left, with those before
+counts_are_left : (items : List Item) (closings openings : ℕ) →
+    unmatched_after (closings, openings) items ≡ (closings + (closings_left (unvalued items) - openings), (openings - closings_left (unvalued items)) + openings_left (unvalued items))
+counts_are_left [] closings openings =
+    let c : closings ≡ closings + (0 - openings) = omega arith in
+    let o : openings ≡ (openings - 0) + 0 = omega arith in
+    λ i. (c i, o i)
+counts_are_left (Char ch marks ∷ items) closings openings = counts_are_left items closings openings
+counts_are_left (Opening kind head marks pre origin generated ∷ items) closings openings =
+    let k = closings_left (unvalued items) in
+    let u = openings_left (unvalued items) in
+    let c : closings + (k - suc openings) ≡ closings + ((k - 1) - openings) = omega arith in
+    let o : (suc openings - k) + u ≡ (openings - (k - 1)) + ((1 - k) + u) = omega arith in
+    counts_are_left items closings (suc openings) ∙ (λ i. (c i, o i))
+counts_are_left (Closing kind pre ∷ items) closings zero =
+    let k = closings_left (unvalued items) in
+    let u = openings_left (unvalued items) in
+    let c : suc closings + (k - 0) ≡ closings + (suc k - 0) = omega arith in
+    let o : (0 - k) + u ≡ (0 - suc k) + u = omega arith in
+    counts_are_left items (suc closings) 0 ∙ (λ i. (c i, o i))
+counts_are_left (Closing kind pre ∷ items) closings (suc openings) =
+    let k = closings_left (unvalued items) in
+    let u = openings_left (unvalued items) in
+    let c : closings + (k - openings) ≡ closings + (suc k - suc openings) = omega arith in
+    let o : (openings - k) + u ≡ (suc openings - suc k) + u = omega arith in
+    counts_are_left items closings openings ∙ (λ i. (c i, o i))
+
+-- The walk over a range counts the brackets whose partners are not in it.
+pub counts_are_unmatched : (items : List Item) (from to : ℕ) → Lawful (unvalued items) → from ≤ to → to ≤ length items → unmatched_in items from to ≡ unmatched (unvalued items) from to
+counts_are_unmatched items from to lawful order within =
+    let all = unvalued items in
+    let span = to - from in
+    let part = take span (drop from items) in
+    let is_part : unvalued part ≡ take span (drop from all) = sym (ap (take span) (drop-map from items) ∙ take-map (plain []) span (drop from items)) in
+    let k = closings_left (take span (drop from all)) in
+    let u = openings_left (take span (drop from all)) in
+    let c : 0 + (k - 0) ≡ k = omega arith in
+    let o : (0 - k) + u ≡ u = omega arith in
+    counts_are_left part 0 0
+    ∙ ap (λ l. (0 + (closings_left l - 0), (0 - closings_left l) + openings_left l)) is_part
+    ∙ (λ i. (c i, o i))
+    ∙ sym (unmatched_is_left all from to lawful order (omega (arith, within, length-map items (plain []))))
+
 pub unmatched_are_open : UnmatchedAreOpen
 unmatched_are_open items from to lawful order within =
     let all = unvalued items in
@@ -82,15 +118,17 @@ unmatched_are_open items from to lawful order within =
     let w = went part halves.0 thirds.0 from from base [] 0 (omega arith) tt (omega arith) (omega (arith, deep)) (ap (after halves.0) (sym is_part) ∙ thirds.1) in
     let whole : to ≡ from + span = omega (arith, order) in
     let at : 0 + length (take from all) ≡ from = omega (arith, length-take-le from all (omega (arith, long, order, within))) in
+    let counts = counts_are_unmatched items from to lawful order within in
     record {
       begun = w.now;
       in_range = w.in_range;
-      openings = w.openings;
-      closings = w.closings;
+      openings = w.openings ∙ ap (λ (n : ℕ × ℕ). n.1) counts;
+      closings = subst (λ (n : ℕ × ℕ). n.0 ≤ length base) counts w.closings;
       open_at_end =
           ap (λ n. opens_after [] 0 (take n all)) whole
           ∙ ap (opens_after [] 0) (take-add from span all)
           ∙ opens_append [] 0 (take from all) (take span (drop from all))
           ∙ (λ i. opens_after base (at i) (is_part i))
-          ∙ w.open_at_end;
+          ∙ w.open_at_end
+          ∙ ap (λ (n : ℕ × ℕ). w.now ++ drop n.0 base) counts;
     }

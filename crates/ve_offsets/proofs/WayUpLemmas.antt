@@ -25,7 +25,7 @@ use Rattle.ve_tree.proofs.ClimbLemmas.{len_under, sort_under, tree_listed}
 use Rattle.ve_tree.proofs.NearLemmas.{listed, under_root, passes, parent_number, not_empty}
 use Rattle.ve_tree.proofs.PlaceLemmas.{one_place}
 use Rattle.ve_offsets.proofs.ShapeLemmas.{after-shapes, told, on_before, same_state}
-use Rattle.ve_offsets.proofs.OpenLemmas.{opens_append}
+use Rattle.ve_offsets.proofs.UnmatchedLemmas.{opens_append}
 use Rattle.ve_offsets.proofs.RootLemmas.{not_root, under_no_root}
 
 -- the parent of a node is the innermost node where it begins

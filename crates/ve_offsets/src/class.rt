@@ -1,7 +1,7 @@
 // The class of an offset, by the item before it.
 ghost use Rattle.std.specs.Prelude.{◌≡◌, ◌≤◌, ◌↔◌, IsTrue, length};
 ghost use Rattle.model_items.specs.Tree as model;
-ghost use Rattle.ve_offsets.specs.Classes.{IsContent, IsInsideLeaf, IsStructural, ItemDecidesClass};
+ghost use Rattle.ve_offsets.specs.Classes.{IsContent, IsInsideLeaf, IsStructural};
 ghost use Rattle.ve_tree.specs.IsTree.{unvalued};
 ghost use Rattle.ve_offsets.specs.Docs.{IsDoc};
 
@@ -72,8 +72,3 @@ pub fn is_structural(doc: Doc<'_>, o: usize) -> bool
 {
     class_at(doc, o) == OffsetClass::Structural
 }
-
-/// The item before an offset decides its class.
-pub fn items_decide_classes()
-    ensures { ItemDecidesClass }
-{}

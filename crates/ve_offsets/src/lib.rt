@@ -5,21 +5,24 @@
 //! found from the innermost node round it, by its parents; a class by the one item before the offset; a range by its items.
 //!
 //! Definitions, in reading order: `Docs` (what each call asks), `Classes`, `States` (the law's state at an offset; `IsRound` serves private functions),
-//! `Unmatched`, and for private functions `Nearest`. Offsets are spoken of in `model_items`. Laws: `items_decide_classes` (the item before an offset
+//! `Unmatched` (what its law speaks of, and how a range is counted), and for private functions `Nearest`. Offsets, unmatched brackets and the nearest
+//! content offset are spoken of in `model_items`. Laws: `items_decide_classes` (the item before an offset
 //! decides its class), `unmatched_are_open` (the unmatched brackets of a range are those of the nodes that it closes and opens).
 #![tactic(auto)]
 
 mod class;
 mod doc;
+mod laws;
 mod nearest;
 mod range;
 mod state;
 #[cfg(test)]
 mod tests;
 
-pub use class::{is_content, is_inside_leaf, is_structural, items_decide_classes};
+pub use class::{is_content, is_inside_leaf, is_structural};
 pub use doc::Doc;
+pub use laws::{items_decide_classes, unmatched_are_open};
 pub use nearest::nearest_content;
-pub use range::{unmatched, unmatched_are_open};
+pub use range::unmatched;
 pub use state::state_at;
 pub use ve_lawful::State;

@@ -1,7 +1,9 @@
 // The brackets of a range whose partners are not in it.
 ghost use Rattle.std.specs.Prelude.{◌≡◌, ◌≤◌, ◌<◌, ◌+◌, ◌^◌, length};
 ghost use Rattle.ve_offsets.specs.Docs.{IsDoc};
-ghost use Rattle.ve_offsets.specs.Unmatched.{unmatched_with, unmatched_after, unmatched_in, UnmatchedAreOpen};
+ghost use Rattle.model_items.specs.Offsets as model;
+ghost use Rattle.ve_offsets.specs.Unmatched.{unmatched_with, unmatched_after};
+ghost use Rattle.ve_tree.specs.IsTree.{unvalued};
 
 use crate::Doc;
 use ve_items::Item;
@@ -46,7 +48,7 @@ pub fn unmatched(doc: Doc<'_>, from: usize, to: usize) -> (usize, usize)
     requires doc { IsDoc doc }
     requires order { from ≤ to }
     requires within { to ≤ length doc.list.now.items }
-    ensures { result ≡ unmatched_in doc.entry.list.now.items from to }
+    ensures { result ≡ model.unmatched (unvalued doc.entry.list.now.items) from to }
 {
     let mut counts = (0, 0);
     let mut at = from;
@@ -57,10 +59,3 @@ pub fn unmatched(doc: Doc<'_>, from: usize, to: usize) -> (usize, usize)
     }
     counts
 }
-
-/// The unmatched closings of a range close the innermost of the nodes that are open at its start, and its unmatched openings are those of the nodes
-/// that begin in it and are open at its end.
-#[tactic(auto, using(crate::proofs::OpenLemmas::unmatched_are_open))]
-pub fn unmatched_are_open()
-    ensures { UnmatchedAreOpen }
-{}

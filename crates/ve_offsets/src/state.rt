@@ -1,8 +1,8 @@
 // The open kinds at an offset, found by the tree's links.
-ghost use Rattle.std.specs.Prelude.{◌≡◌, ◌≤◌, ◌<◌, ℕ, IsOk, Ok, length, take};
+ghost use Rattle.std.specs.Prelude.{◌≡◌, ◌≤◌, ◌<◌, IsOk, Ok, length};
 ghost use Rattle.model_items.specs.Law as law;
 ghost use Rattle.ve_offsets.specs.Docs.{IsDoc};
-ghost use Rattle.ve_offsets.specs.States.{IsStateAt, IsRound, IsRoundSome};
+ghost use Rattle.ve_offsets.specs.States.{IsStateAt, IsStateRound, IsRoundSome};
 ghost use Rattle.ve_tree.specs.IsTree.{unvalued};
 
 use crate::Doc;
@@ -52,7 +52,7 @@ fn enter_round(state: &mut State, doc: Doc<'_>, n: NodeId, levels: usize)
     requires doc { IsDoc doc }
     requires start { state.old ≡ law.start }
     requires round { IsRoundSome doc.tree.now.arena doc.tree.now.root (unvalued doc.list.now.items) n levels }
-    ensures { (o : ℕ) → o < length doc.entry.list.now.items → IsRound doc.entry.tree.now.arena doc.entry.tree.now.root (unvalued doc.entry.list.now.items) n o → law.after law.start (take o (unvalued doc.entry.list.now.items)) ≡ Ok state.new }
+    ensures { IsStateRound doc.entry.tree.now.arena doc.entry.tree.now.root doc.entry.list.now.items n state.new }
 {
     if n.0 == doc.tree.root.0 {
         return;

@@ -1,6 +1,7 @@
-use Rattle.std.proofs.Common.{◌+◌, ◌-◌, length, take, drop, ap, ◌∙◌, arith}
+use Rattle.std.proofs.Common.{◌≡◌, ◌+◌, ◌-◌, length, take, drop, sym, ap, ◌∙◌, arith}
 use Rattle.ve_offsets.specs.Unmatched.{unmatched_after}
 use Rattle.ve_offsets.proofs.RangeLemmas.{piece_counted}
+use Rattle.ve_offsets.proofs.OpenLemmas.{counts_are_unmatched}
 use Rattle.ve_offsets.proofs.range.unmatched.Goals as goal
 
 pub loop-at-preserved : goal.loop-at-preserved
@@ -16,3 +17,12 @@ loop-at-preserved c =
       closings = omega (arith, c.with_items-counts.ensures.closings, c.loop-at.invariant.closings);
       openings = omega (arith, c.with_items-counts.ensures.openings, c.loop-at.invariant.openings);
     }
+
+pub returns : goal.returns
+returns c =
+    let items = c.args.doc.list.now.items in
+    let at = c.loop-at.at in
+    let done : c.args.to - at ≡ 0 = omega (arith, c.loop-at-test.false) in
+    sym (ap (λ n. unmatched_after c.loop-at.counts (take n (drop at items))) done)
+    ∙ c.loop-at.invariant.counts
+    ∙ counts_are_unmatched items c.args.from c.args.to c.requires.doc.links.lawful c.requires.order c.requires.within
