@@ -25,8 +25,8 @@ use Rattle.model_change.specs.declared.tx_fault.TxFault.TheVariants.{BadLength, 
 use Rattle.ve_tx.specs.declared.op.Op.{Op}
 use Rattle.ve_tx.specs.declared.op.Op.TheVariants as op
 use Rattle.ve_tx.specs.Checked.{change_of}
-use Rattle.ve_tx.specs.Filled.{standing, passed, op_filled, MayBeMade}
-use Rattle.ve_tx.specs.Making.{headed, first_headed, IsOpening}
+use Rattle.ve_tx.specs.Filled.{passed, op_filled, MayBeMade}
+use Rattle.ve_tx.specs.Making.{headed, first_headed, standing, IsOpening}
 use Rattle.ve_tx.specs.Normal.{are_normal}
 use Rattle.ve_tx.specs.Cites.{OperationCites, TxCites}
 use Rattle.ve_tx.specs.Operation.{Operation, with_position, with_positions, bare, operation_by_value, by_value, IsNormal}

@@ -1,5 +1,5 @@
 -- What a transaction does to a list whose items cite the values of a store.
-use Rattle.std.specs.Prelude.{List, Option, Result}
+use Rattle.std.specs.Prelude.{◌≡◌, List, Option, Result}
 use Rattle.ve_base.specs.declared.value.Value.{Value}
 use Rattle.model_items.specs.declared.item.Item.{Item}
 use Rattle.model_items.specs.declared.plain_item.PlainItem.{PlainItem}
@@ -8,10 +8,12 @@ use Rattle.model_change.specs.declared.tx_fault.TxFault.{TxFault}
 use Rattle.model_change.specs.Attributes.{AllNamesApart}
 use Rattle.model_change.specs.Fault.{Applies, apply, fault}
 use Rattle.model_change.specs.Inverse.{IsRestorable, IsUndoneBy, filled}
+use Rattle.model_change.specs.Join.{active_range}
 use Rattle.model_change.specs.Store.{changed_heads, fill}
-use Rattle.model_change.specs.Transaction.{Transaction}
+use Rattle.model_change.specs.Transaction.{Transaction, edited}
 use Rattle.ve_items.specs.Substitution.{spliced}
 use Rattle.ve_tx.specs.declared.change.Change.{Change}
+use Rattle.ve_tx.specs.Changed.{IsOver}
 use Rattle.ve_tx.specs.Operation.{Operation, by_value}
 
 -- the transaction applies
@@ -34,6 +36,10 @@ store_after values tx items = fill values (changed_heads (by_value values tx) (p
 abbrev pub filled_on : List Value → List Operation → List Item → Transaction
 filled_on values tx items = filled (by_value values tx) (plain_list values items)
 
+-- the second transaction is, by value, the first with these positions
+abbrev pub IsFilledOn : List Value → List Item → List Operation → List Operation → Type 0
+IsFilledOn values items tx full = by_value values full ≡ filled_on values tx items
+
 -- each attribute that it removes would be put back where it was
 abbrev pub IsRestorableOn : List Value → List Operation → List Item → Type 0
 IsRestorableOn values tx items = IsRestorable (by_value values tx) (plain_list values items)
@@ -41,8 +47,21 @@ IsRestorableOn values tx items = IsRestorable (by_value values tx) (plain_list v
 -- after the one, the other gives each list back on which names are apart and what is removed can be put back
 abbrev pub Undoes : List Value → List Operation → List Operation → Type 0
 Undoes values tx back =
-    (items : List PlainItem) → AllNamesApart items → Applies (by_value values tx) items → IsRestorable (by_value values tx) items → IsUndoneBy (by_value values tx) (by_value values back) items
+    (items : List PlainItem) → AllNamesApart items → Applies (by_value values tx) items → IsRestorable (by_value values tx) items →
+    IsUndoneBy (by_value values tx) (by_value values back) items
 
 -- the list after a change
 abbrev pub spliced_by : List Item → Change → List Item
 spliced_by items change = spliced items change.at change.removed change.items
+
+-- the same by value
+abbrev pub plain_after : List Value → List Item → Change → List PlainItem
+plain_after values items change = plain_list values (spliced_by items change)
+
+-- After the change the list is, over the new values, what the transaction makes of it over the old ones.
+abbrev pub MakesEdited : (old new : List Value) → List Operation → List Item → Change → Type 0
+MakesEdited old new tx items change = plain_after new items change ≡ edited (by_value old tx) (plain_list old items)
+
+-- the items that the change removes are those of the active range of the transaction; without one it removes none
+abbrev pub IsOverActive : List Value → List Operation → Change → Type 0
+IsOverActive values tx change = IsOver (active_range (by_value values tx)) change.at change.removed

@@ -1,15 +1,17 @@
 -- What is asked of a list before a transaction changes it, as passes over the operations ask it.
 use Rattle.std.specs.Option.{option_or}
-use Rattle.std.specs.Prelude.{◌≡◌, ◌≢◌, ℕ, ◌+◌, ◌<◌, ◌==◌, if◌then◌else◌, List, [], ◌∷◌, length, take, drop, slice_get, Option, Some, None, option_map}
+use Rattle.std.specs.Prelude.{◌≡◌, ◌≢◌, ℕ, ◌+◌, ◌<◌, ◌==◌, if◌then◌else◌, List, [], ◌∷◌, length, take, drop, slice_get, Option, Some, None, option_map, All}
 use Rattle.ve_base.specs.declared.value.Value.{Value}
 use Rattle.model_items.specs.declared.item.Item.{Item}
-use Rattle.model_items.specs.Plain.{plain_list}
+use Rattle.model_items.specs.Plain.{plain_list, AreDistinct, CitesWell}
 use Rattle.model_change.specs.declared.tx_fault.TxFault.{TxFault}
 use Rattle.model_change.specs.declared.tx_fault.TxFault.TheVariants.{BadLength, Mismatch, BadAttr}
 use Rattle.model_change.specs.Attributes.{AttrChange}
 use Rattle.model_change.specs.Fault.{differs_at, first_allows}
 use Rattle.ve_tx.specs.declared.op.Op.{Op}
 use Rattle.ve_tx.specs.declared.op.Op.TheVariants.{Retain, Replace, Attribute}
+use Rattle.ve_tx.specs.Cites.{TxCites}
+use Rattle.ve_tx.specs.Operation.{unkept}
 
 -- the length of the lists that the operations apply to
 abbrev pub old_size : List Op → ℕ
@@ -27,8 +29,15 @@ abbrev pub mismatch_in : List Value → List Item → ℕ → List Op → Option
 mismatch_in values items at [] = None
 mismatch_in values items at (Retain count ∷ ops) = mismatch_in values items (at + count) ops
 mismatch_in values items at (Replace removed inserted ∷ ops) =
-    option_or (differs_at at (plain_list values removed) (plain_list values (drop at items))) (mismatch_in values items (at + length removed) ops)
+    option_or (differs_at at (plain_list values removed) (plain_list values (drop at items)))
+    (mismatch_in values items (at + length removed) ops)
 mismatch_in values items at (Attribute name from to ∷ ops) = mismatch_in values items at ops
+
+-- the first such place from the start on, over any distinct values that the list and the operations cite well
+abbrev pub IsFirstMismatch : List Item → List Op → Option ℕ → Type 0
+IsFirstMismatch items ops found =
+    (values : List Value) → AreDistinct values → All (CitesWell values) items → TxCites values (unkept ops) →
+    found ≡ mismatch_in values items 0 ops
 
 abbrev pub change_of : List ℕ → Option (List ℕ) → Option (List ℕ) → Option ℕ → AttrChange
 change_of name from to kept = record { name = name; from = from; to = to; kept = kept }

@@ -3,6 +3,8 @@ use Rattle.std.specs.Prelude.{◌≡◌, ℕ, ◌<◌, List, [], ◌++◌, map, 
 use Rattle.ve_base.specs.declared.value.Value.{Value}
 use Rattle.ve_base.specs.declared.value.ValueId.{ValueId}
 use Rattle.model_items.specs.Plain.{value_at}
+use Rattle.ve_tx.specs.Cites.{OperationCites, TxCites}
+use Rattle.ve_tx.specs.Operation.{Operation, operation_by_value, by_value}
 
 -- the values are those that stand in the store at these places
 abbrev pub AreCopied : (store : List Value) → List ℕ → List Value → Type 0
@@ -25,3 +27,11 @@ CitesAlike store values old new = (is_some new ≡ is_some old) × ((more : List
 -- The second reads over the values, with any others after them, as the first over the store, and cites well.
 abbrev pub ReadsAlike : {X Y : Type 0} → (List Value → X → Y) → (List Value → X → Type 0) → (store values : List Value) → X → X → Type 0
 ReadsAlike read Cites store values old new = (more : List Value) → (read (values ++ more) new ≡ read store old) × Cites (values ++ more) new
+
+-- so an operation, over its items
+abbrev pub OperationsAlike : (store values : List Value) → Operation → Operation → Type 0
+OperationsAlike = ReadsAlike operation_by_value OperationCites
+
+-- so a transaction
+abbrev pub TransactionsAlike : (store values : List Value) → List Operation → List Operation → Type 0
+TransactionsAlike = ReadsAlike by_value TxCites

@@ -1,16 +1,16 @@
 -- The positions of removed attributes, as one pass along the operations finds them.
 use Rattle.std.specs.Prelude.{◌≡◌, ℕ, true, List, length, drop, Option}
+use Rattle.ve_base.specs.declared.value.Value.{Value}
 use Rattle.ve_base.specs.declared.head.Head.{Head}
+use Rattle.model_items.specs.declared.item.Item.{Item}
 use Rattle.model_items.specs.declared.plain_item.PlainItem.{PlainItem}
 use Rattle.model_change.specs.Attributes.{item_changed}
 use Rattle.model_change.specs.Fault.{first_allows}
 use Rattle.model_change.specs.Inverse.{first_filled}
 use Rattle.model_change.specs.Transaction.{Op, Retain, Replace, Attribute, on_first}
-use Rattle.ve_tx.specs.Making.{first_headed}
-
--- the items from a place on, the first one with its changed head, where it has one
-abbrev pub standing : List PlainItem → ℕ → Option Head → List PlainItem
-standing items at head = first_headed head (drop at items)
+use Rattle.ve_tx.specs.declared.filled.Cursor.{Cursor}
+use Rattle.ve_tx.specs.Making.{headed_from}
+use Rattle.ve_tx.specs.Operation.{Operation, operation_by_value}
 
 -- where the cursor stands after an operation
 abbrev pub passed : Op → List PlainItem → List PlainItem
@@ -29,3 +29,21 @@ abbrev pub MayBeMade : Op → List PlainItem → Type 0
 MayBeMade (Retain count) items = Unit {0}
 MayBeMade (Replace removed inserted) items = Unit {0}
 MayBeMade (Attribute change) items = first_allows change items ≡ true
+
+-- the items of a list from the cursor on, by value, the first one with its changed head, where it has one
+abbrev pub ahead : List Value → List Item → Cursor → List PlainItem
+ahead values items cursor = headed_from values items cursor.at cursor.head
+
+-- the operation is allowed at the cursor of the list
+abbrev pub MayPass : List Value → List Item → Operation → Cursor → Type 0
+MayPass values items operation cursor = MayBeMade (operation_by_value values operation) (ahead values items cursor)
+
+-- the operation takes the cursor to the next one
+abbrev pub Passes : List Value → List Item → Operation → (cursor next : Cursor) → Type 0
+Passes values items operation cursor next =
+    ahead values items next ≡ passed (operation_by_value values operation) (ahead values items cursor)
+
+-- the second operation is, by value, the first with the position that the attribute which it removes has at the cursor
+abbrev pub Fills : List Value → List Item → Cursor → (operation full : Operation) → Type 0
+Fills values items cursor operation full =
+    operation_by_value values full ≡ op_filled (operation_by_value values operation) (ahead values items cursor)

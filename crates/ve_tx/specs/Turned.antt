@@ -1,5 +1,5 @@
 -- The inverse as one pass over the operations makes it.
-use Rattle.std.specs.Prelude.{ℕ, List, [], ◌∷◌, ◌++◌, take, drop}
+use Rattle.std.specs.Prelude.{◌≡◌, ℕ, List, [], ◌∷◌, ◌++◌, take, drop}
 use Rattle.model_change.specs.Attributes.{change_back}
 use Rattle.ve_tx.specs.declared.op.Op.{Op}
 use Rattle.ve_tx.specs.declared.op.Op.TheVariants as op
@@ -27,3 +27,8 @@ turned = turned_after []
 -- what stands already, in which the attribute operations of the present place begin at `start`, with what undoes the rest
 abbrev pub finished : List Operation → ℕ → List Operation → List Operation
 finished back start rest = take start back ++ turned_after (drop start back) rest
+
+-- The new list undoes one operation more than the old one: whatever follows, finished with it the new list is the old one finished
+-- with the operation and what follows.
+abbrev pub UndoesAlso : (old : List Operation) → ℕ → Operation → (new : List Operation) → ℕ → Type 0
+UndoesAlso old start operation new next = (rest : List Operation) → finished new next rest ≡ finished old start (operation ∷ rest)

@@ -1,13 +1,10 @@
 // What a list is to be changed by, made before the list is.
 ghost use Rattle.std.specs.Prelude.{◌≡◌, ◌≤◌, ◌+◌, length, All, IfOk, OnOk, OnErr};
-ghost use Rattle.model_items.specs.Plain.{plain_list, CitesWell};
-ghost use Rattle.model_change.specs.Join.{active_range};
-ghost use Rattle.model_change.specs.Transaction.{edited};
-ghost use Rattle.ve_tx.specs.Applied.{AppliesTo, spliced_by, store_after};
-ghost use Rattle.ve_tx.specs.Changed.{IsOver};
+ghost use Rattle.model_items.specs.Plain.{CitesWell};
+ghost use Rattle.ve_tx.specs.Applied.{AppliesTo, IsOverActive, MakesEdited, store_after};
 ghost use Rattle.ve_tx.specs.Cites.{TxCites};
 ghost use Rattle.ve_tx.specs.Making.{Extends};
-ghost use Rattle.ve_tx.specs.Operation.{by_value, with_positions, IsNormal};
+ghost use Rattle.ve_tx.specs.Operation.{with_positions, IsNormal};
 
 use crate::Op;
 use crate::making::new_items;
@@ -39,8 +36,8 @@ pub fn prepared(
     requires list { All (CitesWell store.old) list.old.items }
     requires cites { TxCites store.old (with_positions ops.now kept.now) }
     requires applies { AppliesTo store.old (with_positions ops.now kept.now) list.old.items }
-    ensures changed { IfOk result (λ change. plain_list store.new (spliced_by list.old.items change) ≡ edited (by_value store.old (with_positions ops.now kept.now)) (plain_list store.old list.old.items)) }
-    ensures range { IfOk result (λ change. IsOver (active_range (by_value store.old (with_positions ops.now kept.now))) change.at change.removed) }
+    ensures changed { IfOk result (λ change. MakesEdited store.old store.new (with_positions ops.now kept.now) list.old.items change) }
+    ensures range { IfOk result (λ change. IsOverActive store.old (with_positions ops.now kept.now) change) }
     ensures within { IfOk result (λ change. change.at + change.removed ≤ length list.old.items) }
     ensures room { IfOk result (λ change. length change.items ≤ list.new.spare) }
     ensures cites { IfOk result (λ change. All (CitesWell store.new) change.items) }

@@ -4,7 +4,7 @@ ghost use Rattle.ve_base.specs.Limits.{max_total_length};
 ghost use Rattle.ve_base.specs.declared.value.Value.{Value};
 ghost use Rattle.model_items.specs.Plain.{CitesWell, AreDistinct};
 ghost use Rattle.ve_tx.specs.Cites.{OperationCites, TxCites};
-ghost use Rattle.ve_tx.specs.Checked.{old_size, DiffersFirst, mismatch_in, bad_in, fault_in};
+ghost use Rattle.ve_tx.specs.Checked.{old_size, DiffersFirst, IsFirstMismatch, bad_in, fault_in};
 ghost use Rattle.ve_tx.specs.Normal.{total_size};
 ghost use Rattle.ve_tx.specs.Operation.{unkept};
 
@@ -69,7 +69,7 @@ fn first_difference(list: &Linear, at: usize, removed: &[Item]) -> Option<usize>
 pub fn first_mismatch(ops: &[Op], list: &Linear) -> Option<usize>
     requires within { total_size ops.now ≤ max_total_length }
     requires fits { old_size ops.now ≡ length list.now.items }
-    ensures { (values : _) → AreDistinct values → All (CitesWell values) list.now.items → TxCites values (unkept ops.now) → result ≡ mismatch_in values list.now.items 0 ops.now }
+    ensures { IsFirstMismatch list.now.items ops.now result }
 {
     let mut at = 0;
     for op in ops {

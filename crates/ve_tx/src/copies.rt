@@ -3,10 +3,10 @@ ghost use Rattle.std.specs.Prelude.{◌≡◌, [], All, IfOk, OnOk, map, vec_len
 ghost use Rattle.model_change.specs.Store.{fill, cited_by, cited};
 ghost use Rattle.model_items.specs.Plain.{plain, plain_list, CitesWell};
 ghost use Rattle.ve_tx.specs.Cites.{OperationCites, TxCites};
-ghost use Rattle.ve_tx.specs.Copied.{AreCopied, Stands, one_cited, CitesAlike, ReadsAlike};
+ghost use Rattle.ve_tx.specs.Copied.{AreCopied, Stands, one_cited, CitesAlike, ReadsAlike, OperationsAlike, TransactionsAlike};
 ghost use Rattle.ve_tx.specs.Gathered.{gathered};
-ghost use Rattle.ve_tx.specs.Operation.{operation_by_value, by_value, with_position, with_positions};
-ghost use Rattle.ve_tx.specs.Parcel.{operation_cited, transaction_cited};
+ghost use Rattle.ve_tx.specs.Operation.{with_position, with_positions};
+ghost use Rattle.ve_tx.specs.Parcel.{operation_cited_in, transaction_cited_in};
 
 use crate::gathered::Gathered;
 use crate::inverse::position_at;
@@ -124,8 +124,8 @@ impl Copies {
         requires copied { AreCopied store.now self.old.places.keys self.old.values }
         requires cites { (k : _) → OperationCites store.now (with_position op.now k) }
         ensures copied { OnOk result (AreCopied store.now self.new.places.keys self.new.values) }
-        ensures filled { OnOk result ((k : _) → self.new.values ≡ fill self.old.values (operation_cited (operation_by_value store.now (with_position op.now k)))) }
-        ensures alike { IfOk result (λ made. (k : _) → ReadsAlike operation_by_value OperationCites store.now self.new.values (with_position op.now k) (with_position made k)) }
+        ensures filled { OnOk result ((k : _) → self.new.values ≡ fill self.old.values (operation_cited_in store.now (with_position op.now k))) }
+        ensures alike { IfOk result (λ made. (k : _) → OperationsAlike store.now self.new.values (with_position op.now k) (with_position made k)) }
     {
         match op {
             Op::Retain(count) => Ok(Op::Retain(*count)),
@@ -153,8 +153,8 @@ impl Copies {
         requires copied { AreCopied store.now self.old.places.keys self.old.values }
         requires cites { TxCites store.now (with_positions ops.now kept.now) }
         ensures copied { OnOk result (AreCopied store.now self.new.places.keys self.new.values) }
-        ensures filled { OnOk result (self.new.values ≡ fill self.old.values (transaction_cited (by_value store.now (with_positions ops.now kept.now)))) }
-        ensures alike { IfOk result (λ made. ReadsAlike by_value TxCites store.now self.new.values (with_positions ops.now kept.now) (gathered made)) }
+        ensures filled { OnOk result (self.new.values ≡ fill self.old.values (transaction_cited_in store.now (with_positions ops.now kept.now))) }
+        ensures alike { IfOk result (λ made. TransactionsAlike store.now self.new.values (with_positions ops.now kept.now) (gathered made)) }
     {
         let mut made = Gathered::new(alloc);
         for i in 0..ops.len() {

@@ -1,16 +1,16 @@
 // The positions of removed attributes.
-ghost use Rattle.std.specs.Prelude.{◌≡◌, ◌≤◌, ◌+◌, ◌^◌, List, Some, None, drop, IfOk, All};
+ghost use Rattle.std.specs.Prelude.{◌≡◌, ◌≤◌, ◌+◌, List, Some, None, drop, IfOk, All};
 ghost use Rattle.ve_base.specs.Limits.{max_total_length};
 ghost use Rattle.model_items.specs.declared.plain_item.PlainItem.{PlainItem};
 ghost use Rattle.model_items.specs.Plain.{plain_list, CitesWell};
 ghost use Rattle.model_change.specs.Attributes.{position_kept};
 ghost use Rattle.model_change.specs.Fault.{bad_attribute_at};
-ghost use Rattle.model_change.specs.Inverse as inverse;
-ghost use Rattle.ve_tx.specs.Filled.{standing, passed, op_filled, MayBeMade};
-ghost use Rattle.ve_tx.specs.Making.{headed, IsOpening};
+ghost use Rattle.ve_tx.specs.Applied.{IsFilledOn};
+ghost use Rattle.ve_tx.specs.Filled.{MayPass, Passes, Fills};
+ghost use Rattle.ve_tx.specs.Making.{headed, standing, IsOpening};
 ghost use Rattle.ve_tx.specs.Normal.{size, total_size};
 ghost use Rattle.ve_tx.specs.Gathered.{gathered};
-ghost use Rattle.ve_tx.specs.Operation.{operation_by_value, by_value, with_position, with_positions};
+ghost use Rattle.ve_tx.specs.Operation.{by_value, with_position, with_positions};
 
 use crate::Op;
 use crate::attributes::position;
@@ -72,10 +72,10 @@ fn step(
 ) -> Result<(Cursor, Option<usize>), Memory>
     requires fits { cursor.at + size op.now ≤ max_total_length }
     requires list { All (CitesWell store.now) list.now.items }
-    requires allowed { MayBeMade (operation_by_value store.now (with_position op.now kept)) (standing (plain_list store.now list.now.items) cursor.at cursor.head) }
+    requires allowed { MayPass store.now list.now.items (with_position op.now kept) cursor }
     ensures at { IfOk result (λ next. next.0.at ≤ cursor.at + size op.now) }
-    ensures passed { IfOk result (λ next. standing (plain_list store.now list.now.items) next.0.at next.0.head ≡ passed (operation_by_value store.now (with_position op.now kept)) (standing (plain_list store.now list.now.items) cursor.at cursor.head)) }
-    ensures filled { IfOk result (λ next. operation_by_value store.now (with_position op.now next.1) ≡ op_filled (operation_by_value store.now (with_position op.now kept)) (standing (plain_list store.now list.now.items) cursor.at cursor.head)) }
+    ensures passed { IfOk result (λ next. Passes store.now list.now.items (with_position op.now kept) cursor next.0) }
+    ensures filled { IfOk result (λ next. Fills store.now list.now.items cursor (with_position op.now kept) (with_position op.now next.1)) }
 {
     match op {
         Op::Retain(count) => Ok((past(cursor, *count), kept)),
@@ -109,7 +109,7 @@ pub fn filled(
     requires list { All (CitesWell store.now) list.now.items }
     requires allowed { bad_attribute_at 0 (by_value store.now (with_positions ops.now kept.now)) (plain_list store.now list.now.items) ≡ None }
     ensures ops { IfOk result (λ made. made.ops.items ≡ ops.now) }
-    ensures filled { IfOk result (λ made. by_value store.now (gathered made) ≡ inverse.filled (by_value store.now (with_positions ops.now kept.now)) (plain_list store.now list.now.items)) }
+    ensures filled { IfOk result (λ made. IsFilledOn store.now list.now.items (with_positions ops.now kept.now) (gathered made)) }
 {
     let mut made = Gathered::new(alloc);
     let mut cursor = Cursor { at: 0, head: None };

@@ -1,8 +1,8 @@
 // What undoes operations.
-ghost use Rattle.std.specs.Prelude.{◌≡◌, ◌≤◌, ◌∷◌, None, IfOk, OnOk, vec_len, slice_index_or};
+ghost use Rattle.std.specs.Prelude.{◌≡◌, ◌≤◌, None, IfOk, OnOk, vec_len, slice_index_or};
 ghost use Rattle.ve_tx.specs.Gathered.{gathered};
 ghost use Rattle.ve_tx.specs.Operation.{with_position, with_positions};
-ghost use Rattle.ve_tx.specs.Turned.{op_back, turned, finished};
+ghost use Rattle.ve_tx.specs.Turned.{op_back, turned, UndoesAlso};
 
 use crate::Op;
 use crate::gathered::Gathered;
@@ -46,7 +46,7 @@ fn put_back(
     requires within { start ≤ vec_len back.old.ops }
     ensures even { OnOk result (vec_len back.new.ops ≡ vec_len back.new.kept) }
     ensures within { IfOk result (λ next. next ≤ vec_len back.new.ops) }
-    ensures ok { IfOk result (λ next. (rest : _) → finished (gathered back.new) next rest ≡ finished (gathered back.old) start (with_position op.now kept ∷ rest)) }
+    ensures ok { IfOk result (λ next. UndoesAlso (gathered back.old) start (with_position op.now kept) (gathered back.new) next) }
 {
     let undone = undoing(alloc, op)?;
     match op {

@@ -1,16 +1,16 @@
 // The new items of the active range, made in one pass.
-ghost use Rattle.std.specs.Prelude.{◌≡◌, ◌≤◌, ◌<◌, ◌+◌, ◌-◌, ◌^◌, ◌++◌, ◌∷◌, [], length, take, drop, true, false, Some, None, All, IfOk, OnOk, OnErr, is_some, slice_get};
+ghost use Rattle.std.specs.Prelude.{◌≡◌, ◌≤◌, ◌<◌, ◌-◌, ◌++◌, ◌∷◌, [], length, take, drop, true, false, Some, All, IfOk, OnOk, OnErr, is_some, slice_get};
 ghost use Rattle.ve_base.specs.declared.value.Value.TheVariants as value;
 ghost use Rattle.model_items.specs.Plain.{plain, plain_list, head_in, value_at, CitesHead, CitesWell};
 ghost use Rattle.model_change.specs.Attributes as attributes;
-ghost use Rattle.model_change.specs.Attributes.{item_changed, value_of};
-ghost use Rattle.model_change.specs.Join.{start_of, end_of, is_active};
+ghost use Rattle.model_change.specs.Attributes.{value_of};
+ghost use Rattle.model_change.specs.Join.{start_of, end_of};
 ghost use Rattle.model_change.specs.Fault.{Applies};
-ghost use Rattle.model_change.specs.Store.{fill, head_cited, head_if, heads_from};
-ghost use Rattle.model_change.specs.Transaction.{edited, is_reduced};
+ghost use Rattle.model_change.specs.Store.{fill, head_cited, head_if};
+ghost use Rattle.model_change.specs.Transaction.{is_reduced};
 ghost use Rattle.ve_tx.specs.Cites.{TxCites};
 ghost use Rattle.ve_tx.specs.Checked.{change_of};
-ghost use Rattle.ve_tx.specs.Making.{Extends, headed, first_headed, IsOpening, MayHead, active_ops, active_items};
+ghost use Rattle.ve_tx.specs.Making.{Extends, headed, headed_from, headed_between, IsOpening, MayHead, IsHeadChanged, IsHeaded, IsAppended, BeginActive, IsRangeEdited, store_after_range};
 ghost use Rattle.ve_tx.specs.Operation.{by_value, with_positions};
 
 use crate::Op;
@@ -65,7 +65,7 @@ pub fn next_head(
 ) -> Result<Head, Memory>
     requires present { value_of name.now head.attrs ≡ from.now }
     requires free { attributes.is_reserved name.now ≡ false }
-    ensures { IfOk result (λ next. (item : _) → headed (Some next) item ≡ item_changed (change_of name.now from.now to.now kept) (headed (Some head) item)) }
+    ensures { IfOk result (λ next. IsHeadChanged (change_of name.now from.now to.now kept) head next) }
 {
     let Head {
         tag,
@@ -99,7 +99,7 @@ fn cited(store: &mut Store, head: Head) -> Result<Option<ValueId>, Memory>
 }
 
 fn with_head(item: Item, head: Option<ValueId>) -> Item
-    ensures item { (values : _) → IsOpening (plain values item) → plain values result ≡ headed (Some (head_in (value_at values head))) (plain values item) }
+    ensures item { IsHeaded item head result }
     ensures cites { (values : _) → CitesWell values item → CitesHead values head → CitesWell values result }
 {
     match item {
@@ -128,7 +128,7 @@ fn settle(items: &mut Items, store: &mut Store, item: Item, head: Head) -> Resul
     requires opening { IsOpening (plain store.old item) }
     requires made { All (CitesWell store.old) items.old }
     ensures made { OnOk result (All (CitesWell store.new) items.new) }
-    ensures items { OnOk result (plain_list store.new items.new ≡ plain_list store.old items.old ++ headed (Some head) (plain store.old item) ∷ []) }
+    ensures items { OnOk result (IsAppended store.old items.old store.new items.new (headed (Some head) (plain store.old item) ∷ [])) }
     ensures store { OnOk result (store.new ≡ fill store.old (head_cited head)) }
     ensures extends { Extends store.old store.new }
 {
@@ -168,8 +168,8 @@ fn pass(
     requires some { is_some head ≡ true → from < to }
     requires opening { (item : _) → slice_get list.now.items from ≡ Some item → MayHead head (plain store.old item) }
     ensures made { OnOk result (All (CitesWell store.new) items.new) }
-    ensures items { OnOk result (plain_list store.new items.new ≡ plain_list store.old items.old ++ first_headed head (take (to - from) (drop from (plain_list store.old list.now.items)))) }
-    ensures store { OnOk result (store.new ≡ fill store.old (head_if (is_some head) (first_headed head (drop from (plain_list store.old list.now.items))))) }
+    ensures items { OnOk result (IsAppended store.old items.old store.new items.new (headed_between store.old list.now.items from to head)) }
+    ensures store { OnOk result (store.new ≡ fill store.old (head_if (is_some head) (headed_from store.old list.now.items from head))) }
     ensures extends { Extends store.old store.new }
 {
     match head {
@@ -183,7 +183,7 @@ fn pass(
 
 /// 1 where the first operation is a retain, and else 0.
 fn first_retains(ops: &[Op]) -> usize
-    ensures bare { (values kept : _) → by_value values (drop result (with_positions ops.now kept)) ≡ active_ops values (with_positions ops.now kept) }
+    ensures bare { BeginActive ops.now result }
     ensures within { result ≤ length ops.now }
 {
     match ops.first() {
@@ -210,8 +210,8 @@ pub fn new_items(
     requires start { start ≡ start_of (by_value store.old (with_positions ops.now kept.now)) }
     requires end { end ≡ end_of (by_value store.old (with_positions ops.now kept.now)) }
     ensures made { IfOk result (All (CitesWell store.new)) }
-    ensures items { IfOk result (λ items. plain_list store.new items ≡ edited (active_ops store.old (with_positions ops.now kept.now)) (active_items store.old start end list.now.items)) }
-    ensures store { OnOk result (store.new ≡ fill store.old (heads_from false (active_ops store.old (with_positions ops.now kept.now)) (active_items store.old start end list.now.items))) }
+    ensures items { IfOk result (IsRangeEdited store.old store.new (with_positions ops.now kept.now) start end list.now.items) }
+    ensures store { OnOk result (store.new ≡ store_after_range store.old (with_positions ops.now kept.now) start end list.now.items) }
     ensures extends { Extends store.old store.new }
 {
     let mut items = Items::new(alloc);

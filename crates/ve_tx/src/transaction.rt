@@ -5,12 +5,12 @@ ghost use Rattle.model_change.specs.Inverse.{inverse};
 ghost use Rattle.model_change.specs.Join.{active_range, core, with_ends};
 ghost use Rattle.model_change.specs.Store.{fill};
 ghost use Rattle.model_change.specs.Transaction.{is_normal};
-ghost use Rattle.ve_tx.specs.Applied.{AppliesTo, IsRestorableOn, Undoes, applied_to, fault_on, filled_on, spliced_by, store_after};
-ghost use Rattle.ve_tx.specs.Changed.{IsOver, IsRefusal};
+ghost use Rattle.ve_tx.specs.Applied.{AppliesTo, IsOverActive, IsRestorableOn, Undoes, applied_to, fault_on, filled_on, plain_after, store_after};
+ghost use Rattle.ve_tx.specs.Changed.{IsRefusal};
 ghost use Rattle.ve_tx.specs.Cites.{TxCites};
-ghost use Rattle.ve_tx.specs.Copied.{AreCopied, ReadsAlike};
+ghost use Rattle.ve_tx.specs.Copied.{AreCopied, TransactionsAlike};
 ghost use Rattle.ve_tx.specs.Operation.{unkept, bare, by_value};
-ghost use Rattle.ve_tx.specs.Parcel.{transaction_cited};
+ghost use Rattle.ve_tx.specs.Parcel.{transaction_cited_in};
 
 use crate::change::prepared;
 use crate::check::check;
@@ -94,8 +94,8 @@ impl Transaction {
         requires copied { AreCopied store.now copies.old.places.keys copies.old.values }
         requires cites { TxCites store.now self.now }
         ensures copied { OnOk result (AreCopied store.now copies.new.places.keys copies.new.values) }
-        ensures filled { OnOk result (copies.new.values ≡ fill copies.old.values (transaction_cited (by_value store.now self.now))) }
-        ensures alike { IfOk result (ReadsAlike by_value TxCites store.now copies.new.values self.now) }
+        ensures filled { OnOk result (copies.new.values ≡ fill copies.old.values (transaction_cited_in store.now self.now)) }
+        ensures alike { IfOk result (TransactionsAlike store.now copies.new.values self.now) }
     {
         let made = copies.ops(alloc, store, self.ops.as_slice(), self.kept.as_slice())?;
         Ok(Transaction {
@@ -187,8 +187,8 @@ impl Transaction {
     ) -> Result<Change, TxFault>
         requires list { All (CitesWell store.old) list.old.items }
         requires cites { TxCites store.old self.now }
-        ensures applied { IfOk result (λ change. applied_to store.old self.now list.old.items ≡ Ok (plain_list store.new (spliced_by list.old.items change))) }
-        ensures range { IfOk result (λ change. IsOver (active_range (by_value store.old self.now)) change.at change.removed) }
+        ensures applied { IfOk result (λ change. applied_to store.old self.now list.old.items ≡ Ok (plain_after store.new list.old.items change)) }
+        ensures range { IfOk result (λ change. IsOverActive store.old self.now change) }
         ensures within { IfOk result (λ change. change.at + change.removed ≤ length list.old.items) }
         ensures room { IfOk result (λ change. length change.items ≤ list.new.spare) }
         ensures cites { IfOk result (λ change. All (CitesWell store.new) change.items) }

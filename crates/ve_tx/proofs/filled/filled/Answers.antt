@@ -1,7 +1,7 @@
 use Rattle.std.proofs.Common.{◌≡◌, ◌≤◌, ◌+◌, ◌∷◌, ◌++◌, [], length, take, drop, sym, ap, subst, ◌∙◌, arith}
 use Rattle.std.proofs.lemmas.List.{take_more}
 use Rattle.model_items.specs.Plain.{plain_list}
-use Rattle.ve_tx.specs.Filled.{standing}
+use Rattle.ve_tx.specs.Making.{standing}
 use Rattle.ve_tx.specs.Normal.{size, total_size}
 use Rattle.ve_tx.specs.Operation.{with_position, with_positions}
 use Rattle.ve_tx.proofs.TurnedLemmas.{length-with_positions}

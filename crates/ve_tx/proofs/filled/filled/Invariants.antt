@@ -1,6 +1,6 @@
 use Rattle.std.proofs.Common.{◌≡◌, ◌≤◌, ◌+◌, ◌^◌, take, drop, vec_len}
 use Rattle.model_items.specs.Plain.{plain_list}
-use Rattle.ve_tx.specs.Filled.{standing}
+use Rattle.ve_tx.specs.Making.{standing}
 use Rattle.ve_tx.specs.Normal.{total_size}
 use Rattle.ve_tx.specs.Operation.{with_positions}
 use Rattle.ve_tx.proofs.FilledLemmas.{Filling}
