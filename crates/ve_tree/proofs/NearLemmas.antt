@@ -15,10 +15,11 @@ use Rattle.ve_tree.specs.Links.{number_of, link_in, links_of, first_or, AreSibli
 use Rattle.ve_tree.specs.Named.{Named, NoNode, NamedRun, NamedBranch, unnumbered, heads, Shows}
 use Rattle.ve_tree.specs.IsTree.{IsTree}
 use Rattle.ve_tree.specs.Places.{NodePlace, node_places, tree_places, IsNodeAt}
+use Rattle.ve_tree.specs.Spots.{closing_length, IsAtEnd}
 use Rattle.ve_tree.proofs.SeekLemmas.{seek}
 use Rattle.ve_tree.proofs.ClimbLemmas.{contains_cases, len_under, parent_under}
 use Rattle.ve_tree.specs.Way.{BeginsBefore, EndsBefore}
-use Rattle.ve_tree.proofs.WalkLemmas.{Slots, NoEmptyRun, contains-here, contains-later, tree-runs, Walk, walk_skip, walk_end}
+use Rattle.ve_tree.proofs.WalkLemmas.{Slots, NoEmptyRun, contains-here, contains-later, tree-runs, all_items, Walk, walk_skip, walk_end, walk_none}
 
 -- The walk to an offset has come to a forest in the node `inner`, which begins at `at`, `left` items before the offset.
 record On {slots : Slots} {root : NodeId} {items : List PlainItem} (tree : IsTree slots root items) (o inner at left : ℕ) (f : Named) : Type 0 where
@@ -31,9 +32,11 @@ record On {slots : Slots} {root : NodeId} {items : List PlainItem} (tree : IsTre
   all_listed : (x : NodePlace) → Contains (node_places inner at f) x → Contains (tree_places tree) x
   runs : NoEmptyRun (unnumbered f)
   answer : seek (record { kind = Root; from = 0; to = length items }) 0 o (tree_of items) ≡ seek place at left (unnumbered f)
+  room : left ≤ item_count (unnumbered f)
+  end : at + item_count (unnumbered f) + closing_length parent ≡ place.to
 
-on_start : {slots : Slots} {root : NodeId} {items : List PlainItem} (tree : IsTree slots root items) (o : ℕ) → On tree o root.0 0 o tree.named
-on_start {root = root} {items = items} tree o = record {
+on_start : {slots : Slots} {root : NodeId} {items : List PlainItem} (tree : IsTree slots root items) (o : ℕ) → o ≤ length items → On tree o root.0 0 o tree.named
+on_start {root = root} {items = items} tree o within = record {
   place = record { kind = Root; from = 0; to = length items };
   parent = None;
   start = None;
@@ -43,6 +46,8 @@ on_start {root = root} {items = items} tree o = record {
   all_listed = λ x c. contains-later _ x (node_places root.0 0 tree.named) c;
   runs = tree-runs tree;
   answer = ap (seek (record { kind = Root; from = 0; to = length items }) 0 o) (sym tree.is_tree);
+  room = omega (arith, within, all_items tree);
+  end = omega (arith, all_items tree);
 }
 
 -- past a run, past a branch, and into a branch
@@ -58,6 +63,8 @@ past_run tree o inner at left h count later w le = record {
   all_listed = λ x c. w.all_listed x (contains-later _ x (node_places inner (at + count) later) c);
   runs = w.runs.1;
   answer = w.answer ∙ ap (λ t. if t then seek w.place (at + count) (left - count) (unnumbered later) else w.place) (le-leb count left le);
+  room = omega (arith, w.room);
+  end = omega (arith, w.end);
 }
 
 past_branch : {slots : Slots} {root : NodeId} {items : List PlainItem} (tree : IsTree slots root items) (o inner at left h : ℕ) (kind : Kind) (inside later : Named) →
@@ -77,6 +84,8 @@ past_branch tree o inner at left h kind inside later w le =
           (Contains-append_right (node_places h (suc at) inside) (node_places inner (at + len) later) x c));
       runs = w.runs.1;
       answer = w.answer ∙ ap (λ t. if t then seek w.place (at + len) (left - len) (unnumbered later) else below) (le-leb len left le);
+      room = omega (arith, w.room);
+      end = omega (arith, w.end);
     }
 
 into_branch : {slots : Slots} {root : NodeId} {items : List PlainItem} (tree : IsTree slots root items) (o inner at left h : ℕ) (kind : Kind) (inside later : Named) →
@@ -98,6 +107,8 @@ into_branch tree o inner at left h kind inside later w lt some =
       answer = w.answer
           ∙ ap (λ t. if t then seek w.place (at + len) (left - len) (unnumbered later) else below) (lt-leb len left lt)
           ∙ ap (λ t. if t then seek own (suc at) (left - 1) (unnumbered inside) else w.place) (le-leb 1 left some);
+      room = omega (arith, lt);
+      end = omega arith;
     }
 
 -- The walk to an offset comes by each node that begins at or before the offset, and ends at the offset or after it.
@@ -131,6 +142,9 @@ comes tree o inner at left h f y child w first number from parent is_child e =
           all_listed = w.all_listed;
           runs = w.runs;
           answer = w.answer;
+          sum = omega (arith, e);
+          room = w.room;
+          end = w.end;
         };
       });
     }
@@ -199,7 +213,9 @@ passes_on tree o inner at left (NamedBranch h kind inside later) y child w c is_
 
 pub passes : {slots : Slots} {root : NodeId} {items : List PlainItem} (tree : IsTree slots root items) (o : ℕ) (y : NodePlace) (child : NodeId) →
     Contains (node_places root.0 0 tree.named) y → child.0 ≡ y.number → y.from ≤ o → o ≤ y.to → Passes tree o y child
-passes {root = root} tree o y child c is_child from to = passes_on tree o root.0 0 o tree.named y child (on_start tree o) c is_child (omega arith) from to
+passes {root = root} tree o y child c is_child from to =
+    let l = lies tree.named root.0 0 y c in
+    passes_on tree o root.0 0 o tree.named y child (on_start tree o (omega (arith, to, l.before_end, all_items tree))) c is_child (omega arith) from to
 
 -- What follows a node of a forest under p: it is the last there, or a node follows it, or it is the last inside one.
 data Follows (slots : Slots) (all : List NodePlace) (p end : ℕ) (y : NodePlace) : Type 0 where
@@ -311,7 +327,7 @@ step_after {slots = slots} {root = root} {items = items} tree o at left node aft
 
 -- the node round it, where none follows
 pub record StepUp {slots : Slots} {root : NodeId} {items : List PlainItem} (tree : IsTree slots root items) (o : ℕ) (parent : NodeId) (left : ℕ) : Type 0 where
-  pub found : left ≡ 0 → IsNodeAt tree parent (node_at items o)
+  pub found : left ≡ 0 → IsNodeAt tree parent (node_at items o) × IsAtEnd tree o parent
   pub up : 0 < left → EndsBefore tree o parent (left - 1)
 
 -- each node under the root has a parent, and is not empty
@@ -343,7 +359,7 @@ parent_number tree o y n node parent p c number here is_parent =
 -- the offset is just behind the last node inside another
 found_at_end : {slots : Slots} {root : NodeId} {items : List PlainItem} (tree : IsTree slots root items) (o : ℕ) (y : NodePlace) (at : NodeId) (node : ArenaNode) (parent : NodeId) →
     Contains (node_places root.0 0 tree.named) y → y.number ≡ at.0 → slot_at slots at.0 ≡ Some node → node.after ≡ None → node.parent ≡ Some parent → o ≤ length items → y.to ≡ o →
-    IsNodeAt tree parent (node_at items o)
+    IsNodeAt tree parent (node_at items o) × IsAtEnd tree o parent
 found_at_end tree o y at node parent c number here none is_parent within e =
     let l = lies tree.named _ 0 y c in
     let ends = len_under tree y at node (listed tree y c) number here in
@@ -351,7 +367,8 @@ found_at_end tree o y at node parent c number here none is_parent within e =
     let same = parent_number tree o y at node parent p c number here is_parent in
     let behind = (walk_skip tree o p.inner at (o - y.from) node p.walk here (omega (arith, ends, e))).1 in
     let none_behind = subst (λ next. Walk tree o p.inner next (o - y.from - node.len)) none behind in
-    walk_end tree o parent (o - y.from - node.len) within (subst (λ n. Walk tree o n None (o - y.from - node.len)) same none_behind)
+    let walk = subst (λ n. Walk tree o n None (o - y.from - node.len)) same none_behind in
+    (walk_end tree o parent (o - y.from - node.len) within walk, walk_none tree o parent (o - y.from - node.len) walk)
 
 pub step_up : {slots : Slots} {root : NodeId} {items : List PlainItem} (tree : IsTree slots root items) (o : ℕ) (at : NodeId) (left : ℕ) (node : ArenaNode) (parent : NodeId) →
     EndsBefore tree o at left → slot_at slots at.0 ≡ Some node → node.after ≡ None → node.parent ≡ Some parent → o ≤ length items → StepUp tree o parent left

@@ -16,6 +16,8 @@ use Rattle.ve_tree.specs.Links.{number_of, link_in, links_of, first_or, AreSibli
 use Rattle.ve_tree.specs.Named.{Named, NoNode, NamedRun, NamedBranch, unnumbered, heads, IsShown, Shows}
 use Rattle.ve_tree.specs.IsTree.{IsTree}
 use Rattle.ve_tree.specs.Places.{NodePlace, node_places, tree_places, IsNodeAt}
+use Rattle.ve_tree.specs.Spots.{closing_length, IsAtEnd, IsChildThere}
+use Rattle.model_items.proofs.NodeAtLemmas.{count_all}
 use Rattle.ve_tree.proofs.SeekLemmas.{seek, node_at-seek}
 
 abbrev pub Slots : Type 0
@@ -73,14 +75,21 @@ pub record WalkOn {slots : Slots} {root : NodeId} {items : List PlainItem} (tree
   pub all_listed : (x : NodePlace) → Contains (node_places inner at f) x → Contains (tree_places tree) x
   pub runs : NoEmptyRun (unnumbered f)
   pub answer : seek (record { kind = Root; from = 0; to = length items }) 0 o (tree_of items) ≡ seek place at left (unnumbered f)
+  pub sum : at + left ≡ o
+  pub room : left ≤ item_count (unnumbered f)
+  pub end : at + item_count (unnumbered f) + closing_length parent ≡ place.to
 
 pub record Walk {slots : Slots} {root : NodeId} {items : List PlainItem} (tree : IsTree slots root items) (o inner : ℕ) (next : Option NodeId) (left : ℕ) : Type 0 where
   pub forest : Named
   pub on : WalkOn tree o inner next left forest
 
-pub walk_start : {slots : Slots} {root : NodeId} {items : List PlainItem} (tree : IsTree slots root items) (o : ℕ) (node : ArenaNode) → slot_at slots root.0 ≡ Some node →
+-- the nodes of a tree have all items
+pub all_items : {slots : Slots} {root : NodeId} {items : List PlainItem} (tree : IsTree slots root items) → item_count (unnumbered tree.named) ≡ length items
+all_items {items = items} tree = ap item_count tree.is_tree ∙ count_all items tree.lawful
+
+pub walk_start : {slots : Slots} {root : NodeId} {items : List PlainItem} (tree : IsTree slots root items) (o : ℕ) (node : ArenaNode) → o ≤ length items → slot_at slots root.0 ≡ Some node →
     Walk tree o root.0 node.first o
-walk_start {slots = slots} {root = root} {items = items} tree o node here = record {
+walk_start {slots = slots} {root = root} {items = items} tree o node within here = record {
   forest = tree.named;
   on = record {
     at = 0;
@@ -94,6 +103,9 @@ walk_start {slots = slots} {root = root} {items = items} tree o node here = reco
     all_listed = λ x c. contains-later _ x (node_places root.0 0 tree.named) c;
     runs = tree-runs tree;
     answer = ap (seek (record { kind = Root; from = 0; to = length items }) 0 o) (sym tree.is_tree);
+    sum = omega arith;
+    room = omega (arith, within, all_items tree);
+    end = omega (arith, all_items tree);
   };
 }
 
@@ -156,6 +168,9 @@ skip_on {slots = slots} tree o inner child left node (NamedRun h count later) w 
           all_listed = λ x c. w.all_listed x (contains-later _ x (node_places inner (w.at + count) later) c);
           runs = w.runs.1;
           answer = w.answer ∙ ap (λ t. if t then seek w.place (w.at + count) (left - count) (unnumbered later) else w.place) (le-leb count left (omega (arith, n.len_is, le)));
+          sum = omega (arith, w.sum, n.len_is, le);
+          room = omega (arith, w.room);
+          end = omega (arith, w.end);
         };
       }),
     )
@@ -179,6 +194,9 @@ skip_on {slots = slots} tree o inner child left node (NamedBranch h kind inside 
               (Contains-append_right (node_places h (suc w.at) inside) (node_places inner (w.at + len) later) x c));
           runs = w.runs.1;
           answer = w.answer ∙ ap (λ t. if t then seek w.place (w.at + len) (left - len) (unnumbered later) else below) (le-leb len left (omega (arith, n.len_is, le)));
+          sum = omega (arith, w.sum, n.len_is, le);
+          room = omega (arith, w.room);
+          end = omega (arith, w.end);
         };
       }),
     )
@@ -217,6 +235,9 @@ enter_on {slots = slots} tree o inner child left node kind (NamedBranch h k insi
         answer = w.answer
             ∙ ap (λ t. if t then seek w.place (w.at + len) (left - len) (unnumbered later) else below) (lt-leb len left (omega (arith, n.len_is, lt)))
             ∙ ap (λ t. if t then seek own (suc w.at) (left - 1) (unnumbered inside) else w.place) (le-leb 1 left (omega (arith, some)));
+        sum = omega (arith, w.sum, some);
+        room = omega (arith, n.len_is, lt);
+        end = omega arith;
       };
     })
 
@@ -240,6 +261,60 @@ walk_end {slots = slots} {root = root} {items = items} tree o inner left within 
     by_forest NoNode w = found tree o inner None left NoNode within w refl
     by_forest (NamedRun h count later) w = let bad = w.next_is in absurd (cc)
     by_forest (NamedBranch h kind inside later) w = let bad = w.next_is in absurd (cc)
+
+-- nothing inside the node is left
+pub walk_none : {slots : Slots} {root : NodeId} {items : List PlainItem} (tree : IsTree slots root items) (o : ℕ) (inner : NodeId) (left : ℕ) →
+    Walk tree o inner.0 None left → IsAtEnd tree o inner
+walk_none tree o inner left w = by_forest w.forest w.on
+  where
+    by_forest : (f : Named) → WalkOn tree o inner.0 None left f → IsAtEnd tree o inner
+    by_forest NoNode w = record {
+      parent = w.parent;
+      sort = what.Node w.place.kind;
+      from = w.place.from;
+      to = w.place.to;
+      listed = w.listed;
+      ends = omega (arith, w.sum, w.room, w.end);
+    }
+    by_forest (NamedRun h count later) w = let bad = w.next_is in absurd (cc)
+    by_forest (NamedBranch h kind inside later) w = let bad = w.next_is in absurd (cc)
+
+-- the next node ends after the offset
+pub walk_next : {slots : Slots} {root : NodeId} {items : List PlainItem} (tree : IsTree slots root items) (o : ℕ) (inner child : NodeId) (left : ℕ) (node : ArenaNode) →
+    Walk tree o inner.0 (Some child) left → slot_at slots child.0 ≡ Some node → left < node.len → IsChildThere tree o inner child left
+walk_next {slots = slots} tree o inner child left node w here lt = by_forest w.forest w.on
+  where
+    listed_as : (h : ℕ) (sort : NodeWhat) (from to : ℕ) → child.0 ≡ h →
+        Contains (tree_places tree) (record { number = h; parent = Some inner.0; sort = sort; from = from; to = to }) →
+        Contains (tree_places tree) (record { number = child.0; parent = Some inner.0; sort = sort; from = from; to = to })
+    listed_as h sort from to e c =
+        let place_of : ℕ → NodePlace = λ n. record { number = n; parent = Some inner.0; sort = sort; from = from; to = to } in
+        subst (λ n. Contains (tree_places tree) (place_of n)) (sym e) c
+
+    by_forest : (f : Named) → WalkOn tree o inner.0 (Some child) left f → IsChildThere tree o inner child left
+    by_forest NoNode w = let bad = w.next_is in absurd (cc)
+    by_forest (NamedRun h count later) w =
+        let n = is_next slots child node h _ _ _ here (same_number child h w.next_is) w.shown.0 in
+        record {
+          sort = what.Run;
+          from = w.at;
+          to = w.at + count;
+          listed = listed_as h what.Run w.at (w.at + count) n.number (w.all_listed _ (contains-here _ (node_places inner.0 (w.at + count) later)));
+          begins = w.sum;
+          ends = omega (arith, w.sum, n.len_is, lt);
+        }
+    by_forest (NamedBranch h kind inside later) w =
+        let len = item_count (unnumbered inside) + 2 in
+        let n = is_next slots child node h _ _ _ here (same_number child h w.next_is) w.shown.0 in
+        record {
+          sort = what.Node kind;
+          from = w.at;
+          to = w.at + len;
+          listed = listed_as h (what.Node kind) w.at (w.at + len) n.number
+              (w.all_listed _ (contains-here _ (node_places h (suc w.at) inside ++ node_places inner.0 (w.at + len) later)));
+          begins = w.sum;
+          ends = omega (arith, w.sum, n.len_is, lt);
+        }
 
 -- before a node, or in a run
 pub walk_stop : {slots : Slots} {root : NodeId} {items : List PlainItem} (tree : IsTree slots root items) (o : ℕ) (inner child : NodeId) (left : ℕ) (node : ArenaNode) → o ≤ length items →

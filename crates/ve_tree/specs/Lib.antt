@@ -4,6 +4,7 @@ pub mod IsTree
 pub mod Lent
 pub mod Grown
 pub mod Places
+pub mod Spots
 pub mod Fits
 pub mod Reads
 pub mod Nodes

@@ -6,7 +6,8 @@
 //! up to the next landmark. Landmarks are hints: what is proved of them is that they are true. That they are near is how they are put.
 //!
 //! Definitions, in reading order: `Links` and `Named` (links, forests with numbers), `IsTree` (linked nodes are the tree of a list), `Places` (where nodes
-//! begin and end), `Landmarks`, `TreeOf` (what each call asks of a tree). `Grown`, `Lent` and `Way` serve private functions: how a tree is built, how a
+//! begin and end), `Landmarks`, `TreeOf` (what each call asks of a tree), `Spots`
+//! (the innermost node round an offset with its child there). `Grown`, `Lent` and `Way` serve private functions: how a tree is built, how a
 //! list is read from its end, how far nodes lie before an offset. Laws: `links_are_read` (`Reads`), `children_lists_fit` (`Fits`), `nodes_are_linked`
 //! (`Nodes`).
 #![tactic(auto)]
@@ -22,5 +23,6 @@ mod tree;
 mod unread;
 
 pub use laws::{children_lists_fit, links_are_read, nodes_are_linked};
+pub use lookup::Spot;
 pub use tree::Tree;
 pub use ve_arena::{Arena, ArenaNode, NodeId, NodeWhat};

@@ -1,17 +1,28 @@
-// From a node whose place is known to the innermost node round an offset, and to the node that begins next.
+// From a node whose place is known to the innermost node round an offset and its child there, and to the node that begins next.
 ghost use Rattle.std.specs.Prelude.{◌≡◌, ◌≤◌, ◌<◌, IfSome};
-ghost use Rattle.ve_tree.specs.Places.{IsNodeRound};
+ghost use Rattle.ve_tree.specs.Spots.{IsSpotOf};
 ghost use Rattle.ve_tree.specs.Way.{IsBefore, IsBeforeEnd, EndsBeforeEnd, IsSomeTree, IsInside};
 ghost use Rattle.ve_tree.specs.TreeOf.{HasOffset};
 
 use crate::{Arena, NodeId, NodeWhat, Tree};
 
-/// The innermost node round an offset that lies in a node, or at its start: the node's parent, the node, or one inside it.
-fn node_inside(tree: &Tree, near: NodeId, left: usize, o: usize) -> NodeId
+/// Where an offset lies in a tree.
+#[derive(Clone, Copy, Debug, PartialEq, Eq)]
+pub struct Spot {
+    /// The innermost node round the offset, text nodes aside.
+    pub node: NodeId,
+    /// The child of that node which ends after the offset and doesn't begin after it; none at the end of what is inside the node.
+    pub next: Option<NodeId>,
+    /// How many items of that child lie before the offset: none, unless it is a text node.
+    pub left: usize,
+}
+
+/// The spot of an offset that lies in a node, or at its start: the innermost node is the node's parent, the node, or one inside it.
+fn spot_inside(tree: &Tree, near: NodeId, left: usize, o: usize) -> Spot
     requires offset { HasOffset tree.now o }
     requires near { IsBefore tree.now.arena tree.now.root o near left }
     requires inside { IsInside tree.now.arena near left }
-    ensures { IsNodeRound tree.now.arena tree.now.root o result }
+    ensures { IsSpotOf tree.now.arena tree.now.root o result }
 {
     let Some(parent) = tree.arena.node(near).parent else {
         unreachable!()
@@ -26,10 +37,20 @@ fn node_inside(tree: &Tree, near: NodeId, left: usize, o: usize) -> NodeId
             left -= node.len;
             next = node.after;
         } else if left == 0 {
-            return inner;
+            return Spot {
+                node: inner,
+                next: Some(child),
+                left,
+            };
         } else {
             match node.what {
-                NodeWhat::Run => return inner,
+                NodeWhat::Run => {
+                    return Spot {
+                        node: inner,
+                        next: Some(child),
+                        left,
+                    };
+                }
                 NodeWhat::Node(_) => {
                     inner = child;
                     left -= 1;
@@ -38,19 +59,23 @@ fn node_inside(tree: &Tree, near: NodeId, left: usize, o: usize) -> NodeId
             }
         }
     }
-    inner
+    Spot {
+        node: inner,
+        next: None,
+        left: 0,
+    }
 }
 
-/// The innermost node round an offset, text nodes aside, found from a node that begins so many items before it: along its siblings, up where there are no
+/// The spot of an offset, found from a node that begins so many items before it: along its siblings, up where there are no
 /// more, and down into the one that holds the offset. Each step passes an item at least, so there are no more than lie between the two places.
-pub fn node_near(tree: &Tree, near: NodeId, left: usize, o: usize) -> NodeId
+pub fn spot_near(tree: &Tree, near: NodeId, left: usize, o: usize) -> Spot
     requires offset { HasOffset tree.now o }
     requires near { IsBefore tree.now.arena tree.now.root o near left }
-    ensures { IsNodeRound tree.now.arena tree.now.root o result }
+    ensures { IsSpotOf tree.now.arena tree.now.root o result }
 {
     let len = tree.arena.node(near).len;
     if left < len {
-        return node_inside(tree, near, left, o);
+        return spot_inside(tree, near, left, o);
     }
     // how many items there are from the end of the node `at` to the offset
     let mut left = left - len;
@@ -60,7 +85,7 @@ pub fn node_near(tree: &Tree, near: NodeId, left: usize, o: usize) -> NodeId
         if let Some(after) = node.after {
             let len = tree.arena.node(after).len;
             if left < len {
-                return node_inside(tree, after, left, o);
+                return spot_inside(tree, after, left, o);
             }
             left -= len;
             at = after;
@@ -69,7 +94,11 @@ pub fn node_near(tree: &Tree, near: NodeId, left: usize, o: usize) -> NodeId
                 unreachable!()
             };
             if left == 0 {
-                return parent;
+                return Spot {
+                    node: parent,
+                    next: None,
+                    left: 0,
+                };
             }
             left -= 1; // the closing of the parent round the node
             at = parent;

@@ -5,12 +5,13 @@ ghost use Rattle.ve_arena.specs.Arena.{IsLive};
 ghost use Rattle.ve_tree.specs.Links.{number_of};
 ghost use Rattle.ve_tree.specs.IsTree.{unvalued};
 ghost use Rattle.ve_tree.specs.Places.{sort_of, IsNodeRound, OfItsPlace, IsBranch};
+ghost use Rattle.ve_tree.specs.Spots.{IsSpotOf};
 ghost use Rattle.ve_items.specs.Substitution.{spliced};
 ghost use Rattle.ve_tree.specs.TreeOf.{IsTreeOf, most_steps, HasOffset, HasNode};
 
 use crate::build::read_children;
 use crate::landmarks::Landmarks;
-use crate::lookup::node_near;
+use crate::lookup::{Spot, spot_near};
 use crate::mark::landmarks_of;
 use crate::unread::Unread;
 use crate::{Arena, NodeId, NodeWhat};
@@ -83,14 +84,27 @@ impl Tree {
         requires { HasOffset self.now o }
         ensures { IsNodeRound self.now.arena self.now.root o result }
     {
+        self.spot_at(o).node
+    }
+
+    /// The innermost node round an offset with its child there: the child that ends after the offset and doesn't begin after it, how many items of that
+    /// child lie before the offset, and none at the end of what is inside the node. It goes as `node_at` does.
+    pub fn spot_at(&self, o: usize) -> Spot
+        requires { HasOffset self.now o }
+        ensures { IsSpotOf self.now.arena self.now.root o result }
+    {
         if let Some((near, from)) = self.landmarks.before(o)
             && near.0 != self.root.0
         {
-            return node_near(self, near, o - from, o);
+            return spot_near(self, near, o - from, o);
         }
         match self.arena.node(self.root).first {
-            Some(first) => node_near(self, first, o, o),
-            None => self.root,
+            Some(first) => spot_near(self, first, o, o),
+            None => Spot {
+                node: self.root,
+                next: None,
+                left: 0,
+            },
         }
     }
 

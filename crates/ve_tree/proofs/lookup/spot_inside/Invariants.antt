@@ -2,7 +2,7 @@ use Rattle.std.proofs.Common.{List}
 use Rattle.model_items.specs.declared.plain_item.PlainItem.{PlainItem}
 use Rattle.ve_tree.specs.IsTree.{IsTree}
 use Rattle.ve_tree.proofs.WalkLemmas.{Walk}
-use Rattle.ve_tree.proofs.lookup.node_inside.Given as goal
+use Rattle.ve_tree.proofs.lookup.spot_inside.Given as goal
 
 abbrev pub invariant-loop-next : goal.invariant-loop-next
 invariant-loop-next l = (items : List PlainItem) (tree : IsTree l.tree.arena l.tree.root items) → Walk tree l.o l.inner.0 l.next l.left

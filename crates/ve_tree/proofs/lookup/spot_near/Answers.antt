@@ -1,8 +1,8 @@
-use Rattle.std.proofs.Common.{arith}
+use Rattle.std.proofs.Common.{refl, arith}
 use Rattle.ve_tree.proofs.ClimbLemmas.{listed_live}
 use Rattle.ve_tree.proofs.WalkLemmas.{same_length}
 use Rattle.ve_tree.proofs.NearLemmas.{listed, step_after, passed, not_empty, parent_some, step_up}
-use Rattle.ve_tree.proofs.lookup.node_near.Goals as goal
+use Rattle.ve_tree.proofs.lookup.spot_near.Goals as goal
 
 pub node-requires : goal.node-requires
 node-requires c =
@@ -24,8 +24,8 @@ node-requires-in-Some c =
     (c.loop-after.invariant c.requires.offset.items c.requires.offset.tree_of.links) c.node-node.ensures c.in-Some.is in
     listed_live c.requires.offset.tree_of.links s.place c.in-Some.after (listed c.requires.offset.tree_of.links s.place s.listed) s.number_is
 
-pub node_inside-requires-then-left-len-2-clause-near : goal.node_inside-requires-then-left-len-2-clause-near
-node_inside-requires-then-left-len-2-clause-near c = λ items tree.
+pub spot_inside-requires-then-left-len-2-clause-near : goal.spot_inside-requires-then-left-len-2-clause-near
+spot_inside-requires-then-left-len-2-clause-near c = λ items tree.
     step_after tree c.args.o c.loop-after.at c.loop-after.left c.node-node.result.now c.in-Some.after (c.loop-after.invariant items tree) c.node-node.ensures c.in-Some.is
 
 pub loop-after-smaller-in-Some : goal.loop-after-smaller-in-Some
@@ -48,8 +48,10 @@ unreachable-requires c =
 
 pub returns-then-left-eq0 : goal.returns-then-left-eq0
 returns-then-left-eq0 c = λ items tree.
-    (step_up tree c.args.o c.loop-after.at c.loop-after.left c.node-node.result.now c.in-Some-parent.parent (c.loop-after.invariant items tree) c.node-node.ensures c.in_default.is c.in-Some-parent.is
-    (omega (arith, c.requires.offset.within, same_length c.requires.offset.tree_of.links tree))).found c.if-left-eq0.true
+    let up = step_up tree c.args.o c.loop-after.at c.loop-after.left c.node-node.result.now c.in-Some-parent.parent (c.loop-after.invariant items tree) c.node-node.ensures c.in_default.is c.in-Some-parent.is
+    (omega (arith, c.requires.offset.within, same_length c.requires.offset.tree_of.links tree)) in
+    let found = up.found c.if-left-eq0.true in
+    record { node = found.0; next = (found.1, refl) }
 
 pub loop-after-preserved : goal.loop-after-preserved
 loop-after-preserved c = λ items tree.

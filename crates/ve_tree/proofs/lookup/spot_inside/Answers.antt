@@ -1,8 +1,8 @@
-use Rattle.std.proofs.Common.{◌≡◌, ◌-◌, Some, sym, subst, arith}
+use Rattle.std.proofs.Common.{◌≡◌, ◌-◌, Some, refl, sym, subst, arith}
 use Rattle.ve_tree.proofs.ClimbLemmas.{listed_live, len_under}
-use Rattle.ve_tree.proofs.WalkLemmas.{Walk, walk_live, walk_skip, walk_enter, walk_stop, walk_end, same_length}
+use Rattle.ve_tree.proofs.WalkLemmas.{Walk, walk_live, walk_skip, walk_enter, walk_stop, walk_next, walk_end, walk_none, same_length}
 use Rattle.ve_tree.proofs.NearLemmas.{listed, passes, parent_some, parent_number}
-use Rattle.ve_tree.proofs.lookup.node_inside.Goals as goal
+use Rattle.ve_tree.proofs.lookup.spot_inside.Goals as goal
 
 pub node-requires : goal.node-requires
 node-requires c =
@@ -43,17 +43,27 @@ loop-next-preserved-then-node-left c = λ items tree.
 
 pub returns-then-left-eq0 : goal.returns-then-left-eq0
 returns-then-left-eq0 c = λ items tree.
-    walk_stop tree c.args.o c.loop-next.inner c.in-Some-next.child c.loop-next.left c.node-node.result.now
-    (omega (arith, c.requires.offset.within, same_length c.requires.offset.tree_of.links tree))
-    (subst (λ next. Walk tree c.args.o c.loop-next.inner.0 next c.loop-next.left) c.in-Some-next.is (c.loop-next.invariant items tree))
-    c.node-node.ensures c.if-node-left.false (λ some. absurd (omega (arith, c.if-left-eq0.true, some)))
+    record {
+      node = walk_stop tree c.args.o c.loop-next.inner c.in-Some-next.child c.loop-next.left c.node-node.result.now
+          (omega (arith, c.requires.offset.within, same_length c.requires.offset.tree_of.links tree))
+          (subst (λ next. Walk tree c.args.o c.loop-next.inner.0 next c.loop-next.left) c.in-Some-next.is (c.loop-next.invariant items tree))
+          c.node-node.ensures c.if-node-left.false (λ some. absurd (omega (arith, c.if-left-eq0.true, some)));
+      next = walk_next tree c.args.o c.loop-next.inner c.in-Some-next.child c.loop-next.left c.node-node.result.now
+          (subst (λ next. Walk tree c.args.o c.loop-next.inner.0 next c.loop-next.left) c.in-Some-next.is (c.loop-next.invariant items tree))
+          c.node-node.ensures (omega (arith, c.if-node-left.false));
+    }
 
 pub returns-in-Run : goal.returns-in-Run
 returns-in-Run c = λ items tree.
-    walk_stop tree c.args.o c.loop-next.inner c.in-Some-next.child c.loop-next.left c.node-node.result.now
-    (omega (arith, c.requires.offset.within, same_length c.requires.offset.tree_of.links tree))
-    (subst (λ next. Walk tree c.args.o c.loop-next.inner.0 next c.loop-next.left) c.in-Some-next.is (c.loop-next.invariant items tree))
-    c.node-node.ensures c.if-node-left.false (λ some. c.in-Run.is)
+    record {
+      node = walk_stop tree c.args.o c.loop-next.inner c.in-Some-next.child c.loop-next.left c.node-node.result.now
+          (omega (arith, c.requires.offset.within, same_length c.requires.offset.tree_of.links tree))
+          (subst (λ next. Walk tree c.args.o c.loop-next.inner.0 next c.loop-next.left) c.in-Some-next.is (c.loop-next.invariant items tree))
+          c.node-node.ensures c.if-node-left.false (λ some. c.in-Run.is);
+      next = walk_next tree c.args.o c.loop-next.inner c.in-Some-next.child c.loop-next.left c.node-node.result.now
+          (subst (λ next. Walk tree c.args.o c.loop-next.inner.0 next c.loop-next.left) c.in-Some-next.is (c.loop-next.invariant items tree))
+          c.node-node.ensures (omega (arith, c.if-node-left.false));
+    }
 
 pub loop-next-preserved : goal.loop-next-preserved
 loop-next-preserved c = λ items tree.
@@ -63,6 +73,13 @@ loop-next-preserved c = λ items tree.
 
 pub returns : goal.returns
 returns c = λ items tree.
-    walk_end tree c.args.o c.loop-next.inner c.loop-next.left
-    (omega (arith, c.requires.offset.within, same_length c.requires.offset.tree_of.links tree))
-    (subst (λ next. Walk tree c.args.o c.loop-next.inner.0 next c.loop-next.left) c.in_default-next.is (c.loop-next.invariant items tree))
+    record {
+      node = walk_end tree c.args.o c.loop-next.inner c.loop-next.left
+          (omega (arith, c.requires.offset.within, same_length c.requires.offset.tree_of.links tree))
+          (subst (λ next. Walk tree c.args.o c.loop-next.inner.0 next c.loop-next.left) c.in_default-next.is (c.loop-next.invariant items tree));
+      next = (
+        walk_none tree c.args.o c.loop-next.inner c.loop-next.left
+            (subst (λ next. Walk tree c.args.o c.loop-next.inner.0 next c.loop-next.left) c.in_default-next.is (c.loop-next.invariant items tree)),
+        refl,
+      );
+    }
