@@ -132,6 +132,19 @@ first-ends t f l h active = first_of f (core t) (retained l) (middle t h active)
 
 -- of a middle between other ends the span is the span with other ends
 
+attribute-end : (ops : Transaction) → has_attribute ops ≡ has_attribute (without_end ops)
+attribute-end [] = refl
+attribute-end (Retain n ∷ []) = refl
+attribute-end (Retain n ∷ (op ∷ ops)) = attribute-end (op ∷ ops)
+attribute-end (Replace removed inserted ∷ ops) = attribute-end ops
+attribute-end (Attribute c ∷ ops) = refl
+
+pub attribute-core : (t : Transaction) → has_attribute t ≡ has_attribute (core t)
+attribute-core [] = refl
+attribute-core (Retain n ∷ ops) = attribute-end ops
+attribute-core (Replace removed inserted ∷ ops) = attribute-end (Replace removed inserted ∷ ops)
+attribute-core (Attribute c ∷ ops) = refl
+
 pub attribute-ends : (t : Transaction) (f l : ℕ) → is_attribute_transaction (with_ends f (core t) l) ≡ is_attribute_transaction t
 attribute-ends t f l = ap (λ r. r && not (has_replace (with_ends f (core t) l))) (some_attribute f (core t) l ∙ sym (attribute-core t)) ∙ ap (λ r. has_attribute t && not r) (some_replace f (core t) l ∙ sym (replace-core t))
   where
@@ -157,25 +170,12 @@ attribute-ends t f l = ap (λ r. r && not (has_replace (with_ends f (core t) l))
     some_replace zero ops l = replace-suffix ops l
     some_replace (suc f) ops l = replace-suffix ops l
 
-    attribute-end : (ops : Transaction) → has_attribute ops ≡ has_attribute (without_end ops)
-    attribute-end [] = refl
-    attribute-end (Retain n ∷ []) = refl
-    attribute-end (Retain n ∷ (op ∷ ops)) = attribute-end (op ∷ ops)
-    attribute-end (Replace removed inserted ∷ ops) = attribute-end ops
-    attribute-end (Attribute c ∷ ops) = refl
-
     replace-end : (ops : Transaction) → has_replace ops ≡ has_replace (without_end ops)
     replace-end [] = refl
     replace-end (Retain n ∷ []) = refl
     replace-end (Retain n ∷ (op ∷ ops)) = replace-end (op ∷ ops)
     replace-end (Replace removed inserted ∷ ops) = refl
     replace-end (Attribute c ∷ ops) = replace-end ops
-
-    attribute-core : (t : Transaction) → has_attribute t ≡ has_attribute (core t)
-    attribute-core [] = refl
-    attribute-core (Retain n ∷ ops) = attribute-end ops
-    attribute-core (Replace removed inserted ∷ ops) = attribute-end (Replace removed inserted ∷ ops)
-    attribute-core (Attribute c ∷ ops) = refl
 
     replace-core : (t : Transaction) → has_replace t ≡ has_replace (core t)
     replace-core [] = refl

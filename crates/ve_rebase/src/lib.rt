@@ -9,6 +9,7 @@
 //! and whether their ranges overlap are found from the two spans alone.
 #![tactic(auto)]
 
+mod fault;
 mod join;
 mod laws;
 mod places;
@@ -18,5 +19,6 @@ mod span;
 mod tests;
 mod totals;
 
-pub use join::conflict;
+pub use fault::RebaseFault;
+pub use join::{conflict, pair};
 pub use laws::spans_decide;

@@ -1,6 +1,6 @@
 // The span of a transaction, read from its operations.
 ghost use Rattle.std.specs.Prelude.{◌≡◌, ◌<◌, ◌^◌};
-ghost use Rattle.ve_tx.specs.Operation.{by_value};
+ghost use Rattle.ve_tx.specs.Operation.{by_value, IsNormal};
 ghost use Rattle.ve_rebase.specs.Span.{span_of, end};
 
 use crate::span::Span;
@@ -9,6 +9,7 @@ use ve_tx::Transaction;
 
 /// The span of a transaction, in one pass over its operations.
 pub fn span_of(tx: &Transaction) -> Span
+    ensures normal { IsNormal tx.now }
     ensures fits { end result < 2 ^ 64 }
     ensures span { (values : _) → result ≡ span_of (by_value values tx.now) }
 {

@@ -1,6 +1,8 @@
 // What joining asks of a transaction.
-ghost use Rattle.std.specs.Prelude.{◌≡◌, ◌<◌, ◌^◌, ◌&&◌};
-ghost use Rattle.ve_rebase.specs.Span.{end, meet};
+ghost use Rattle.std.specs.Prelude.{◌≡◌, ◌≤◌, ◌<◌, ◌+◌, ◌-◌, ◌^◌, ◌&&◌, nat_le};
+ghost use Rattle.ve_base.specs.Limits.{max_total_length};
+ghost use Rattle.ve_rebase.specs.Pair.{FitsIn};
+ghost use Rattle.ve_rebase.specs.Span.{old_size, new_size, end, meet, ended, inert, joined_first, joined_second};
 
 /// Where a transaction is active, how many items it leaves before and after that, and the lengths of what lies between: the old one and the new
 /// one. `attributes` says that it has attribute operations and no replace; `reach` is the length of the active range, in the old list.
@@ -33,5 +35,115 @@ impl Span {
         ensures { result ≡ (self.attributes && other.attributes) }
     {
         self.attributes && other.attributes
+    }
+
+    /// Whether its active range ends where the other one begins, or before.
+    fn ends_before(self, other: Span) -> bool
+        requires { end self < 2 ^ 64 }
+        ensures { result ≡ nat_le (end self) other.first }
+    {
+        self.first + self.reach <= other.first
+    }
+
+    /// Where the active range begins and ends, in the old list.
+    pub fn range(self) -> (usize, usize)
+        requires { end self < 2 ^ 64 }
+        ensures start { result.0 ≡ self.first }
+        ensures end { result.1 ≡ end self }
+    {
+        (self.first, self.first + self.reach)
+    }
+
+    /// The length of the old list.
+    pub fn old_size(self) -> usize
+        requires { old_size self < 2 ^ 64 }
+        ensures { result ≡ old_size self }
+    {
+        self.first + (self.removed + self.last)
+    }
+
+    /// The length of the new list.
+    fn new_size(self) -> usize
+        requires { new_size self < 2 ^ 64 }
+        ensures { result ≡ new_size self }
+    {
+        self.first + (self.inserted + self.last)
+    }
+
+    /// The same between other ends.
+    fn ended(self, first: usize, last: usize) -> Span
+        ensures { result ≡ ended self first last }
+    {
+        Span {
+            active: self.active,
+            attributes: self.attributes,
+            first,
+            reach: self.reach,
+            last,
+            removed: self.removed,
+            inserted: self.inserted,
+        }
+    }
+}
+
+/// How many items a transaction leaves on that side where another one is active, once that other one is done.
+fn moved(count: usize, other: Span) -> usize
+    requires other { FitsIn max_total_length other }
+    requires count { count ≤ max_total_length }
+    ensures { result ≡ (count + new_size other) - old_size other }
+{
+    (count + other.new_size()).saturating_sub(other.old_size())
+}
+
+/// The span of a transaction that retains all.
+fn inert(count: usize) -> Span
+    ensures { result ≡ inert count }
+{
+    Span {
+        active: false,
+        attributes: false,
+        first: count,
+        reach: 0,
+        last: 0,
+        removed: 0,
+        inserted: 0,
+    }
+}
+
+/// The span of the first of two transactions on one list that don't conflict, joined: as it is after the second.
+pub fn joined_first(a: Span, b: Span) -> Span
+    requires first { FitsIn max_total_length a }
+    requires second { FitsIn max_total_length b }
+    ensures { result ≡ joined_first a b }
+{
+    if a.both_attributes(b) {
+        a
+    } else if !a.active {
+        inert(b.new_size())
+    } else if !b.active {
+        a
+    } else if a.ends_before(b) {
+        a.ended(a.first, moved(a.last, b))
+    } else {
+        a.ended(moved(a.first, b), a.last)
+    }
+}
+
+/// The span of the second, joined: as it is after the first.
+pub fn joined_second(a: Span, b: Span) -> Span
+    requires first { FitsIn max_total_length a }
+    requires second { FitsIn max_total_length b }
+    ensures { result ≡ joined_second a b }
+{
+    if a.both_attributes(b) {
+        b
+    } else if !a.active {
+        b
+    } else if !b.active {
+        inert(a.new_size())
+    } else if a.ends_before(b) {
+        b.ended(moved(b.first, a), b.last)
+    } else {
+        b.ended(b.first, moved(b.last, a))
     }
 }

@@ -1,7 +1,7 @@
 // What one pass over operations counts.
 ghost use Rattle.std.specs.Prelude.{◌≡◌, ◌≤◌, ◌+◌, ◌^◌, ◌&&◌, not};
 ghost use Rattle.ve_tx.specs.Normal.{size, total_size};
-ghost use Rattle.ve_rebase.specs.Totals.{with_op, with_ops, nothing};
+ghost use Rattle.ve_rebase.specs.Totals.{with_op, with_ops, nothing, inserted_size};
 
 use ve_tx::Op;
 
@@ -69,4 +69,19 @@ pub fn count(ops: &[Op]) -> Totals
         counted = counted.with(op);
     }
     counted
+}
+
+/// How many items the operations insert.
+pub fn inserted_count(ops: &[Op]) -> usize
+    requires { total_size ops.now ≤ 2 ^ 60 }
+    ensures count { result ≡ inserted_size ops.now }
+    ensures small { result ≤ 2 ^ 60 }
+{
+    let mut inserts = 0;
+    for op in ops {
+        if let Op::Replace { inserted, .. } = op {
+            inserts += inserted.as_slice().len();
+        }
+    }
+    inserts
 }

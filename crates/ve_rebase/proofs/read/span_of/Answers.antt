@@ -34,6 +34,7 @@ overflow_sub-result-in-Some-4 c =
 
 pub returns-in-Some : goal.returns-in-Some
 returns-in-Some c = record {
+  normal = c.ops.ensures.normal;
   fits =
       let r = is_roomy c.args.tx.now c.count-counted.result (c.in-Some.start, c.in-Some.end) (c.count-counted.ensures ∙ ap (with_ops nothing) c.ops.ensures.ops) (c.ops.ensures.normal []) (c.in-Some.ensures []) in
       let e : c.in-Some.start + (c.in-Some.end - c.in-Some.start) ≡ c.in-Some.end = omega arith in
@@ -43,6 +44,7 @@ returns-in-Some c = record {
 
 pub returns-in-None : goal.returns-in-None
 returns-in-None c = record {
+  normal = c.ops.ensures.normal;
   fits = omega arith;
   span = λ values. idle_span values c.args.tx.now c.count-counted.result (c.count-counted.ensures ∙ ap (with_ops nothing) c.ops.ensures.ops) (c.ops.ensures.normal values) (c.in-None.ensures values);
 }
