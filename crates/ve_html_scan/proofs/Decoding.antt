@@ -158,3 +158,9 @@ all_read text whole t at le e =
 
 pub spelled_back : (text t : List ℕ) → IsUtf8 t → text ≡ chars (decoded t) → encode_utf8_all text ≡ decoded t
 spelled_back text t u e = ap encode_utf8_all e ∙ encodes-chars (decoded t) (decodes_utf8 t u)
+
+-- ---- byte by byte
+
+pub nothing_left : (piece spelled : List ℕ) (used at : ℕ) → length piece ≤ used → length spelled ≤ at → drop used piece ++ decoded (drop at spelled) ≡ []
+nothing_left piece spelled used at le more =
+    at_drop_all (λ (l : List ℕ). l ++ decoded (drop at spelled)) piece used le ∙ at_drop_all decoded spelled at more ∙ nothing_decoded

@@ -1,11 +1,12 @@
 //! What a spelled text or value says.
 
-ghost use Rattle.std.specs.Prelude.{◌≡◌, ◌≤◌, ◌<◌, ◌-◌, ◌++◌, length, drop, slice_index, IsCharBoundary, IsUtf8, IfOk, encode_utf8_all};
+ghost use Rattle.std.specs.Prelude.{◌≡◌, ◌≤◌, ◌<◌, ◌-◌, ◌++◌, ◌∷◌, [], length, drop, slice_index, IsCharBoundary, IsUtf8, IfOk, IfSome, IfNone, bytes_eq, encode_utf8_all};
 ghost use Rattle.std.specs.Str.{chars};
 ghost use Rattle.model_spelling.specs.Written as written;
 
 use crate::runs::{begins, next_place_of, rest};
 use std::alloc::Global;
+use std::marker::Model;
 use ve_base::{Memory, Text};
 
 /// The reference that a text begins with: how long it is, and what it stands for.
@@ -112,4 +113,75 @@ pub fn decoded(alloc: Global, spelled: &str) -> Result<Text, Memory>
         at = piece.to;
     }
     Ok(text)
+}
+
+/// What a spelled text or value says, byte by byte: the bytes that are still to come.
+#[derive(Drop)]
+struct Decoding<'a> {
+    spelled: &'a str,
+    at: usize,
+    piece: &'a str,
+    used: usize,
+}
+
+impl<'a> Model for Decoding<'a> {
+    ghost use Rattle.std.specs.Prelude.{ℕ, List, ◌≤◌, ◌++◌, drop, length, IsCharBoundary};
+    ghost use Rattle.model_spelling.specs.Written.{decoded};
+
+    ghost Value = { List ℕ };
+
+    ghost view = { λ d. drop d.used d.piece.now ++ decoded (drop d.at d.spelled.now) };
+
+    ghost invariant = { λ d. (d.used ≤ length d.piece.now) × (d.at ≤ length d.spelled.now) × IsCharBoundary d.spelled.now d.at };
+}
+
+impl<'a> Decoding<'a> {
+    fn new(spelled: &'a str) -> Decoding<'a>
+        ensures { result ≡ written.decoded spelled.now }
+    {
+        Decoding {
+            spelled,
+            at: 0,
+            piece: "",
+            used: 0,
+        }
+    }
+
+    /// The next byte.
+    fn next(&mut self) -> Option<u8>
+        ensures some { IfSome result (λ b. self.old ≡ b ∷ self.new) }
+        ensures none { IfNone result (self.old ≡ []) }
+    {
+        'piece: while self.used == self.piece.len() {
+            if self.at == self.spelled.len() {
+                return None;
+            }
+            let piece = piece_at(self.spelled, self.at);
+            self.piece = piece.text;
+            self.at = piece.to;
+            self.used = 0;
+        }
+        let b = self.piece.as_bytes()[self.used];
+        self.used += 1;
+        Some(b)
+    }
+}
+
+/// Whether two spelled texts or values say the same. It takes no memory.
+pub fn decoded_same(one: &str, other: &str) -> bool
+    ensures { result ≡ bytes_eq (written.decoded one.now) (written.decoded other.now) }
+{
+    let mut left = Decoding::new(one);
+    let mut right = Decoding::new(other);
+    'bytes: loop {
+        match (left.next(), right.next()) {
+            (Some(a), Some(b)) => {
+                if a != b {
+                    return false;
+                }
+            }
+            (None, None) => return true,
+            (Some(_), None) | (None, Some(_)) => return false,
+        }
+    }
 }
