@@ -11,11 +11,10 @@
 //! - `Entry` is transactions that are undone together (specs/Entry.antt). `Parcel` is an entry over its own values, to be
 //!   sent (specs/Parcel.antt). `Draft` is a transaction with values that no store has yet.
 //!
-//! The laws are clauses of these calls: `undone` of `inverse`, `restorable` of `filled`, `applied` of `apply`.
+//! The laws are clauses of these calls: `undone` of `inverse`, `restorable` of `filled`, `applied` of `apply`. The tests stand
+//! in ve_tx_samples.
 #![tactic(auto)]
 
-#[cfg(test)]
-mod apply_tests;
 mod attributes;
 mod change;
 mod check;
@@ -23,8 +22,6 @@ mod copies;
 mod draft;
 mod ends;
 mod entry;
-#[cfg(test)]
-mod entry_tests;
 mod filled;
 mod gathered;
 mod inverse;
@@ -34,8 +31,6 @@ mod op;
 mod parcel;
 mod range;
 mod same;
-#[cfg(test)]
-mod tests;
 mod transaction;
 
 pub use change::Change;
