@@ -36,6 +36,7 @@ mod transaction;
 pub use change::Change;
 pub use draft::Draft;
 pub use entry::{Entry, EntryList};
+pub use making::copy_range;
 pub use model_change::TxFault;
 pub use op::{Op, OpList};
 pub use parcel::{Parcel, ParcelList, ValueList};

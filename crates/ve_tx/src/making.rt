@@ -138,7 +138,7 @@ fn settle(items: &mut Items, store: &mut Store, item: Item, head: Head) -> Resul
 }
 
 /// Appends the list's items from one place up to another, as they are lent.
-fn copy_range(items: &mut Items, list: &Linear, from: usize, to: usize) -> Result<(), Memory>
+pub fn copy_range(items: &mut Items, list: &Linear, from: usize, to: usize) -> Result<(), Memory>
     requires order { from ≤ to }
     requires within { to ≤ length list.now.items }
     ensures { OnOk result (items.new ≡ items.old ++ take (to - from) (drop from list.now.items)) }

@@ -1,0 +1,6 @@
+pub mod CollectedLemmas
+pub mod BracketLemmas
+pub mod SpanLemmas
+pub mod RoundLemmas
+pub mod GrownLemmas
+mod EditExamples

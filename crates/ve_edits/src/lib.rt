@@ -1,0 +1,26 @@
+//! What all builders of edits share: edits of a page's list at rising places, collected into the one transaction that
+//! they are, and what builders ask of a page: the other bracket of a node, the nodes that are open at an offset, and
+//! whether a range may be edited.
+//!
+//! It gives transactions and writes nothing. A page is lent as a `Doc`: brackets are found by the tree, and a range by its
+//! items. It doesn't know which edits a user's command is; that is what the crates above it say.
+//!
+//! Definitions, in reading order: `Collected` (edits as they are collected, `Makes`), `Round` (the innermost open node at
+//! an offset), `Refused` (how a builder refuses). What the transaction of some edits is, and what is refused, is said in
+//! `model_edit`; partners and open nodes are `model_items`'s. Law: `values_may_grow` (what is collected is the same over a
+//! longer list of values, so values may be put in between two edits).
+#![tactic(auto)]
+
+mod brackets;
+mod edits;
+mod laws;
+mod openings;
+mod spans;
+#[cfg(test)]
+mod tests;
+
+pub use brackets::{is_unmatched, opening_round, partner, range_round};
+pub use edits::Edits;
+pub use laws::values_may_grow;
+pub use openings::openings_round;
+pub use spans::{has_internal, is_bad_span, is_internal, is_internal_item};
