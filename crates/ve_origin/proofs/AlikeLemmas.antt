@@ -1,0 +1,55 @@
+-- Going on by a piece of each of two lists.
+use Rattle.std.proofs.Common.{◌≡◌, ◌≢◌, ℕ, ◌+◌, ◌-◌, ◌<◌, ◌≤◌, List, ◌++◌, length, get_or, take, drop, sym, ap, ◌∙◌, arith, drop-drop, inl, inr, Some}
+use Rattle.std.specs.List.{slice_range, slice_get}
+use Rattle.std.proofs.Math.Seq.{take-add}
+use Rattle.std.proofs.lemmas.List.{take-take, get_or-take, get_or-drop}
+use Rattle.std.proofs.lemmas.Option.{slice_get-get_or, get_or_from_slice_get, slice_get_cases}
+use Rattle.ve_origin.specs.Agree.{Agree}
+
+pub piece_is : {A : Type 0} (xs piece : List A) (at : ℕ) → piece ≡ slice_range xs at (at + length piece) → piece ≡ take (length piece) (drop at xs)
+piece_is xs piece at is = is ∙ ap (λ m. take m (drop at xs)) (let e : at + length piece - at ≡ length piece = omega arith in e)
+
+-- a range up to a place in a piece that begins where the range ended
+pub range_on : {A : Type 0} (xs piece : List A) (from n k : ℕ) → k ≤ length piece → piece ≡ slice_range xs (from + n) (from + n + length piece) →
+    slice_range xs from (from + (n + k)) ≡ slice_range xs from (from + n) ++ take k piece
+range_on xs piece from n k le is =
+    let long : from + (n + k) - from ≡ n + k = omega arith in
+    let short : n ≡ from + n - from = omega arith in
+    ap (λ m. take m (drop from xs)) long ∙ take-add n k (drop from xs)
+    ∙ ap (λ m. take m (drop from xs) ++ take k (drop n (drop from xs))) short
+    ∙ ap (λ l. slice_range xs from (from + n) ++ l) (ap (take k) (drop-drop n from xs) ∙ sym (take-take k (length piece) (drop (from + n) xs) le) ∙ ap (take k) (sym (piece_is xs piece (from + n) is)))
+
+-- so two ranges that are alike stay alike by the common prefix of two pieces
+pub alike_on : {A : Type 0} (xs ys one other : List A) (from place n k : ℕ) → Agree one other k → one ≡ slice_range xs (from + n) (from + n + length one) →
+    other ≡ slice_range ys (place + n) (place + n + length other) → slice_range xs from (from + n) ≡ slice_range ys place (place + n) →
+    slice_range xs from (from + (n + k)) ≡ slice_range ys place (place + (n + k))
+alike_on xs ys one other from place n k agree here there same =
+    range_on xs one from n k agree.here here
+    ∙ ap (λ l. l ++ take k one) same
+    ∙ ap (λ l. slice_range ys place (place + n) ++ l) agree.same
+    ∙ sym (range_on ys other place n k agree.there there)
+
+-- an item of a piece
+in_piece : {A : Type 0} (xs piece : List A) (from n k : ℕ) (x : A) → piece ≡ slice_range xs (from + n) (from + n + length piece) → k < length piece → from + n + length piece ≤ length xs →
+    slice_get piece k ≡ Some x → slice_get xs (from + (n + k)) ≡ Some x
+in_piece xs piece from n k x is less within found =
+    let at : from + n + k ≡ from + (n + k) = omega arith in
+    slice_get-get_or xs (from + (n + k)) x (omega (arith, less, within))
+    ∙ ap (λ m. Some (get_or xs m x)) (sym at)
+    ∙ ap Some (sym (get_or-drop (from + n) xs k x) ∙ sym (get_or-take (length piece) (drop (from + n) xs) k x less)
+    ∙ ap (λ l. get_or l k x) (sym (piece_is xs piece (from + n) is)) ∙ get_or_from_slice_get piece k x x found)
+
+pub at_piece : {A : Type 0} (xs piece : List A) (from n k : ℕ) → piece ≡ slice_range xs (from + n) (from + n + length piece) → k < length piece → from + n + length piece ≤ length xs →
+    slice_get xs (from + (n + k)) ≡ slice_get piece k
+at_piece xs piece from n k is less within = elim (slice_get_cases piece k).1 [
+  | inl p ↦ in_piece xs piece from n k p.0 is less within p.2 ∙ sym p.2
+  | inr p ↦ absurd (omega (arith, less, p.0))
+]
+
+pub differs_on : {A : Type 0} (xs ys one other : List A) (from place n k most : ℕ) → Agree one other k → one ≡ slice_range xs (from + n) (from + n + length one) →
+    other ≡ slice_range ys (place + n) (place + n + length other) → k < length one → k < length other →
+    from + n + length one ≤ from + most → place + n + length other ≤ place + most → from + most ≤ length xs → place + most ≤ length ys →
+    slice_get xs (from + (n + k)) ≢ slice_get ys (place + (n + k))
+differs_on xs ys one other from place n k most agree here there less less' in_one in_other long long' same =
+    agree.differ less less'
+    (sym (at_piece xs one from n k here less (omega (arith, in_one, long))) ∙ same ∙ at_piece ys other place n k there less' (omega (arith, in_other, long')))

@@ -1,0 +1,6 @@
+pub mod Agree
+pub mod Bodies
+pub mod Kept
+pub mod Origins
+pub mod Rows
+pub mod Without

@@ -1,0 +1,47 @@
+// Whether a node has the items that it had.
+ghost use Rattle.std.specs.Prelude.{◌≡◌, ◌≤◌, ◌<◌, ◌+◌, ◌↔◌, IsTrue, length, slice_range};
+ghost use Rattle.ve_origin.specs.Without.{without, AreSameNodes};
+
+use crate::compare::{alike, is_same};
+use model_items::Item;
+use ve_items::Linear;
+
+/// The item without the whitespace before it.
+fn without_pre(item: Item) -> Item
+    ensures { result ≡ without item }
+{
+    match item {
+        Item::Opening {
+            kind,
+            generated,
+            head,
+            marks,
+            origin,
+            ..
+        } => Item::Opening {
+            kind,
+            generated,
+            head,
+            marks,
+            pre: None,
+            origin,
+        },
+        Item::Char { .. } => item,
+        Item::Closing { .. } => item,
+    }
+}
+
+/// Whether so many items from a place of each list are alike, where the whitespace before the first ones is left aside.
+pub fn same_node(now: &Linear, from: usize, first: &Linear, place: usize, count: usize) -> bool
+    requires some { 0 < count }
+    requires here { from + count ≤ length now.now.items }
+    requires there { place + count ≤ length first.now.items }
+    ensures { IsTrue result ↔ AreSameNodes now.now.items from first.now.items place count }
+{
+    let _here = now.len();
+    let _there = first.len();
+    if !is_same(without_pre(now.get(from)), without_pre(first.get(place))) {
+        return false;
+    }
+    alike(now, from + 1, first, place + 1, count - 1) == count - 1
+}
