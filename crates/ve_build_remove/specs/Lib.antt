@@ -1,0 +1,10 @@
+pub use Rattle.model_items.specs.Plain
+pub use Rattle.model_change.specs.Transaction
+pub use Rattle.model_edit.specs.Remove
+pub use Rattle.ve_tx.specs.Operation
+pub use Rattle.ve_tx.specs.Cites
+pub use Rattle.ve_tree.specs.IsTree
+pub use Rattle.ve_offsets.specs.Docs
+pub use Rattle.ve_edits.specs.Collected
+pub use Rattle.ve_edits.specs.Refused
+pub mod Joined
