@@ -3,3 +3,10 @@ pub mod ReadLemmas
 pub mod PlaceLemmas
 pub mod ConflictLemmas
 pub mod PairLemmas
+pub mod LengthLemmas
+pub mod ShiftedLemmas
+pub mod RangeLemmas
+pub mod RowLemmas
+pub mod WrittenLemmas
+pub mod NormalLemmas
+pub mod EntryLemmas

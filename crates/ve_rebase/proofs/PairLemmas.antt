@@ -22,7 +22,7 @@ use Rattle.ve_rebase.specs.Pair.{IsRefused, FitsIn, between, MayStandIn}
 use Rattle.ve_rebase.proofs.SpanLemmas.{old-spans, new-spans, core-ends, spans_join, attribute-core}
 use Rattle.ve_rebase.proofs.ReadLemmas.{end_within}
 
-no_core : (ops : Transaction) → has_some ops ≡ false → ops ≡ []
+pub no_core : (ops : Transaction) → has_some ops ≡ false → ops ≡ []
 no_core [] h = refl
 no_core (op ∷ ops) h = absurd (cc)
 
@@ -35,10 +35,10 @@ core-retained zero = refl
 core-retained (suc n) = refl
 
 -- what the first is, joined: reduced, of the same middle, and no longer than both
-record IsJoined (t other made : Transaction) : Type 0 where
-  reduced : is_reduced made ≡ true
-  same : core made ≡ core t
-  old : old_length made ≤ old_length t + new_length other
+pub record IsJoined (t other made : Transaction) : Type 0 where
+  pub reduced : is_reduced made ≡ true
+  pub same : core made ≡ core t
+  pub old : old_length made ≤ old_length t + new_length other
 
 kept_is : (t other : Transaction) → is_reduced t ≡ true → IsJoined t other t
 kept_is t other h = record { reduced = h; same = refl; old = omega arith }
@@ -75,7 +75,7 @@ moved_is t other h active =
     }
 
 module _ (a b : Transaction) (h : is_reduced a ≡ true) (k : is_reduced b ≡ true) (one : old_length a ≡ old_length b) where
-  joined_by : (r : Transaction × Transaction) → JoinedAs a b r → IsJoined a b r.0 × IsJoined b a r.1
+  pub joined_by : (r : Transaction × Transaction) → JoinedAs a b r → IsJoined a b r.0 × IsJoined b a r.1
   joined_by r (Unmet none none_too apart) = (kept_is a b h, kept_is b a k)
   joined_by r (FirstIdle idle) = (idle_is a b idle, kept_is b a k)
   joined_by r (SecondIdle idle) = (kept_is a b h, idle_is b a idle)
@@ -83,12 +83,12 @@ module _ (a b : Transaction) (h : is_reduced a ≡ true) (k : is_reduced b ≡ t
   joined_by r (SecondLeft active active_too near) = (moved_is a b h active, new_end_is b a k active_too (sym one) near)
 
 -- of a span of what is made, its middle between the ends is what is made
-record IsMade (t made : Transaction) (s : Span) : Type 0 where
-  is : made ≡ between s t
-  stands : MayStandIn s t
-  old : old_size s ≡ old_length made
+pub record IsMade (t made : Transaction) (s : Span) : Type 0 where
+  pub is : made ≡ between s t
+  pub stands : MayStandIn s t
+  pub old : old_size s ≡ old_length made
 
-made_is : (t other made : Transaction) (s : Span) → IsJoined t other made → span_of made ≡ s → length (all_inserted made) ≡ length (all_inserted t) → IsMade t made s
+pub made_is : (t other made : Transaction) (s : Span) → IsJoined t other made → span_of made ≡ s → length (all_inserted made) ≡ length (all_inserted t) → IsMade t made s
 made_is t other made s j e inserts =
     let is : made ≡ between s t =
     sym (ends_split made j.reduced) ∙ ap (λ ops. with_ends (first made) ops (last made)) j.same ∙ ap (λ r. between r t) e in
@@ -109,12 +109,12 @@ new_within (Retain count ∷ ops) = let r = new_within ops in omega arith
 new_within (Replace removed inserted ∷ ops) = let r = new_within ops in let e = length-append inserted (all_inserted ops) in omega arith
 new_within (Attribute c ∷ ops) = let r = new_within ops in omega arith
 
-record IsWithin (t : Transaction) : Type 0 where
-  reduced : is_reduced t ≡ true
-  old : old_length t ≤ 2 ^ 60
-  new : new_length t ≤ 2 ^ 60
+pub record IsWithin (t : Transaction) : Type 0 where
+  pub reduced : is_reduced t ≡ true
+  pub old : old_length t ≤ 2 ^ 60
+  pub new : new_length t ≤ 2 ^ 60
 
-is_within : (t : Transaction) → is_normal t ≡ true → IsWithin t
+pub is_within : (t : Transaction) → is_normal t ≡ true → IsWithin t
 is_within t h =
     let p = and_parts (is_reduced t) (nat_le (total_length t) (2 ^ 60)) h in
     let w : total_length t ≤ 2 ^ 60 = leb-true (total_length t) (2 ^ 60) p.1 in
@@ -170,7 +170,7 @@ some_by : (ops : Transaction) → has_attribute ops ≡ true → has_some ops �
 some_by [] h = absurd (cc)
 some_by (op ∷ ops) h = refl
 
-attributes_are_active : (t : Transaction) → is_attribute_transaction t ≡ true → is_active t ≡ true
+pub attributes_are_active : (t : Transaction) → is_attribute_transaction t ≡ true → is_active t ≡ true
 attributes_are_active t h = some_by (core t) (sym (attribute-core t) ∙ (and_parts (has_attribute t) (not (has_replace t)) h).0)
 
 active_by : (a b : Transaction) (both : Bool) → both_attributes a b ≡ both → (if both then some_meet (placed_changes 0 a) (placed_changes 0 b) else overlap a b) ≡ true →

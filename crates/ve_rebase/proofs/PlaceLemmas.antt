@@ -63,10 +63,10 @@ first_met at name from to (op.Attribute other old new ∷ ops) =
 
 -- positions are not read
 
-abbrev unkept : ℕ × AttrChange → ℕ × AttrChange
+abbrev pub unkept : ℕ × AttrChange → ℕ × AttrChange
 unkept (at, c) = (at, change_of c.name c.from c.to)
 
-abbrev all_unkept : List (ℕ × AttrChange) → List (ℕ × AttrChange)
+abbrev pub all_unkept : List (ℕ × AttrChange) → List (ℕ × AttrChange)
 all_unkept [] = []
 all_unkept (c ∷ cs) = unkept c ∷ all_unkept cs
 
@@ -74,11 +74,11 @@ one_unkept : (c : ℕ × AttrChange) (ds : List (ℕ × AttrChange)) → meets_o
 one_unkept c [] = refl
 one_unkept (p, c) ((q, d) ∷ ds) = ap (λ b. meets (p, c) (q, d) || b) (one_unkept (p, c) ds)
 
-some_unkept : (cs ds : List (ℕ × AttrChange)) → some_meet (all_unkept cs) (all_unkept ds) ≡ some_meet cs ds
+pub some_unkept : (cs ds : List (ℕ × AttrChange)) → some_meet (all_unkept cs) (all_unkept ds) ≡ some_meet cs ds
 some_unkept [] ds = refl
 some_unkept (c ∷ cs) ds = ap (λ b. b || some_meet (all_unkept cs) (all_unkept ds)) (one_unkept c ds) ∙ ap (λ b. meets_one c ds || b) (some_unkept cs ds)
 
-places_by_value : (values : List Value) (at : ℕ) (tx : List Operation) → places at (map bare tx) ≡ all_unkept (placed_changes at (by_value values tx))
+pub places_by_value : (values : List Value) (at : ℕ) (tx : List Operation) → places at (map bare tx) ≡ all_unkept (placed_changes at (by_value values tx))
 places_by_value values at [] = refl
 places_by_value values at (Retain count ∷ tx) = places_by_value values (at + count) tx
 places_by_value values at (Replace removed inserted ∷ tx) =

@@ -194,7 +194,7 @@ of_middle t ops f l c a b r =
 pub span-ends : (t : Transaction) (f l : ℕ) → is_reduced t ≡ true → is_active t ≡ true → span_of (with_ends f (core t) l) ≡ ended (span_of t) f l
 span-ends t f l h active = of_middle t (with_ends f (core t) l) f l (core-ends t f l h active) (first-ends t f l h active) (last-ends t f l h active) (attribute-ends t f l)
 
-span-retained : (n : ℕ) → span_of (retained n) ≡ inert n
+pub span-retained : (n : ℕ) → span_of (retained n) ≡ inert n
 span-retained zero = refl
 span-retained (suc n) = refl
 

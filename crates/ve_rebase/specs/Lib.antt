@@ -7,3 +7,6 @@ pub mod Pair
 pub mod Totals
 pub mod Places
 pub mod Laws
+pub mod Lists
+pub mod Shifted
+pub mod Entries

@@ -39,3 +39,10 @@ meets_first name moves (Attribute other from to ∷ ops) =
 abbrev pub AllFrom : ℕ → List (ℕ × AttrChange) → Type 0
 AllFrom n [] = Unit {0}
 AllFrom n (c ∷ cs) = (n ≤ c.0) × AllFrom n cs
+
+-- the operations after the first retain
+abbrev pub after_first : List Op → List Op
+after_first (Retain count ∷ ops) = ops
+after_first [] = []
+after_first (Replace removed inserted ∷ ops) = Replace removed inserted ∷ ops
+after_first (Attribute name from to ∷ ops) = Attribute name from to ∷ ops

@@ -77,7 +77,7 @@ pub fn pair(
 }
 
 /// The transaction's operations between the ends of a span.
-fn reshaped(alloc: Global, tx: &Transaction, span: Span) -> Result<Transaction, Memory>
+pub fn reshaped(alloc: Global, tx: &Transaction, span: Span) -> Result<Transaction, Memory>
     requires stands { (values : _) → MayStandIn span (by_value values tx.now) }
     requires small { old_size span ≤ 2 ^ 62 }
     ensures made { IfOk result (λ made. (values : _) → by_value values made ≡ between span (by_value values tx.now)) }

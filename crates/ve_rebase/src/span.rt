@@ -63,7 +63,7 @@ impl Span {
     }
 
     /// The length of the new list.
-    fn new_size(self) -> usize
+    pub fn new_size(self) -> usize
         requires { new_size self < 2 ^ 64 }
         ensures { result ≡ new_size self }
     {

@@ -1,0 +1,94 @@
+-- Transactions as joining has moved them so far: each keeps its operations, between the ends of a span. By value each reads a list of values of its own.
+use Rattle.std.specs.Prelude.{◌≡◌, ℕ, true, List, [], ◌∷◌, length, map, All, Result, Ok}
+use Rattle.ve_base.specs.Limits.{max_total_length}
+use Rattle.ve_base.specs.declared.value.Value.{Value}
+use Rattle.model_change.specs.Transaction.{Transaction, all_inserted, is_reduced}
+use Rattle.model_change.specs.Join.{core, join_row, join_list, RangeConflict}
+use Rattle.ve_tx.specs.Operation.{Operation, by_value}
+use Rattle.ve_rebase.specs.declared.shifted.Shifted.{Shifted}
+use Rattle.ve_rebase.specs.declared.span.Span.{Span}
+use Rattle.ve_rebase.specs.Span.{span_of, old_size, new_size}
+use Rattle.ve_rebase.specs.Pair.{FitsIn, between}
+use Rattle.ve_rebase.specs.Lists.{zipped}
+
+-- a transaction between the ends of a span: reduced, of the same middle, inserting as much, and the span is its own
+pub record StandsIn (s : Span) (t : Transaction) : Type 0 where
+  pub reduced : is_reduced (between s t) ≡ true
+  pub middle : core (between s t) ≡ core t
+  pub span : span_of (between s t) ≡ s
+  pub inserts : length (all_inserted (between s t)) ≡ length (all_inserted t)
+
+-- whatever values the operations cite
+pub record MayMove (s : Span) (tx : List Operation) : Type 0 where
+  pub fits : FitsIn max_total_length s
+  pub stands : (values : List Value) → StandsIn s (by_value values tx)
+
+abbrev pub IsShifted : Shifted → Type 0
+IsShifted one = MayMove one.span one.tx.now
+
+abbrev pub shifted_by_value : List Value → Shifted → Transaction
+shifted_by_value values one = between one.span (by_value values one.tx.now)
+
+abbrev pub all_by_value : List (List Value) → List Shifted → List Transaction
+all_by_value = zipped shifted_by_value
+
+abbrev pub operations : Shifted → List Operation
+operations one = one.tx.now
+
+-- each is on lists as long as those that the one before it gives, and the first on lists of n items
+abbrev pub FollowFrom : ℕ → List Shifted → Type 0
+FollowFrom n [] = Unit {0}
+FollowFrom n (one ∷ others) = (old_size one.span ≡ n) × FollowFrom (new_size one.span) others
+
+-- both from lists of one length
+pub record StartTogether (committed mine : List Shifted) : Type 0 where
+  pub length : ℕ
+  pub committed_follow : FollowFrom length committed
+  pub mine_follow : FollowFrom length mine
+
+-- one joined with one, with a row of them, and a list with a list, by value
+abbrev pub joined_pair : (values others : List Value) (a b : Shifted) → Result (List Transaction × Transaction) RangeConflict
+joined_pair values others a b = join_row (shifted_by_value values a ∷ []) (shifted_by_value others b)
+
+abbrev pub joined_row : (values : List (List Value)) (others : List Value) (committed : List Shifted) (mine : Shifted) →
+    Result (List Transaction × Transaction) RangeConflict
+joined_row values others committed mine = join_row (all_by_value values committed) (shifted_by_value others mine)
+
+abbrev pub joined_rows : (values : List (List Value)) (others : List Value) (committed mine : List Shifted) →
+    Result (List Transaction × List Transaction) RangeConflict
+joined_rows values others committed mine = join_list (all_by_value values committed) (map (shifted_by_value others) mine)
+
+-- two on lists of one length, joined: their spans then
+pub record ArePaired (a b : Shifted) (s r : Span) : Type 0 where
+  pub joined : (values others : List Value) →
+      joined_pair values others a b ≡ Ok (between s (by_value values a.tx.now) ∷ [], between r (by_value others b.tx.now))
+  pub first : MayMove s a.tx.now
+  pub second : MayMove r b.tx.now
+  pub first_length : old_size s ≡ new_size b.span
+  pub second_length : old_size r ≡ new_size a.span
+  pub one_length : new_size s ≡ new_size r
+
+-- a row joined: the committed ones over mine, and the span of mine over them
+pub record IsRow (committed : List Shifted) (mine : Shifted) (over : List Shifted) (span : Span) : Type 0 where
+  pub joined : (values : List (List Value)) (others : List Value) →
+      joined_row values others committed mine ≡ Ok (all_by_value values over, between span (by_value others mine.tx.now))
+  pub kept : map operations over ≡ map operations committed
+  pub shifted : All IsShifted over
+  pub follow : FollowFrom (new_size mine.span) over
+  pub mine_shifted : MayMove span mine.tx.now
+
+-- all rows joined
+pub record AreRows (committed mine over mine_over : List Shifted) : Type 0 where
+  pub joined : (values : List (List Value)) (others : List Value) →
+      joined_rows values others committed mine ≡ Ok (all_by_value values over, map (shifted_by_value others) mine_over)
+  pub kept : map operations over ≡ map operations committed
+  pub mine_kept : map operations mine_over ≡ map operations mine
+  pub shifted : All IsShifted over
+  pub mine_shifted : All IsShifted mine_over
+
+-- these operations are the shifted ones, written out
+abbrev pub AreWritten : List (List Operation) → List Shifted → Type 0
+AreWritten [] [] = Unit {0}
+AreWritten (tx ∷ txs) (one ∷ others) = ((values : List Value) → by_value values tx ≡ shifted_by_value values one) × AreWritten txs others
+AreWritten [] (one ∷ others) = ⊥
+AreWritten (tx ∷ txs) [] = ⊥
