@@ -20,6 +20,8 @@ mod fault;
 mod join;
 mod join_lists;
 mod laws;
+#[cfg(test)]
+mod list_tests;
 mod places;
 mod read;
 mod shifted;
