@@ -7,6 +7,9 @@ use Rattle.std.proofs.lemmas.Grind.{common_steps}
 use Rattle.std.proofs.lemmas.Bool.{ne_eqb}
 use Rattle.model_spelling.specs.Written.{escaped_byte, escaped}
 use Rattle.model_spelling.proofs.Escape.{pick_false}
+use Rattle.std.specs.Prelude.{Result, Ok, Err, OnErr}
+use Rattle.std.proofs.lemmas.List.{append_cancel_left}
+use Rattle.ve_html_write.specs.Tags.{IsPartlyAppended}
 
 -- ---- lists
 
@@ -122,3 +125,12 @@ pub all_written : (v : Bool) (out whole t : List ℕ) (at : ℕ) → length t �
 all_written v out whole t at le e =
     let none : escaped v (drop at t) ≡ [] = at_drop_all (escaped v) t at le ∙ nothing_written v in
     sym (append-nil out) ∙ ap (λ (l : List ℕ). out ++ l) (sym none) ∙ e
+
+-- where a piece was not appended, what stands there is a prefix of the whole
+pub partly_written : (old out now part rest whole : List ℕ) → now ≡ out → out ≡ old ++ part → out ++ rest ≡ old ++ whole → IsPartlyAppended old now whole
+partly_written old out now part rest whole e f h =
+    (part, rest, e ∙ f, append_cancel_left old (part ++ rest) whole (sym (append_assoc old part rest) ∙ ap (λ (l : List ℕ). l ++ rest) (sym f) ∙ h))
+
+pub told_of_err : {T E P : Type 0} (r : Result T E) → P → OnErr r P
+told_of_err (Ok x) p = tt
+told_of_err (Err e) p = p

@@ -11,3 +11,7 @@ attr_written a = attr_text (canon_attr (attr_bytes a))
 -- What stands in the bytes from one place to another is written as spelled, in a value or in a text.
 abbrev pub IsSpelledAs : Bool → List ℕ → ℕ → ℕ → List ℕ → Type 0
 IsSpelledAs in_value bytes from to spelled = escaped in_value (drop from bytes) ≡ spelled ++ escaped in_value (drop to bytes)
+
+-- a prefix of a text was appended
+abbrev pub IsPartlyAppended : List ℕ → List ℕ → List ℕ → Type 0
+IsPartlyAppended old new text = (part : List ℕ) × (rest : List ℕ) × (new ≡ old ++ part) × (part ++ rest ≡ text)

@@ -1,8 +1,8 @@
 //! Which characters are written as references, in texts and in values.
 
-ghost use Rattle.std.specs.Prelude.{◌≡◌, ◌≤◌, ◌<◌, ◌+◌, ◌++◌, ◌∷◌, [], length, slice_index, slice_range, IfSome, IfNone, OnOk};
+ghost use Rattle.std.specs.Prelude.{◌≡◌, ◌≤◌, ◌<◌, ◌+◌, ◌++◌, ◌∷◌, [], length, slice_index, slice_range, IfSome, IfNone, OnErr, OnOk};
 ghost use Rattle.model_spelling.specs.Written.{escaped};
-ghost use Rattle.ve_html_write.specs.Tags.{IsSpelledAs};
+ghost use Rattle.ve_html_write.specs.Tags.{IsPartlyAppended, IsSpelledAs};
 
 use ve_base::{Bytes, Memory};
 
@@ -86,10 +86,11 @@ fn piece_at(bytes: &[u8], at: usize, in_value: bool) -> Piece<'_>
     }
 }
 
-/// Appends the characters of a text, or of a value, as they are written. After an `Err` a part may have been appended.
+/// Appends the characters of a text, or of a value, as they are written. An `Err` leaves a prefix of them appended.
 #[tactic(auto, using(crate::proofs::Escaping::piece_written))]
 pub fn push_escaped(out: &mut Bytes, bytes: &[u8], in_value: bool) -> Result<(), Memory>
-    ensures { OnOk result (out.new ≡ out.old ++ escaped in_value bytes.now) }
+    ensures ok { OnOk result (out.new ≡ out.old ++ escaped in_value bytes.now) }
+    ensures err { OnErr result (IsPartlyAppended out.old out.new (escaped in_value bytes.now)) }
 {
     let mut at = 0;
     while at < bytes.len() {

@@ -2,7 +2,8 @@
 //! texts, names and attributes; which text or tag comes next is its caller's matter.
 //!
 //! - `put_text`: the characters of a text; `put_start`, `put_end`: the tags of an element. Each appends whole, or not at all;
-//! - their meaning is `escaped` and `start_tag` in `Written` of `model_spelling`, and `end_text` in its `Grammar`; `Tags` in specs/ serves private functions.
+//! - `push_escaped` appends the characters of a text or a value without a piece of its own, so an `Err` leaves a prefix of them (`Tags` in specs/);
+//! - their meaning is `escaped` and `start_tag` in `Written` of `model_spelling`, and `end_text` in its `Grammar`.
 //!
 //! There are no laws here: that what is written is read back is a law of `model_spelling`.
 #![tactic(auto)]
@@ -11,6 +12,7 @@ mod escape;
 mod tags;
 mod texts;
 
+pub use escape::push_escaped;
 pub use tags::{put_end, put_start};
 pub use texts::put_text;
 
