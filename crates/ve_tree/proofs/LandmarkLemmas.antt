@@ -1,8 +1,9 @@
 -- Landmarks that are found, and one more of them.
-use Rattle.std.proofs.Common.{◌≡◌, ◌≤◌, ◌<◌, ◌+◌, ◌-◌, ◌⊎◌, inl, inr, ℕ, suc, Option, Some, None, List, [], ◌∷◌, ◌++◌, length, take, sum, get_or, option_map, refl, sym, ap, ◌∙◌, subst, arith, Contains}
-use Rattle.std.specs.Prelude.{slice_index_or}
-use Rattle.std.proofs.lemmas.List.{take_all, take-append-le, length-append, get_or_append_left, get_or-append_right}
+use Rattle.std.proofs.Common.{◌≡◌, ◌≤◌, ◌<◌, ◌+◌, ◌-◌, ◌⊎◌, inl, inr, ℕ, zero, suc, Option, Some, None, List, [], ◌∷◌, ◌++◌, length, take, sum, get_or, option_map, refl, sym, ap, ◌∙◌, subst, arith, Contains}
+use Rattle.std.specs.Prelude.{slice_index_or, slice_set, insert}
+use Rattle.std.proofs.lemmas.List.{take_all, take-set-le, length-set, get_or-set_same}
 use Rattle.std.proofs.lemmas.List.Sums.{sum_by-append}
+use Rattle.std.proofs.lemmas.List.Edits.{length-insert, get_or-insert_below, get_or-insert_at, get_or-insert_above}
 use Rattle.std.proofs.lemmas.Bool.{cases_lt}
 use Rattle.model_items.specs.declared.plain_item.PlainItem.{PlainItem}
 use Rattle.model_items.specs.Tree.{item_count}
@@ -13,10 +14,10 @@ use Rattle.ve_tree.specs.Links.{number_of, link_in, links_of, first_or}
 use Rattle.ve_tree.specs.Named.{Named, NoNode, NamedRun, NamedBranch, unnumbered, heads, Shows}
 use Rattle.ve_tree.specs.IsTree.{IsTree}
 use Rattle.ve_tree.specs.Places.{NodePlace, node_places}
-use Rattle.ve_tree.specs.Landmarks.{LandmarkRow, IsLandmark, IsLandmarkBefore, NodeBeginsAt, AreLandmarks, HasOneMore}
-use Rattle.ve_tree.specs.Way.{BeginsBefore, EndsBefore, IsBeforeEnd, IsMarkedTo}
+use Rattle.ve_tree.specs.Landmarks.{LandmarkRow, IsLandmark, IsLandmarkBefore, NodeBeginsAt, AreLandmarks, IsShortened, HasOneMore}
+use Rattle.ve_tree.specs.Way.{BeginsBefore, EndsBefore}
 use Rattle.ve_tree.proofs.WalkLemmas.{Slots, contains-here, contains-later}
-use Rattle.ve_tree.proofs.ClimbLemmas.{contains_cases, tree_listed, len_under, root_whole}
+use Rattle.ve_tree.proofs.ClimbLemmas.{contains_cases, tree_listed, len_under}
 use Rattle.ve_tree.proofs.NearLemmas.{listed, under_root, not_empty, passed}
 use Rattle.std.proofs.lemmas.List.Elements.{Contains-append_left, Contains-append_right, Contains-append_cases}
 
@@ -45,40 +46,108 @@ last_one row o n some long is le =
       before = le;
     }
 
--- one more at the end
-pub one_more : (nodes : List NodeId) (gaps : List ℕ) (n : NodeId) (gap : ℕ) → length nodes ≡ length gaps →
-    HasOneMore (record { nodes = nodes; gaps = gaps }) (record { nodes = nodes ++ (n ∷ []); gaps = gaps ++ (gap ∷ []) }) n gap
-one_more nodes gaps n gap long = record { sum_is = all; others = others }
-  where
-    all : sum (gaps ++ (gap ∷ [])) ≡ sum gaps + gap
-    all = sum_by-append (λ x. x) gaps (gap ∷ []) ∙ omega arith
+sum_cons : (x : ℕ) (xs : List ℕ) → sum (x ∷ xs) ≡ x + sum xs
+sum_cons x xs = let parts = sum_by-append (λ y. y) (x ∷ []) xs in omega (arith, parts)
 
-    others : (m : NodeId) (from : ℕ) → IsLandmark (record { nodes = nodes ++ (n ∷ []); gaps = gaps ++ (gap ∷ []) }) m from →
-        IsLandmark (record { nodes = nodes; gaps = gaps }) m from ⊎ ((m ≡ n) × (from ≡ sum gaps + gap))
-    others m from mark = elim (cases_lt mark.k (length nodes)) [
+-- what lies before a place once a length is less
+sum_after : (xs : List ℕ) (k j by : ℕ) → k < j → k < length xs → by ≤ get_or xs k 0 → sum (take j (slice_set xs k (get_or xs k 0 - by))) + by ≡ sum (take j xs)
+sum_after [] k j by after within le = absurd (omega (arith, within))
+sum_after (x ∷ xs) k zero by after within le = absurd (omega (arith, after))
+sum_after (x ∷ xs) zero (suc j) by after within le =
+    let now : sum (take (suc j) (slice_set (x ∷ xs) 0 (x - by))) ≡ x - by + sum (take j xs) = sum_cons (x - by) (take j xs) in
+    let was : sum (take (suc j) (x ∷ xs)) ≡ x + sum (take j xs) = sum_cons x (take j xs) in
+    let less : by ≤ x = le in
+    omega (arith, less, now, was)
+sum_after (x ∷ xs) (suc k) (suc j) by after within le =
+    let rest = sum_after xs k j by (omega (arith, after)) (omega (arith, within)) le in
+    let now : sum (take (suc j) (slice_set (x ∷ xs) (suc k) (get_or xs k 0 - by))) ≡ x + sum (take j (slice_set xs k (get_or xs k 0 - by))) = sum_cons x (take j (slice_set xs k (get_or xs k 0 - by))) in
+    let was : sum (take (suc j) (x ∷ xs)) ≡ x + sum (take j xs) = sum_cons x (take j xs) in
+    omega (arith, rest, now, was)
+
+sum_before : (xs : List ℕ) (k j x : ℕ) → j ≤ k → sum (take j (slice_set xs k x)) ≡ sum (take j xs)
+sum_before xs k j x le = ap sum (take-set-le j xs k x le)
+
+pub shortened : (xs : List ℕ) (k by : ℕ) → k < length xs → by ≤ get_or xs k 0 → IsShortened xs (slice_set xs k (get_or xs k 0 - by)) k by
+shortened xs k by within le = record {
+  count = length-set xs k (get_or xs k 0 - by);
+  before = λ j before. sum_before xs k j (get_or xs k 0 - by) before;
+  here = λ among. omega (arith, le, get_or-set_same xs k (get_or xs k 0 - by) 0 within);
+  after = λ j after among. sum_after xs k j by after within le;
+}
+
+pub not_shortened : (xs : List ℕ) (k by : ℕ) → length xs ≤ k → IsShortened xs xs k by
+not_shortened xs k by out = record {
+  count = refl;
+  before = λ j before. refl;
+  here = λ among. absurd (omega (arith, out, among));
+  after = λ j after among. absurd (omega (arith, out, among));
+}
+
+-- what lies before a place once a length is put in
+sum_put_in : (xs : List ℕ) (k j x : ℕ) → k ≤ j → k ≤ length xs → sum (take (suc j) (insert xs k x)) ≡ sum (take j xs) + x
+sum_put_in xs zero j x le within = let now : sum (take (suc j) (insert xs 0 x)) ≡ x + sum (take j xs) = sum_cons x (take j xs) in omega (arith, now)
+sum_put_in [] (suc k) j x le within = absurd (omega (arith, within))
+sum_put_in (y ∷ ys) (suc k) zero x le within = absurd (omega (arith, le))
+sum_put_in (y ∷ ys) (suc k) (suc j) x le within =
+    let rest = sum_put_in ys k j x (omega (arith, le)) (omega (arith, within)) in
+    let now : sum (take (suc (suc j)) (insert (y ∷ ys) (suc k) x)) ≡ y + sum (take (suc j) (insert ys k x)) = sum_cons y (take (suc j) (insert ys k x)) in
+    let was : sum (take (suc j) (y ∷ ys)) ≡ y + sum (take j ys) = sum_cons y (take j ys) in
+    omega (arith, rest, now, was)
+
+sum_put_before : (xs : List ℕ) (k j x : ℕ) → j ≤ k → k ≤ length xs → sum (take j (insert xs k x)) ≡ sum (take j xs)
+sum_put_before xs k zero x le within = refl
+sum_put_before xs zero (suc j) x le within = absurd (omega (arith, le))
+sum_put_before [] (suc k) (suc j) x le within = absurd (omega (arith, within))
+sum_put_before (y ∷ ys) (suc k) (suc j) x le within =
+    sum_cons y (take j (insert ys k x)) ∙ ap (λ s. y + s) (sum_put_before ys k j x (omega (arith, le)) (omega (arith, within))) ∙ sym (sum_cons y (take j ys))
+
+-- one more before a number
+pub one_more : (nodes : List NodeId) (gaps short : List ℕ) (k : ℕ) (n : NodeId) (gap : ℕ) → length nodes ≡ length gaps → k ≤ length nodes → IsShortened gaps short k gap →
+    HasOneMore (record { nodes = nodes; gaps = gaps }) (record { nodes = insert nodes k n; gaps = insert short k gap }) k n gap
+one_more nodes gaps short k n gap long among s = record {
+  count = omega (arith, length-insert short k gap within, s.count);
+  as_long = omega (arith, length-insert short k gap within, s.count, length-insert nodes k n among, long);
+  start_is = sum_put_in short k k gap (omega arith) within ∙ ap (λ x. x + gap) (s.before k (omega arith));
+  next_is = λ lt. ap (λ x. x + gap) (ap (λ i. get_or (insert short k gap) i 0) (omega arith) ∙ get_or-insert_above short k gap 0 k (omega arith) within) ∙ s.here lt;
+  others = others;
+}
+  where
+    within : k ≤ length short
+    within = omega (arith, among, long, s.count)
+
+    others : (m : NodeId) (from : ℕ) → IsLandmark (record { nodes = insert nodes k n; gaps = insert short k gap }) m from →
+        IsLandmark (record { nodes = nodes; gaps = gaps }) m from ⊎ ((m ≡ n) × (from ≡ sum (take k gaps) + gap))
+    others m from mark = elim (cases_lt mark.k k) [
       | inl less ↦ inl (record {
         k = mark.k;
-        among = less;
-        node_is = sym (get_or_append_left nodes (n ∷ []) m mark.k less) ∙ mark.node_is;
-        from_is = ap sum (sym (take-append-le (suc mark.k) gaps (gap ∷ []) (omega (arith, less, long)))) ∙ mark.from_is;
+        among = omega (arith, less, among);
+        node_is = sym (get_or-insert_below nodes k n m mark.k less among) ∙ mark.node_is;
+        from_is = sym (sum_put_before short k (suc mark.k) gap (omega (arith, less)) within ∙ s.before (suc mark.k) (omega (arith, less))) ∙ mark.from_is;
       })
-      | inr more ↦
-          let both = length-append nodes (n ∷ []) in
-          let both_gaps = length-append gaps (gap ∷ []) in
-          let at : mark.k ≡ length nodes = omega (arith, mark.among, both, more) in
-          inr (
-            sym mark.node_is ∙ ap (λ k. get_or (nodes ++ (n ∷ [])) k m) at ∙ last_is,
-            sym mark.from_is ∙ ap sum (take_all (suc mark.k) (gaps ++ (gap ∷ [])) (omega (arith, at, long, both_gaps))) ∙ all,
-          )
+      | inr not_less ↦ elim (cases_lt k mark.k) [
+        | inl more ↦
+            let before : suc (mark.k - 1) ≡ mark.k = omega (arith, more) in
+            let count = length-insert nodes k n among in
+            let within_gaps : k < length gaps = omega (arith, more, mark.among, count, long) in
+            inl (record {
+              k = mark.k - 1;
+              among = omega (arith, more, mark.among, count);
+              node_is = sym (ap (λ i. get_or (insert nodes k n) i m) (omega (arith, more)) ∙ get_or-insert_above nodes k n m (mark.k - 1) (omega (arith, more)) among) ∙ mark.node_is;
+              from_is = sym (s.after (suc (mark.k - 1)) (omega (arith, more)) within_gaps) ∙ sym (sum_put_in short k (suc (mark.k - 1)) gap (omega (arith, more)) within)
+                  ∙ ap (λ i. sum (take (suc i) (insert short k gap))) before ∙ mark.from_is;
+            })
+        | inr not_more ↦
+            let at : mark.k ≡ k = omega (arith, not_less, not_more) in
+            inr (
+              sym mark.node_is ∙ ap (λ i. get_or (insert nodes k n) i m) at ∙ get_or-insert_at nodes k n m among,
+              sym mark.from_is ∙ ap (λ i. sum (take (suc i) (insert short k gap))) at ∙ sum_put_in short k k gap (omega arith) within
+                  ∙ ap (λ x. x + gap) (s.before k (omega arith)),
+            )
+      ]
     ]
-      where
-        last_is : get_or (nodes ++ (n ∷ [])) (length nodes) m ≡ n
-        last_is =
-            let e : length nodes - length nodes ≡ 0 = omega arith in
-            get_or-append_right nodes (n ∷ []) (length nodes) (length nodes) m refl (omega arith) ∙ ap (λ k. get_or (n ∷ []) k m) e
 
 -- the root is one
-pub root_landmark : (slots : Slots) (root : NodeId) (new : LandmarkRow) → HasOneMore (record { nodes = []; gaps = [] }) new root 0 → AreLandmarks slots root new
+pub root_landmark : (slots : Slots) (root : NodeId) (new : LandmarkRow) → HasOneMore (record { nodes = []; gaps = [] }) new 0 root 0 → AreLandmarks slots root new
 root_landmark slots root new more m from mark items tree = elim (more.others m from mark) [
   | inl none ↦ absurd (omega (arith, none.among))
   | inr is ↦ record {
@@ -88,32 +157,6 @@ root_landmark slots root new more m from mark items tree = elim (more.others m f
     from_is = omega (arith, is.1);
   }
 ]
-
--- and a node under it
-pub node_landmark : (slots : Slots) (root n : NodeId) (old new : LandmarkRow) (gap last left : ℕ) → IsMarkedTo slots root old last → left ≤ last → gap ≡ last - left →
-    IsBeforeEnd slots root n left → HasOneMore old new n gap → IsMarkedTo slots root new left
-node_landmark slots root n old new gap last left marked le is_gap begins more = record {
-  are = λ m from mark items tree. elim (more.others m from mark) [
-    | inl one ↦ marked.are m from one items tree
-    | inr is ↦
-        let b = begins items tree in
-        let whole = marked.rest items tree in
-        record {
-          place = b.place;
-          listed = listed tree b.place b.listed;
-          number_is = b.number_is ∙ ap (λ (q : NodeId). q.0) (sym is.0);
-          from_is = omega (arith, b.sum, is.1, whole, le, is_gap);
-        }
-  ];
-  rest = λ items tree. omega (arith, marked.rest items tree, more.sum_is, le, is_gap);
-}
-
-pub root_marked : (slots : Slots) (root : NodeId) (node : ArenaNode) (new : LandmarkRow) → slot_at slots root.0 ≡ Some node → HasOneMore (record { nodes = []; gaps = [] }) new root 0 →
-    IsMarkedTo slots root new node.len
-root_marked slots root node new here more = record {
-  are = root_landmark slots root new more;
-  rest = λ items tree. omega (arith, more.sum_is, root_whole tree node here);
-}
 
 -- a node that begins before the list's end
 pub record Ahead {slots : Slots} {root : NodeId} {items : List PlainItem} (tree : IsTree slots root items) (n : NodeId) (left : ℕ) (node : ArenaNode) : Type 0 where

@@ -14,5 +14,6 @@ pub mod NodesLemmas
 pub mod PageLemmas
 pub mod NearLemmas
 pub mod LandmarkLemmas
+pub mod GapLemmas
 pub mod LeftMarkLemmas
 pub mod PlaceLemmas

@@ -1,5 +1,5 @@
 -- Nodes whose places are known.
-use Rattle.std.specs.Prelude.{◌≡◌, ◌≤◌, ◌<◌, ◌+◌, ◌⊎◌, ℕ, Option, List, suc, Contains, length, take, sum, slice_index_or}
+use Rattle.std.specs.Prelude.{◌≡◌, ◌≤◌, ◌<◌, ◌+◌, ◌^◌, ◌⊎◌, ℕ, Option, List, suc, Contains, length, take, sum, slice_index, slice_index_or}
 use Rattle.model_items.specs.declared.plain_item.PlainItem.{PlainItem}
 use Rattle.ve_arena.specs.declared.node.NodeId.{NodeId}
 use Rattle.ve_arena.specs.declared.node.ArenaNode.{ArenaNode}
@@ -38,7 +38,29 @@ IsAt slots root n from = (items : List PlainItem) (tree : IsTree slots root item
 abbrev pub AreLandmarks : List (Option ArenaNode) → NodeId → LandmarkRow → Type 0
 AreLandmarks slots root row = (n : NodeId) (from : ℕ) → IsLandmark row n from → IsAt slots root n from
 
--- the row is as it was, but for one more at its end
-pub record HasOneMore (old new : LandmarkRow) (n : NodeId) (gap : ℕ) : Type 0 where
-  pub sum_is : sum new.gaps ≡ sum old.gaps + gap
-  pub others : (m : NodeId) (from : ℕ) → IsLandmark new m from → IsLandmark old m from ⊎ ((m ≡ n) × (from ≡ sum old.gaps + gap))
+-- it is the one with that number, and by the gaps it begins there
+pub record IsNumbered (row : LandmarkRow) (k : ℕ) (n : NodeId) (from : ℕ) : Type 0 where
+  pub among : k < length row.nodes
+  pub as_long : length row.nodes ≡ length row.gaps
+  pub node_is : slice_index_or row.nodes k n ≡ n
+  pub from_is : sum (take (suc k) row.gaps) ≡ from
+
+-- one more may begin so far after the start of the one before that number: not past the start of the next; at the end, where numbers of places end
+pub record HasSpace (gaps : List ℕ) (k gap : ℕ) : Type 0 where
+  pub before_next : k < length gaps → gap ≤ slice_index gaps k
+  pub at_end : length gaps ≤ k → sum gaps + gap < 2 ^ 64
+
+-- the length with that number, if there is one, is less by that much, and the others stand: what lies before a place is less from there on
+pub record IsShortened (old new : List ℕ) (k by : ℕ) : Type 0 where
+  pub count : length new ≡ length old
+  pub before : (j : ℕ) → j ≤ k → sum (take j new) ≡ sum (take j old)
+  pub here : k < length old → slice_index new k + by ≡ slice_index old k
+  pub after : (j : ℕ) → k < j → k < length old → sum (take j new) + by ≡ sum (take j old)
+
+-- the row is as it was, but for one more before that number
+pub record HasOneMore (old new : LandmarkRow) (k : ℕ) (n : NodeId) (gap : ℕ) : Type 0 where
+  pub count : length new.gaps ≡ suc (length old.gaps)
+  pub as_long : length new.nodes ≡ length new.gaps
+  pub start_is : sum (take (suc k) new.gaps) ≡ sum (take k old.gaps) + gap
+  pub next_is : k < length old.gaps → slice_index new.gaps (suc k) + gap ≡ slice_index old.gaps k
+  pub others : (m : NodeId) (from : ℕ) → IsLandmark new m from → IsLandmark old m from ⊎ ((m ≡ n) × (from ≡ sum (take k old.gaps) + gap))

@@ -10,4 +10,5 @@ pub mod Reads
 pub mod Nodes
 pub mod Landmarks
 pub mod Way
+pub mod Gaps
 pub mod TreeOf

@@ -1,12 +1,11 @@
 -- Ways from node to node, by what is left of the list.
-use Rattle.std.specs.Prelude.{◌≡◌, ◌<◌, ◌+◌, ℕ, Option, Some, List, Contains, length, sum}
+use Rattle.std.specs.Prelude.{◌≡◌, ◌<◌, ◌+◌, ℕ, Option, Some, List, Contains, length}
 use Rattle.model_items.specs.declared.plain_item.PlainItem.{PlainItem}
 use Rattle.ve_arena.specs.declared.node.NodeId.{NodeId}
 use Rattle.ve_arena.specs.declared.node.ArenaNode.{ArenaNode}
 use Rattle.ve_arena.specs.Arena.{node_under}
 use Rattle.ve_tree.specs.IsTree.{IsTree}
 use Rattle.ve_tree.specs.Places.{NodePlace, node_places}
-use Rattle.ve_tree.specs.Landmarks.{LandmarkRow, AreLandmarks}
 
 -- a node under the root begins `left` items before the offset
 pub record BeginsBefore {slots : List (Option ArenaNode)} {root : NodeId} {items : List PlainItem} (tree : IsTree slots root items) (o : ℕ) (n : NodeId) (left : ℕ) : Type 0 where
@@ -43,8 +42,3 @@ pub record IsInside (slots : List (Option ArenaNode)) (n : NodeId) (left : ℕ) 
   pub node : ArenaNode
   pub here : node_under slots n ≡ Some node
   pub longer : left < node.len
-
--- the landmarks are true, and the last one begins `left` items before the list's end
-pub record IsMarkedTo (slots : List (Option ArenaNode)) (root : NodeId) (row : LandmarkRow) (left : ℕ) : Type 0 where
-  pub are : AreLandmarks slots root row
-  pub rest : (items : List PlainItem) → IsTree slots root items → sum row.gaps + left ≡ length items

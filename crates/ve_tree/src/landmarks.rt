@@ -1,6 +1,6 @@
 // Nodes whose places are known, so that a look-up can begin near its offset.
-ghost use Rattle.std.specs.Prelude.{◌≡◌, ◌<◌, ◌+◌, ◌^◌, [], IfSome, OnOk, OnErr, sum, length};
-ghost use Rattle.ve_tree.specs.Landmarks.{IsLandmark, IsLandmarkBefore, HasOneMore};
+ghost use Rattle.std.specs.Prelude.{◌≡◌, ◌≤◌, ◌<◌, ◌+◌, ◌^◌, [], None, IfSome, OnOk, OnErr, sum, length};
+ghost use Rattle.ve_tree.specs.Landmarks.{IsLandmark, IsLandmarkBefore, IsNumbered, HasSpace, IsShortened, HasOneMore};
 
 use crate::NodeId;
 use std::alloc::Global;
@@ -16,6 +16,29 @@ fn make_place(ranks: &mut Vec<usize>, place: usize) -> Result<(), Memory>
         ranks.push(0)?;
     }
     Ok(())
+}
+
+/// Notes where the nodes from one on stand, as far as there is room for their numbers.
+fn rank_from(ranks: &mut Vec<usize>, nodes: &[NodeId], first: usize) {
+    for k in first..nodes.len() {
+        if let Some(rank) = ranks.get_mut(nodes[k].0) {
+            *rank = k;
+        }
+    }
+}
+
+/// Takes from one of some lengths, if there is one with that number.
+fn shorten(lens: &mut Lengths, k: usize, by: usize)
+    requires { HasSpace lens.old.lens k by }
+    ensures lens { IsShortened lens.old.lens lens.new.lens k by }
+    ensures fits { sum lens.new.lens + by < 2 ^ 64 }
+    ensures room { lens.new.room ≡ lens.old.room }
+{
+    let total = lens.total();
+    prove!(total <= usize::MAX);
+    if k < lens.len() {
+        lens.shrink(k, by);
+    }
 }
 
 /// Some nodes of a tree in the order of their starts, each with how far its start is from that of the one before, seen as these two lists. Where they are
@@ -86,18 +109,33 @@ impl Landmarks {
         Some(self.gaps.start(rank + 1))
     }
 
-    /// One more, which begins so far after the last one.
-    pub fn push(&mut self, n: NodeId, gap: usize) -> Result<(), Memory>
-        requires { sum self.old.gaps + gap < 2 ^ 64 }
-        ensures ok { OnOk result (HasOneMore self.old self.new n gap) }
+    /// One of them by its number in their order, and where it begins; none past the last.
+    pub fn get(&self, k: usize) -> Option<(NodeId, usize)>
+        ensures some { IfSome result (λ mark. IsNumbered self.now k mark.0 mark.1) }
+        ensures none { result ≡ None → length self.now.gaps ≤ k }
+        ensures small { IfSome result (λ mark. k < 2 ^ 63) }
+    {
+        if k >= self.nodes.len() {
+            return None;
+        }
+        Some((self.nodes[k], self.gaps.start(k + 1)))
+    }
+
+    /// One more, before the one with that number, or at the end. It begins so far after the start of the one before it, and the one after it begins
+    /// where it did.
+    pub fn insert(&mut self, k: usize, n: NodeId, gap: usize) -> Result<(), Memory>
+        requires among { k ≤ length self.old.nodes }
+        requires space { HasSpace self.old.gaps k gap }
+        ensures ok { OnOk result (HasOneMore self.old self.new k n gap) }
+        ensures small { OnOk result (k < 2 ^ 63) }
         ensures err { OnErr result (self.new ≡ self.old) }
     {
         self.gaps.reserve(1)?;
         make_place(&mut self.ranks, n.0)?;
-        let rank = self.nodes.len();
-        self.nodes.push(n)?;
-        self.gaps.push(gap);
-        self.ranks[n.0] = rank;
+        self.nodes.insert(k, n)?;
+        shorten(&mut self.gaps, k, gap);
+        self.gaps.put_in(k, gap);
+        rank_from(&mut self.ranks, &self.nodes, k);
         Ok(())
     }
 }

@@ -1,7 +1,8 @@
 // Which nodes of a tree are landmarks.
-ghost use Rattle.std.specs.Prelude.{◌≡◌, ◌≤◌, ◌<◌, ◌+◌, ◌^◌, IfOk, IfErr, IfSome, sum};
+ghost use Rattle.std.specs.Prelude.{◌≤◌, ◌<◌, IfOk, IfErr, IfSome};
 ghost use Rattle.ve_tree.specs.Landmarks.{AreLandmarks};
-ghost use Rattle.ve_tree.specs.Way.{IsSomeTree, IsBeforeEnd, IsMarkedTo};
+ghost use Rattle.ve_tree.specs.Way.{IsSomeTree, IsBeforeEnd};
+ghost use Rattle.ve_tree.specs.Gaps.{IsGap};
 
 use crate::landmarks::Landmarks;
 use crate::lookup::following;
@@ -39,51 +40,113 @@ fn next_ahead(arena: &Arena, root: NodeId, n: NodeId, left: usize) -> Option<(No
     following(arena, root, n, left - node.len)
 }
 
-/// Makes a node a landmark if it ends more than a stride after the last one, which begins `last` items before the list's end. Gives that number for what
-/// is the last one now.
+/// The part of a list between two landmarks: the number of the second, and how many items lie from the start of each to the list's end. After the last one
+/// it goes to the list's end.
+#[derive(Clone, Copy)]
+pub struct Gap {
+    pub next: usize,
+    pub from: usize,
+    pub to: usize,
+}
+
+/// The gap after a landmark, and the first node to look at in it, if there is one.
+fn gap_after(
+    marks: &Landmarks,
+    arena: &Arena,
+    root: NodeId,
+    k: usize,
+) -> Option<(Gap, (NodeId, usize))>
+    requires tree { IsSomeTree arena.now root }
+    requires are { AreLandmarks arena.now root marks.now }
+    ensures gap { IfSome result (λ found. IsGap arena.now root marks.now found.0) }
+    ensures begins { IfSome result (λ found. IsBeforeEnd arena.now root found.1.0 found.1.1) }
+    ensures order { IfSome result (λ found. found.1.1 ≤ found.0.from) }
+{
+    let (n, start) = marks.get(k)?;
+    let all = arena.node(root).len;
+    let from = all - start;
+    let first = if n.0 != root.0 {
+        next_ahead(arena, root, n, from)?
+    } else {
+        first_ahead(arena, root)?
+    };
+    let to = match marks.get(k + 1) {
+        Some((_, end)) => all - end,
+        None => 0,
+    };
+    Some((
+        Gap {
+            next: k + 1,
+            from,
+            to,
+        },
+        first,
+    ))
+}
+
+/// Makes a node in a gap a landmark if it ends more than a stride after the gap's start. Gives the gap that is left.
 fn offer(
     marks: &mut Landmarks,
     arena: &Arena,
     root: NodeId,
+    gap: Gap,
     n: NodeId,
     left: usize,
-    last: usize,
-) -> Result<usize, Memory>
+) -> Result<Gap, Memory>
     requires tree { IsSomeTree arena.now root }
     requires begins { IsBeforeEnd arena.now root n left }
-    requires marked { IsMarkedTo arena.now root marks.old last }
-    requires order { left ≤ last }
-    requires small { sum marks.old.gaps + last < 2 ^ 64 }
-    ensures ok { IfOk result (λ now. IsMarkedTo arena.now root marks.new now × (left ≤ now)) }
+    requires gap { IsGap arena.now root marks.old gap }
+    requires after { left ≤ gap.from }
+    requires before { gap.to < left }
+    ensures gap { IfOk result (λ rest. IsGap arena.now root marks.new rest) }
+    ensures ends { IfOk result (λ rest. left ≤ rest.from) }
     ensures err { IfErr result (λ want. AreLandmarks arena.now root marks.new) }
 {
-    let gap = last - left;
-    if gap + arena.node(n).len <= STRIDE {
-        return Ok(last);
+    let space = gap.from - left;
+    if space + arena.node(n).len <= STRIDE {
+        return Ok(gap);
     }
-    marks.push(n, gap)?;
-    Ok(left)
+    marks.insert(gap.next, n, space)?;
+    Ok(Gap {
+        next: gap.next + 1,
+        from: left,
+        to: gap.to,
+    })
 }
 
-/// The landmarks of a tree: the root, and each node that ends more than a stride after the last landmark, going along siblings, and into each node that is
-/// longer than a stride. Where there is no memory for one, there are no more: they are needed for speed alone.
+/// Puts landmarks into the gap after one: each node that ends more than a stride after the landmark before it, going along siblings, and into each node
+/// that is longer than a stride. Where there is no memory for one, there are no more: they are needed for speed alone.
+pub fn thicken(marks: &mut Landmarks, arena: &Arena, root: NodeId, k: usize)
+    requires tree { IsSomeTree arena.now root }
+    requires are { AreLandmarks arena.now root marks.old }
+    ensures { AreLandmarks arena.now root marks.new }
+{
+    let Some((gap, first)) = gap_after(marks, arena, root, k) else {
+        return;
+    };
+    let mut gap = gap;
+    let mut next = Some(first);
+    'node: while let Some((n, left)) = next {
+        if left <= gap.to {
+            return;
+        }
+        let Ok(rest) = offer(marks, arena, root, gap, n, left) else {
+            return;
+        };
+        gap = rest;
+        next = next_ahead(arena, root, n, left);
+    }
+}
+
+/// The landmarks of a tree: the root, and those in the gap after it.
 pub fn landmarks_of(alloc: Global, arena: &Arena, root: NodeId) -> Landmarks
     requires { IsSomeTree arena.now root }
     ensures { AreLandmarks arena.now root result }
 {
     let mut marks = Landmarks::new(alloc);
-    let Ok(()) = marks.push(root, 0) else {
+    let Ok(()) = marks.insert(0, root, 0) else {
         return marks;
     };
-    let mut next = first_ahead(arena, root);
-    // how many items there are from the last landmark to the list's end
-    let mut last = arena.node(root).len;
-    'node: while let Some((n, left)) = next {
-        let Ok(now) = offer(&mut marks, arena, root, n, left, last) else {
-            return marks;
-        };
-        last = now;
-        next = next_ahead(arena, root, n, left);
-    }
+    thicken(&mut marks, arena, root, 0);
     marks
 }
