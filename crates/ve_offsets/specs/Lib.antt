@@ -3,3 +3,4 @@ pub mod Nearest
 pub mod States
 pub mod Unmatched
 pub mod Docs
+pub mod Lent

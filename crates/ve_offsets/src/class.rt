@@ -1,6 +1,7 @@
 // The class of an offset, by the item before it.
 ghost use Rattle.std.specs.Prelude.{◌≡◌, ◌≤◌, ◌↔◌, IsTrue, length};
 ghost use Rattle.model_items.specs.Tree as model;
+ghost use Rattle.ve_offsets.specs.Classes as classes;
 ghost use Rattle.ve_offsets.specs.Classes.{IsContent, IsInsideLeaf, IsStructural};
 ghost use Rattle.ve_tree.specs.IsTree.{unvalued};
 ghost use Rattle.ve_offsets.specs.Docs.{IsDoc};
@@ -23,17 +24,11 @@ fn class_in(kind: Kind) -> OffsetClass
     }
 }
 
-/// The class of an offset. The item before it decides it: after a closing the offset lies in what holds the closed node, which is a content branch
-/// for an inline leaf alone.
-fn class_at(doc: Doc<'_>, o: usize) -> OffsetClass
-    requires doc { IsDoc doc }
-    requires within { o ≤ length doc.list.now.items }
-    ensures { result ≡ model.class_at (unvalued doc.entry.list.now.items) o }
+/// The class of the offset after an item. After a closing it lies in what holds the closed node, which is a content branch for an inline leaf alone.
+pub fn class_after(item: Item) -> OffsetClass
+    ensures { result ≡ classes.class_after item }
 {
-    if o == 0 {
-        return OffsetClass::Structural;
-    }
-    match doc.list.get(o - 1) {
+    match item {
         Item::Char { .. } => OffsetClass::Content,
         Item::Opening { kind, .. } => class_in(kind),
         Item::Closing { kind, .. } => {
@@ -44,6 +39,18 @@ fn class_at(doc: Doc<'_>, o: usize) -> OffsetClass
             }
         }
     }
+}
+
+/// The class of an offset, which the item before it decides.
+fn class_at(doc: Doc<'_>, o: usize) -> OffsetClass
+    requires doc { IsDoc doc }
+    requires within { o ≤ length doc.list.now.items }
+    ensures { result ≡ model.class_at (unvalued doc.entry.list.now.items) o }
+{
+    if o == 0 {
+        return OffsetClass::Structural;
+    }
+    class_after(doc.list.get(o - 1))
 }
 
 /// Whether characters may stand at an offset: the innermost node round it is a content branch.

@@ -5,7 +5,7 @@
 //! found from the innermost node round it, by its parents; a class by the one item before the offset; a range by its items.
 //!
 //! Definitions, in reading order: `Docs` (what each call asks), `Classes`, `States` (the law's state at an offset; `IsRound` serves private functions),
-//! `Unmatched` (what its law speaks of, and how a range is counted), and for private functions `Nearest`. Offsets, unmatched brackets and the nearest
+//! `Unmatched` (what its law speaks of, and how a range is counted), and for private functions `Nearest` and `Lent`. Offsets, unmatched brackets and the nearest
 //! content offset are spoken of in `model_items`. Laws: `items_decide_classes` (the item before an offset
 //! decides its class), `unmatched_are_open` (the unmatched brackets of a range are those of the nodes that it closes and opens).
 #![tactic(auto)]
@@ -15,6 +15,7 @@ mod doc;
 mod laws;
 mod nearest;
 mod range;
+mod reader;
 mod state;
 #[cfg(test)]
 mod tests;

@@ -1,35 +1,65 @@
 // The nearest content offset.
 ghost use Rattle.std.specs.Prelude.{◌≡◌, ◌≤◌, ◌↔◌, IsTrue, IfSome, IfNone, length};
+ghost use Rattle.model_items.specs.Law.{Lawful};
 ghost use Rattle.model_items.specs.Offsets as model;
+ghost use Rattle.model_items.specs.Tree as tree;
 ghost use Rattle.ve_tree.specs.IsTree.{unvalued};
 ghost use Rattle.ve_offsets.specs.Docs.{IsDoc};
+ghost use Rattle.ve_offsets.specs.Classes.{IsContent};
 ghost use Rattle.ve_offsets.specs.Nearest.{IsNearestContent, HasNoContent, IsContentBefore, IsContentAfter};
 
 use crate::Doc;
-use crate::class::is_content;
+use crate::class::class_after;
+use crate::reader::Reader;
+use model_items::OffsetClass;
+
+/// The class of an offset, by the item before it.
+fn class_in_list(items: &mut Reader<'_>, o: usize) -> OffsetClass
+    requires lawful { Lawful (unvalued items.old) }
+    requires within { o ≤ length items.old }
+    ensures class { result ≡ tree.class_at (unvalued items.old) o }
+    ensures list { items.new ≡ items.old }
+{
+    if o == 0 {
+        return OffsetClass::Structural;
+    }
+    class_after(items.get(o - 1))
+}
+
+/// Whether an offset is content.
+fn is_content_in(items: &mut Reader<'_>, o: usize) -> bool
+    requires lawful { Lawful (unvalued items.old) }
+    requires within { o ≤ length items.old }
+    ensures content { IsTrue result ↔ IsContent items.old o }
+    ensures list { items.new ≡ items.old }
+{
+    class_in_list(items, o) == OffsetClass::Content
+}
 
 /// Whether the offset `away` items before this one is content.
-fn is_content_before(doc: Doc<'_>, o: usize, away: usize) -> bool
-    requires doc { IsDoc doc }
-    requires within { o ≤ length doc.list.now.items }
-    ensures { IsTrue result ↔ IsContentBefore doc.entry.list.now.items o away }
+fn is_content_before(items: &mut Reader<'_>, o: usize, away: usize) -> bool
+    requires lawful { Lawful (unvalued items.old) }
+    requires within { o ≤ length items.old }
+    ensures content { IsTrue result ↔ IsContentBefore items.old o away }
+    ensures list { items.new ≡ items.old }
 {
     if o < away {
         return false;
     }
-    is_content(doc, o - away)
+    is_content_in(items, o - away)
 }
 
 /// Whether the offset `away` items after this one is content.
-fn is_content_after(doc: Doc<'_>, o: usize, away: usize) -> bool
-    requires doc { IsDoc doc }
-    requires within { o ≤ length doc.list.now.items }
-    ensures { IsTrue result ↔ IsContentAfter doc.entry.list.now.items o away }
+fn is_content_after(items: &mut Reader<'_>, o: usize, away: usize) -> bool
+    requires lawful { Lawful (unvalued items.old) }
+    requires within { o ≤ length items.old }
+    ensures content { IsTrue result ↔ IsContentAfter items.old o away }
+    ensures list { items.new ≡ items.old }
 {
-    if doc.list.len() - o < away {
+    if items.len() - o < away {
         return false;
     }
-    is_content(doc, o + away)
+    is_content_in(items, o + away)
 }
 
 /// The content offset nearest to an offset, found by going out from it to both sides.
@@ -40,12 +70,14 @@ fn search(doc: Doc<'_>, o: usize) -> Option<usize>
     ensures none { IfNone result (HasNoContent doc.entry.list.now.items) }
 {
     let len = doc.list.len();
+    let mut before = Reader::new(doc.list);
+    let mut after = Reader::new(doc.list);
     let mut away = 0;
     loop {
-        if is_content_before(doc, o, away) {
+        if is_content_before(&mut before, o, away) {
             return Some(o - away);
         }
-        if is_content_after(doc, o, away) {
+        if is_content_after(&mut after, o, away) {
             return Some(o + away);
         }
         if away == len {

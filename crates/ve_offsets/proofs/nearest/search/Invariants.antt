@@ -1,9 +1,13 @@
-use Rattle.std.proofs.Common.{◌-◌}
+use Rattle.std.proofs.Common.{◌≡◌, ◌-◌, length}
 use Rattle.ve_offsets.proofs.NearestLemmas.{NoneNearer}
 use Rattle.ve_offsets.proofs.nearest.search.Given as goal
 
-abbrev pub invariant-loop-o : goal.invariant-loop-o
-invariant-loop-o l = NoneNearer l.doc.list.now.items l.o l.away
+abbrev pub invariant-loop-before : goal.invariant-loop-before
+invariant-loop-before l = record {
+  none : NoneNearer l.fn.doc.list.now.items l.fn.o l.away;
+  before : l.before ≡ l.fn.doc.list.now.items;
+  after : l.after ≡ l.fn.doc.list.now.items;
+}
 
-abbrev pub decreases-loop-o : goal.decreases-loop-o
-decreases-loop-o l = l.len - l.away
+abbrev pub decreases-loop-before : goal.decreases-loop-before
+decreases-loop-before l = length l.fn.doc.list.now.items - l.away
