@@ -4,7 +4,7 @@ ghost use Rattle.model_items.specs.Plain.{plain_list, CitesWell};
 ghost use Rattle.model_items.specs.Offsets as offsets;
 ghost use Rattle.model_edit.specs.Remove.{removal_edits};
 ghost use Rattle.model_edit.specs.Remove as model;
-ghost use Rattle.ve_offsets.specs.Docs.{IsDoc};
+ghost use Rattle.ve_offsets.specs.Docs.{IsDoc, page_items};
 ghost use Rattle.ve_tx.specs.Cites.{TxCites};
 ghost use Rattle.ve_tx.specs.Operation.{by_value};
 ghost use Rattle.ve_build_remove.specs.Joined.{join_of, edits_between};
@@ -128,9 +128,9 @@ pub fn removal(
 ) -> Result<Transaction, BuildFault>
     requires doc { IsDoc doc }
     requires cites { All (CitesWell doc.store.now) doc.list.now.items }
-    ensures means { IfOk result (λ tx. model.removal (plain_list doc.entry.store.now doc.entry.list.now.items) from to ≡ Ok (by_value doc.entry.store.now tx)) }
+    ensures means { IfOk result (λ tx. model.removal (page_items doc.entry) from to ≡ Ok (by_value doc.entry.store.now tx)) }
     ensures cites { IfOk result (λ tx. TxCites doc.entry.store.now tx) }
-    ensures refused { IfErr result (λ fault. IsRefusal fault (model.removal (plain_list doc.entry.store.now doc.entry.list.now.items) from to)) }
+    ensures refused { IfErr result (λ fault. IsRefusal fault (model.removal (page_items doc.entry) from to)) }
 {
     if is_bad_span(doc, from, to) {
         return Err(BuildFault::BadRange { from, to });

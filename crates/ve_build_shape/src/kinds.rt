@@ -4,7 +4,7 @@ ghost use Rattle.model_items.specs.Plain.{plain, plain_list, CitesWell};
 ghost use Rattle.model_edit.specs.Convert.{opens_kind};
 ghost use Rattle.model_edit.specs.Convert as model;
 ghost use Rattle.ve_kinds.specs.Table as table;
-ghost use Rattle.ve_offsets.specs.Docs.{IsDoc};
+ghost use Rattle.ve_offsets.specs.Docs.{IsDoc, page_items};
 ghost use Rattle.ve_tx.specs.Cites.{TxCites};
 ghost use Rattle.ve_tx.specs.Operation.{by_value};
 ghost use Rattle.ve_build_shape.specs.Converted.{begins_branch, conversion, HasKind};
@@ -98,9 +98,9 @@ pub fn convert(
 ) -> Result<Transaction, BuildFault>
     requires doc { IsDoc doc }
     requires cites { All (CitesWell doc.store.now) doc.list.now.items }
-    ensures means { IfOk result (λ tx. model.convert (plain_list doc.entry.store.now doc.entry.list.now.items) at kind ≡ Ok (by_value doc.entry.store.now tx)) }
+    ensures means { IfOk result (λ tx. model.convert (page_items doc.entry) at kind ≡ Ok (by_value doc.entry.store.now tx)) }
     ensures cites { IfOk result (λ tx. TxCites doc.entry.store.now tx) }
-    ensures refused { IfErr result (λ fault. IsRefusal fault (model.convert (plain_list doc.entry.store.now doc.entry.list.now.items) at kind)) }
+    ensures refused { IfErr result (λ fault. IsRefusal fault (model.convert (page_items doc.entry) at kind)) }
 {
     if !may_convert(doc, at, kind) {
         return Err(BuildFault::NotBranch { at });

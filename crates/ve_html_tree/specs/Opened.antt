@@ -33,6 +33,10 @@ open_node_numbers_from nodes (suc count) k = k ∷ open_node_numbers_from nodes 
 abbrev pub open_node_numbers : List Node → Opened → List ℕ
 open_node_numbers nodes o = open_node_numbers_from nodes o.count o.innermost
 
+-- the innermost open node is no longer open, and the others are
+abbrev pub IsInnermostClosed : List Node → Opened → List Node → Opened → Type 0
+IsInnermostClosed nodes opened nodes_after opened_after = open_node_numbers nodes opened ≡ opened.innermost ∷ open_node_numbers nodes_after opened_after
+
 abbrev pub opens : List Node → Opened → List g.OpenElement
 opens nodes o = map (open_at nodes) (open_node_numbers nodes o)
 

@@ -4,7 +4,7 @@ ghost use Rattle.model_spelling.specs.Faults.{fault_at_end};
 ghost use Rattle.model_spelling.specs.Grammar.{name_same};
 ghost use Rattle.ve_html_scan.specs.Shown.{token_span};
 ghost use Rattle.ve_html_tree.specs.Nodes.{HasRoom, node_of, ended_at};
-ghost use Rattle.ve_html_tree.specs.Opened.{start_name, opens, open_node_numbers, start_link, numbers_after_start, AreLinked};
+ghost use Rattle.ve_html_tree.specs.Opened.{start_name, opens, open_node_numbers, start_link, numbers_after_start, AreLinked, IsInnermostClosed};
 ghost use Rattle.ve_html_tree.specs.Seen.{Ends};
 ghost use Rattle.ve_html_tree.specs.Taken.{StartsElement, EndsElement};
 
@@ -77,7 +77,7 @@ pub fn close_element<'a>(
     requires { AreLinked nodes.old.items opened.old }
     ensures faults { EndsElement result name.now end.from nodes.old.items opened.old nodes.new.items opened.new }
     ensures nodes { OnOk result (nodes.new.items ≡ ended_at opened.old.innermost end.from end.to (length nodes.old.items) nodes.old.items) }
-    ensures numbers { OnOk result (open_node_numbers nodes.old.items opened.old ≡ opened.old.innermost ∷ open_node_numbers nodes.new.items opened.new) }
+    ensures numbers { OnOk result (IsInnermostClosed nodes.old.items opened.old nodes.new.items opened.new) }
     ensures linked { OnOk result (AreLinked nodes.new.items opened.new) }
 {
     if opened.count == 0 || is_void_name(name.as_bytes()) {

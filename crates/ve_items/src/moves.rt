@@ -3,7 +3,7 @@ ghost use Rattle.std.specs.Prelude.{◌≡◌, ◌≤◌, ◌<◌, ◌+◌, ◌/
 ghost use Rattle.std.specs.List.{All};
 ghost use Rattle.ve_items.specs.Blocks.{joined, IsBlock, AreBlocks};
 ghost use Rattle.ve_items.specs.Room.{filled_blocks};
-ghost use Rattle.ve_items.specs.Stacked.{all_blocks, from_top, top};
+ghost use Rattle.ve_items.specs.Stacked.{all_blocks, from_top, top, AreTakenOut};
 ghost use Rattle.ve_items.specs.Substitution.{without};
 
 use crate::block::Block;
@@ -185,7 +185,7 @@ pub fn take_out(
     requires fits { length (joined before.old.blocks) + length (from_top after.old.blocks) < 2 ^ 64 }
     ensures rule { AreBlocks before.new.blocks }
     ensures sizes { All IsBlock after.new.blocks }
-    ensures items { joined before.new.blocks ++ from_top after.new.blocks ≡ joined before.old.blocks ++ without (from_top after.old.blocks) offset removed }
+    ensures items { AreTakenOut before.old.blocks after.old.blocks before.new.blocks after.new.blocks offset removed }
     ensures count { length before.new.blocks + length after.new.blocks ≤ length before.old.blocks + length after.old.blocks }
     ensures room_before { before.new.room ≡ before.old.room }
     ensures room_after { after.new.room ≡ after.old.room }

@@ -1,5 +1,4 @@
-use Rattle.std.proofs.Common.{◌≡◌, ◌<◌, ◌-◌, ℕ, suc, Some, List, sym, ap, ◌∙◌, arith, rules, slice_get}
-use Rattle.model_items.specs.declared.item.Item.{Item}
+use Rattle.std.proofs.Common.{◌≡◌, ◌<◌, ◌-◌, suc, sym, ap, ◌∙◌, arith, rules}
 use Rattle.model_items.specs.Tree.{class_at}
 use Rattle.ve_tree.specs.IsTree.{unvalued}
 use Rattle.ve_offsets.proofs.ClassLemmas.{item_decides_class}
