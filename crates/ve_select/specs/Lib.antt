@@ -1,0 +1,3 @@
+pub use Rattle.model_edit.specs.Translate
+pub use Rattle.ve_tx.specs.Operation
+pub mod Passed
