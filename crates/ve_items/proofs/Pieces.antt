@@ -90,13 +90,13 @@ length_spliced list items at removed within =
     omega (arith, within, first, second, length-take at list, length-drop (at + removed) list)
 
 -- a splice before what follows, and after what stands before
-spliced_before : {A : Type 0} (prefix suffix items : List A) (at removed : ℕ) → at + removed ≤ length prefix → spliced (prefix ++ suffix) at removed items ≡ spliced prefix at removed items ++ suffix
+pub spliced_before : {A : Type 0} (prefix suffix items : List A) (at removed : ℕ) → at + removed ≤ length prefix → spliced (prefix ++ suffix) at removed items ≡ spliced prefix at removed items ++ suffix
 spliced_before prefix suffix items at removed within =
     ap (λ l. l ++ items ++ drop (at + removed) (prefix ++ suffix)) (take-append-le at prefix suffix (omega (arith, within)))
     ∙ ap (λ l. take at prefix ++ items ++ l) (drop-append-le (at + removed) prefix suffix within)
     ∙ sym (append_assoc (take at prefix ++ items) (drop (at + removed) prefix) suffix)
 
-spliced_after : {A : Type 0} (prefix suffix items : List A) (at removed : ℕ) → spliced (prefix ++ suffix) (length prefix + at) removed items ≡ prefix ++ spliced suffix at removed items
+pub spliced_after : {A : Type 0} (prefix suffix items : List A) (at removed : ℕ) → spliced (prefix ++ suffix) (length prefix + at) removed items ≡ prefix ++ spliced suffix at removed items
 spliced_after prefix suffix items at removed =
     let e : length prefix + at + removed ≡ length prefix + (at + removed) = omega arith in
     ap (λ l. l ++ items ++ drop (length prefix + at + removed) (prefix ++ suffix)) (take-append-add prefix suffix at)

@@ -1,8 +1,9 @@
 // The two halves of a splice, each over a list's blocks.
 ghost use Rattle.std.specs.Prelude.{◌≡◌, ◌≤◌, ◌<◌, ◌+◌, ◌/◌, ◌^◌, ◌++◌, [], length, take, drop, vec_len, vec_capacity};
 ghost use Rattle.ve_items.specs.Blocks.{joined, AreBlocks};
+ghost use Rattle.ve_items.specs.InBlock.{MayPart};
 ghost use Rattle.ve_items.specs.Room.{more_blocks};
-ghost use Rattle.ve_items.specs.Substitution.{without};
+ghost use Rattle.ve_items.specs.Substitution.{without, spliced};
 
 use crate::block::Block;
 use crate::moves::{cut, fill, gather, seek, take_out};
@@ -42,6 +43,41 @@ pub fn remove(
     gather(before, after, pool);
 }
 
+/// Puts items into a block whose second half goes into a block of the pool. No other block changes.
+fn insert_in_half(
+    before: &mut Table,
+    pool: &mut Vec<Block>,
+    k: usize,
+    offset: usize,
+    items: &[Item],
+    at: usize,
+)
+    requires rule { AreBlocks before.old.blocks }
+    requires place { MayPart before.old.blocks at (length items.now) k offset }
+    requires fits { length (joined before.old.blocks) + length items.now < 2 ^ 64 }
+    requires room { length before.old.blocks < before.old.room }
+    requires pool { 0 < vec_len pool.old }
+    ensures rule { AreBlocks before.new.blocks }
+    ensures items { joined before.new.blocks ≡ spliced (joined before.old.blocks) at 0 items.now }
+    ensures count { length before.new.blocks ≡ length before.old.blocks + 1 }
+    ensures room { before.new.room ≡ before.old.room }
+    ensures kept { vec_len pool.new + 1 ≡ vec_len pool.old }
+    ensures capacity { vec_capacity pool.old ≤ vec_capacity pool.new }
+{
+    let Some(second) = pool.pop() else {
+        return;
+    };
+    let count = before.len();
+    prove!(k < count);
+    let half = before.block(k).len() / 2;
+    before.part(k, half, second);
+    if offset <= half {
+        before.splice(k, offset, 0, items);
+    } else {
+        before.splice(k + 1, offset - half, 0, items);
+    }
+}
+
 /// Puts items in at a place, in blocks of the pool. It takes no memory.
 pub fn insert(
     before: &mut Table,
@@ -69,6 +105,10 @@ pub fn insert(
     ensures capacity { vec_capacity pool.old ≤ vec_capacity pool.new }
 {
     if items.is_empty() {
+        return;
+    }
+    if let Some((k, offset)) = before.place_to_part(at, items.len()) {
+        insert_in_half(before, pool, k, offset, items, at);
         return;
     }
     let offset = seek(before, after, at);

@@ -6,7 +6,7 @@
 //! can be whole or not at all. How the items lie in blocks is seen in one place, where blocks are lent.
 //!
 //! Definitions, in reading order: `ItemList` is what a list is seen as, `spliced` what a splice makes
-//! of it; `AreBlocks` is the rule of the blocks, `StandsAt` and `MayChange` are places in them; `Pile`
+//! of it; `AreBlocks` is the rule of the blocks, `StandsAt`, `MayChange` and `MayPart` are places in them; `Pile`
 //! is what tables and stacks of blocks are seen as, `IsReady` what a list keeps beside its blocks.
 //! The sizes 512 and 320 of a block are `MAX_BLOCK` and `FILLED_BLOCK` of ve_base.
 #![tactic(auto)]

@@ -18,8 +18,9 @@ use ve_base::Memory;
 /// number, `spare`: splices of that many items together take no memory. Places and lengths count items.
 ///
 /// A block holds 1 to `MAX_BLOCK` items, and two neighbours hold more than that together. A splice
-/// within one block moves the items of that block alone, where every rule of the blocks stays; another
-/// one moves the items of the blocks that it touches and the table of blocks from there on. Blocks are
+/// within one block moves the items of that block alone, where every rule of the blocks stays; where a
+/// block is full, half of it goes into a block of its own; another splice moves the items of the blocks
+/// that it touches and the table of blocks from there on. Blocks are
 /// made with `FILLED_BLOCK` items, so that later ones find room. Those that get empty stay with the list.
 #[derive(Drop)]
 pub struct Linear {

@@ -1,7 +1,7 @@
 // Blocks on a stack, in a table with room that was taken beforehand.
 ghost use Rattle.std.specs.Prelude.{◌≡◌, ◌≤◌, ◌<◌, ◌+◌, ◌-◌, ◌^◌, ◌++◌, ◌∷◌, [], Some, OnOk, OnErr, IsOk, length, max, slice_get, slice_index_or, slice_set, option_to_list};
 ghost use Rattle.ve_base.specs.Limits.{max_block};
-ghost use Rattle.ve_items.specs.Substitution.{spliced_block};
+ghost use Rattle.ve_items.specs.Substitution.{spliced_block, parted};
 
 use crate::block::Block;
 use model_items::Item;
@@ -83,6 +83,23 @@ impl Stack {
         ensures room { self.new.room ≡ self.old.room }
     {
         self.blocks.pop()
+    }
+
+    /// Parts a block: it keeps its first items, and a block that is put in after it gets the others. It takes no memory.
+    pub fn part(&mut self, k: usize, at: usize, second: Block)
+        requires among { k < length self.old.blocks }
+        requires within { at ≤ length (slice_index_or self.old.blocks k []) }
+        requires small { length (slice_index_or self.old.blocks k []) ≤ max_block }
+        requires room { length self.old.blocks < self.old.room }
+        ensures blocks { self.new.blocks ≡ parted self.old.blocks k at }
+        ensures room { self.new.room ≡ self.old.room }
+    {
+        let mut second = second;
+        second.clear();
+        second.append(&self.blocks[k].as_slice()[at..]);
+        self.blocks[k].truncate(at);
+        let inserted = self.blocks.insert(k + 1, second).is_ok();
+        prove!(inserted);
     }
 
     /// Puts items in the place of the `removed` ones from `at` on in one block. It takes no memory.

@@ -3,8 +3,8 @@ ghost use Rattle.std.specs.Prelude.{◌≡◌, ◌≤◌, ◌<◌, ◌+◌, ◌-
 ghost use Rattle.std.specs.Prelude.{length, max, slice_get, slice_index_or, slice_set, option_to_list};
 ghost use Rattle.ve_base.specs.Limits.{max_block};
 ghost use Rattle.ve_items.specs.Blocks.{joined};
-ghost use Rattle.ve_items.specs.InBlock.{StandsAt, TouchesAt, MayChange, MayHave};
-ghost use Rattle.ve_items.specs.Substitution.{spliced_block};
+ghost use Rattle.ve_items.specs.InBlock.{StandsAt, TouchesAt, MayChange, MayHave, MayHaveTwo, MayPart};
+ghost use Rattle.ve_items.specs.Substitution.{spliced_block, parted};
 
 use crate::block::Block;
 use crate::stack::Stack;
@@ -172,5 +172,59 @@ impl Table {
         self.sizes.grow(k, items.len());
         self.sizes.shrink(k, removed);
         self.stack.splice(k, at, removed, items);
+    }
+
+    /// The block and the place in it where so many items can be put in while its second half goes into a block of its
+    /// own, and no other block changes, if there is one.
+    pub fn place_to_part(&self, at: usize, more: usize) -> Option<(usize, usize)>
+        requires { at ≤ length (joined self.now.blocks) }
+        ensures { IfSome result (λ place. MayPart self.now.blocks at more place.0 place.1) }
+    {
+        let (k, offset) = self.touched(at)?;
+        if more > MAX_BLOCK || self.size(k) > MAX_BLOCK {
+            return None;
+        }
+        let half = self.size(k) / 2;
+        let rest = self.size(k) - half;
+        let may_part = if offset <= half {
+            self.may_have_two(k, half + more, rest)
+        } else {
+            self.may_have_two(k, half, rest + more)
+        };
+        if may_part { Some((k, offset)) } else { None }
+    }
+
+    /// Whether two blocks with so many items may stand in the place of one.
+    fn may_have_two(&self, k: usize, first: usize, second: usize) -> bool
+        requires { k < length self.now.blocks }
+        ensures { IsTrue result → MayHaveTwo self.now.blocks k first second }
+    {
+        let count = self.len();
+        first > 0
+            && first <= MAX_BLOCK
+            && second > 0
+            && second <= MAX_BLOCK
+            && first > MAX_BLOCK - second
+            && (k == 0 || self.size(k - 1) > MAX_BLOCK - first)
+            && (k + 1 == count || self.size(k + 1) > MAX_BLOCK - second)
+    }
+
+    /// Parts a block: it keeps its first items, and a block that is put in after it gets the others. It takes no memory.
+    pub fn part(&mut self, k: usize, at: usize, second: Block)
+        requires among { k < length self.old.blocks }
+        requires within { at ≤ length (slice_index_or self.old.blocks k []) }
+        requires small { length (slice_index_or self.old.blocks k []) ≤ max_block }
+        requires room { length self.old.blocks < self.old.room }
+        ensures blocks { self.new.blocks ≡ parted self.old.blocks k at }
+        ensures room { self.new.room ≡ self.old.room }
+    {
+        let total = self.sizes.total();
+        prove!(total <= usize::MAX);
+        let count = self.len();
+        prove!(k < count);
+        let rest = self.size(k) - at;
+        self.sizes.shrink(k, rest);
+        self.sizes.put_in(k + 1, rest);
+        self.stack.part(k, at, second);
     }
 }
