@@ -1,5 +1,5 @@
 -- What a `data-mw` says, as texts.
-use Rattle.std.specs.Prelude.{List, Option, Some, None, option_map, codes}
+use Rattle.std.specs.Prelude.{Option, Some, None, option_map, codes}
 use Rattle.std.specs.Borrow.{Bor}
 use Rattle.std.specs.Str.{chars}
 use Rattle.serde_json.specs.Data.{Data, Members, no_members}

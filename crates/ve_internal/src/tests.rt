@@ -70,3 +70,26 @@ fn what_is_not_editable(rt: HostRuntime) {
         is_read_as(&rt, rt.alloc(), mw, None);
     }
 }
+
+fn is_composed(rt: &impl Abort, alloc: Global, mw: &str, body: Option<&str>, expected: &str) {
+    let read = reference_of(alloc, mw).expect(rt, "memory");
+    assert!(rt; read.is_some(), "{mw}");
+    let text = compose(alloc, mw, body).expect(rt, "memory");
+    assert_eq!(rt; text.as_str(), expected);
+}
+
+#[test]
+fn references_with_another_body(rt: HostRuntime) {
+    let mw =
+        "{\"name\":\"ref\", \"body\":{\"id\":\"x\",\"html\":\"a\"}, \"attrs\":{\"name\":\"n\"}}";
+    let table = [
+        (
+            Some("<b>c</b>"),
+            "{\"attrs\":{\"name\":\"n\"},\"body\":{\"html\":\"<b>c</b>\",\"id\":\"x\"},\"name\":\"ref\"}",
+        ),
+        (None, "{\"attrs\":{\"name\":\"n\"},\"name\":\"ref\"}"),
+    ];
+    for (body, expected) in table {
+        is_composed(&rt, rt.alloc(), mw, body, expected);
+    }
+}
