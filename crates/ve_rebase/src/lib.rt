@@ -15,6 +15,8 @@
 //! alone; `joined_stay_normal` that joined transactions keep the bound of 2^60 where the list with all that both sides insert is within it.
 #![tactic(auto)]
 
+#[cfg(test)]
+mod case_tests;
 mod entries;
 mod fault;
 mod join;

@@ -1,8 +1,8 @@
-use Rattle.std.proofs.Common.{◌≡◌, ℕ, suc, ◌+◌, List, [], ◌∷◌, ◌++◌, map, sym, ap, subst, ◌∙◌}
+use Rattle.std.proofs.Common.{◌≡◌, ℕ, suc, List, [], ◌∷◌, ◌++◌, map, sym, ap, subst, ◌∙◌}
 use Rattle.ve_base.specs.declared.value.Value.{Value}
 use Rattle.model_change.specs.Transaction.{old_length, new_length}
 use Rattle.ve_tx.specs.Operation.{Operation, by_value}
-use Rattle.ve_rebase.specs.Lists.{RunOnLength, RunFromOneLength}
+use Rattle.ve_rebase.specs.Lists.{RunOnLength}
 use Rattle.ve_rebase.proofs.list_tests.joined.Goals as goal
 
 two_run : (values : List Value) (n : ℕ) (none first both : List (List Operation)) (t u : List Operation) → none ≡ [] → first ≡ none ++ t ∷ [] → both ≡ first ++ u ∷ [] →
