@@ -1,9 +1,11 @@
 -- Attribute operations with their places, as one pass along the operations finds them. No value that the operations cite is read, and no position.
-use Rattle.std.specs.Prelude.{ℕ, ◌+◌, ◌≤◌, Bool, false, ◌&&◌, ◌||◌, nat_lt, if◌then◌else◌, List, [], ◌∷◌, length, Option, None}
+use Rattle.std.specs.Prelude.{◌≡◌, ℕ, ◌+◌, ◌≤◌, Bool, false, ◌&&◌, ◌||◌, nat_lt, if◌then◌else◌, List, [], ◌∷◌, length, drop, Option, None}
 use Rattle.model_items.specs.Same.{text_same}
 use Rattle.model_change.specs.Attributes.{AttrChange, adds_or_removes}
+use Rattle.model_change.specs.Join.{meets_one, some_meet}
 use Rattle.ve_tx.specs.declared.op.Op.{Op}
 use Rattle.ve_tx.specs.declared.op.Op.TheVariants.{Retain, Replace, Attribute}
+use Rattle.ve_rebase.specs.declared.places.Cursor.{Cursor}
 
 -- how many old items an operation passes
 abbrev pub passes : Op → ℕ
@@ -46,3 +48,21 @@ after_first (Retain count ∷ ops) = ops
 after_first [] = []
 after_first (Replace removed inserted ∷ ops) = Replace removed inserted ∷ ops
 after_first (Attribute name from to ∷ ops) = Attribute name from to ∷ ops
+
+-- the changes of the operations that a cursor has not passed, with their places
+abbrev pub ahead : Cursor → List Op → List (ℕ × AttrChange)
+ahead cursor ops = places cursor.at (drop cursor.passed ops)
+
+-- no change from a place on meets one that lies between two cursors
+abbrev pub SkipsNone : ℕ → List Op → Cursor → Cursor → Type 0
+SkipsNone to ops before after = (cs : List (ℕ × AttrChange)) → AllFrom to cs → some_meet cs (ahead before ops) ≡ some_meet cs (ahead after ops)
+
+-- whether a change of this name at a place, which adds or removes or doesn't, meets one of these
+abbrev pub TellsMeeting : List ℕ → Bool → ℕ → List (ℕ × AttrChange) → Bool → Type 0
+TellsMeeting name moves at cs answer =
+    (from to : Option (List ℕ)) → moves ≡ adds_or_removes (change_of name from to) → answer ≡ meets_one (at, change_of name from to) cs
+
+-- whether an operation's change meets one ahead is told, and what is ahead of the new cursor serves the changes after it
+abbrev pub TellsPassing : ℕ → Op → List Op → Cursor → Cursor × Bool → Type 0
+TellsPassing at op others before answer =
+    (cs : List (ℕ × AttrChange)) → AllFrom at cs → some_meet (placed at op cs) (ahead before others) ≡ (answer.1 || some_meet cs (ahead answer.0 others))

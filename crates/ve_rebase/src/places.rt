@@ -4,7 +4,7 @@ ghost use Rattle.model_items.specs.Same.{text_same};
 ghost use Rattle.model_change.specs.Attributes.{AttrChange, adds_or_removes};
 ghost use Rattle.model_change.specs.Join.{meets_one, some_meet};
 ghost use Rattle.ve_tx.specs.Normal.{total_size};
-ghost use Rattle.ve_rebase.specs.Places.{passes, places, placed, change_of, meets_first, AllFrom};
+ghost use Rattle.ve_rebase.specs.Places.{passes, places, placed, change_of, meets_first, ahead, AllFrom, SkipsNone, TellsMeeting, TellsPassing};
 
 use ve_base::{Same, Text};
 use ve_tx::Op;
@@ -88,7 +88,7 @@ fn advance(ops: &[Op], from: Cursor, to: usize) -> Cursor
     requires small { from.at + total_size (drop from.passed ops.now) ≤ 2 ^ 62 }
     ensures within { result.passed ≤ length ops.now }
     ensures small { result.at + total_size (drop result.passed ops.now) ≤ 2 ^ 62 }
-    ensures skipped { (cs : List (ℕ × AttrChange)) → AllFrom to cs → some_meet cs (places from.at (drop from.passed ops.now)) ≡ some_meet cs (places result.at (drop result.passed ops.now)) }
+    ensures skipped { SkipsNone to ops.now from result }
     ensures there { result.passed < length ops.now → to ≤ result.at }
 {
     let mut at = from.at;
@@ -108,7 +108,7 @@ fn advance(ops: &[Op], from: Cursor, to: usize) -> Cursor
 fn meets_here(name: &Text, moves: bool, at: usize, others: &[Op], cursor: Cursor) -> bool
     requires within { cursor.passed ≤ length others.now }
     requires there { cursor.passed < length others.now → at ≤ cursor.at }
-    ensures { (from to : Option (List ℕ)) → moves ≡ adds_or_removes (change_of name.now from to) → result ≡ meets_one (at, change_of name.now from to) (places cursor.at (drop cursor.passed others.now)) }
+    ensures { TellsMeeting name.now moves at (ahead cursor others.now) result }
 {
     cursor.at == at && meets_first(name, moves, &others[cursor.passed..])
 }
@@ -119,7 +119,7 @@ fn pass(op: &Op, at: usize, others: &[Op], cursor: Cursor) -> (Cursor, bool)
     requires small { cursor.at + total_size (drop cursor.passed others.now) ≤ 2 ^ 62 }
     ensures within { result.0.passed ≤ length others.now }
     ensures small { result.0.at + total_size (drop result.0.passed others.now) ≤ 2 ^ 62 }
-    ensures met { (cs : List (ℕ × AttrChange)) → AllFrom at cs → some_meet (placed at op.now cs) (places cursor.at (drop cursor.passed others.now)) ≡ (result.1 || some_meet cs (places result.0.at (drop result.0.passed others.now))) }
+    ensures met { TellsPassing at op.now others.now cursor result }
 {
     match op {
         Op::Attribute { name, from, to } => {
