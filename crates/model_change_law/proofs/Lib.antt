@@ -1,0 +1,5 @@
+pub mod RetainedLemmas
+pub mod InsertedLemmas
+pub mod ExampleItems
+pub mod RetainedExamples
+pub mod InsertedExamples
