@@ -89,6 +89,30 @@ fn next_back(alloc: Global, doc: Doc<'_>, offset: usize, by: By) -> Result<Optio
     }
 }
 
+/// The next place in a direction: what stands beside the offset there decides.
+fn next_place(
+    alloc: Global,
+    doc: Doc<'_>,
+    offset: usize,
+    dir: Dir,
+    by: By,
+) -> Result<Option<usize>, Memory>
+    requires doc { IsDoc doc }
+    requires within { offset ≤ length doc.list.now.items }
+    ensures { IfOk result (λ place. (values : _) → place ≡ next (plain_list values doc.entry.list.now.items) offset dir by) }
+{
+    match dir {
+        Dir::Back => {
+            let place = next_back(alloc, doc, offset, by)?;
+            Ok(place)
+        }
+        Dir::Ahead => {
+            let place = next_ahead(alloc, doc, offset, by)?;
+            Ok(place)
+        }
+    }
+}
+
 /// Where a caret at a content offset goes by one grapheme cluster (Unicode, UAX #29, extended): past a leaf whole, or to the
 /// next boundary of the run of characters beside it. None comes at the end of its content branch in that direction. It reads
 /// of the list that run, and takes memory for its text alone.
@@ -102,16 +126,7 @@ pub fn next_cluster(
     requires within { offset ≤ length doc.list.now.items }
     ensures { IfOk result (λ place. (values : _) → place ≡ next (plain_list values doc.entry.list.now.items) offset dir Cluster) }
 {
-    match dir {
-        Dir::Back => {
-            let place = next_back(alloc, doc, offset, By::Cluster)?;
-            Ok(place)
-        }
-        Dir::Ahead => {
-            let place = next_ahead(alloc, doc, offset, By::Cluster)?;
-            Ok(place)
-        }
-    }
+    next_place(alloc, doc, offset, dir, By::Cluster)
 }
 
 /// Where a caret at a content offset goes by one word: as `next_cluster`, to the next word boundary (Unicode, UAX #29).
@@ -125,14 +140,5 @@ pub fn next_word(
     requires within { offset ≤ length doc.list.now.items }
     ensures { IfOk result (λ place. (values : _) → place ≡ next (plain_list values doc.entry.list.now.items) offset dir Word) }
 {
-    match dir {
-        Dir::Back => {
-            let place = next_back(alloc, doc, offset, By::Word)?;
-            Ok(place)
-        }
-        Dir::Ahead => {
-            let place = next_ahead(alloc, doc, offset, By::Word)?;
-            Ok(place)
-        }
-    }
+    next_place(alloc, doc, offset, dir, By::Word)
 }
