@@ -1,5 +1,5 @@
 // Trees of whole pages, seen node by node, and a large page built within its bound of steps.
-ghost use Rattle.std.specs.Prelude.{◌≡◌, false, ◌≤◌, ◌+◌, ◌*◌, None, IfOk, IfSome};
+ghost use Rattle.std.specs.Prelude.{◌≡◌, ◌≤◌, ◌+◌, ◌*◌, IfOk, IfSome};
 ghost use Rattle.model_items.specs.Law.{Lawful};
 ghost use Rattle.model_items.specs.Tree.{tree_of, node_count};
 ghost use Rattle.ve_arena.specs.Arena.{IsLive};
@@ -12,33 +12,10 @@ use std::marker::Brand;
 use std::sync::ledger::{Blank, Ledger};
 use std::test::Fail;
 use ve_base::{Memory, Steps};
-use ve_items::{Item, Linear};
+use ve_items::Linear;
 use ve_kinds::Kind;
-
-fn opening(kind: Kind) -> Item
-    ensures { result ≡ Item.Opening kind false None None None None }
-{
-    Item::Opening {
-        kind,
-        head: None,
-        marks: None,
-        pre: None,
-        origin: None,
-        generated: false,
-    }
-}
-
-fn closing(kind: Kind) -> Item
-    ensures { result ≡ Item.Closing kind None }
-{
-    Item::Closing { kind, pre: None }
-}
-
-fn letter(ch: char) -> Item
-    ensures { result ≡ Item.Char ch None }
-{
-    Item::Char { ch, marks: None }
-}
+use ve_lawful::check;
+use ve_samples::{closing, letter, list, opening};
 
 /// A node as it is seen from outside: how deep it stands, what it is, and where it begins and ends.
 #[derive(Clone, Copy, Debug, PartialEq, Eq)]
@@ -89,22 +66,22 @@ fn rows_of(alloc: Global, tree: &Tree) -> Result<Vec<NodeRow>, Memory>
     Ok(rows)
 }
 
-/// The nodes of a page's tree.
-fn rows_of_page<L: Ledger>(
+/// Whether a page's tree has these nodes, in the order of their starts.
+fn has_nodes<L: Ledger>(
     rt: &HostRuntime,
     blank: Blank,
-    page: &[Item],
-) -> Result<Vec<NodeRow>, Memory>
+    page: &Linear,
+    expected: &[NodeRow],
+) -> Result<bool, Fail>
     requires name { blank.name ≡ L.name }
     requires parts { blank.parts ≡ L.parts }
     requires one { blank.parts ≡ 1 }
-    requires lawful { Lawful (unvalued page.now) }
 {
     let mut steps = Steps::<L>::start(rt, blank);
-    let mut list = Linear::new(rt.alloc());
-    list.splice(0, 0, page)?;
-    let tree = Tree::build(rt.alloc(), &list, &mut steps)?;
-    rows_of(rt.alloc(), &tree)
+    check(page)?;
+    let tree = Tree::build(rt.alloc(), page, &mut steps)?;
+    let rows = rows_of(rt.alloc(), &tree)?;
+    Ok(rows.as_slice() == expected)
 }
 
 fn node(depth: usize, kind: Kind, from: usize, to: usize) -> NodeRow {
@@ -124,92 +101,62 @@ fn text(depth: usize, from: usize, to: usize) -> NodeRow {
 }
 
 #[test]
-fn pages_have_their_trees(rt: HostRuntime) -> Result<(), Fail> {
-    let empty = [opening(Kind::InternalList), closing(Kind::InternalList)];
-    assert_eq!(rt;
-        rows_of_page::<Brand>(&rt, Blank::new(1), &empty)?.as_slice(),
-        [
-            node(0, Kind::Root, 0, 2),
-            node(1, Kind::InternalList, 0, 2),
-        ]
-        .as_slice()
-    );
-    let group = [
-        opening(Kind::P),
-        letter('a'),
-        closing(Kind::P),
-        opening(Kind::TransBlock),
-        closing(Kind::TransBlock),
-        opening(Kind::InternalList),
-        closing(Kind::InternalList),
+fn an_empty_page_has_its_tree(rt: HostRuntime) -> Result<(), Fail> {
+    let page = list(rt.alloc(), "")?;
+    let expected = [node(0, Kind::Root, 0, 2), node(1, Kind::InternalList, 0, 2)];
+    let found = has_nodes::<Brand>(&rt, Blank::new(1), &page, &expected)?;
+    assert!(rt; found);
+    Ok(())
+}
+
+#[test]
+fn a_leaf_among_blocks_has_its_node(rt: HostRuntime) -> Result<(), Fail> {
+    let page = list(rt.alloc(), "<p>a</p><trans_block>")?;
+    let expected = [
+        node(0, Kind::Root, 0, 7),
+        node(1, Kind::P, 0, 3),
+        text(2, 1, 2),
+        node(1, Kind::TransBlock, 3, 5),
+        node(1, Kind::InternalList, 5, 7),
     ];
-    assert_eq!(rt;
-        rows_of_page::<Brand>(&rt, Blank::new(1), &group)?.as_slice(),
-        [
-            node(0, Kind::Root, 0, 7),
-            node(1, Kind::P, 0, 3),
-            text(2, 1, 2),
-            node(1, Kind::TransBlock, 3, 5),
-            node(1, Kind::InternalList, 5, 7),
-        ]
-        .as_slice()
-    );
-    let bare_runs = [
-        opening(Kind::Ul),
-        opening(Kind::Li),
-        opening(Kind::P),
-        letter('a'),
-        closing(Kind::P),
-        opening(Kind::P),
-        letter('x'),
-        closing(Kind::P),
-        opening(Kind::P),
-        letter('b'),
-        closing(Kind::P),
-        closing(Kind::Li),
-        closing(Kind::Ul),
-        opening(Kind::InternalList),
-        closing(Kind::InternalList),
+    let found = has_nodes::<Brand>(&rt, Blank::new(1), &page, &expected)?;
+    assert!(rt; found);
+    Ok(())
+}
+
+#[test]
+fn paragraphs_of_a_list_have_their_nodes(rt: HostRuntime) -> Result<(), Fail> {
+    let page = list(rt.alloc(), "<ul><li><p>a</p><p>x</p><p>b</p></li></ul>")?;
+    let expected = [
+        node(0, Kind::Root, 0, 15),
+        node(1, Kind::Ul, 0, 13),
+        node(2, Kind::Li, 1, 12),
+        node(3, Kind::P, 2, 5),
+        text(4, 3, 4),
+        node(3, Kind::P, 5, 8),
+        text(4, 6, 7),
+        node(3, Kind::P, 8, 11),
+        text(4, 9, 10),
+        node(1, Kind::InternalList, 13, 15),
     ];
-    assert_eq!(rt;
-        rows_of_page::<Brand>(&rt, Blank::new(1), &bare_runs)?.as_slice(),
-        [
-            node(0, Kind::Root, 0, 15),
-            node(1, Kind::Ul, 0, 13),
-            node(2, Kind::Li, 1, 12),
-            node(3, Kind::P, 2, 5),
-            text(4, 3, 4),
-            node(3, Kind::P, 5, 8),
-            text(4, 6, 7),
-            node(3, Kind::P, 8, 11),
-            text(4, 9, 10),
-            node(1, Kind::InternalList, 13, 15),
-        ]
-        .as_slice()
-    );
-    let leaf = [
-        opening(Kind::P),
-        letter('a'),
-        letter('b'),
-        opening(Kind::Br),
-        closing(Kind::Br),
-        letter('c'),
-        closing(Kind::P),
-        opening(Kind::InternalList),
-        closing(Kind::InternalList),
+    let found = has_nodes::<Brand>(&rt, Blank::new(1), &page, &expected)?;
+    assert!(rt; found);
+    Ok(())
+}
+
+#[test]
+fn a_leaf_parts_the_text_round_it(rt: HostRuntime) -> Result<(), Fail> {
+    let page = list(rt.alloc(), "<p>ab<br>c</p>")?;
+    let expected = [
+        node(0, Kind::Root, 0, 9),
+        node(1, Kind::P, 0, 7),
+        text(2, 1, 3),
+        node(2, Kind::Br, 3, 5),
+        text(2, 5, 6),
+        node(1, Kind::InternalList, 7, 9),
     ];
-    assert_eq!(rt;
-        rows_of_page::<Brand>(&rt, Blank::new(1), &leaf)?.as_slice(),
-        [
-            node(0, Kind::Root, 0, 9),
-            node(1, Kind::P, 0, 7),
-            text(2, 1, 3),
-            node(2, Kind::Br, 3, 5),
-            text(2, 5, 6),
-            node(1, Kind::InternalList, 7, 9),
-        ]
-        .as_slice()
-    );
+    let found = has_nodes::<Brand>(&rt, Blank::new(1), &page, &expected)?;
+    assert!(rt; found);
     Ok(())
 }
 
