@@ -1,6 +1,11 @@
+pub use Rattle.ve_base.specs.Limits
+pub use Rattle.ve_kinds.specs.Tags
 pub use Rattle.model_items.specs.Plain
+pub use Rattle.model_change.specs.Attributes
 pub use Rattle.model_change.specs.Transaction
 pub use Rattle.model_edit.specs.Convert
+pub use Rattle.model_edit.specs.Marking
+pub use Rattle.ve_store.specs.Following
 pub use Rattle.ve_tx.specs.Operation
 pub use Rattle.ve_tx.specs.Cites
 pub use Rattle.ve_tree.specs.IsTree
@@ -8,3 +13,4 @@ pub use Rattle.ve_offsets.specs.Docs
 pub use Rattle.ve_edits.specs.Collected
 pub use Rattle.ve_edits.specs.Refused
 pub mod Converted
+pub mod Remarked

@@ -6,7 +6,10 @@
 #![tactic(auto)]
 
 mod kinds;
+mod mark;
+mod remark;
 #[cfg(test)]
 mod tests;
 
 pub use kinds::convert;
+pub use mark::{marking, unmarking};
