@@ -4,6 +4,7 @@ pub use Rattle.model_items.specs.Plain
 pub use Rattle.model_change.specs.Attributes
 pub use Rattle.model_change.specs.Transaction
 pub use Rattle.model_edit.specs.Convert
+pub use Rattle.model_edit.specs.Edits
 pub use Rattle.model_edit.specs.Marking
 pub use Rattle.ve_store.specs.Following
 pub use Rattle.ve_tx.specs.Operation
@@ -14,3 +15,4 @@ pub use Rattle.ve_edits.specs.Collected
 pub use Rattle.ve_edits.specs.Refused
 pub mod Converted
 pub mod Remarked
+pub mod Setting

@@ -1,5 +1,5 @@
 -- Marks set on the items of a range, or taken off them.
-use Rattle.std.specs.Prelude.{◌≡◌, ◌≤◌, ℕ, ◌+◌, Bool, true, false, List, Option, slice_get, flat_map}
+use Rattle.std.specs.Prelude.{◌≡◌, ◌≤◌, ℕ, ◌+◌, Bool, true, false, if◌then◌else◌, List, [], ◌∷◌, Option, Some, None, slice_get, flat_map}
 use Rattle.ve_base.specs.declared.marks.Mark.{Mark}
 use Rattle.ve_base.specs.declared.value.Value.{Value}
 use Rattle.ve_base.specs.declared.value.ValueId.{ValueId}
@@ -15,7 +15,6 @@ use Rattle.model_change.specs.Store.{fill, marks_cited, cited_by, cited}
 use Rattle.model_change.specs.Transaction.{all_inserted}
 use Rattle.model_edit.specs.Edits.{Edit}
 use Rattle.model_edit.specs.Marking.{remarked, item_marks, remark_edit}
-use Rattle.model_edit_law.specs.ApartLaws.{inserted_pieces}
 use Rattle.ve_edits.specs.Collected.{Collected, Makes}
 use Rattle.ve_store.specs.Following.{Following, Grows, together, marks_at}
 use Rattle.ve_tx.specs.Operation.{Operation, by_value}
@@ -63,12 +62,20 @@ BringsInserted store old new tx =
 abbrev pub remark_edits : (List Mark → List Mark) → List PlainItem → ℕ → ℕ → List Edit
 remark_edits f items from to = flat_map (λ at. remark_edit f at (slice_get items at)) (places_in from to)
 
+-- the items that they insert
+abbrev pub remarked_item : (List Mark → List Mark) → Option PlainItem → List PlainItem
+remarked_item f None = []
+remarked_item f (Some item) = if keeps_marks f item then [] else remarked f item ∷ []
+
+abbrev pub remarked_items : (List Mark → List Mark) → List PlainItem → ℕ → ℕ → List PlainItem
+remarked_items f items from to = flat_map (λ at. remarked_item f (slice_get items at)) (places_in from to)
+
 -- The edits of a page's items from a place up to another are collected, and the values that they cite have come after the first ones.
 pub record IsRemarked (store : List Value) (items : List Item) (f : List Mark → List Mark) (from at : ℕ) (start new : Following) (c : Collected) : Type 0 where
   pub order : c.at ≤ at
   pub grown : Grows start new
   pub makes : Makes (together store new) items (remark_edits f (plain_list store items) from at) c
-  pub filled : together store new ≡ fill (together store start) (cited (inserted_pieces (remark_edits f (plain_list store items) from at)))
+  pub filled : together store new ≡ fill (together store start) (cited (remarked_items f (plain_list store items) from at))
 
 -- One item more is edited.
 abbrev pub RemarksOneMore : List Value → List Item → (List Mark → List Mark) → ℕ → (old new : Following) → (before after : Collected) → Type 0

@@ -5,11 +5,13 @@
 //! `ve_edits`' `Refused`. It has no law of its own: those of `model_edit_law` hold of the results by the clauses.
 #![tactic(auto)]
 
+mod attributes;
 mod kinds;
 mod mark;
 mod remark;
 #[cfg(test)]
 mod tests;
 
+pub use attributes::attribute;
 pub use kinds::convert;
 pub use mark::{marking, unmarking};

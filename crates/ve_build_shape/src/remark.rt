@@ -6,7 +6,8 @@ ghost use Rattle.model_items.specs.Plain.{plain, CitesMarks, CitesWell};
 ghost use Rattle.model_items.specs.Same.{mark_same};
 ghost use Rattle.model_change.specs.Attributes as attributes;
 ghost use Rattle.model_edit.specs.Marking as model;
-ghost use Rattle.ve_store.specs.Following.{Grows, together, marks_at, marks_cited};
+ghost use Rattle.ve_store.specs.Following as following;
+ghost use Rattle.ve_store.specs.Following.{Grows, together, marks_cited};
 ghost use Rattle.ve_build_shape.specs.Remarked as spec;
 ghost use Rattle.ve_build_shape.specs.Remarked.{marks_after, CitesItsMarks, HasMarks, IsMarksFilled, IsItemFilled};
 
@@ -62,12 +63,27 @@ fn has_mark(marks: &[Mark], mark: &Mark) -> bool
     marks.iter().any(|one| same_mark(mark, one))
 }
 
-/// The place of the marks that an item cites.
+/// The marks that are cited.
+fn marks_at(store: &Store, marks: Option<ValueId>) -> &[Mark]
+    requires { CitesMarks store.now marks }
+    ensures { result.now ≡ following.marks_at store.now marks }
+{
+    let Some(id) = marks else {
+        return &[];
+    };
+    match store.get(id) {
+        Value::Marks(marks) => marks.as_slice(),
+        Value::White(_) | Value::Head(_) => &[],
+    }
+}
+
+/// What an item cites as its marks.
 fn marks_id(item: Item) -> Option<ValueId>
     ensures { CitesItsMarks item result }
 {
     match item {
-        Item::Char { marks, .. } | Item::Opening { marks, .. } => marks,
+        Item::Char { marks, .. } => marks,
+        Item::Opening { marks, .. } => marks,
         Item::Closing { .. } => None,
     }
 }
@@ -77,13 +93,7 @@ fn marks_of(store: &Store, item: Item) -> &[Mark]
     requires { CitesWell store.now item }
     ensures { result.now ≡ model.item_marks (plain store.now item) }
 {
-    let Some(id) = marks_id(item) else {
-        return &[];
-    };
-    match store.get(id) {
-        Value::Marks(marks) => marks.as_slice(),
-        Value::White(_) | Value::Head(_) => &[],
-    }
+    marks_at(store, marks_id(item))
 }
 
 /// Whether an item may get marks: a character, or the opening of an inline leaf.
@@ -95,18 +105,6 @@ fn may_be_marked(item: Item) -> bool
         Item::Opening { kind, .. } => is_inline_leaf(kind),
         Item::Closing { .. } => false,
     }
-}
-
-/// Whether an item would have too many marks with one more.
-pub fn is_full(store: &Store, item: Item, mark: &Mark) -> bool
-    requires { CitesWell store.now item }
-    ensures { result ≡ model.is_full_for mark.now (plain store.now item) }
-{
-    let marks = marks_of(store, item);
-    if may_be_marked(item) && !has_mark(marks, mark) {
-        return marks.len() >= MAX_MARKS;
-    }
-    marks.len() > MAX_MARKS
 }
 
 /// Whether an item's marks stay as they are.
@@ -123,6 +121,18 @@ pub fn keeps_marks(store: &Store, item: Item, remark: Remark, mark: &Mark) -> bo
         Remark::Set => has,
         Remark::TakeOff => !has,
     }
+}
+
+/// Whether an item would have too many marks with one more.
+pub fn is_full(store: &Store, item: Item, mark: &Mark) -> bool
+    requires { CitesWell store.now item }
+    ensures { result ≡ model.is_full_for mark.now (plain store.now item) }
+{
+    let count = marks_of(store, item).len();
+    if keeps_marks(store, item, Remark::Set, mark) {
+        return count > MAX_MARKS;
+    }
+    count >= MAX_MARKS
 }
 
 /// Cites the marks with one more, or without one.

@@ -1,0 +1,199 @@
+// One attribute of an element set or taken off.
+ghost use Rattle.std.specs.Prelude.{◌≡◌, ◌<◌, ◌∷◌, [], true, Ok, IfOk, IfErr, All, length, slice_get, option_map};
+ghost use Rattle.std.specs.Str.{chars};
+ghost use Rattle.model_items.specs.Offsets.{passes};
+ghost use Rattle.model_items.specs.Plain.{plain, plain_list, head_in, value_at, CitesHead, CitesWell};
+ghost use Rattle.model_items.specs.Same.{text_same};
+ghost use Rattle.model_change.specs.Attributes as attributes;
+ghost use Rattle.model_edit.specs.Convert.{opens_kind};
+ghost use Rattle.model_edit.specs.Convert as model;
+ghost use Rattle.model_edit.specs.Edits.{present_value};
+ghost use Rattle.ve_kinds.specs.Table as table;
+ghost use Rattle.ve_offsets.specs.Docs.{IsDoc, page_items};
+ghost use Rattle.ve_tx.specs.Cites.{TxCites};
+ghost use Rattle.ve_tx.specs.Operation.{by_value};
+ghost use Rattle.ve_edits.specs.Refused.{IsRefusal};
+ghost use Rattle.ve_build_shape.specs.Setting.{retain_ops, setting_ops, IsSetting, MaySetAt};
+
+use crate::remark::is_reserved;
+use model_edit::BuildFault;
+use std::alloc::Global;
+use ve_base::{Attr, Memory, Same, Text, TryCopy, Value, ValueId};
+use ve_items::Item;
+use ve_kinds::is_element;
+use ve_offsets::Doc;
+use ve_store::Store;
+use ve_tx::{Op, OpList, Transaction};
+
+/// Whether the item opens an element.
+fn opens_element(item: Item) -> bool
+    ensures { (values : _) → result ≡ opens_kind table.is_element (plain values item) }
+{
+    match item {
+        Item::Char { .. } => false,
+        Item::Closing { .. } => false,
+        Item::Opening { kind, .. } => is_element(kind),
+    }
+}
+
+/// Whether an element begins at a place.
+fn begins_element(doc: Doc<'_>, at: usize) -> bool
+    ensures within { result ≡ true → at < length doc.entry.list.now.items }
+    ensures means { (values : _) → result ≡ passes (opens_kind table.is_element) (slice_get (plain_list values doc.entry.list.now.items) at) }
+{
+    if at >= doc.list.len() {
+        return false;
+    }
+    opens_element(doc.list.get(at))
+}
+
+/// The attributes of the head that is cited.
+fn attrs_of(store: &Store, head: Option<ValueId>) -> &[Attr]
+    requires { CitesHead store.now head }
+    ensures { result.now ≡ (head_in (value_at store.now head)).attrs }
+{
+    let Some(id) = head else {
+        return &[];
+    };
+    match store.get(id) {
+        Value::Head(head) => head.attrs.as_slice(),
+        Value::White(_) | Value::Marks(_) => &[],
+    }
+}
+
+fn same_text(one: &Text, other: &Text) -> bool
+    ensures { result ≡ text_same one.now other.now }
+{
+    one.same(other)
+}
+
+/// The value of the attribute of this name.
+fn value_of(alloc: Global, attrs: &[Attr], name: &Text) -> Result<Option<Text>, Memory>
+    ensures { IfOk result (λ value. value ≡ attributes.value_of name.now attrs.now) }
+{
+    for attr in attrs {
+        if same_text(&attr.name, name) {
+            let value = attr.value.copy(alloc)?;
+            return Ok(Some(value));
+        }
+    }
+    Ok(None)
+}
+
+/// The value that an attribute of an item has.
+fn present_value(
+    alloc: Global,
+    store: &Store,
+    item: Item,
+    name: &Text,
+) -> Result<Option<Text>, Memory>
+    requires { CitesWell store.now item }
+    ensures { IfOk result (λ value. value ≡ present_value name.now (plain store.now item ∷ [])) }
+{
+    match item {
+        Item::Char { .. } => Ok(None),
+        Item::Closing { .. } => Ok(None),
+        Item::Opening { head, .. } => {
+            let value = value_of(alloc, attrs_of(store, head), name)?;
+            Ok(value)
+        }
+    }
+}
+
+fn text_of(alloc: Global, value: Option<&str>) -> Result<Option<Text>, Memory>
+    ensures { IfOk result (λ text. text ≡ option_map (λ spelled. chars spelled.now) value.entry) }
+{
+    match value {
+        Some(spelled) => {
+            let text = Text::from_str(alloc, spelled)?;
+            Ok(Some(text))
+        }
+        None => Ok(None),
+    }
+}
+
+/// A retain of so many items, unless there are none.
+fn retain(alloc: Global, count: usize) -> Result<OpList, Memory>
+    ensures { IfOk result (λ ops. ops ≡ retain_ops count) }
+{
+    let mut ops = OpList::new(alloc);
+    if count == 0 {
+        return Ok(ops);
+    }
+    ops.push(Op::Retain(count))?;
+    Ok(ops)
+}
+
+/// The operations that set an attribute of the item at a place, which has so many items from it on.
+fn setting_ops(
+    alloc: Global,
+    at: usize,
+    rest: usize,
+    name: Text,
+    from: Option<Text>,
+    to: Option<Text>,
+) -> Result<OpList, Memory>
+    ensures { IfOk result (λ ops. ops ≡ setting_ops at rest name from to) }
+{
+    let mut ops = retain(alloc, at)?;
+    ops.push(Op::Attribute { name, from, to })?;
+    ops.push(Op::Retain(rest))?;
+    Ok(ops)
+}
+
+/// The change that sets an attribute of the element at a place. One whose lengths add up to more than 2^60 is a want of
+/// memory like any other.
+fn set(
+    alloc: Global,
+    doc: Doc<'_>,
+    at: usize,
+    name: Text,
+    to: Option<&str>,
+) -> Result<Transaction, Memory>
+    requires within { at < length doc.list.now.items }
+    requires cites { All (CitesWell doc.store.now) doc.list.now.items }
+    requires may { MaySetAt doc.list.now.items at name }
+    ensures means { IfOk result (λ tx. IsSetting (page_items doc.entry) at name (option_map (λ spelled. chars spelled.now) to.entry) (by_value doc.entry.store.now tx)) }
+    ensures cites { IfOk result (TxCites doc.entry.store.now) }
+{
+    let from = present_value(alloc, doc.store, doc.list.get(at), &name)?;
+    let to = text_of(alloc, to)?;
+    let ops = setting_ops(alloc, at, doc.list.len() - at, name, from, to)?;
+    let Ok(unfilled) = Transaction::from_ops(ops) else {
+        return Err(Memory);
+    };
+    let tx = unfilled.filled(alloc, doc.list, doc.store)?;
+    Ok(tx)
+}
+
+/// The change that sets an attribute of the element that begins at a place to a value, or takes it off where that is
+/// `None`. Where it takes one off, it keeps the attribute's position, so that the inverse puts it back there.
+///
+/// `NotOpening` comes exactly where no element begins at the place; then `BadAttr` where the name is `about` or `typeof`.
+pub fn attribute(
+    alloc: Global,
+    doc: Doc<'_>,
+    at: usize,
+    name: &str,
+    to: Option<&str>,
+) -> Result<Transaction, BuildFault>
+    requires doc { IsDoc doc }
+    requires cites { All (CitesWell doc.store.now) doc.list.now.items }
+    ensures means { IfOk result (λ tx. model.attribute (page_items doc.entry) at (chars name.now) (option_map (λ spelled. chars spelled.now) to.entry) ≡ Ok (by_value doc.entry.store.now tx)) }
+    ensures cites { IfOk result (TxCites doc.entry.store.now) }
+    ensures refused { IfErr result (λ fault. IsRefusal fault (model.attribute (page_items doc.entry) at (chars name.now) (option_map (λ spelled. chars spelled.now) to.entry))) }
+{
+    if !begins_element(doc, at) {
+        return Err(BuildFault::NotOpening { at });
+    }
+    let Ok(name) = Text::from_str(alloc, name) else {
+        return Err(BuildFault::Memory);
+    };
+    if is_reserved(&name) {
+        return Err(BuildFault::BadAttr { at });
+    }
+    match set(alloc, doc, at, name, to) {
+        Ok(tx) => Ok(tx),
+        Err(Memory) => Err(BuildFault::Memory),
+    }
+}
