@@ -31,7 +31,8 @@ use Rattle.ve_store.specs.Marked.{with_marks, values_marked, values_unmarked}
 use Rattle.ve_store.proofs.StoreLemmas.{admitted_there, admitted_before}
 use Rattle.ve_tx.specs.Making.{Extends}
 use Rattle.ve_tx.proofs.ValuesLemmas.{filled_on}
-use Rattle.ve_build_shape.specs.Remarked.{may_be_marked, keeps_marks}
+use Rattle.model_edit.specs.Insert.{is_content_item}
+use Rattle.ve_build_shape.specs.Remarked.{keeps_marks}
 
 -- ---- a tag is compared by its bytes, and the tags of marks are ASCII
 
@@ -121,16 +122,16 @@ take_off_keeps m marks = by (has_mark m marks) (none_out m marks) (some_out m ma
     by false none some = let same = none refl in ap (λ l. marks_same l marks) same ∙ Means-marks_same.itself marks
 
 -- the marks of an item after it
-pub marks-remarked : (f : List Mark → List Mark) (p : PlainItem) → item_marks (remarked f p) ≡ (if may_be_marked p then f (item_marks p) else item_marks p)
+pub marks-remarked : (f : List Mark → List Mark) (p : PlainItem) → item_marks (remarked f p) ≡ (if is_content_item p then f (item_marks p) else item_marks p)
 marks-remarked f (Char c marks) = refl
 marks-remarked f (Opening kind head marks pre origin generated) = refl
 marks-remarked f (Closing kind pre) = refl
 
-pub never_marked : (f : List Mark → List Mark) (p : PlainItem) → may_be_marked p ≡ false → keeps_marks f p ≡ true
+pub never_marked : (f : List Mark → List Mark) (p : PlainItem) → is_content_item p ≡ false → keeps_marks f p ≡ true
 never_marked f p may =
     ap (λ l. marks_same l (item_marks p)) (marks-remarked f p ∙ ap (λ b. if b then f (item_marks p) else item_marks p) may) ∙ Means-marks_same.itself (item_marks p)
 
-pub may_keep : (f : List Mark → List Mark) (p : PlainItem) → may_be_marked p ≡ true → keeps_marks f p ≡ marks_same (f (item_marks p)) (item_marks p)
+pub may_keep : (f : List Mark → List Mark) (p : PlainItem) → is_content_item p ≡ true → keeps_marks f p ≡ marks_same (f (item_marks p)) (item_marks p)
 may_keep f p may = ap (λ l. marks_same l (item_marks p)) (marks-remarked f p ∙ ap (λ b. if b then f (item_marks p) else item_marks p) may)
 
 -- the marks that it gets are read off the item
@@ -153,7 +154,7 @@ with_more m marks h = ap (λ b. length (if b then marks else marks ++ m ∷ []))
     one_more [] = refl
     one_more (x ∷ xs) = let e = one_more xs in omega (arith, e)
 
-pub full_with_one : (m : Mark) (p : PlainItem) (n : ℕ) (r : Bool) → keeps_marks (with_mark m) p ≡ false → may_be_marked p ≡ true → n ≡ length (item_marks p) → r ≡ nat_le max_marks n → r ≡ is_full_for m p
+pub full_with_one : (m : Mark) (p : PlainItem) (n : ℕ) (r : Bool) → keeps_marks (with_mark m) p ≡ false → is_content_item p ≡ true → n ≡ length (item_marks p) → r ≡ nat_le max_marks n → r ≡ is_full_for m p
 full_with_one m p n r keeps may count is =
     let new : has_mark m (item_marks p) ≡ false = sym (set_keeps m (item_marks p)) ∙ sym (may_keep (with_mark m) p may) ∙ keeps in
     let more : item_marks (remarked (with_mark m) p) ≡ with_mark m (item_marks p) = marks-remarked (with_mark m) p ∙ ap (λ b. if b then with_mark m (item_marks p) else item_marks p) may in
@@ -218,7 +219,7 @@ unmarked_fills values new id m is = is ∙ by (without_mark m (marks_at values i
 
 -- an item whose head and whitespace are cited already brings its marks alone
 module _ (old new : List Value) (f : List Mark → List Mark) (extends : Extends old new) where
-  pub item_fills : (x : Item) → CitesWell old x → may_be_marked (plain old x) ≡ true → new ≡ fill old (marks_cited (f (item_marks (plain old x)))) →
+  pub item_fills : (x : Item) → CitesWell old x → is_content_item (plain old x) ≡ true → new ≡ fill old (marks_cited (f (item_marks (plain old x)))) →
       new ≡ fill old (cited_by (remarked f (plain old x)))
   item_fills (item.Char ch marks) cites may is = is
   item_fills (item.Opening kind generated head marks pre origin) cites may is =

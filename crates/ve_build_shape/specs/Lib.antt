@@ -5,6 +5,7 @@ pub use Rattle.model_change.specs.Attributes
 pub use Rattle.model_change.specs.Transaction
 pub use Rattle.model_edit.specs.Convert
 pub use Rattle.model_edit.specs.Edits
+pub use Rattle.model_edit.specs.Insert
 pub use Rattle.model_edit.specs.Marking
 pub use Rattle.ve_store.specs.Following
 pub use Rattle.ve_tx.specs.Operation

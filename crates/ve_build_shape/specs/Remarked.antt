@@ -1,19 +1,19 @@
 -- Marks set on the items of a range, or taken off them.
-use Rattle.std.specs.Prelude.{◌≡◌, ◌≤◌, ℕ, ◌+◌, Bool, true, false, if◌then◌else◌, List, [], ◌∷◌, Option, Some, None, slice_get, flat_map}
+use Rattle.std.specs.Prelude.{◌≡◌, ◌≤◌, ℕ, ◌+◌, Bool, true, if◌then◌else◌, List, [], ◌∷◌, Option, Some, None, Result, Ok, slice_get, flat_map}
 use Rattle.ve_base.specs.declared.marks.Mark.{Mark}
 use Rattle.ve_base.specs.declared.value.Value.{Value}
 use Rattle.ve_base.specs.declared.value.ValueId.{ValueId}
-use Rattle.ve_kinds.specs.Table.{is_inline_leaf}
 use Rattle.model_items.specs.declared.item.Item.{Item}
 use Rattle.model_items.specs.declared.plain_item.PlainItem.{PlainItem}
-use Rattle.model_items.specs.declared.plain_item.PlainItem.TheVariants.{Char, Opening, Closing}
 use Rattle.model_items.specs.Marks.{with_mark, without_mark}
 use Rattle.model_items.specs.Offsets.{places_in}
 use Rattle.model_items.specs.Plain.{plain, plain_list, CitesMarks, CitesWell}
 use Rattle.model_items.specs.Same.{marks_same}
 use Rattle.model_change.specs.Store.{fill, marks_cited, cited_by, cited}
-use Rattle.model_change.specs.Transaction.{all_inserted}
+use Rattle.model_change.specs.Transaction.{Transaction, all_inserted}
+use Rattle.model_edit.specs.Causes.{BuildCause}
 use Rattle.model_edit.specs.Edits.{Edit}
+use Rattle.model_edit.specs.Insert.{is_content_item}
 use Rattle.model_edit.specs.Marking.{remarked, item_marks, remark_edit}
 use Rattle.ve_edits.specs.Collected.{Collected, Makes}
 use Rattle.ve_store.specs.Following.{Following, Grows, together, marks_at}
@@ -26,12 +26,6 @@ abbrev pub marks_after : Remark → Mark → List Mark → List Mark
 marks_after Set mark = with_mark mark
 marks_after TakeOff mark = without_mark mark
 
--- a character, or the opening of an inline leaf
-abbrev pub may_be_marked : PlainItem → Bool
-may_be_marked (Char c marks) = true
-may_be_marked (Opening kind head marks pre origin generated) = is_inline_leaf kind
-may_be_marked (Closing kind pre) = false
-
 -- what is cited is the item's marks, over every list of values
 abbrev pub CitesItsMarks : Item → Option ValueId → Type 0
 CitesItsMarks item id = (values : List Value) → (marks_at values id ≡ item_marks (plain values item)) × (CitesWell values item → CitesMarks values id)
@@ -39,7 +33,7 @@ CitesItsMarks item id = (values : List Value) → (marks_at values id ≡ item_m
 -- The second item is the first with these marks, where it may have some.
 abbrev pub HasMarks : Item → Option ValueId → Item → Type 0
 HasMarks item marks new =
-    (values : List Value) → may_be_marked (plain values item) ≡ true →
+    (values : List Value) → is_content_item (plain values item) ≡ true →
     (plain values new ≡ remarked (λ old. marks_at values marks) (plain values item)) × (CitesWell values item → CitesMarks values marks → CitesWell values new)
 
 -- the item's marks stay as they are
@@ -52,6 +46,10 @@ IsMarksFilled store old new marks id = together store new ≡ fill (together sto
 
 abbrev pub IsItemFilled : List Value → (old new : Following) → PlainItem → Item → Type 0
 IsItemFilled store old new other item = together store new ≡ fill (together store old) (cited_by other)
+
+-- the transaction is, by value, the one that is meant
+abbrev pub IsMeant : List Value → Following → Result Transaction BuildCause → List Operation → Type 0
+IsMeant store new meant tx = meant ≡ Ok (by_value (together store new) tx)
 
 -- The new values are the old ones, and after them just what the items that the transaction inserts cite and the old ones lack.
 abbrev pub BringsInserted : List Value → (old new : Following) → List Operation → Type 0

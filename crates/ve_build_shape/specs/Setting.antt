@@ -1,9 +1,15 @@
 -- The operations that set an attribute of the opening at a place, and what is known of the opening.
-use Rattle.std.specs.Prelude.{◌≡◌, ℕ, zero, suc, true, List, [], ◌∷◌, ◌++◌, Option, drop}
+use Rattle.std.specs.Prelude.{◌≡◌, ℕ, zero, suc, Bool, true, List, [], ◌∷◌, ◌++◌, Option, drop, slice_get, option_map, Result}
+use Rattle.std.specs.Borrow.{Bor}
+use Rattle.std.specs.Str.{chars}
 use Rattle.model_items.specs.declared.item.Item.{Item}
 use Rattle.model_items.specs.Plain.{plain_list}
 use Rattle.model_items.specs.declared.plain_item.PlainItem.{PlainItem}
+use Rattle.model_items.specs.Offsets.{passes}
+use Rattle.ve_kinds.specs.Table.{is_element}
 use Rattle.model_change.specs.Transaction.{Transaction}
+use Rattle.model_edit.specs.Causes.{BuildCause}
+use Rattle.model_edit.specs.Convert.{opens_kind, attribute}
 use Rattle.model_edit.specs.Edits.{Set, may_set, transaction_of}
 use Rattle.ve_base.specs.declared.value.Value.{Value}
 use Rattle.ve_tx.specs.declared.op.Op.{Op}
@@ -16,6 +22,18 @@ retain_ops (suc n) = Retain (suc n) ∷ []
 
 abbrev pub setting_ops : (at rest : ℕ) (name : List ℕ) (from to : Option (List ℕ)) → List Op
 setting_ops at rest name from to = retain_ops at ++ Attribute name from to ∷ Retain rest ∷ []
+
+-- an element begins at the place
+abbrev pub begins_element : List PlainItem → ℕ → Bool
+begins_element items at = passes (opens_kind is_element) (slice_get items at)
+
+-- the value as it is spelled
+abbrev pub value_spelled : Option (Bor (List ℕ)) → Option (List ℕ)
+value_spelled to = option_map (λ (value : Bor (List ℕ)). chars value.now) to
+
+-- what the model answers where the name and the value are given as they are spelled
+abbrev pub attribute_spelled : List PlainItem → ℕ → List ℕ → Option (Bor (List ℕ)) → Result Transaction BuildCause
+attribute_spelled items at name to = attribute items at (chars name) (value_spelled to)
 
 -- the transaction sets the attribute, and does nothing else
 abbrev pub IsSetting : List PlainItem → ℕ → List ℕ → Option (List ℕ) → Transaction → Type 0

@@ -1,19 +1,16 @@
 // One attribute of an element set or taken off.
-ghost use Rattle.std.specs.Prelude.{◌≡◌, ◌<◌, ◌∷◌, [], true, Ok, IfOk, IfErr, All, length, slice_get, option_map};
-ghost use Rattle.std.specs.Str.{chars};
-ghost use Rattle.model_items.specs.Offsets.{passes};
+ghost use Rattle.std.specs.Prelude.{◌≡◌, ◌<◌, ◌∷◌, [], true, Ok, IfOk, IfErr, All, length};
 ghost use Rattle.model_items.specs.Plain.{plain, plain_list, head_in, value_at, CitesHead, CitesWell};
 ghost use Rattle.model_items.specs.Same.{text_same};
 ghost use Rattle.model_change.specs.Attributes as attributes;
 ghost use Rattle.model_edit.specs.Convert.{opens_kind};
-ghost use Rattle.model_edit.specs.Convert as model;
 ghost use Rattle.model_edit.specs.Edits.{present_value};
 ghost use Rattle.ve_kinds.specs.Table as table;
 ghost use Rattle.ve_offsets.specs.Docs.{IsDoc, page_items};
 ghost use Rattle.ve_tx.specs.Cites.{TxCites};
 ghost use Rattle.ve_tx.specs.Operation.{by_value};
 ghost use Rattle.ve_edits.specs.Refused.{IsRefusal};
-ghost use Rattle.ve_build_shape.specs.Setting.{retain_ops, setting_ops, IsSetting, MaySetAt};
+ghost use Rattle.ve_build_shape.specs.Setting.{attribute_spelled, begins_element, value_spelled, retain_ops, setting_ops, IsSetting, MaySetAt};
 
 use crate::remark::is_reserved;
 use model_edit::BuildFault;
@@ -39,7 +36,7 @@ fn opens_element(item: Item) -> bool
 /// Whether an element begins at a place.
 fn begins_element(doc: Doc<'_>, at: usize) -> bool
     ensures within { result ≡ true → at < length doc.entry.list.now.items }
-    ensures means { (values : _) → result ≡ passes (opens_kind table.is_element) (slice_get (plain_list values doc.entry.list.now.items) at) }
+    ensures means { (values : _) → result ≡ begins_element (plain_list values doc.entry.list.now.items) at }
 {
     if at >= doc.list.len() {
         return false;
@@ -101,7 +98,7 @@ fn present_value(
 }
 
 fn text_of(alloc: Global, value: Option<&str>) -> Result<Option<Text>, Memory>
-    ensures { IfOk result (λ text. text ≡ option_map (λ spelled. chars spelled.now) value.entry) }
+    ensures { IfOk result (λ text. text ≡ value_spelled value.entry) }
 {
     match value {
         Some(spelled) => {
@@ -153,7 +150,7 @@ fn set(
     requires within { at < length doc.list.now.items }
     requires cites { All (CitesWell doc.store.now) doc.list.now.items }
     requires may { MaySetAt doc.list.now.items at name }
-    ensures means { IfOk result (λ tx. IsSetting (page_items doc.entry) at name (option_map (λ spelled. chars spelled.now) to.entry) (by_value doc.entry.store.now tx)) }
+    ensures means { IfOk result (λ tx. IsSetting (page_items doc.entry) at name (value_spelled to.entry) (by_value doc.entry.store.now tx)) }
     ensures cites { IfOk result (TxCites doc.entry.store.now) }
 {
     let from = present_value(alloc, doc.store, doc.list.get(at), &name)?;
@@ -179,9 +176,9 @@ pub fn attribute(
 ) -> Result<Transaction, BuildFault>
     requires doc { IsDoc doc }
     requires cites { All (CitesWell doc.store.now) doc.list.now.items }
-    ensures means { IfOk result (λ tx. model.attribute (page_items doc.entry) at (chars name.now) (option_map (λ spelled. chars spelled.now) to.entry) ≡ Ok (by_value doc.entry.store.now tx)) }
+    ensures means { IfOk result (λ tx. attribute_spelled (page_items doc.entry) at name.now to.entry ≡ Ok (by_value doc.entry.store.now tx)) }
     ensures cites { IfOk result (TxCites doc.entry.store.now) }
-    ensures refused { IfErr result (λ fault. IsRefusal fault (model.attribute (page_items doc.entry) at (chars name.now) (option_map (λ spelled. chars spelled.now) to.entry))) }
+    ensures refused { IfErr result (λ fault. IsRefusal fault (attribute_spelled (page_items doc.entry) at name.now to.entry)) }
 {
     if !begins_element(doc, at) {
         return Err(BuildFault::NotOpening { at });

@@ -1,8 +1,14 @@
-//! Edits that change what nodes are, as the changes that they are: `convert` gives a branch of content another kind.
+//! Edits that change what nodes and characters are, as the changes that they are: `marking` and `unmarking` set a mark on
+//! a range and take it off, `convert` gives a branch of content another kind, and `attribute` sets one attribute of an
+//! element. Wraps are still to come.
 //!
-//! It gives the model's transaction, or the model's refusal, and writes nothing. Its one file of definitions is
-//! `Converted` (the edits of a conversion); what a conversion is stands in `model_edit`'s `Convert`, and how it refuses in
-//! `ve_edits`' `Refused`. It has no law of its own: those of `model_edit_law` hold of the results by the clauses.
+//! Each gives the model's transaction, or the model's refusal, and writes nothing. New values go into the `NewValues` that
+//! are passed: after a success just those that the inserted items bring. It knows no tree but through `ve_edits`.
+//!
+//! Definitions, in reading order: `Converted` (the edits of a conversion), `Remarked` (the edits of a range's marks, and
+//! `BringsInserted`), `Setting` (the operations that set an attribute); most serve private functions. What the edits are
+//! stands in `model_edit`'s `Convert` and `Marking`, and how they refuse in `ve_edits`' `Refused`. It has no law of its own:
+//! those of `model_edit_law` hold of the results by the clauses.
 #![tactic(auto)]
 
 mod attributes;

@@ -6,9 +6,8 @@ ghost use Rattle.model_edit.specs.Marking as model;
 ghost use Rattle.ve_store.specs.Following.{Grows, together};
 ghost use Rattle.ve_offsets.specs.Docs.{IsDoc, page_items};
 ghost use Rattle.ve_tx.specs.Cites.{TxCites};
-ghost use Rattle.ve_tx.specs.Operation.{by_value};
 ghost use Rattle.ve_edits.specs.Refused.{IsRefusal};
-ghost use Rattle.ve_build_shape.specs.Remarked.{marks_after, BringsInserted, RemarksOneMore};
+ghost use Rattle.ve_build_shape.specs.Remarked.{marks_after, IsMeant, BringsInserted, RemarksOneMore};
 
 use crate::remark::{Remark, is_bad_mark, is_full, keeps_marks, remarked};
 use model_edit::BuildFault;
@@ -73,7 +72,7 @@ fn remark_range(
     requires within { to ≤ length doc.list.now.items }
     requires cites { All (CitesWell doc.store.now) doc.list.now.items }
     requires follows { new.old.after ≡ length doc.store.now }
-    ensures means { IfOk result (λ tx. by_value (together doc.entry.store.now new.new) tx ≡ model.remark (marks_after remark mark.now) (page_items doc.entry) from to) }
+    ensures means { IfOk result (IsMeant doc.entry.store.now new.new (Ok (model.remark (marks_after remark mark.now) (page_items doc.entry) from to))) }
     ensures cites { IfOk result (TxCites (together doc.entry.store.now new.new)) }
     ensures brings { IfOk result (BringsInserted doc.entry.store.now new.old new.new) }
     ensures grows { Grows new.old new.new }
@@ -103,7 +102,7 @@ pub fn marking(
     requires doc { IsDoc doc }
     requires cites { All (CitesWell doc.store.now) doc.list.now.items }
     requires follows { new.old.after ≡ length doc.store.now }
-    ensures means { IfOk result (λ tx. model.marking (page_items doc.entry) from to mark.now ≡ Ok (by_value (together doc.entry.store.now new.new) tx)) }
+    ensures means { IfOk result (IsMeant doc.entry.store.now new.new (model.marking (page_items doc.entry) from to mark.now)) }
     ensures cites { IfOk result (TxCites (together doc.entry.store.now new.new)) }
     ensures brings { IfOk result (BringsInserted doc.entry.store.now new.old new.new) }
     ensures grows { Grows new.old new.new }
@@ -138,7 +137,7 @@ pub fn unmarking(
     requires doc { IsDoc doc }
     requires cites { All (CitesWell doc.store.now) doc.list.now.items }
     requires follows { new.old.after ≡ length doc.store.now }
-    ensures means { IfOk result (λ tx. model.unmarking (page_items doc.entry) from to mark.now ≡ Ok (by_value (together doc.entry.store.now new.new) tx)) }
+    ensures means { IfOk result (IsMeant doc.entry.store.now new.new (model.unmarking (page_items doc.entry) from to mark.now)) }
     ensures cites { IfOk result (TxCites (together doc.entry.store.now new.new)) }
     ensures brings { IfOk result (BringsInserted doc.entry.store.now new.old new.new) }
     ensures grows { Grows new.old new.new }

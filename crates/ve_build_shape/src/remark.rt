@@ -5,6 +5,7 @@ ghost use Rattle.ve_kinds.specs.Tags.{is_one_of, annotation_tags};
 ghost use Rattle.model_items.specs.Plain.{plain, CitesMarks, CitesWell};
 ghost use Rattle.model_items.specs.Same.{mark_same};
 ghost use Rattle.model_change.specs.Attributes as attributes;
+ghost use Rattle.model_edit.specs.Insert as insert;
 ghost use Rattle.model_edit.specs.Marking as model;
 ghost use Rattle.ve_store.specs.Following as following;
 ghost use Rattle.ve_store.specs.Following.{Grows, together, marks_cited};
@@ -97,8 +98,8 @@ fn marks_of(store: &Store, item: Item) -> &[Mark]
 }
 
 /// Whether an item may get marks: a character, or the opening of an inline leaf.
-fn may_be_marked(item: Item) -> bool
-    ensures { (values : _) → result ≡ spec.may_be_marked (plain values item) }
+fn is_content_item(item: Item) -> bool
+    ensures { (values : _) → result ≡ insert.is_content_item (plain values item) }
 {
     match item {
         Item::Char { .. } => true,
@@ -111,9 +112,9 @@ fn may_be_marked(item: Item) -> bool
 pub fn keeps_marks(store: &Store, item: Item, remark: Remark, mark: &Mark) -> bool
     requires { CitesWell store.now item }
     ensures keeps { result ≡ spec.keeps_marks (marks_after remark mark.now) (plain store.now item) }
-    ensures may { result ≡ false → spec.may_be_marked (plain store.now item) ≡ true }
+    ensures may { result ≡ false → insert.is_content_item (plain store.now item) ≡ true }
 {
-    if !may_be_marked(item) {
+    if !is_content_item(item) {
         return true;
     }
     let has = has_mark(marks_of(store, item), mark);
@@ -199,7 +200,7 @@ pub fn remarked(
 ) -> Result<Item, Memory>
     requires follows { new.old.after ≡ length store.now }
     requires cites { CitesWell store.now item }
-    requires may { spec.may_be_marked (plain store.now item) ≡ true }
+    requires may { insert.is_content_item (plain store.now item) ≡ true }
     ensures means { IfOk result (λ other. plain (together store.now new.new) other ≡ model.remarked (marks_after remark mark.now) (plain store.now item)) }
     ensures cites { IfOk result (CitesWell (together store.now new.new)) }
     ensures fills { IfOk result (IsItemFilled store.now new.old new.new (model.remarked (marks_after remark mark.now) (plain store.now item))) }

@@ -1,4 +1,4 @@
-use Rattle.std.proofs.Common.{◌≡◌, None, inr, refl, sym, ap, ◌∙◌, Ok}
+use Rattle.std.proofs.Common.{◌≡◌, None, inr, refl, sym, ◌∙◌}
 use Rattle.model_items.specs.Plain.{plain_list}
 use Rattle.model_edit.specs.Causes.{BadRange, BadMark, TooManyMarks}
 use Rattle.ve_build_shape.proofs.GrowLemmas.{grows_itself}
@@ -46,4 +46,4 @@ returns-in-Ok-clause-means c =
     let S = c.args.doc.store.now in
     let P = plain_list S c.args.doc.list.now.items in
     marking-given P c.args.from c.args.to c.args.mark.now (sym (c.is_bad_span.ensures.bad S) ∙ c.if-is_bad_span.false) (sym c.is_bad_mark.ensures ∙ c.if-is_bad_mark.false) (let none : c.first_full.result ≡ None = (cc) in sym c.first_full.ensures ∙ none)
-    ∙ ap Ok (sym c.in-Ok.ensures.means)
+    ∙ c.in-Ok.ensures.means

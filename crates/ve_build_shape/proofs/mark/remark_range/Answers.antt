@@ -1,4 +1,4 @@
-use Rattle.std.proofs.Common.{◌≡◌, List, refl, sym, ap, ◌∙◌, subst, arith}
+use Rattle.std.proofs.Common.{Ok, ◌≡◌, List, refl, sym, ap, ◌∙◌, subst, arith}
 use Rattle.model_items.specs.declared.plain_item.PlainItem.{PlainItem}
 use Rattle.model_items.specs.Plain.{plain_list}
 use Rattle.model_change.specs.Store.{fill, cited}
@@ -52,9 +52,11 @@ returns-clause-means c =
     let f = marks_after c.args.remark c.args.mark.now in
     let E = remark_edits f P c.args.from c.loop-at.at in
     let e : c.loop-at.at ≡ c.args.to = omega arith in
+    let tx =
     c.in_ok-tx.ensures.means V E c.loop-at.invariant.makes
     ∙ ap (λ l. transaction_of l E) (list-extended S V (store_extends S c.loop-at.new) items c.requires.cites)
-    ∙ ap (λ k. transaction_of P (remark_edits f P c.args.from k)) e
+    ∙ ap (λ k. transaction_of P (remark_edits f P c.args.from k)) e in
+    ap Ok (sym tx)
 
 pub returns-clause-cites : goal.returns-clause-cites
 returns-clause-cites c =

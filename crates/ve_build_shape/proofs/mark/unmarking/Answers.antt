@@ -1,4 +1,4 @@
-use Rattle.std.proofs.Common.{inr, refl, sym, ap, ◌∙◌, Ok}
+use Rattle.std.proofs.Common.{inr, refl, sym, ◌∙◌}
 use Rattle.model_items.specs.Plain.{plain_list}
 use Rattle.model_edit.specs.Causes.{BadRange, BadMark}
 use Rattle.ve_build_shape.proofs.GrowLemmas.{grows_itself}
@@ -32,4 +32,4 @@ returns-in-Ok-clause-means c =
     let S = c.args.doc.store.now in
     let P = plain_list S c.args.doc.list.now.items in
     unmarking-given P c.args.from c.args.to c.args.mark.now (sym (c.is_bad_span.ensures.bad S) ∙ c.if-is_bad_span.false) (sym c.is_bad_mark.ensures ∙ c.if-is_bad_mark.false)
-    ∙ ap Ok (sym c.in-Ok.ensures.means)
+    ∙ c.in-Ok.ensures.means

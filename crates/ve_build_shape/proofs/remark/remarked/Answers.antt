@@ -9,7 +9,8 @@ use Rattle.ve_store.specs.Following.{together, marks_at}
 use Rattle.ve_tx.proofs.ValuesLemmas.{cites-extended, plain-extended}
 use Rattle.ve_build_shape.proofs.GrowLemmas.{store_extends, grows_extends}
 use Rattle.ve_build_shape.proofs.MarkLemmas.{item_fills, same_remarked}
-use Rattle.ve_build_shape.specs.Remarked.{marks_after, may_be_marked}
+use Rattle.model_edit.specs.Insert.{is_content_item}
+use Rattle.ve_build_shape.specs.Remarked.{marks_after}
 use Rattle.ve_build_shape.proofs.remark.remarked.Goals as goal
 
 pub changed_marks-requires-clause-cites : goal.changed_marks-requires-clause-cites
@@ -27,7 +28,7 @@ returns-clause-means c =
     let here = plain-extended S V1 (store_extends S c.changed_marks.new.new) x c.requires.cites in
     let before = plain-extended S V0 (store_extends S c.args.new.now) x c.requires.cites in
     let marks = c.in_ok-marks.ensures.cited ∙ ap f ((c.marks_id.ensures V0).0 ∙ ap model.item_marks before) in
-    (c.with_marks.ensures V1 (ap may_be_marked here ∙ c.requires.may)).0
+    (c.with_marks.ensures V1 (ap is_content_item here ∙ c.requires.may)).0
     ∙ ap (λ p. model.remarked (λ old. marks_at V1 c.in_ok-marks.marks) p) here
     ∙ same_remarked f (marks_at V1 c.in_ok-marks.marks) (plain S x) marks
 
@@ -37,7 +38,7 @@ returns-clause-cites c =
     let V1 = together S c.changed_marks.new.new in
     let x = c.args.item in
     let here = plain-extended S V1 (store_extends S c.changed_marks.new.new) x c.requires.cites in
-    (c.with_marks.ensures V1 (ap may_be_marked here ∙ c.requires.may)).1 (cites-extended S V1 (store_extends S c.changed_marks.new.new) x c.requires.cites) c.in_ok-marks.ensures.cites
+    (c.with_marks.ensures V1 (ap is_content_item here ∙ c.requires.may)).1 (cites-extended S V1 (store_extends S c.changed_marks.new.new) x c.requires.cites) c.in_ok-marks.ensures.cites
 
 pub returns-clause-fills : goal.returns-clause-fills
 returns-clause-fills c =
@@ -49,5 +50,5 @@ returns-clause-fills c =
     let before = plain-extended S V0 (store_extends S c.args.new.now) x c.requires.cites in
     let marks = c.in_ok-marks.ensures.fills ∙ ap (λ (l : List Mark). fill V0 (marks_cited (f l))) (c.marks_id.ensures V0).0 in
     item_fills V0 V1 f (grows_extends S c.args.new.now c.changed_marks.new.new c.changed_marks.ensures.grows) x
-    (cites-extended S V0 (store_extends S c.args.new.now) x c.requires.cites) (ap may_be_marked before ∙ c.requires.may) marks
+    (cites-extended S V0 (store_extends S c.args.new.now) x c.requires.cites) (ap is_content_item before ∙ c.requires.may) marks
     ∙ ap (λ (p : PlainItem). fill V0 (cited_by (model.remarked f p))) before
