@@ -1,0 +1,4 @@
+pub mod LeafLaws
+pub mod AttrLemmas
+pub mod TagLemmas
+pub mod DraftLemmas

@@ -1,0 +1,2 @@
+pub mod TagAttrs
+pub mod Leaves

@@ -1,0 +1,4 @@
+pub mod SourceLemmas
+pub mod PartSource
+pub mod TextLemmas
+pub mod PartLemmas

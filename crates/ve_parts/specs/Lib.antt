@@ -1,0 +1,3 @@
+pub mod FirstPart
+pub mod Places
+pub mod Laws

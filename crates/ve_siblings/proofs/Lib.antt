@@ -1,0 +1,6 @@
+pub mod RunLemmas
+pub mod BlockLemmas
+pub mod ContentLemmas
+pub mod MarkedLemmas
+pub mod UnitLemmas
+mod SiblingExamples

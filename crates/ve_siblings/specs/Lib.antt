@@ -1,0 +1,4 @@
+pub mod Runs
+pub mod Siblings
+pub mod Marked
+pub mod Units

@@ -1,0 +1,47 @@
+// Runs of a flow parent.
+ghost use Rattle.std.specs.Prelude.{◌≡◌, ◌<◌, ◌≤◌, length};
+ghost use Rattle.ve_classify.specs.Standing.{LeadsOn};
+ghost use Rattle.ve_siblings.specs.Units.{IsInRun, IsRunAt};
+
+use ve_classify::{Around, Fit, fit, is_white_text};
+use ve_html_tree::Forest;
+use ve_kinds::Kind;
+use ve_parts::{Part, part_at};
+
+/// A run of a flow parent: where it ends, and whether it is whitespace alone.
+#[derive(Clone, Copy, Debug, PartialEq, Eq)]
+pub struct Run {
+    pub part: Part,
+    pub white: bool,
+}
+
+/// Whether the part that begins at a node is a part of a run in a flow parent of the kind.
+pub fn is_in_run(forest: &Forest<'_>, n: usize, kind: Kind) -> bool
+    requires within { n < length forest.now }
+    requires leads { LeadsOn forest.now }
+    ensures { IsInRun forest.now n result }
+{
+    match fit(forest, n, Around::Flow(kind)) {
+        Fit::Inline => true,
+        _ => false,
+    }
+}
+
+/// The run that begins at a node of a flow parent of the kind, whose children end before the node `to` and that byte.
+pub fn run_at(forest: &Forest<'_>, kind: Kind, n: usize, to: usize, byte: usize) -> Run
+    requires within { n < to }
+    requires bound { to ≤ length forest.now }
+    requires leads { LeadsOn forest.now }
+    ensures more { n < result.part.end }
+    ensures bound { result.part.end ≤ length forest.now }
+    ensures run { IsRunAt forest.now n to byte result.part.end result.part.byte result.white }
+{
+    let mut part = part_at(forest, n, to, byte);
+    let mut white = is_white_text(&forest.node(n).token);
+    'parts: while part.end < to && is_in_run(forest, part.end, kind) {
+        let text = is_white_text(&forest.node(part.end).token);
+        white = white && text;
+        part = part_at(forest, part.end, to, byte);
+    }
+    Run { part, white }
+}
