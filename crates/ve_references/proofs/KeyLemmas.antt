@@ -1,5 +1,5 @@
 -- The distinct keys of references, their numbers, and what one more reference changes.
-use Rattle.std.proofs.Common.{◌≡◌, ℕ, zero, suc, Bool, true, false, ◌&&◌, ◌||◌, cond, List, [], ◌∷◌, ◌++◌, refl, sym, ap, subst, ◌∙◌, true≢false, is_some}
+use Rattle.std.proofs.Common.{◌≡◌, ℕ, suc, Bool, true, false, ◌&&◌, ◌||◌, cond, List, [], ◌∷◌, ◌++◌, refl, sym, ap, subst, ◌∙◌, true≢false, is_some}
 use Rattle.std.specs.Prelude.{Option, Some, None, filter, if◌then◌else◌}
 use Rattle.std.specs.List.{list_any}
 use Rattle.std.specs.Option.{option_or}
@@ -9,8 +9,7 @@ use Rattle.ve_base.specs.declared.head.RefKey.{RefKey}
 use Rattle.model_items.specs.Same.{ref_key_same, text_same}
 use Rattle.model_items.proofs.SameLemmas.{Means-ref_key_same}
 use Rattle.model_page.specs.References.{RefAt, has_key, first_of_refs, with_key, keys_after, number_in_group}
-use Rattle.ve_references.specs.declared.notes.Seen.{Seen}
-use Rattle.ve_references.specs.Noted.{place_if, seen_again, seen_next, group_count, first_place, is_owner_of, seen_from, seen_in}
+use Rattle.ve_references.specs.Noted.{place_if, seen_next, group_count, first_place, is_owner_of, seen_from, seen_in}
 
 -- ---- tests
 

@@ -1,5 +1,5 @@
 -- What the notes of a list are with one more item, and the rows that they give.
-use Rattle.std.proofs.Common.{◌≡◌, ℕ, zero, suc, ◌+◌, ◌<◌, Bool, true, false, ◌&&◌, ◌||◌, cond, List, [], ◌∷◌, ◌++◌, length, map, refl, sym, ap, subst, ◌∙◌, true≢false, is_some, arith, ◌-◌, ◌≤◌, take, drop, length-take-le, append_assoc, append-nil, length-append}
+use Rattle.std.proofs.Common.{◌≡◌, ℕ, zero, suc, ◌+◌, ◌<◌, Bool, true, false, ◌&&◌, cond, List, [], ◌∷◌, ◌++◌, length, map, refl, sym, ap, subst, ◌∙◌, true≢false, is_some, arith, ◌-◌, ◌≤◌, take, drop, length-take-le, append_assoc, append-nil, length-append}
 use Rattle.std.specs.Prelude.{Option, Some, None, slice_get, filter, if◌then◌else◌, ◌==◌, unwrap_or, IsSome}
 use Rattle.std.specs.List.{list_any, slice_range}
 use Rattle.std.proofs.Math.Seq.{take-add}
@@ -9,7 +9,7 @@ use Rattle.std.specs.Option.{option_or, option_copied}
 use Rattle.std.specs.Borrow.{Bor}
 use Rattle.indexmap.specs.IndexMap.{IndexMap, get}
 use Rattle.ve_kinds.specs.declared.kind.Kind.{Kind}
-use Rattle.ve_kinds.specs.declared.kind.Kind.TheVariants.{InternalItem, InternalList, Ref}
+use Rattle.ve_kinds.specs.declared.kind.Kind.TheVariants.{InternalItem, Ref}
 use Rattle.ve_kinds.specs.Table.{kind_same}
 use Rattle.ve_base.specs.declared.marks.Mark.{Mark}
 use Rattle.ve_base.specs.declared.head.Head.{Head}
@@ -24,11 +24,11 @@ use Rattle.model_items.specs.Plain.{CitesHead, head_in, plain, plain_list, value
 use Rattle.model_items.specs.Same.{ref_key_same, text_same, option_same}
 use Rattle.model_items.proofs.SameLemmas.{Means-ref_key_same, Means-text_same, Means-kind_same}
 use Rattle.model_page.specs.declared.ref_table.RefRow.{RefRow}
-use Rattle.model_page.specs.References.{RefAt, ref_at, refs_of, has_key, first_of_refs, keys_after, number_in_group, carrier_of, is_carrier, body_of, place_of_body, ref_row, table}
+use Rattle.model_page.specs.References.{RefAt, ref_at, refs_of, has_key, first_of_refs, keys_after, number_in_group, is_carrier, body_of, place_of_body, ref_row, table}
 use Rattle.ve_references.specs.declared.notes.Seen.{Seen}
 use Rattle.ve_references.specs.declared.notes.Cited.{Cited}
 use Rattle.ve_references.specs.declared.notes.Notes.{Notes}
-use Rattle.ve_references.specs.Noted.{place_if, seen_next, group_count, first_place, is_owner_of, seen_from, seen_in, counted, Counts, counts_if, bare_ref, cited_ref, HasRefs, HasBodies, HasNoted, NotesBody, NotesItems, NotesOpening, NotesReference, row_by, row_in}
+use Rattle.ve_references.specs.Noted.{place_if, seen_next, group_count, first_place, is_owner_of, seen_from, seen_in, counted, counts_if, bare_ref, cited_ref, HasRefs, HasNoted, NotesBody, NotesItems, NotesOpening, NotesReference, row_by, row_in}
 use Rattle.ve_references.proofs.KeyLemmas.{same_itself, key_of_some, count_more, seen_other, seen_own}
 use Rattle.ve_references.proofs.ItemLemmas.{own_refs, inside_after, opens_body, refs_more, body_more}
 

@@ -1,9 +1,7 @@
 -- What is noted of the references of a list, as the code keeps it. These serve private functions; that the table is the model's is said by the model alone.
-use Rattle.std.specs.Prelude.{◌≡◌, ℕ, zero, suc, ◌+◌, Bool, true, false, ◌&&◌, ◌||◌, cond, if◌then◌else◌, List, [], ◌∷◌, ◌++◌, length, map, filter, Option, Some, None, Result, option_map, unwrap_or, OnOk, IfOk, IsSome, ◌==◌, slice_get}
+use Rattle.std.specs.Prelude.{◌≡◌, ℕ, suc, Bool, false, ◌&&◌, if◌then◌else◌, List, [], ◌∷◌, ◌++◌, length, map, filter, Option, Some, None, Result, unwrap_or, IfOk, IsSome, ◌==◌, slice_get}
 use Rattle.std.specs.Option.{option_or}
 use Rattle.indexmap.specs.IndexMap.{IndexMap, get}
-use Rattle.ve_kinds.specs.declared.kind.Kind.TheVariants.{InternalItem, InternalList, Ref}
-use Rattle.ve_kinds.specs.Table.{kind_same}
 use Rattle.ve_base.specs.declared.head.RefKey.{RefKey}
 use Rattle.ve_base.specs.declared.head.Head.{Head}
 use Rattle.ve_base.specs.declared.marks.Mark.{Mark}
@@ -11,9 +9,9 @@ use Rattle.ve_kinds.specs.declared.kind.Kind.{Kind}
 use Rattle.ve_base.specs.declared.error.Memory.{Memory}
 use Rattle.model_page.specs.declared.ref_table.RefRow.{RefRow}
 use Rattle.model_items.specs.declared.plain_item.PlainItem.{PlainItem}
-use Rattle.model_items.specs.declared.plain_item.PlainItem.TheVariants.{Char, Opening, Closing}
-use Rattle.model_items.specs.Same.{ref_key_same, text_same, option_same}
-use Rattle.model_page.specs.References.{RefAt, ref_at, refs_of, has_key, first_of_refs, keys_after, number_in_group, body_of, place_of_body}
+use Rattle.model_items.specs.declared.plain_item.PlainItem.TheVariants.{Opening}
+use Rattle.model_items.specs.Same.{ref_key_same, text_same}
+use Rattle.model_page.specs.References.{RefAt, refs_of, has_key, first_of_refs, keys_after, number_in_group, body_of, place_of_body}
 use Rattle.ve_references.specs.declared.notes.Seen.{Seen}
 use Rattle.ve_references.specs.declared.notes.Cited.{Cited}
 use Rattle.ve_references.specs.declared.notes.Notes.{Notes}

@@ -1,4 +1,4 @@
-use Rattle.std.proofs.Common.{arith, subst, length, take, ◌+◌}
+use Rattle.std.proofs.Common.{arith, subst, length, take}
 use Rattle.model_items.specs.Plain.{plain_list}
 use Rattle.ve_references.specs.Noted.{HasNoted}
 use Rattle.ve_references.proofs.NoteLemmas.{pieces_on, count_before}
