@@ -4,3 +4,4 @@ pub mod SpanLemmas
 pub mod RoundLemmas
 pub mod GrownLemmas
 mod EditExamples
+pub mod CopyLemmas

@@ -18,3 +18,4 @@ pub use Rattle.ve_offsets.specs.Docs
 pub mod Collected
 pub mod Round
 pub mod Refused
+pub mod Filled

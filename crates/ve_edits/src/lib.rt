@@ -1,17 +1,19 @@
 //! What all builders of edits share: edits of a page's list at rising places, collected into the one transaction that
-//! they are, and what builders ask of a page: the other bracket of a node, the nodes that are open at an offset, and
-//! whether a range may be edited.
+//! they are; the copy of an opening, whose head new values may take; and what builders ask of a page: the other bracket of
+//! a node, the nodes that are open at an offset, and whether a range may be edited.
 //!
 //! It gives transactions and writes nothing. A page is lent as a `Doc`: brackets are found by the tree, and a range by its
 //! items. It doesn't know which edits a user's command is; that is what the crates above it say.
 //!
 //! Definitions, in reading order: `Collected` (edits as they are collected, `Makes`), `Round` (the innermost open node at
-//! an offset), `Refused` (how a builder refuses). What the transaction of some edits is, and what is refused, is said in
-//! `model_edit`; partners and open nodes are `model_items`'s. Law: `values_may_grow` (what is collected is the same over a
-//! longer list of values, so values may be put in between two edits).
+//! an offset), `Filled` (how the values that follow a store grow), `Refused` (how a builder refuses). What the transaction
+//! of some edits is, what a copy is, and what is refused, is said in `model_edit`; partners and open nodes are
+//! `model_items`'s. Law: `values_may_grow` (what is collected is the same over a longer list of values, so values may be
+//! put in between two edits).
 #![tactic(auto)]
 
 mod brackets;
+mod copies;
 mod edits;
 mod laws;
 mod openings;
@@ -20,6 +22,7 @@ mod spans;
 mod tests;
 
 pub use brackets::{is_unmatched, opening_round, partner, range_round};
+pub use copies::copy_of;
 pub use edits::Edits;
 pub use laws::values_may_grow;
 pub use openings::openings_round;
