@@ -13,6 +13,7 @@ pub use Rattle.ve_tx.specs.Cites
 pub use Rattle.ve_tree.specs.IsTree
 pub use Rattle.ve_offsets.specs.Docs
 pub use Rattle.ve_edits.specs.Collected
+pub use Rattle.ve_edits.specs.Filled
 pub use Rattle.ve_edits.specs.Refused
 pub mod Converted
 pub mod Remarked

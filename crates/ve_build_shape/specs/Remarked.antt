@@ -10,7 +10,7 @@ use Rattle.model_items.specs.Offsets.{places_in}
 use Rattle.model_items.specs.Plain.{plain, plain_list, CitesMarks, CitesWell}
 use Rattle.model_items.specs.Same.{marks_same}
 use Rattle.model_change.specs.Store.{fill, marks_cited, cited_by, cited}
-use Rattle.model_change.specs.Transaction.{Transaction, all_inserted}
+use Rattle.model_change.specs.Transaction.{Transaction}
 use Rattle.model_edit.specs.Causes.{BuildCause}
 use Rattle.model_edit.specs.Edits.{Edit}
 use Rattle.model_edit.specs.Insert.{is_content_item}
@@ -50,11 +50,6 @@ IsItemFilled store old new other item = together store new ≡ fill (together st
 -- the transaction is, by value, the one that is meant
 abbrev pub IsMeant : List Value → Following → Result Transaction BuildCause → List Operation → Type 0
 IsMeant store new meant tx = meant ≡ Ok (by_value (together store new) tx)
-
--- The new values are the old ones, and after them just what the items that the transaction inserts cite and the old ones lack.
-abbrev pub BringsInserted : List Value → (old new : Following) → List Operation → Type 0
-BringsInserted store old new tx =
-    together store new ≡ fill (together store old) (cited (all_inserted (by_value (together store new) tx)))
 
 -- the edits of the places of a range
 abbrev pub remark_edits : (List Mark → List Mark) → List PlainItem → ℕ → ℕ → List Edit

@@ -5,10 +5,10 @@
 //! Each gives the model's transaction, or the model's refusal, and writes nothing. New values go into the `NewValues` that
 //! are passed: after a success just those that the inserted items bring. It knows no tree but through `ve_edits`.
 //!
-//! Definitions, in reading order: `Converted` (the edits of a conversion), `Remarked` (the edits of a range's marks, and
-//! `BringsInserted`), `Setting` (the operations that set an attribute); most serve private functions. What the edits are
-//! stands in `model_edit`'s `Convert` and `Marking`, and how they refuse in `ve_edits`' `Refused`. It has no law of its own:
-//! those of `model_edit_law` hold of the results by the clauses.
+//! Definitions, in reading order: `Converted` (the edits of a conversion), `Remarked` (the edits of a range's marks),
+//! `Setting` (the operations that set an attribute); most serve private functions. What the edits are stands in
+//! `model_edit`'s `Convert` and `Marking`, how they refuse in `ve_edits`' `Refused`, and what new values they bring in its
+//! `Filled`. It has no law of its own: those of `model_edit_law` hold of the results by the clauses.
 #![tactic(auto)]
 
 mod attributes;

@@ -6,8 +6,9 @@ ghost use Rattle.model_edit.specs.Marking as model;
 ghost use Rattle.ve_store.specs.Following.{Grows, together};
 ghost use Rattle.ve_offsets.specs.Docs.{IsDoc, page_items};
 ghost use Rattle.ve_tx.specs.Cites.{TxCites};
+ghost use Rattle.ve_edits.specs.Filled.{BringsInserted};
 ghost use Rattle.ve_edits.specs.Refused.{IsRefusal};
-ghost use Rattle.ve_build_shape.specs.Remarked.{marks_after, IsMeant, BringsInserted, RemarksOneMore};
+ghost use Rattle.ve_build_shape.specs.Remarked.{marks_after, IsMeant, RemarksOneMore};
 
 use crate::remark::{Remark, is_bad_mark, is_full, keeps_marks, remarked};
 use model_edit::BuildFault;
