@@ -1,0 +1,125 @@
+-- Why an edit is not made: the model's first cause, from what each call says.
+use Rattle.std.specs.Option.{option_or}
+use Rattle.std.specs.Prelude.{option_map, nat_lt}
+use Rattle.std.proofs.Common.{◌≡◌, ◌<◌, ◌≤◌, ℕ, Bool, true, false, ◌==◌, if◌then◌else◌, List, [], length, Option, Some, None, refl, sym, ap, ◌∙◌, subst, arith}
+use Rattle.std.proofs.lemmas.Bool.{ltb-true, le-ltb}
+use Rattle.std.proofs.lemmas.List.{length-map}
+use Rattle.ve_base.specs.declared.value.Value.{Value}
+use Rattle.ve_base.specs.Limits.{max_items, max_values}
+use Rattle.model_items.specs.declared.item.Item.{Item}
+use Rattle.model_items.specs.declared.plain_item.PlainItem.{PlainItem}
+use Rattle.model_items.specs.declared.law_fault.LawFault.{LawFault}
+use Rattle.model_items.specs.declared.law_fault.LawFault.TheVariants as law
+use Rattle.model_items.specs.Law.{verdict}
+use Rattle.model_items.specs.Plain.{plain, plain_list}
+use Rattle.model_items.proofs.VerdictLemmas.{verdict_reads_no_values}
+use Rattle.model_change.specs.declared.tx_fault.TxFault.{TxFault}
+use Rattle.model_change.specs.declared.tx_fault.TxFault.TheVariants as tx
+use Rattle.model_change.specs.Fault.{Applies, fault, mismatch_at, bad_attribute_at}
+use Rattle.model_change.specs.Store.{fill, brought}
+use Rattle.model_change.specs.Transaction.{Transaction, edited, old_length}
+use Rattle.model_site.specs.declared.edit_fault.EditFault.{EditFault}
+use Rattle.model_site.specs.declared.edit_fault.EditFault.TheVariants as fault
+use Rattle.model_site.specs.Causes.{EditCause, BadLength, Mismatch, BadAttr, TooManyItems, StoreFull}
+use Rattle.model_site.specs.Refused.{transaction_cause, law_cause, items_cause, store_cause, edit_cause}
+use Rattle.model_site.specs.Replica.{Replica}
+use Rattle.ve_lawful.specs.Uncited as uncited
+use Rattle.ve_tx.specs.Changed.{IsRefusal}
+use Rattle.ve_editor.specs.Refusal.{IsEditRefusal, fault_of_tx, fault_of_law, list_cause}
+
+abbrev first_fault : Bool → (m a : Option ℕ) (has needs : ℕ) → Option TxFault
+first_fault b m a has needs =
+    if b then option_or (option_map (λ at. tx.Mismatch at) m) (option_map (λ at. tx.BadAttr at) a) else Some (tx.BadLength has needs)
+
+abbrev first_cause : Bool → (m a : Option ℕ) (has needs : ℕ) → Option EditCause
+first_cause b m a has needs =
+    if b then option_or (option_map (λ at. Mismatch at) m) (option_map (λ at. BadAttr at) a) else Some (BadLength has needs)
+
+refused_first : (b : Bool) (m a : Option ℕ) (has needs : ℕ) (rest : Option EditCause) (why : TxFault) → IsRefusal (first_fault b m a has needs) why →
+    IsEditRefusal (option_or (first_cause b m a has needs) rest) (fault_of_tx why)
+refused_first true None None has needs rest why h = subst (λ w. IsEditRefusal rest (fault_of_tx w)) (sym h) tt
+refused_first true None (Some at) has needs rest why h = subst (λ w. IsEditRefusal (Some (BadAttr at)) (fault_of_tx w)) (sym h) refl
+refused_first true (Some at) a has needs rest why h = subst (λ w. IsEditRefusal (Some (Mismatch at)) (fault_of_tx w)) (sym h) refl
+refused_first false m a has needs rest why h = subst (λ w. IsEditRefusal (Some (BadLength has needs)) (fault_of_tx w)) (sym h) refl
+
+none_first : (b : Bool) (m a : Option ℕ) (has needs : ℕ) → first_fault b m a has needs ≡ None → first_cause b m a has needs ≡ None
+none_first true None None has needs h = refl
+none_first true None (Some at) has needs h = cc
+none_first true (Some at) a has needs h = cc
+none_first false m a has needs h = cc
+
+-- a transaction that doesn't apply
+pub refused_by_tx : (t : Transaction) (r : Replica) (why : TxFault) → IsRefusal (fault t r.items) why → IsEditRefusal (edit_cause t r) (fault_of_tx why)
+refused_by_tx t r why h =
+    refused_first (old_length t == length r.items) (mismatch_at 0 t r.items) (bad_attribute_at 0 t r.items) (length r.items) (old_length t) _ why h
+
+abbrev later_cause : List PlainItem → ℕ → Option EditCause
+later_cause items values = option_or (law_cause (verdict items)) (option_or (items_cause (length items)) (store_cause values))
+
+same_later : (values : List Value) (items : List Item) (n : ℕ) → later_cause (plain_list values items) n ≡ list_cause items n
+same_later values items n =
+    ap (λ v. option_or (law_cause v) (option_or (items_cause (length (plain_list values items))) (store_cause n))) (verdict_reads_no_values values [] items)
+    ∙ ap (λ m. option_or (law_cause (uncited.verdict items)) (option_or (items_cause m) (store_cause n))) (length-map items (plain values))
+
+-- where it applies, what its new list gives is the first cause
+pub cause_of_list : (t : Transaction) (r : Replica) (store : List Value) (items : List Item) → Applies t r.items → plain_list store items ≡ edited t r.items →
+    store ≡ fill r.store (brought t r.items) → edit_cause t r ≡ list_cause items (length store)
+cause_of_list t r store items applies new grown =
+    ap (λ c. option_or c (later_cause (edited t r.items) (length (fill r.store (brought t r.items)))))
+    (none_first (old_length t == length r.items) (mismatch_at 0 t r.items) (bad_attribute_at 0 t r.items) (length r.items) (old_length t) applies)
+    ∙ ap (λ l. later_cause l (length (fill r.store (brought t r.items)))) (sym new)
+    ∙ ap (λ s. later_cause (plain_list store items) (length s)) (sym grown)
+    ∙ same_later store items (length store)
+
+pub refused_as : (one other : Option EditCause) (why : EditFault) → one ≡ other → IsEditRefusal other why → IsEditRefusal one why
+refused_as one other why e h = subst (λ c. IsEditRefusal c why) (sym e) h
+
+-- a list that isn't lawful
+refused_law : (v : Option LawFault) (f : LawFault) (rest : Option EditCause) → v ≡ Some f → IsEditRefusal (option_or (law_cause v) rest) (fault_of_law f)
+refused_law v (law.Unlawful at) rest h = subst (λ w. IsEditRefusal (option_or (law_cause w) rest) (fault.Unlawful at)) (sym h) refl
+refused_law v (law.TooDeep at) rest h = subst (λ w. IsEditRefusal (option_or (law_cause w) rest) (fault.TooDeep at)) (sym h) refl
+
+pub refused_by_law : (items : List Item) (n : ℕ) (f : LawFault) → uncited.verdict items ≡ Some f → IsEditRefusal (list_cause items n) (fault_of_law f)
+refused_by_law items n f h = refused_law (uncited.verdict items) f (option_or (items_cause (length items)) (store_cause n)) h
+
+lawful_then : (items : List Item) (n : ℕ) → uncited.verdict items ≡ None → list_cause items n ≡ option_or (items_cause (length items)) (store_cause n)
+lawful_then items n h = ap (λ v. option_or (law_cause v) (option_or (items_cause (length items)) (store_cause n))) h
+
+items_over : (count : ℕ) → max_items < count → items_cause count ≡ Some (TooManyItems count)
+items_over count h = ap (λ b. if b then Some (TooManyItems count) else None) (ltb-true max_items count h)
+
+items_within : (count : ℕ) → count ≤ max_items → items_cause count ≡ None
+items_within count h = ap (λ b. if b then Some (TooManyItems count) else None) (le-ltb max_items count h)
+
+-- too many items
+pub refused_by_items : (items : List Item) (n count : ℕ) → uncited.verdict items ≡ None → count ≡ length items → max_items < count → IsEditRefusal (list_cause items n) (fault.TooManyItems count)
+refused_by_items items n count lawful same over =
+    let cause : list_cause items n ≡ Some (TooManyItems count) =
+        lawful_then items n lawful ∙ ap (λ m. option_or (items_cause m) (store_cause n)) (sym same) ∙ ap (λ c. option_or c (store_cause n)) (items_over count over) in
+    subst (λ c. IsEditRefusal c (fault.TooManyItems count)) (sym cause) refl
+
+fine_then : (items : List Item) (n count : ℕ) → uncited.verdict items ≡ None → count ≡ length items → count ≤ max_items → list_cause items n ≡ store_cause n
+fine_then items n count lawful same few =
+    lawful_then items n lawful ∙ ap (λ m. option_or (items_cause m) (store_cause n)) (sym same) ∙ ap (λ c. option_or c (store_cause n)) (items_within count few)
+
+-- too many values
+pub refused_by_store : (items : List Item) (n count : ℕ) → uncited.verdict items ≡ None → count ≡ length items → count ≤ max_items → max_values < n →
+    IsEditRefusal (list_cause items n) fault.StoreFull
+refused_by_store items n count lawful same few over =
+    let cause : list_cause items n ≡ Some StoreFull =
+        fine_then items n count lawful same few ∙ ap (λ b. if b then Some StoreFull else None) (ltb-true max_values n over) in
+    subst (λ c. IsEditRefusal c fault.StoreFull) (sym cause) refl
+
+-- no cause
+pub no_cause : (items : List Item) (n count : ℕ) → uncited.verdict items ≡ None → count ≡ length items → count ≤ max_items → n ≤ max_values → list_cause items n ≡ None
+no_cause items n count lawful same few small =
+    fine_then items n count lawful same few ∙ ap (λ b. if b then Some StoreFull else None) (le-ltb max_values n small)
+
+-- where there is no cause, the list is lawful
+pub lawful_of : (items : List Item) (n : ℕ) → list_cause items n ≡ None → uncited.verdict items ≡ None
+lawful_of items n h = by (uncited.verdict items) h
+  where
+    by : (v : Option LawFault) → option_or (law_cause v) (option_or (items_cause (length items)) (store_cause n)) ≡ None → v ≡ None
+    by None h = refl
+    by (Some (law.Unlawful at)) h = cc
+    by (Some (law.TooDeep at)) h = cc

@@ -1,0 +1,53 @@
+-- Drafts and entries over a store, by value, and what may be performed or taken back.
+use Rattle.std.specs.Prelude.{◌≡◌, ◌<◌, ◌++◌, List, [], ◌∷◌, All, Contains, length, map, take}
+use Rattle.ve_base.specs.declared.value.Value.{Value}
+use Rattle.model_items.specs.declared.plain_item.PlainItem.{PlainItem}
+use Rattle.model_items.specs.Law.{Lawful}
+use Rattle.model_change.specs.Fault.{Applies}
+use Rattle.model_change.specs.Replay.{reversal}
+use Rattle.model_change.specs.Store.{cited, fill}
+use Rattle.model_change.specs.Transaction.{Transaction, all_inserted, edited}
+use Rattle.model_site.specs.Entries.{Entry, reverted}
+use Rattle.model_site.specs.Replica.{Replica}
+use Rattle.ve_tx.specs.Cites.{TxCites}
+use Rattle.ve_tx.specs.Operation.{by_value}
+use Rattle.ve_tx.specs.declared.draft.Draft.{Draft}
+use Rattle.ve_tx.specs.declared.entry.Entry.{Entry as KeptEntry}
+
+-- what a draft's items cite: the store's values, and after them its own
+abbrev pub drafted_values : List Value → Draft → List Value
+drafted_values store d = store ++ d.values.values
+
+-- a draft by value
+abbrev pub drafted : List Value → Draft → Transaction
+drafted store d = by_value (drafted_values store d) d.tx
+
+-- The draft is one over this store: its values follow the store, its items cite nothing else, and its values are just those by which the store
+-- grows where it is filled with what the draft's inserted items cite.
+pub record IsDraftOf (store : List Value) (d : Draft) : Type 0 where
+  pub follows : d.values.after ≡ length store
+  pub cites : TxCites (drafted_values store d) d.tx
+  pub filled : drafted_values store d ≡ fill store (cited (all_inserted (drafted store d)))
+
+-- an entry by value
+abbrev pub entry_by_value : List Value → KeptEntry → Entry
+entry_by_value store e = record { txs = map (by_value store) e.txs; store_before = e.store_before; store_after = e.store_after }
+
+-- the items of the entry's transactions cite values of the store
+abbrev pub EntryCites : List Value → KeptEntry → Type 0
+EntryCites store e = All (TxCites store) e.txs
+
+-- one after the other, each applies and leaves a lawful list
+abbrev pub AllStand : List Transaction → List PlainItem → Type 0
+AllStand [] items = Unit {0}
+AllStand (t ∷ ts) items = Applies t items × Lawful (edited t items) × AllStand ts (edited t items)
+
+-- the entry can be taken back
+abbrev pub CanBeReverted : Entry → Replica → Type 0
+CanBeReverted e r = AllStand (reversal e.txs) r.items
+
+-- Where taking the entry back cuts its values off the store, the list that is left cites none of them.
+abbrev pub CutsUncited : Entry → Replica → Type 0
+CutsUncited e r =
+    length r.store ≡ e.store_after → e.store_before < e.store_after →
+    (v : Value) → Contains (cited (reverted e r).items) v → Contains (take e.store_before r.store) v

@@ -1,0 +1,15 @@
+pub use Rattle.ve_base.specs.Limits
+pub use Rattle.model_items.specs.Plain
+pub use Rattle.model_items.specs.Law
+pub use Rattle.model_change.specs.Replay
+pub use Rattle.model_site.specs.Replica
+pub use Rattle.model_site.specs.Refused
+pub use Rattle.model_site.specs.Entries
+pub use Rattle.ve_tx.specs.Operation
+pub use Rattle.ve_tx.specs.Cites
+pub use Rattle.ve_tree.specs.TreeOf
+pub mod Page
+pub mod Edited
+pub mod Refusal
+pub mod Prepared
+pub mod Rest

@@ -1,0 +1,51 @@
+-- A change of a page that needs no more memory. For private functions.
+use Rattle.std.specs.Prelude.{◌≡◌, ◌≤◌, ◌+◌, ℕ, None, List, [], ◌∷◌, All, length, map}
+use Rattle.ve_base.specs.declared.value.Value.{Value}
+use Rattle.model_items.specs.declared.item.Item.{Item}
+use Rattle.model_items.specs.Plain.{plain_list, CitesWell}
+use Rattle.model_change.specs.Fault.{Applies}
+use Rattle.model_change.specs.Inverse.{filled}
+use Rattle.model_change.specs.Store.{brought, changed_heads, fill}
+use Rattle.model_change.specs.Transaction.{Transaction, edited}
+use Rattle.ve_items.specs.ItemList.{ItemList}
+use Rattle.ve_tree.specs.IsTree.{unvalued}
+use Rattle.ve_tree.specs.TreeOf.{IsTreeOf}
+use Rattle.ve_tx.specs.Applied.{plain_after, spliced_by}
+use Rattle.ve_tx.specs.declared.change.Change.{Change}
+use Rattle.ve_tx.specs.declared.draft.Draft.{Draft}
+use Rattle.ve_editor.specs.declared.prepare.Prepared.{Prepared}
+use Rattle.ve_editor.specs.declared.perform.Performing.{Performing}
+use Rattle.ve_editor.specs.Edited.{drafted, entry_by_value, EntryCites}
+use Rattle.ve_editor.specs.Refusal.{list_cause}
+
+-- the change is one of the list's, and the list has room for it
+pub record FitsInto (list : ItemList) (change : Change) : Type 0 where
+  pub within : change.at + change.removed ≤ length list.items
+  pub room : length change.items ≤ list.spare
+
+-- it has the tree of the list as it will be
+abbrev pub HasTree : List Item → Prepared → Type 0
+HasTree items prepared = IsTreeOf prepared.tree (unvalued (spliced_by items prepared.change))
+
+-- Over the new values the list will be what the transaction makes of it over the old ones, and its items will cite them well.
+pub record WillBe (t : Transaction) (old new : List Value) (list : ItemList) (prepared : Prepared) : Type 0 where
+  pub items : plain_after new list.items prepared.change ≡ edited t (plain_list old list.items)
+  pub cites : All (CitesWell new) (spliced_by list.items prepared.change)
+  pub fits : FitsInto list prepared.change
+  pub tree : HasTree list.items prepared
+
+-- the draft applies, its new list is allowed, and its change is ready, as is its entry
+pub record MayPerform (d : Draft) (old new : List Value) (list : ItemList) (performing : Performing) : Type 0 where
+  pub applies : Applies (drafted old d) (plain_list old list.items)
+  pub allowed : list_cause (spliced_by list.items performing.prepared.change) (length new) ≡ None
+  pub change : WillBe (drafted old d) old new list performing.prepared
+  pub store : new ≡ fill old (brought (drafted old d) (plain_list old list.items))
+  pub txs : (entry_by_value new performing.entry).txs ≡ filled (drafted old d) (plain_list old list.items) ∷ []
+  pub store_before : performing.entry.store_before ≡ length old
+  pub store_after : performing.entry.store_after ≡ length new
+  pub cites : EntryCites new performing.entry
+
+-- a transaction of a reversal is ready, and the store has the heads that it changes
+pub record IsReadyBack (t : Transaction) (old new : List Value) (list : ItemList) (prepared : Prepared) : Type 0 where
+  pub change : WillBe t old new list prepared
+  pub store : new ≡ fill old (changed_heads t (plain_list old list.items))

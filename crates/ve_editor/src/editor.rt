@@ -1,0 +1,139 @@
+// A page under edit.
+ghost use Rattle.std.specs.Prelude.{◌≡◌, ◌≢◌, ◌≤◌, ◌+◌, [], ◌∷◌, All, None, IfOk, IfErr, OnOk, OnErr};
+ghost use Rattle.model_items.specs.Law.{Lawful};
+ghost use Rattle.model_items.specs.Plain.{plain_list, CitesWell};
+ghost use Rattle.model_edit.specs.Translate.{between};
+ghost use Rattle.model_site.specs.Entries.{entry_of, reverted};
+ghost use Rattle.model_site.specs.Refused.{edit_cause};
+ghost use Rattle.model_site.specs.Replica.{performed};
+ghost use Rattle.ve_tree.specs.IsTree.{unvalued};
+ghost use Rattle.ve_tree.specs.TreeOf.{most_steps};
+
+use model_edit::Selection;
+use model_site::EditFault;
+use std::alloc::Global;
+use std::marker::Model;
+use std::sync::ledger::Ledger;
+use ve_base::{Memory, Steps, TryCopy};
+use ve_items::Linear;
+use ve_offsets::Doc;
+use ve_store::Store;
+use ve_tree::Tree;
+use ve_tx::{Draft, Entry};
+
+/// A page's list, the values that its items cite, the tree of the list, and what is selected. It is seen as a site's replica: the list by value, the
+/// store as its values, and the selection.
+#[derive(Drop)]
+pub struct Editor {
+    list: Linear,
+    store: Store,
+    tree: Tree,
+    selection: Selection,
+    alloc: Global,
+}
+
+impl Model for Editor {
+    ghost use Rattle.model_site.specs.Replica.{Replica};
+    ghost use Rattle.ve_editor.specs.Page.{IsPage, page_of};
+
+    ghost Value = { Replica };
+
+    ghost view = { λ e. page_of e.store e.list.items e.selection };
+
+    ghost invariant = { λ e. IsPage e.store e.list.items e.tree };
+}
+
+impl Editor {
+    ghost use Rattle.ve_editor.specs.Page.{IsPage, page_of};
+    ghost use Rattle.ve_editor.specs.Edited.{IsDraftOf, drafted, entry_by_value, EntryCites, CanBeReverted, CutsUncited};
+    ghost use Rattle.ve_editor.specs.Refusal.{IsEditRefusal};
+
+    /// An editor of a lawful list whose items cite values of the store, with the selection at the start. Its tree is built, in at most eight steps for
+    /// each node and sixteen more.
+    pub fn new<L: Ledger>(
+        alloc: Global,
+        list: Linear,
+        store: Store,
+        steps: &mut Steps<L>,
+    ) -> Result<Editor, Memory>
+        requires lawful { Lawful (unvalued list.items) }
+        requires cites { All (CitesWell store) list.items }
+        ensures ok { IfOk result (λ editor. editor ≡ page_of store list.items (between 0 0)) }
+        ensures steps { steps.new ≤ steps.old + most_steps (plain_list store list.items) }
+    {
+        let tree = Tree::build(alloc, &list, steps)?;
+        Ok(Editor {
+            list,
+            store,
+            tree,
+            selection: Selection {
+                anchor: 0,
+                focus: 0,
+            },
+            alloc,
+        })
+    }
+
+    /// An editor of equal list, store and selection. Its tree is built anew, in as many steps as `new` takes.
+    pub fn copy<L: Ledger>(&self, steps: &mut Steps<L>) -> Result<Editor, Memory>
+        ensures ok { IfOk result (λ copy. copy ≡ self.now) }
+        ensures steps { steps.new ≤ steps.old + most_steps self.now.items }
+    {
+        let list = self.list.copy(self.alloc)?;
+        let store = self.store.copy(self.alloc)?;
+        let mut copy = Editor::new(self.alloc, list, store, steps)?;
+        copy.selection = self.selection;
+        Ok(copy)
+    }
+
+    /// Lends list, tree and store, to be read.
+    pub fn doc(&self) -> Doc<'_>
+        ensures items { plain_list self.now.store result.list.now.items ≡ self.now.items }
+        ensures store { result.store.now ≡ self.now.store }
+        ensures page { IsPage self.now.store result.list.now.items result.tree.now }
+    {
+        Doc {
+            list: &self.list,
+            tree: &self.tree,
+            store: &self.store,
+        }
+    }
+
+    /// What is selected.
+    pub fn selection(&self) -> Selection
+        ensures { result ≡ self.now.selection }
+    {
+        self.selection
+    }
+
+    /// Selects something else. That both ends are offsets of the list is its caller's matter.
+    pub fn select(&mut self, selection: Selection)
+        ensures { self.new ≡ record self.old { selection = selection } }
+    {
+        self.selection = selection;
+    }
+
+    /// Performs a draft, and gives what it did as an entry. The store takes the draft's values and the heads that it changes; the selection moves with
+    /// the items; and the entry keeps where the attributes stood that it removes, so that it can be taken back.
+    ///
+    /// It is refused by the first of these causes: the draft doesn't apply to the list, as `Transaction::change` says; the new list isn't lawful, at the
+    /// first place that fails; it would have over `MAX_ITEMS` items; the store would have over `MAX_VALUES` values. All memory is taken before anything
+    /// changes, and an `Err` changes nothing. A new tree is built only where no cause refuses it.
+    pub fn perform<L: Ledger>(
+        &mut self,
+        draft: &Draft,
+        steps: &mut Steps<L>,
+    ) -> Result<Entry, EditFault>
+        requires draft { IsDraftOf self.old.store draft.now }
+        ensures allowed { OnOk result (edit_cause (drafted self.old.store draft.now) self.old ≡ None) }
+        ensures page { OnOk result (self.new ≡ performed (drafted self.old.store draft.now) self.old) }
+        ensures entry { IfOk result (λ entry. entry_by_value self.new.store entry ≡ entry_of (drafted self.old.store draft.now ∷ []) self.old) }
+        ensures cites { IfOk result (EntryCites self.new.store) }
+        ensures refused { IfErr result (IsEditRefusal (edit_cause (drafted self.old.store draft.now) self.old)) }
+        ensures kept { OnErr result (self.new ≡ self.old) }
+        ensures steps { steps.new ≤ steps.old + most_steps (performed (drafted self.old.store draft.now) self.old).items }
+        ensures unstepped { IfErr result (λ why. why ≢ EditFault.Memory → steps.new ≡ steps.old) }
+    {
+        Err(EditFault::Memory)
+    }
+}

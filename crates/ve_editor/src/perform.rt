@@ -1,0 +1,160 @@
+// A draft made ready to be performed, and a transaction to be taken back: all that may fail, before the page changes.
+ghost use Rattle.std.specs.Prelude.{◌≡◌, ◌≢◌, ◌≤◌, ◌+◌, [], ◌∷◌, All, None, length, map, IfOk, IfErr, OnOk};
+ghost use Rattle.model_items.specs.Law.{Lawful};
+ghost use Rattle.model_items.specs.Plain.{plain_list, CitesWell};
+ghost use Rattle.model_change.specs.Fault.{Applies};
+ghost use Rattle.model_change.specs.Store.{changed_heads, fill};
+ghost use Rattle.model_change.specs.Transaction.{edited};
+ghost use Rattle.model_edit.specs.Translate.{between};
+ghost use Rattle.model_site.specs.Refused.{edit_cause};
+ghost use Rattle.ve_tree.specs.IsTree.{unvalued};
+ghost use Rattle.ve_tree.specs.TreeOf.{most_steps};
+ghost use Rattle.ve_tx.specs.Applied.{AppliesTo, filled_on, spliced_by};
+ghost use Rattle.ve_tx.specs.Cites.{TxCites};
+ghost use Rattle.ve_tx.specs.Making.{Extends};
+ghost use Rattle.ve_tx.specs.Operation.{by_value};
+ghost use Rattle.ve_editor.specs.Edited.{IsDraftOf, drafted};
+ghost use Rattle.ve_editor.specs.Page.{IsPage, page_of};
+ghost use Rattle.ve_editor.specs.Prepared.{HasTree, IsReadyBack, MayPerform};
+ghost use Rattle.ve_editor.specs.Refusal.{IsEditRefusal};
+
+use crate::faults::of_transaction;
+use crate::prepare::{Prepared, prepare};
+use crate::values::take_in;
+use crate::verdict::may_become;
+use model_site::EditFault;
+use std::alloc::Global;
+use std::sync::ledger::Ledger;
+use ve_base::{Memory, Steps};
+use ve_items::Linear;
+use ve_offsets::Doc;
+use ve_store::Store;
+use ve_tree::Tree;
+use ve_tx::{Change, Draft, Entry, Transaction, TxList};
+
+/// A draft that may be performed: the entry that it gives, and its change with all that this needs.
+#[derive(Drop)]
+pub struct Performing {
+    pub entry: Entry,
+    pub prepared: Prepared,
+}
+
+/// The entry of one transaction, which applies to the list, from when the store had so many values.
+fn entry_of(
+    alloc: Global,
+    list: &Linear,
+    store: &Store,
+    tx: &Transaction,
+    store_before: usize,
+) -> Result<Entry, Memory>
+    requires list { All (CitesWell store.now) list.now.items }
+    requires applies { AppliesTo store.now tx.now list.now.items }
+    requires cites { TxCites store.now tx.now }
+    ensures txs { IfOk result (λ entry. map (by_value store.now) entry.txs ≡ filled_on store.now tx.now list.now.items ∷ []) }
+    ensures before { IfOk result (λ entry. entry.store_before ≡ store_before) }
+    ensures after { IfOk result (λ entry. entry.store_after ≡ length store.now) }
+    ensures cites { IfOk result (λ entry. All (TxCites store.now) entry.txs) }
+{
+    let filled = tx.filled(alloc, list, store)?;
+    let mut txs = TxList::new(alloc);
+    txs.push(filled)?;
+    Ok(Entry {
+        txs,
+        store_before,
+        store_after: store.len(),
+    })
+}
+
+/// The entry of a transaction and its change with all that this needs.
+fn with_entry<L: Ledger>(
+    alloc: Global,
+    list: &Linear,
+    store: &Store,
+    tx: &Transaction,
+    store_before: usize,
+    change: Change,
+    steps: &mut Steps<L>,
+) -> Result<Performing, Memory>
+    requires list { All (CitesWell store.now) list.now.items }
+    requires applies { AppliesTo store.now tx.now list.now.items }
+    requires cites { TxCites store.now tx.now }
+    requires within { change.at + change.removed ≤ length list.now.items }
+    requires lawful { Lawful (unvalued (spliced_by list.now.items change)) }
+    ensures txs { IfOk result (λ ready. map (by_value store.now) ready.entry.txs ≡ filled_on store.now tx.now list.now.items ∷ []) }
+    ensures before { IfOk result (λ ready. ready.entry.store_before ≡ store_before) }
+    ensures after { IfOk result (λ ready. ready.entry.store_after ≡ length store.now) }
+    ensures cites { IfOk result (λ ready. All (TxCites store.now) ready.entry.txs) }
+    ensures change { IfOk result (λ ready. ready.prepared.change ≡ change) }
+    ensures tree { IfOk result (λ ready. HasTree list.now.items ready.prepared) }
+    ensures steps { steps.new ≤ steps.old + most_steps (unvalued (spliced_by list.now.items change)) }
+{
+    let entry = entry_of(alloc, list, store, tx, store_before)?;
+    let prepared = prepare(alloc, list, change, steps)?;
+    Ok(Performing { entry, prepared })
+}
+
+/// Makes a draft ready to be performed on a page, or says why it is not performed. The store takes its values, and the list room; an `Err` may leave
+/// values after those that were there.
+pub fn ready<L: Ledger>(
+    alloc: Global,
+    list: &mut Linear,
+    store: &mut Store,
+    tree: &Tree,
+    draft: &Draft,
+    steps: &mut Steps<L>,
+) -> Result<Performing, EditFault>
+    requires page { IsPage store.old list.old.items tree.now }
+    requires draft { IsDraftOf store.old draft.now }
+    ensures ok { IfOk result (MayPerform draft.now store.old store.new list.new) }
+    ensures refused { IfErr result (IsEditRefusal (edit_cause (drafted store.old draft.now) (page_of store.old list.old.items (between 0 0)))) }
+    ensures items { list.new.items ≡ list.old.items }
+    ensures extends { Extends store.old store.new }
+    ensures steps { steps.new ≤ steps.old + most_steps (edited (drafted store.old draft.now) (plain_list store.old list.old.items)) }
+    ensures unstepped { IfErr result (λ why. why ≢ EditFault.Memory → steps.new ≡ steps.old) }
+{
+    let before = store.len();
+    match take_in(alloc, store, &draft.values) {
+        Ok(()) => {}
+        Err(Memory) => return Err(EditFault::Memory),
+    }
+    let change = match draft.tx.change(alloc, list, store) {
+        Ok(change) => change,
+        Err(fault) => return Err(of_transaction(fault)),
+    };
+    may_become(
+        Doc {
+            list: &*list,
+            tree,
+            store: &*store,
+        },
+        &change,
+    )?;
+    match with_entry(alloc, list, store, &draft.tx, before, change, steps) {
+        Ok(ready) => Ok(ready),
+        Err(Memory) => Err(EditFault::Memory),
+    }
+}
+
+/// Makes a transaction ready that applies to a page and leaves it lawful. The store takes the heads that it changes, and the list room; an `Err` may
+/// leave values after those that were there.
+pub fn ready_back<L: Ledger>(
+    alloc: Global,
+    list: &mut Linear,
+    store: &mut Store,
+    tx: &Transaction,
+    steps: &mut Steps<L>,
+) -> Result<Prepared, Memory>
+    requires list { All (CitesWell store.old) list.old.items }
+    requires cites { TxCites store.old tx.now }
+    requires applies { AppliesTo store.old tx.now list.old.items }
+    requires lawful { Lawful (edited (by_value store.old tx.now) (plain_list store.old list.old.items)) }
+    ensures ok { IfOk result (IsReadyBack (by_value store.old tx.now) store.old store.new list.new) }
+    ensures items { list.new.items ≡ list.old.items }
+    ensures extends { Extends store.old store.new }
+    ensures steps { steps.new ≤ steps.old + most_steps (edited (by_value store.old tx.now) (plain_list store.old list.old.items)) }
+{
+    match tx.change(alloc, list, store) {
+        Ok(change) => prepare(alloc, list, change, steps),
+        Err(_) => Err(Memory),
+    }
+}
