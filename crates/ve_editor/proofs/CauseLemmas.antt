@@ -2,7 +2,6 @@
 use Rattle.std.specs.Option.{option_or}
 use Rattle.std.specs.Prelude.{option_map, nat_lt}
 use Rattle.std.proofs.Common.{◌≡◌, ◌<◌, ◌≤◌, ℕ, Bool, true, false, ◌==◌, if◌then◌else◌, List, [], length, Option, Some, None, refl, sym, ap, ◌∙◌, subst, arith}
-use Rattle.std.proofs.lemmas.Bool.{ltb-true, le-ltb}
 use Rattle.std.proofs.lemmas.List.{length-map}
 use Rattle.ve_base.specs.declared.value.Value.{Value}
 use Rattle.ve_base.specs.Limits.{max_items, max_values}
@@ -73,47 +72,6 @@ cause_of_list t r store items applies new grown =
 
 pub refused_as : (one other : Option EditCause) (why : EditFault) → one ≡ other → IsEditRefusal other why → IsEditRefusal one why
 refused_as one other why e h = subst (λ c. IsEditRefusal c why) (sym e) h
-
--- a list that isn't lawful
-refused_law : (v : Option LawFault) (f : LawFault) (rest : Option EditCause) → v ≡ Some f → IsEditRefusal (option_or (law_cause v) rest) (fault_of_law f)
-refused_law v (law.Unlawful at) rest h = subst (λ w. IsEditRefusal (option_or (law_cause w) rest) (fault.Unlawful at)) (sym h) refl
-refused_law v (law.TooDeep at) rest h = subst (λ w. IsEditRefusal (option_or (law_cause w) rest) (fault.TooDeep at)) (sym h) refl
-
-pub refused_by_law : (items : List Item) (n : ℕ) (f : LawFault) → uncited.verdict items ≡ Some f → IsEditRefusal (list_cause items n) (fault_of_law f)
-refused_by_law items n f h = refused_law (uncited.verdict items) f (option_or (items_cause (length items)) (store_cause n)) h
-
-lawful_then : (items : List Item) (n : ℕ) → uncited.verdict items ≡ None → list_cause items n ≡ option_or (items_cause (length items)) (store_cause n)
-lawful_then items n h = ap (λ v. option_or (law_cause v) (option_or (items_cause (length items)) (store_cause n))) h
-
-items_over : (count : ℕ) → max_items < count → items_cause count ≡ Some (TooManyItems count)
-items_over count h = ap (λ b. if b then Some (TooManyItems count) else None) (ltb-true max_items count h)
-
-items_within : (count : ℕ) → count ≤ max_items → items_cause count ≡ None
-items_within count h = ap (λ b. if b then Some (TooManyItems count) else None) (le-ltb max_items count h)
-
--- too many items
-pub refused_by_items : (items : List Item) (n count : ℕ) → uncited.verdict items ≡ None → count ≡ length items → max_items < count → IsEditRefusal (list_cause items n) (fault.TooManyItems count)
-refused_by_items items n count lawful same over =
-    let cause : list_cause items n ≡ Some (TooManyItems count) =
-        lawful_then items n lawful ∙ ap (λ m. option_or (items_cause m) (store_cause n)) (sym same) ∙ ap (λ c. option_or c (store_cause n)) (items_over count over) in
-    subst (λ c. IsEditRefusal c (fault.TooManyItems count)) (sym cause) refl
-
-fine_then : (items : List Item) (n count : ℕ) → uncited.verdict items ≡ None → count ≡ length items → count ≤ max_items → list_cause items n ≡ store_cause n
-fine_then items n count lawful same few =
-    lawful_then items n lawful ∙ ap (λ m. option_or (items_cause m) (store_cause n)) (sym same) ∙ ap (λ c. option_or c (store_cause n)) (items_within count few)
-
--- too many values
-pub refused_by_store : (items : List Item) (n count : ℕ) → uncited.verdict items ≡ None → count ≡ length items → count ≤ max_items → max_values < n →
-    IsEditRefusal (list_cause items n) fault.StoreFull
-refused_by_store items n count lawful same few over =
-    let cause : list_cause items n ≡ Some StoreFull =
-        fine_then items n count lawful same few ∙ ap (λ b. if b then Some StoreFull else None) (ltb-true max_values n over) in
-    subst (λ c. IsEditRefusal c fault.StoreFull) (sym cause) refl
-
--- no cause
-pub no_cause : (items : List Item) (n count : ℕ) → uncited.verdict items ≡ None → count ≡ length items → count ≤ max_items → n ≤ max_values → list_cause items n ≡ None
-no_cause items n count lawful same few small =
-    fine_then items n count lawful same few ∙ ap (λ b. if b then Some StoreFull else None) (le-ltb max_values n small)
 
 -- where there is no cause, the list is lawful
 pub lawful_of : (items : List Item) (n : ℕ) → list_cause items n ≡ None → uncited.verdict items ≡ None

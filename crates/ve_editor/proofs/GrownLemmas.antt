@@ -1,7 +1,8 @@
 -- A page and a transaction over a store that has grown.
-use Rattle.std.proofs.Common.{◌≡◌, ◌<◌, ℕ, zero, suc, ◌+◌, true, false, List, [], ◌∷◌, ◌++◌, length, slice_get, All, Contains, Some, None, Option, Result, Ok, Err, refl, sym, ap, ◌∙◌, subst, append_assoc, append-nil, arith, inl, inr}
+use Rattle.std.proofs.Common.{◌≡◌, ◌<◌, ℕ, zero, suc, ◌+◌, true, false, List, [], ◌∷◌, ◌++◌, length, take, drop, slice_get, All, Contains, Some, None, Option, Result, Ok, Err, refl, sym, ap, ◌∙◌, subst, append_assoc, append-nil, arith, inl, inr}
 use Rattle.std.proofs.lemmas.Bool.{cases_Bool}
 use Rattle.std.proofs.lemmas.Option.{slice_get-get_or}
+use Rattle.std.proofs.Math.Seq.{take-add}
 use Rattle.std.proofs.lemmas.List.Elements.{All-nil, All-cons, All-head, All-tail}
 use Rattle.ve_base.specs.declared.value.Value.{Value}
 use Rattle.model_items.specs.declared.item.Item.{Item}
@@ -51,6 +52,19 @@ within : (values more : List Value) (at : ℕ) (v : Value) → slice_get values 
 within [] more at v h = cc
 within (x ∷ values) more zero v h = h
 within (x ∷ values) more (suc at) v h = within values more at v h
+
+-- one value more is read
+pub copied_more : (values more : List Value) (place : ℕ) (v : Value) → slice_get (values ++ more) (length values + place) ≡ Some v → take (place + 1) more ≡ take place more ++ v ∷ []
+copied_more [] more place v h = one more place (ap (slice_get more) (let e : place ≡ 0 + place = omega arith in e) ∙ h)
+  where
+    one : (more : List Value) (place : ℕ) → slice_get more place ≡ Some v → take (place + 1) more ≡ take place more ++ v ∷ []
+    one more place h = take-add place 1 more ∙ ap (λ l. take place more ++ l) (first more place h)
+      where
+        first : (more : List Value) (place : ℕ) → slice_get more place ≡ Some v → take 1 (drop place more) ≡ v ∷ []
+        first [] place h = cc
+        first (x ∷ more) zero h = let same : x ≡ v = cc in ap (λ y. y ∷ []) same
+        first (x ∷ more) (suc place) h = first more place h
+copied_more (x ∷ values) more place v h = copied_more values more place v (ap (slice_get (x ∷ values ++ more)) (let e : suc (length values + place) ≡ suc (length values) + place = omega arith in e) ∙ h)
 
 -- Where a list goes on with values that are new, filling it with them appends them.
 fill_new : (values more : List Value) → AreDistinct (values ++ more) → fill values more ≡ values ++ more

@@ -1,3 +1,4 @@
 pub mod VerdictLemmas
 pub mod GrownLemmas
 pub mod CauseLemmas
+pub mod ReadyLemmas

@@ -1,8 +1,9 @@
 -- The verdict over a list with new items in the place of a range.
 use Rattle.std.proofs.Common.{◌≡◌, ◌≤◌, ◌<◌, ℕ, zero, suc, ◌+◌, ◌-◌, Bool, true, false, if◌then◌else◌, List, [], ◌∷◌, ◌++◌, length, take, drop, slice_get, slice_range, Option, Some, None, Result, Ok, Err, refl, sym, ap, ◌∙◌, subst, arith, append_assoc, take-append-drop, length-take-le, length-append}
-use Rattle.std.proofs.Math.Seq.{take-add, drop-drop}
-use Rattle.std.proofs.lemmas.List.{map-append, length-map}
+use Rattle.std.proofs.Math.Seq.{take-add}
+use Rattle.std.proofs.lemmas.List.{map-append, length-map, length-drop, drop-drop}
 use Rattle.std.specs.Prelude.{nat_lt}
+use Rattle.std.proofs.Math.Bool.{beq, not}
 use Rattle.ve_kinds.specs.declared.kind.Kind.{Kind}
 use Rattle.ve_kinds.specs.Table.{kind_same, is_content_branch}
 use Rattle.model_items.specs.declared.item.Item.{Item}
@@ -84,7 +85,8 @@ piece_offence items s f h = let at = offence_within (plain_list [] items) s f h 
 parts_spliced : (items new : List Item) (at removed : ℕ) →
     unvalued (spliced items at removed new) ≡ unvalued (take at items) ++ (unvalued new ++ unvalued (drop (at + removed) items))
 parts_spliced items new at removed =
-    map-append (plain []) (take at items) (new ++ drop (at + removed) items) ∙ ap (λ l. unvalued (take at items) ++ l) (map-append (plain []) new (drop (at + removed) items))
+    ap unvalued (append_assoc (take at items) new (drop (at + removed) items))
+    ∙ map-append (plain []) (take at items) (new ++ drop (at + removed) items) ∙ ap (λ l. unvalued (take at items) ++ l) (map-append (plain []) new (drop (at + removed) items))
 
 length_before : (items : List Item) (at : ℕ) → at ≤ length items → length (unvalued (take at items)) ≡ at
 length_before items at within = length-map (take at items) (plain []) ∙ length-take-le at items within
@@ -201,3 +203,22 @@ same_kinds (x ∷ xs) (y ∷ ys) n h =
 
 pub same_state : (s t : State) → s.stack ≡ t.stack → s.seen ≡ t.seen → s ≡ t
 same_state s t e f = λ i. record { stack = e i; seen = f i }
+
+-- the length of a list with new items in the place of a range
+pub spliced_length : (items new : List Item) (at removed : ℕ) → at + removed ≤ length items → length (spliced items at removed new) ≡ length items - removed + length new
+spliced_length items new at removed within =
+    let a : length (take at items) ≡ at = length-take-le at items (omega (arith, within)) in
+    let z : length (drop (at + removed) items) ≡ length items - (at + removed) = length-drop (at + removed) items in
+    ap length (append_assoc (take at items) new (drop (at + removed) items))
+    ∙ length-append (take at items) (new ++ drop (at + removed) items) ∙ ap (λ k. length (take at items) + k) (length-append new (drop (at + removed) items))
+    ∙ omega (arith, a, z, within)
+
+-- a place of the new items is one of the list
+pub piece_fits_in : (items new : List Item) (at removed n : ℕ) → at + removed ≤ length items → n < length new → at + n < length (spliced items at removed new)
+piece_fits_in items new at removed n within below = let e = spliced_length items new at removed within in omega (arith, e, within, below)
+
+pub same_flag : (a b : Bool) → not (beq a b) ≡ false → a ≡ b
+same_flag true true h = refl
+same_flag true false h = cc
+same_flag false true h = cc
+same_flag false false h = refl

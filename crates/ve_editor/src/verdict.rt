@@ -73,6 +73,7 @@ fn may_end(list: &Linear, from: usize, before: State, at: usize) -> Result<(), L
 fn check_change(doc: Doc<'_>, change: &Change) -> Result<(), LawFault>
     requires doc { IsDoc doc }
     requires within { change.now.at + change.now.removed ≤ length doc.list.now.items }
+    requires end { change.now.at + change.now.removed < 2 ^ 64 }
     requires fits { length (spliced_by doc.list.now.items change.now) < 2 ^ 64 }
     ensures ok { OnOk result (verdict (spliced_by doc.entry.list.now.items change.now) ≡ None) }
     ensures err { IfErr result (λ fault. verdict (spliced_by doc.entry.list.now.items change.now) ≡ Some fault) }

@@ -1,0 +1,55 @@
+-- A change that is made ready, as what the model makes of the page.
+use Rattle.std.proofs.Common.{◌≡◌, ◌≤◌, ◌+◌, ◌*◌, ℕ, List, [], ◌∷◌, ◌++◌, length, map, All, Option, Some, None, Result, Ok, Err, IfOk, refl, sym, ap, ◌∙◌, subst, arith}
+use Rattle.std.proofs.lemmas.List.Elements.{All-nil, All-cons}
+use Rattle.ve_base.specs.declared.value.Value.{Value}
+use Rattle.model_items.specs.declared.item.Item.{Item}
+use Rattle.model_items.specs.declared.plain_item.PlainItem.{PlainItem}
+use Rattle.model_items.specs.Plain.{plain_list, CitesWell}
+use Rattle.model_items.specs.Law.{Lawful}
+use Rattle.model_items.specs.Tree.{tree_of, node_count}
+use Rattle.model_items.proofs.OnlyLemmas.{tree_reads_no_values}
+use Rattle.model_items.proofs.VerdictLemmas.{verdict_reads_no_values}
+use Rattle.model_change.specs.Transaction.{Transaction, edited}
+use Rattle.ve_items.specs.ItemList.{ItemList}
+use Rattle.ve_tree.specs.IsTree.{unvalued}
+use Rattle.ve_tree.specs.TreeOf.{most_steps}
+use Rattle.ve_tx.specs.Applied.{plain_after, spliced_by}
+use Rattle.ve_tx.specs.Cites.{TxCites}
+use Rattle.ve_tx.specs.Making.{Extends}
+use Rattle.ve_tx.specs.Operation.{Operation}
+use Rattle.ve_tx.specs.declared.change.Change.{Change}
+use Rattle.ve_tx.proofs.ChangeLemmas.{spliced-cites}
+use Rattle.ve_editor.specs.declared.prepare.Prepared.{Prepared}
+use Rattle.ve_editor.specs.Prepared.{FitsInto, HasTree, WillBe}
+
+pub both_ok : {A E : Type 0} (P Q R : A → Type 0) (r : Result A E) → ((x : A) → P x → Q x → R x) → IfOk r P → IfOk r Q → IfOk r R
+both_ok P Q R (Ok x) f p q = f x p q
+both_ok P Q R (Err e) f p q = tt
+
+-- the law and the tree read no value
+pub lawful_unvalued : (values : List Value) (items : List Item) (made : List PlainItem) → plain_list values items ≡ made → Lawful made → Lawful (unvalued items)
+lawful_unvalued values items made e lawful = verdict_reads_no_values [] values items ∙ subst Lawful (sym e) lawful
+
+pub steps_unvalued : (values : List Value) (items : List Item) (made : List PlainItem) → plain_list values items ≡ made → most_steps (unvalued items) ≡ most_steps made
+steps_unvalued values items made e = ap (λ f. 8 * (node_count f + 2)) (tree_reads_no_values [] values items) ∙ ap most_steps e
+
+-- a bound on steps that a callee keeps
+pub steps_within : (values : List Value) (items : List Item) (made : List PlainItem) (old new : ℕ) → plain_list values items ≡ made →
+    new ≤ old + most_steps (unvalued items) → new ≤ old + most_steps made
+steps_within values items made old new e h = subst (λ n. new ≤ old + n) (steps_unvalued values items made e) h
+
+pub will_be : (t : Transaction) (old new : List Value) (list : ItemList) (items : List Item) (change : Change) (p : Prepared) →
+    list.items ≡ items → p.change ≡ change → plain_after new items change ≡ edited t (plain_list old items) → Extends old new →
+    All (CitesWell old) items → All (CitesWell new) change.items → change.at + change.removed ≤ length items → length change.items ≤ list.spare →
+    HasTree items p → WillBe t old new list p
+will_be t old new list items change p same is made extends cited made_cited within room tree = record {
+  items = ap (λ (ch : Change). plain_after new list.items ch) is ∙ ap (λ l. plain_after new l change) same ∙ made ∙ ap (λ l. edited t (plain_list old l)) (sym same);
+  cites = subst (λ (ch : Change). All (CitesWell new) (spliced_by list.items ch)) (sym is)
+      (subst (λ l. All (CitesWell new) (spliced_by l change)) (sym same) (spliced-cites old new extends items change.items change.at change.removed cited made_cited));
+  fits = subst (FitsInto list) (sym is) (record { within = subst (λ l. change.at + change.removed ≤ length l) (sym same) within; room = room });
+  tree = subst (λ l. HasTree l p) (sym same) tree;
+}
+
+-- a list of one transaction
+pub one_cites : (values : List Value) (tx : List Operation) → TxCites values tx → All (TxCites values) (tx ∷ [])
+one_cites values tx h = All-cons (TxCites values) tx [] h (All-nil (TxCites values))
