@@ -2,3 +2,5 @@ pub mod VerdictLemmas
 pub mod GrownLemmas
 pub mod CauseLemmas
 pub mod ReadyLemmas
+pub mod PerformLemmas
+pub mod SelectedLemmas

@@ -109,8 +109,8 @@ spliced_fits items new at removed s t lawful before old_end new_end =
     let cut : take (at + removed) items ≡ take at items ++ take removed (drop at items) = take-add at removed items in
     let cut_plain : unvalued (take (at + removed) items) ≡ X ++ A = ap unvalued cut ∙ map-append (plain []) (take at items) (take removed (drop at items)) in
     let whole : unvalued items ≡ X ++ (A ++ Z) =
-        ap unvalued (sym (take-append-drop (at + removed) items)) ∙ map-append (plain []) (take (at + removed) items) (drop (at + removed) items)
-        ∙ ap (λ l. l ++ Z) cut_plain ∙ append_assoc X A Z in
+    ap unvalued (sym (take-append-drop (at + removed) items)) ∙ map-append (plain []) (take (at + removed) items) (drop (at + removed) items)
+    ∙ ap (λ l. l ++ Z) cut_plain ∙ append_assoc X A Z in
     let inside = after_parts X A start t (sym (ap (law.after start) cut_plain) ∙ old_end) in
     let same : inside.0 ≡ s = Ok-same {E = LawFault} inside.0 s (sym inside.1 ∙ before) in
     let a : law.after s A ≡ Ok t = ap (λ (u : State). law.after u A) (sym same) ∙ inside.2 in
@@ -132,10 +132,10 @@ spliced_rest items new at removed s u within before new_end =
     let n : length N ≡ length new = length-map new (plain []) in
     let z : length Z ≡ length rest = length-map rest (plain []) in
     let long : length (X ++ (N ++ Z)) ≡ at + length new + length rest =
-        length-append X (N ++ Z) ∙ ap (λ k. length X + k) (length-append N Z) ∙ omega (arith, x, n, z) in
+    length-append X (N ++ Z) ∙ ap (λ k. length X + k) (length-append N Z) ∙ omega (arith, x, n, z) in
     let state : law.after start (X ++ (N ++ Z)) ≡ outcome_moved (at + length new) (law.after u Z) =
-        on_ok start s X (N ++ Z) before ∙ ap (outcome_moved (length X)) (on_ok s u N Z new_end) ∙ outcome_twice (length X) (length N) (law.after u Z)
-        ∙ ap (λ k. outcome_moved k (law.after u Z)) (let e : length X + length N ≡ at + length new = omega (arith, x, n) in e) in
+    on_ok start s X (N ++ Z) before ∙ ap (outcome_moved (length X)) (on_ok s u N Z new_end) ∙ outcome_twice (length X) (length N) (law.after u Z)
+    ∙ ap (λ k. outcome_moved k (law.after u Z)) (let e : length X + length N ≡ at + length new = omega (arith, x, n) in e) in
     ap law.verdict (parts_spliced items new at removed)
     ∙ ap (λ k. verdict_at k (law.after start (X ++ (N ++ Z)))) long
     ∙ ap (verdict_at (at + length new + length rest)) state
@@ -157,7 +157,7 @@ rest_on items piece next at s t lent goes =
     let p : length P ≡ length piece = length-map piece (plain []) in
     let parts : drop next items ≡ piece ++ rest = rest_parts items piece next (length piece) refl lent in
     let state : after s (piece ++ rest) ≡ outcome_moved (length piece) (law.after t Z) =
-        ap (law.after s) (map-append (plain []) piece rest) ∙ on_ok s t P Z goes ∙ ap (λ k. outcome_moved k (law.after t Z)) p in
+    ap (law.after s) (map-append (plain []) piece rest) ∙ on_ok s t P Z goes ∙ ap (λ k. outcome_moved k (law.after t Z)) p in
     ap (rest_verdict at s) parts
     ∙ ap (λ k. verdict_at (at + k) (outcome_moved at (after s (piece ++ rest)))) (length-append piece rest)
     ∙ ap (λ r. verdict_at (at + (length piece + length rest)) (outcome_moved at r)) state
@@ -173,7 +173,7 @@ rest_fails items piece next at s f lent fails =
     let Z = unvalued rest in
     let parts : drop next items ≡ piece ++ rest = rest_parts items piece next (length piece) refl lent in
     let state : after s (piece ++ rest) ≡ Err f =
-        ap (law.after s) (map-append (plain []) piece rest) ∙ after-append s P Z ∙ ap (λ r. followed (length P) r (λ u. law.after u Z)) fails in
+    ap (law.after s) (map-append (plain []) piece rest) ∙ after-append s P Z ∙ ap (λ r. followed (length P) r (λ u. law.after u Z)) fails in
     ap (rest_verdict at s) parts ∙ ap (λ r. verdict_at (at + length (piece ++ rest)) (outcome_moved at r)) state
 
 -- the end

@@ -9,6 +9,9 @@ ghost use Rattle.model_site.specs.Replica.{performed};
 ghost use Rattle.ve_tree.specs.IsTree.{unvalued};
 ghost use Rattle.ve_tree.specs.TreeOf.{most_steps};
 
+use crate::perform::ready;
+use crate::prepare::commit;
+use crate::selected::moved;
 use model_edit::Selection;
 use model_site::EditFault;
 use std::alloc::Global;
@@ -134,6 +137,29 @@ impl Editor {
         ensures steps { steps.new ≤ steps.old + most_steps (performed (drafted self.old.store draft.now) self.old).items }
         ensures unstepped { IfErr result (λ why. why ≢ EditFault.Memory → steps.new ≡ steps.old) }
     {
-        Err(EditFault::Memory)
+        let before = self.store.len();
+        match ready(
+            self.alloc,
+            &mut self.list,
+            &mut self.store,
+            &self.tree,
+            draft,
+            steps,
+        ) {
+            Ok(performing) => {
+                commit(&mut self.list, &mut self.tree, performing.prepared);
+                let doc = Doc {
+                    list: &self.list,
+                    tree: &self.tree,
+                    store: &self.store,
+                };
+                self.selection = moved(doc, &draft.tx, self.selection);
+                Ok(performing.entry)
+            }
+            Err(fault) => {
+                self.store.truncate(before);
+                Err(fault)
+            }
+        }
     }
 }

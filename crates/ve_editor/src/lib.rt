@@ -14,6 +14,7 @@ mod editor;
 mod faults;
 mod perform;
 mod prepare;
+mod selected;
 mod values;
 mod verdict;
 

@@ -9,5 +9,5 @@ loop-place-preserved c =
     let more = c.args.new.now.values in
     let place : c.in-Some.id ≡ length values + c.loop-place.place = c.in-Some.ensures.1 ∙ ap (λ n. n + c.loop-place.place) c.len-before.ensures.count in
     let there : slice_get (values ++ more) (length values + c.loop-place.place) ≡ Some c.in_ok-copy.field-0 =
-        ap (slice_get (values ++ more)) (sym place) ∙ c.get.ensures ∙ ap Some (sym c.in_ok-copy.ensures) in
+    ap (slice_get (values ++ more)) (sym place) ∙ c.get.ensures ∙ ap Some (sym c.in_ok-copy.ensures) in
     c.in_ok-push.ensures.ok ∙ ap (λ l. l ++ c.in_ok-copy.field-0 ∷ []) c.loop-place.invariant ∙ sym (copied_more values more c.loop-place.place c.in_ok-copy.field-0 there)

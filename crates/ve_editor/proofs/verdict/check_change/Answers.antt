@@ -35,8 +35,8 @@ returns-clause-ok c =
     let goes : after c.state_at.result change.items ≡ Ok c.in-Ok.state = ap (after c.state_at.result) (sym c.as_slice-items.ensures) ∙ sym c.in-Ok.ensures in
     let within : change.at ≤ length items = omega (arith, c.requires.within) in
     let e : verdict (spliced items change.at change.removed change.items) ≡ rest_verdict (change.at + length c.as_slice-items.result.now) c.in-Ok.state (drop (change.at + change.removed) items) =
-        spliced_rest items change.items change.at change.removed c.state_at.result c.in-Ok.state within c.state_at.ensures goes
-        ∙ ap (λ l. rest_verdict (change.at + length l) c.in-Ok.state (drop (change.at + change.removed) items)) (sym c.as_slice-items.ensures) in
+    spliced_rest items change.items change.at change.removed c.state_at.result c.in-Ok.state within c.state_at.ensures goes
+    ∙ ap (λ l. rest_verdict (change.at + length l) c.in-Ok.state (drop (change.at + change.removed) items)) (sym c.as_slice-items.ensures) in
     subst (λ v. OnOk c.may_end.result (v ≡ None)) (sym e) c.may_end.ensures.ok
 
 pub returns-clause-err : goal.returns-clause-err
@@ -46,6 +46,6 @@ returns-clause-err c =
     let goes : after c.state_at.result change.items ≡ Ok c.in-Ok.state = ap (after c.state_at.result) (sym c.as_slice-items.ensures) ∙ sym c.in-Ok.ensures in
     let within : change.at ≤ length items = omega (arith, c.requires.within) in
     let e : verdict (spliced items change.at change.removed change.items) ≡ rest_verdict (change.at + length c.as_slice-items.result.now) c.in-Ok.state (drop (change.at + change.removed) items) =
-        spliced_rest items change.items change.at change.removed c.state_at.result c.in-Ok.state within c.state_at.ensures goes
-        ∙ ap (λ l. rest_verdict (change.at + length l) c.in-Ok.state (drop (change.at + change.removed) items)) (sym c.as_slice-items.ensures) in
+    spliced_rest items change.items change.at change.removed c.state_at.result c.in-Ok.state within c.state_at.ensures goes
+    ∙ ap (λ l. rest_verdict (change.at + length l) c.in-Ok.state (drop (change.at + change.removed) items)) (sym c.as_slice-items.ensures) in
     subst (λ v. IfErr c.may_end.result (λ fault. v ≡ Some fault)) (sym e) c.may_end.ensures.err

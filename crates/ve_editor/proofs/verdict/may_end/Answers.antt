@@ -17,7 +17,7 @@ pub returns-in-Err-clause-err : goal.returns-in-Err-clause-err
 returns-in-Err-clause-err c =
     sym c.loop-next.invariant.rest
     ∙ rest_fails c.args.list.now.items c.piece-piece.result.now c.loop-next.next (c.args.at + (c.loop-next.next - c.args.from)) c.loop-next.state c.in-Err.fault
-      c.piece-piece.ensures.items (sym c.in-Err.ensures)
+    c.piece-piece.ensures.items (sym c.in-Err.ensures)
     ∙ ap Some (sym c.moved_by.ensures)
 
 pub loop-next-preserved : goal.loop-next-preserved
