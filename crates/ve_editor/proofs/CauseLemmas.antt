@@ -1,10 +1,9 @@
 -- Why an edit is not made: the model's first cause, from what each call says.
 use Rattle.std.specs.Option.{option_or}
-use Rattle.std.specs.Prelude.{option_map, nat_lt}
-use Rattle.std.proofs.Common.{◌≡◌, ◌<◌, ◌≤◌, ℕ, Bool, true, false, ◌==◌, if◌then◌else◌, List, [], length, Option, Some, None, refl, sym, ap, ◌∙◌, subst, arith}
+use Rattle.std.specs.Prelude.{option_map}
+use Rattle.std.proofs.Common.{◌≡◌, ℕ, Bool, true, false, ◌==◌, if◌then◌else◌, List, [], length, Option, Some, None, refl, sym, ap, ◌∙◌, subst}
 use Rattle.std.proofs.lemmas.List.{length-map}
 use Rattle.ve_base.specs.declared.value.Value.{Value}
-use Rattle.ve_base.specs.Limits.{max_items, max_values}
 use Rattle.model_items.specs.declared.item.Item.{Item}
 use Rattle.model_items.specs.declared.plain_item.PlainItem.{PlainItem}
 use Rattle.model_items.specs.declared.law_fault.LawFault.{LawFault}
@@ -18,13 +17,12 @@ use Rattle.model_change.specs.Fault.{Applies, fault, mismatch_at, bad_attribute_
 use Rattle.model_change.specs.Store.{fill, brought}
 use Rattle.model_change.specs.Transaction.{Transaction, edited, old_length}
 use Rattle.model_site.specs.declared.edit_fault.EditFault.{EditFault}
-use Rattle.model_site.specs.declared.edit_fault.EditFault.TheVariants as fault
-use Rattle.model_site.specs.Causes.{EditCause, BadLength, Mismatch, BadAttr, TooManyItems, StoreFull}
-use Rattle.model_site.specs.Refused.{transaction_cause, law_cause, items_cause, store_cause, edit_cause}
+use Rattle.model_site.specs.Causes.{EditCause, BadLength, Mismatch, BadAttr}
+use Rattle.model_site.specs.Refused.{law_cause, items_cause, store_cause, edit_cause}
 use Rattle.model_site.specs.Replica.{Replica}
 use Rattle.ve_lawful.specs.Uncited as uncited
 use Rattle.ve_tx.specs.Changed.{IsRefusal}
-use Rattle.ve_editor.specs.Refusal.{IsEditRefusal, fault_of_tx, fault_of_law, list_cause}
+use Rattle.ve_editor.specs.Refusal.{IsEditRefusal, fault_of_tx, list_cause}
 
 abbrev first_fault : Bool → (m a : Option ℕ) (has needs : ℕ) → Option TxFault
 first_fault b m a has needs =

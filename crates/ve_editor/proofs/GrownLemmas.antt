@@ -1,5 +1,5 @@
 -- A page and a transaction over a store that has grown.
-use Rattle.std.proofs.Common.{◌≡◌, ◌<◌, ℕ, zero, suc, ◌+◌, true, false, List, [], ◌∷◌, ◌++◌, length, take, drop, slice_get, All, Contains, Some, None, Option, Result, Ok, Err, refl, sym, ap, ◌∙◌, subst, append_assoc, append-nil, arith, inl, inr}
+use Rattle.std.proofs.Common.{◌≡◌, ◌<◌, ℕ, zero, suc, ◌+◌, List, [], ◌∷◌, ◌++◌, length, take, drop, slice_get, All, Some, None, Option, Ok, refl, sym, ap, ◌∙◌, subst, append_assoc, append-nil, arith, inl, inr}
 use Rattle.std.proofs.lemmas.Bool.{cases_Bool}
 use Rattle.std.proofs.lemmas.Option.{slice_get-get_or}
 use Rattle.std.proofs.Math.Seq.{take-add}
@@ -14,7 +14,6 @@ use Rattle.model_change.specs.Transaction as model
 use Rattle.model_change.proofs.StoreLemmas.{fill_appends}
 use Rattle.model_change.specs.declared.tx_fault.TxFault.{TxFault}
 use Rattle.model_change.specs.Fault.{Applies, fault, apply, apply_unless}
-use Rattle.model_change.specs.Inverse.{filled}
 use Rattle.ve_store.proofs.StoreLemmas.{Contains-holds}
 use Rattle.ve_tx.specs.Cites.{OperationCites, TxCites}
 use Rattle.ve_tx.specs.Making.{Extends}

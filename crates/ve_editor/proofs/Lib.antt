@@ -4,3 +4,5 @@ pub mod CauseLemmas
 pub mod ReadyLemmas
 pub mod PerformLemmas
 pub mod SelectedLemmas
+pub mod CutLemmas
+pub mod BackLemmas

@@ -1,5 +1,5 @@
 -- A change that was made, as what the model makes of the page.
-use Rattle.std.proofs.Common.{◌≡◌, List, [], ◌∷◌, None, length, refl, sym, ap, ◌∙◌, subst}
+use Rattle.std.proofs.Common.{◌≡◌, List, [], ◌∷◌, None, length, ap, ◌∙◌, subst}
 use Rattle.ve_base.specs.declared.value.Value.{Value}
 use Rattle.model_items.specs.declared.item.Item.{Item}
 use Rattle.model_items.specs.Plain.{plain_list}
@@ -11,7 +11,7 @@ use Rattle.model_edit.specs.declared.selection.Selection.{Selection}
 use Rattle.model_edit.specs.Translate.{moved_selection}
 use Rattle.model_site.specs.Entries.{entry_of}
 use Rattle.model_site.specs.Refused.{edit_cause}
-use Rattle.model_site.specs.Replica.{Replica, changed_by, performed, put_back}
+use Rattle.model_site.specs.Replica.{changed_by, performed, put_back}
 use Rattle.ve_items.specs.ItemList.{ItemList}
 use Rattle.ve_tx.specs.Applied.{spliced_by}
 use Rattle.ve_tx.specs.declared.draft.Draft.{Draft}

@@ -1,5 +1,5 @@
 -- Offsets inside leaves, by the class of an offset.
-use Rattle.std.proofs.Common.{◌≡◌, ◌≤◌, ℕ, suc, ◌+◌, Bool, true, false, if◌then◌else◌, IsTrue, ◌↔◌, List, [], ◌++◌, length, map, take, drop, Ok, refl, sym, ap, ◌∙◌, subst, arith, take-append-drop}
+use Rattle.std.proofs.Common.{◌≡◌, ◌≤◌, ℕ, Bool, true, false, if◌then◌else◌, IsTrue, ◌↔◌, List, [], length, take, drop, Ok, refl, sym, ap, ◌∙◌, arith, take-append-drop}
 use Rattle.std.proofs.lemmas.List.{take-map, take_all, length-map}
 use Rattle.ve_kinds.specs.declared.kind.Kind.{Kind}
 use Rattle.ve_kinds.specs.declared.kind.Kind.TheVariants.{Br}
@@ -7,7 +7,6 @@ use Rattle.ve_kinds.specs.Table.{is_content_branch, is_leaf}
 use Rattle.ve_kinds.proofs.LawLemmas.{leaves_are_empty, inline_in_content}
 use Rattle.ve_base.specs.declared.value.Value.{Value}
 use Rattle.model_items.specs.declared.item.Item.{Item}
-use Rattle.model_items.specs.declared.plain_item.PlainItem.{PlainItem}
 use Rattle.model_items.specs.declared.offset_class.OffsetClass.{OffsetClass}
 use Rattle.model_items.specs.declared.offset_class.OffsetClass.TheVariants.{Content, Structural, Inside}
 use Rattle.model_items.specs.Law.{State, start, finish, top, after, Lawful}
@@ -16,7 +15,7 @@ use Rattle.model_items.specs.Plain.{plain, plain_list}
 use Rattle.model_items.specs.Tree.{class_in, class_at}
 use Rattle.model_items.proofs.LawLemmas.{after_from_Lawful, after_parts}
 use Rattle.model_items.proofs.NodeAtLemmas.{open_is_stack, class_is_of_top}
-use Rattle.model_items.proofs.VerdictLemmas.{law_reads_no_values, verdict_reads_no_values}
+use Rattle.model_items.proofs.VerdictLemmas.{law_reads_no_values}
 use Rattle.ve_tree.specs.IsTree.{unvalued}
 
 abbrev is_inside : OffsetClass → Bool

@@ -1,5 +1,5 @@
 -- Drafts and entries over a store, by value, and what may be performed or taken back.
-use Rattle.std.specs.Prelude.{◌≡◌, ◌<◌, ◌++◌, List, [], ◌∷◌, All, Contains, length, map, take}
+use Rattle.std.specs.Prelude.{◌≡◌, ℕ, ◌<◌, ◌++◌, List, [], ◌∷◌, All, Contains, length, map, take}
 use Rattle.ve_base.specs.declared.value.Value.{Value}
 use Rattle.model_items.specs.declared.plain_item.PlainItem.{PlainItem}
 use Rattle.model_items.specs.Law.{Lawful}
@@ -7,10 +7,10 @@ use Rattle.model_change.specs.Fault.{Applies}
 use Rattle.model_change.specs.Replay.{reversal}
 use Rattle.model_change.specs.Store.{cited, fill}
 use Rattle.model_change.specs.Transaction.{Transaction, all_inserted, edited}
-use Rattle.model_site.specs.Entries.{Entry, reverted}
-use Rattle.model_site.specs.Replica.{Replica}
+use Rattle.model_site.specs.Entries.{Entry}
+use Rattle.model_site.specs.Replica.{Replica, all_put_back}
 use Rattle.ve_tx.specs.Cites.{TxCites}
-use Rattle.ve_tx.specs.Operation.{by_value}
+use Rattle.ve_tx.specs.Operation.{Operation, by_value}
 use Rattle.ve_tx.specs.declared.draft.Draft.{Draft}
 use Rattle.ve_tx.specs.declared.entry.Entry.{Entry as KeptEntry}
 
@@ -42,12 +42,19 @@ abbrev pub AllStand : List Transaction → List PlainItem → Type 0
 AllStand [] items = Unit {0}
 AllStand (t ∷ ts) items = Applies t items × Lawful (edited t items) × AllStand ts (edited t items)
 
+-- what takes transactions back, over the store that they cite
+abbrev pub reversal_over : List Value → List (List Operation) → List Transaction
+reversal_over store txs = reversal (map (by_value store) txs)
+
 -- the entry can be taken back
 abbrev pub CanBeReverted : Entry → Replica → Type 0
 CanBeReverted e r = AllStand (reversal e.txs) r.items
 
--- Where taking the entry back cuts its values off the store, the list that is left cites none of them.
+-- Where the entry's values are the last of a store that had so many, the list cites none of them.
+abbrev pub IsUncited : Entry → ℕ → Replica → Type 0
+IsUncited e was r =
+    was ≡ e.store_after → e.store_before < e.store_after → (v : Value) → Contains (cited r.items) v → Contains (take e.store_before r.store) v
+
+-- So does the list that taking the entry back leaves.
 abbrev pub CutsUncited : Entry → Replica → Type 0
-CutsUncited e r =
-    length r.store ≡ e.store_after → e.store_before < e.store_after →
-    (v : Value) → Contains (cited (reverted e r).items) v → Contains (take e.store_before r.store) v
+CutsUncited e r = IsUncited e (length r.store) (all_put_back (reversal e.txs) r)

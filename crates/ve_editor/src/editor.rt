@@ -1,15 +1,19 @@
 // A page under edit.
 ghost use Rattle.std.specs.Prelude.{◌≡◌, ◌≢◌, ◌≤◌, ◌+◌, [], ◌∷◌, All, None, IfOk, IfErr, OnOk, OnErr};
 ghost use Rattle.model_items.specs.Law.{Lawful};
-ghost use Rattle.model_items.specs.Plain.{plain_list, CitesWell};
+ghost use Rattle.model_items.specs.Plain.{plain_list, AreDistinct, CitesWell};
 ghost use Rattle.model_edit.specs.Translate.{between};
-ghost use Rattle.model_site.specs.Entries.{entry_of, reverted};
+ghost use Rattle.model_site.specs.Entries.{cut_back, entry_of, reverted};
 ghost use Rattle.model_site.specs.Refused.{edit_cause};
-ghost use Rattle.model_site.specs.Replica.{performed};
+ghost use Rattle.model_change.specs.Fault.{Applies};
+ghost use Rattle.model_change.specs.Transaction.{edited};
+ghost use Rattle.model_site.specs.Replica.{all_put_back, performed, put_back};
+ghost use Rattle.ve_tx.specs.Cites.{TxCites};
+ghost use Rattle.ve_tx.specs.Operation.{by_value};
 ghost use Rattle.ve_tree.specs.IsTree.{unvalued};
 ghost use Rattle.ve_tree.specs.TreeOf.{most_steps};
 
-use crate::perform::ready;
+use crate::perform::{ready, ready_back};
 use crate::prepare::commit;
 use crate::selected::moved;
 use model_edit::Selection;
@@ -22,7 +26,7 @@ use ve_items::Linear;
 use ve_offsets::Doc;
 use ve_store::Store;
 use ve_tree::Tree;
-use ve_tx::{Draft, Entry};
+use ve_tx::{Draft, Entry, Transaction};
 
 /// A page's list, the values that its items cite, the tree of the list, and what is selected. It is seen as a site's replica: the list by value, the
 /// store as its values, and the selection.
@@ -48,7 +52,7 @@ impl Model for Editor {
 
 impl Editor {
     ghost use Rattle.ve_editor.specs.Page.{IsPage, page_of};
-    ghost use Rattle.ve_editor.specs.Edited.{IsDraftOf, drafted, entry_by_value, EntryCites, CanBeReverted, CutsUncited};
+    ghost use Rattle.ve_editor.specs.Edited.{IsDraftOf, drafted, entry_by_value, EntryCites, AllStand, CanBeReverted, CutsUncited, IsUncited, reversal_over};
     ghost use Rattle.ve_editor.specs.Refusal.{IsEditRefusal};
 
     /// An editor of a lawful list whose items cite values of the store, with the selection at the start. Its tree is built, in at most eight steps for
@@ -161,5 +165,99 @@ impl Editor {
                 Err(fault)
             }
         }
+    }
+
+    /// Makes a transaction of a reversal, which applies and leaves a lawful list. An `Err` changes nothing.
+    fn put_back<L: Ledger>(&mut self, tx: &Transaction, steps: &mut Steps<L>) -> Result<(), Memory>
+        requires cites { TxCites self.old.store tx.now }
+        requires applies { Applies (by_value self.old.store tx.now) self.old.items }
+        requires lawful { Lawful (edited (by_value self.old.store tx.now) self.old.items) }
+        ensures page { OnOk result (self.new ≡ put_back (by_value self.old.store tx.now) self.old) }
+        ensures kept { OnErr result (self.new ≡ self.old) }
+    {
+        let before = self.store.len();
+        match ready_back(self.alloc, &mut self.list, &mut self.store, tx, steps) {
+            Ok(prepared) => {
+                commit(&mut self.list, &mut self.tree, prepared);
+                let doc = Doc {
+                    list: &self.list,
+                    tree: &self.tree,
+                    store: &self.store,
+                };
+                self.selection = moved(doc, tx, self.selection);
+                Ok(())
+            }
+            Err(Memory) => {
+                self.store.truncate(before);
+                Err(Memory)
+            }
+        }
+    }
+
+    /// Cuts the values of an entry off the store, where they are the last of it; before it was taken back the store had so many.
+    fn cut_back(&mut self, entry: &Entry, was: usize)
+        requires distinct { AreDistinct self.old.store }
+        requires uncited { IsUncited (entry_by_value self.old.store entry.now) was self.old }
+        ensures { self.new ≡ record self.old { store = cut_back (entry_by_value self.old.store entry.now) was self.old.store } }
+    {
+        if was == entry.store_after && entry.store_before < entry.store_after {
+            self.store.truncate(entry.store_before);
+        }
+    }
+
+    /// Makes the transactions of a reversal, from the inverse of the last one to that of the first. An `Err` may leave some of them made.
+    fn put_all_back<L: Ledger>(
+        &mut self,
+        txs: &[Transaction],
+        steps: &mut Steps<L>,
+    ) -> Result<(), Memory>
+        requires cites { All (TxCites self.old.store) txs.now }
+        requires stands { AllStand (reversal_over self.old.store txs.now) self.old.items }
+        ensures { OnOk result (self.new ≡ all_put_back (reversal_over self.old.store txs.now) self.old) }
+    {
+        for n in 0..txs.len() {
+            let tx = &txs[txs.len() - 1 - n];
+            let back = tx.inverse(self.alloc)?;
+            self.put_back(&back, steps)?;
+        }
+        Ok(())
+    }
+
+    /// Makes the reversal of transactions. That of one is made in place, and that of more on a copy, so that want of memory in the second leaves nothing
+    /// of the first.
+    fn put_entry_back<L: Ledger>(
+        &mut self,
+        txs: &[Transaction],
+        steps: &mut Steps<L>,
+    ) -> Result<(), Memory>
+        requires cites { All (TxCites self.old.store) txs.now }
+        requires stands { AllStand (reversal_over self.old.store txs.now) self.old.items }
+        ensures page { OnOk result (self.new ≡ all_put_back (reversal_over self.old.store txs.now) self.old) }
+        ensures kept { OnErr result (self.new ≡ self.old) }
+    {
+        if txs.len() == 1 {
+            let back = txs[0].inverse(self.alloc)?;
+            return self.put_back(&back, steps);
+        }
+        let mut copy = self.copy(steps)?;
+        copy.put_all_back(txs, steps)?;
+        *self = copy;
+        Ok(())
+    }
+
+    /// Takes an entry back: its reversals are made, the last transaction's first, and the store takes the heads that they change. Where the entry's
+    /// values were the last of the store, they are cut off it. It is asked that the reversals apply one after the other and leave lawful lists, and that
+    /// where values are cut the list that is left cites none of them. An `Err` changes nothing.
+    pub fn revert<L: Ledger>(&mut self, entry: &Entry, steps: &mut Steps<L>) -> Result<(), Memory>
+        requires cites { EntryCites self.old.store entry.now }
+        requires stands { CanBeReverted (entry_by_value self.old.store entry.now) self.old }
+        requires uncited { CutsUncited (entry_by_value self.old.store entry.now) self.old }
+        ensures page { OnOk result (self.new ≡ reverted (entry_by_value self.old.store entry.now) self.old) }
+        ensures kept { OnErr result (self.new ≡ self.old) }
+    {
+        let was = self.store.len();
+        self.put_entry_back(entry.txs.as_slice(), steps)?;
+        self.cut_back(entry, was);
+        Ok(())
     }
 }

@@ -1,27 +1,22 @@
-use Rattle.std.proofs.Common.{◌≡◌, ◌≤◌, ◌+◌, List, [], ◌∷◌, None, Ok, map, length, All, sym, ap, ◌∙◌, subst, arith}
+use Rattle.std.proofs.Common.{◌≡◌, List, [], ◌∷◌, None, length, All, sym, ap, ◌∙◌, subst}
 use Rattle.std.proofs.lemmas.Result.{err_from_is_err_and}
 use Rattle.model_items.specs.declared.item.Item.{Item}
-use Rattle.model_items.specs.declared.plain_item.PlainItem.{PlainItem}
-use Rattle.model_items.specs.Law.{Lawful}
 use Rattle.model_items.specs.Plain.{plain_list, CitesWell}
 use Rattle.model_change.specs.Fault.{Applies, apply, fault}
 use Rattle.model_change.specs.Inverse.{filled}
-use Rattle.model_change.specs.Store.{brought, changed_heads, fill}
-use Rattle.model_change.specs.Transaction.{Transaction, edited}
+use Rattle.model_change.specs.Store.{brought, fill}
+use Rattle.model_change.specs.Transaction.{edited}
 use Rattle.model_edit.specs.Translate.{between}
 use Rattle.model_site.specs.Refused.{edit_cause}
-use Rattle.ve_tree.specs.IsTree.{unvalued}
-use Rattle.ve_tree.specs.TreeOf.{most_steps}
 use Rattle.ve_tx.specs.Applied.{plain_after, spliced_by}
 use Rattle.ve_tx.specs.Changed.{IsRefusal}
-use Rattle.ve_tx.specs.Cites.{TxCites}
 use Rattle.ve_tx.specs.Operation.{by_value}
 use Rattle.ve_tx.specs.declared.change.Change.{Change}
 use Rattle.ve_editor.specs.Edited.{drafted}
 use Rattle.ve_editor.specs.Page.{page_of}
-use Rattle.ve_editor.specs.Prepared.{HasTree, MayPerform}
-use Rattle.ve_editor.specs.Refusal.{IsEditRefusal, fault_of_tx, list_cause}
-use Rattle.ve_editor.proofs.CauseLemmas.{refused_by_tx, refused_as, cause_of_list, lawful_of}
+use Rattle.ve_editor.specs.Prepared.{HasTree}
+use Rattle.ve_editor.specs.Refusal.{IsEditRefusal, list_cause}
+use Rattle.ve_editor.proofs.CauseLemmas.{refused_by_tx, refused_as, cause_of_list}
 use Rattle.ve_editor.proofs.GrownLemmas as grown
 use Rattle.ve_editor.proofs.ReadyLemmas.{steps_within, will_be}
 use Rattle.ve_editor.proofs.perform.ready.Goals as goal

@@ -1,11 +1,9 @@
-use Rattle.std.proofs.Common.{◌≡◌, List, Ok, sym, ap, ◌∙◌, subst}
-use Rattle.model_items.specs.declared.item.Item.{Item}
+use Rattle.std.proofs.Common.{◌≡◌, sym, ap, ◌∙◌, subst}
 use Rattle.model_items.specs.Law.{Lawful}
 use Rattle.model_items.specs.Plain.{plain_list}
 use Rattle.model_change.specs.Store.{changed_heads, fill}
 use Rattle.model_change.specs.Transaction.{edited}
 use Rattle.ve_tree.specs.IsTree.{unvalued}
-use Rattle.ve_tree.specs.TreeOf.{most_steps}
 use Rattle.ve_tx.specs.Applied.{plain_after, spliced_by}
 use Rattle.ve_tx.specs.Operation.{by_value}
 use Rattle.ve_tx.proofs.ValuesLemmas.{extends_by_fill}

@@ -1,4 +1,4 @@
-use Rattle.std.proofs.Common.{◌≡◌, ap, ◌∙◌}
+use Rattle.std.proofs.Common.{ap, ◌∙◌}
 use Rattle.model_items.specs.Plain.{plain_list}
 use Rattle.model_edit.specs.Translate as model
 use Rattle.model_edit.specs.declared.selection.Selection.{Selection}

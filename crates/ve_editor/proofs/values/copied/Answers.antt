@@ -1,5 +1,4 @@
-use Rattle.std.proofs.Common.{◌≡◌, ◌++◌, ◌∷◌, ◌+◌, [], take, length, slice_get, Some, sym, ◌∙◌, ap}
-use Rattle.ve_base.specs.declared.value.Value.{Value}
+use Rattle.std.proofs.Common.{◌≡◌, ◌++◌, ◌∷◌, ◌+◌, [], length, slice_get, Some, sym, ◌∙◌, ap}
 use Rattle.ve_editor.proofs.GrownLemmas.{copied_more}
 use Rattle.ve_editor.proofs.values.copied.Goals as goal
 

@@ -1,4 +1,4 @@
-use Rattle.std.proofs.Common.{◌≡◌, ◌<◌, ℕ, length, Some, sym, ap, ◌∙◌, arith, rules, below_more}
+use Rattle.std.proofs.Common.{◌≡◌, length, Some, sym, ap, ◌∙◌, arith, rules, below_more}
 use Rattle.std.proofs.lemmas.Bool.{not-false}
 use denote.Enum.Bare.{same_true}
 use Rattle.ve_kinds.specs.contracts.kind.Kind.{the_type}

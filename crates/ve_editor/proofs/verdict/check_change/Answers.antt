@@ -1,4 +1,4 @@
-use Rattle.std.proofs.Common.{◌≡◌, ◌≤◌, ◌<◌, ◌+◌, length, drop, Ok, Err, Some, None, OnOk, IfErr, sym, ap, ◌∙◌, subst, arith}
+use Rattle.std.proofs.Common.{◌≡◌, ◌≤◌, ◌+◌, length, drop, Ok, Err, Some, None, OnOk, IfErr, sym, ap, ◌∙◌, subst, arith}
 use Rattle.ve_items.specs.Substitution.{spliced}
 use Rattle.ve_lawful.specs.Uncited.{after, verdict}
 use Rattle.ve_editor.specs.Rest.{rest_verdict}

@@ -1,5 +1,4 @@
-use Rattle.std.proofs.Common.{◌≡◌, ◌≤◌, ◌<◌, ◌+◌, ◌-◌, drop, length, Err, Some, sym, ap, ◌∙◌, arith}
-use Rattle.model_items.specs.Law as law
+use Rattle.std.proofs.Common.{◌≡◌, ◌≤◌, ◌+◌, ◌-◌, drop, length, Some, sym, ap, ◌∙◌, arith}
 use Rattle.ve_editor.specs.Rest.{rest_verdict}
 use Rattle.ve_editor.proofs.VerdictLemmas.{piece_offence, rest_on, rest_fails}
 use Rattle.ve_editor.proofs.verdict.may_end.Goals as goal

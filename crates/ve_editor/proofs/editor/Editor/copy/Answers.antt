@@ -1,8 +1,7 @@
-use Rattle.std.proofs.Common.{◌≡◌, ◌≤◌, ◌+◌, sym, ap, ◌∙◌, subst}
+use Rattle.std.proofs.Common.{◌≤◌, ◌+◌, ap, ◌∙◌, subst}
 use Rattle.model_items.specs.Plain.{plain_list}
 use Rattle.model_site.specs.Replica.{Replica}
 use Rattle.ve_tree.specs.TreeOf.{most_steps}
-use Rattle.ve_editor.specs.Page.{page_of}
 use Rattle.ve_editor.proofs.editor.Editor.copy.Goals as goal
 
 pub returns-clause-ok : goal.returns-clause-ok

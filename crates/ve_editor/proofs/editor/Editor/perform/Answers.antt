@@ -1,4 +1,4 @@
-use Rattle.std.proofs.Common.{◌≡◌, ◌≤◌, ◌+◌, [], ◌∷◌, None, sym, ap, ◌∙◌, subst}
+use Rattle.std.proofs.Common.{◌≤◌, ◌+◌, [], ◌∷◌, sym, ap, ◌∙◌, subst}
 use Rattle.model_change.specs.Transaction.{edited}
 use Rattle.model_site.specs.Entries.{entry_of}
 use Rattle.model_site.specs.Refused.{edit_cause}

@@ -1,0 +1,85 @@
+use Rattle.std.proofs.Common.{◌≡◌, ◌<◌, ◌+◌, ◌-◌, length, take, drop, sym, ap, ◌∙◌, subst, arith}
+use Rattle.model_items.specs.Law.{Lawful}
+use Rattle.model_change.specs.Fault.{Applies}
+use Rattle.model_change.specs.Inverse.{inverse}
+use Rattle.model_change.specs.Transaction.{edited}
+use Rattle.model_site.specs.Replica.{Replica, put_back, all_put_back}
+use Rattle.ve_tx.specs.Cites.{TxCites}
+use Rattle.ve_tx.specs.Operation.{by_value}
+use Rattle.ve_tx.proofs.ValuesLemmas.{extends_on}
+use Rattle.ve_editor.specs.Edited.{AllStand, reversal_over}
+use Rattle.ve_editor.proofs.BackLemmas.{left_over, made_more, extends_back}
+use Rattle.ve_editor.proofs.GrownLemmas.{by_value-extended, cites-extended}
+use Rattle.ve_editor.proofs.editor.Editor.put_all_back.Goals as goal
+
+pub put_back-requires-clause-cites : goal.put_back-requires-clause-cites
+put_back-requires-clause-cites g c =
+    let txs = c.args.txs.now in
+    let store = c.args.self.now.store in
+    let now = c.loop-n.self.store in
+    let tx = c.index-txs-txs.result in
+    let k = length txs - 1 - c.loop-n.n in
+    let more : c.loop-n.n < length txs = c.loop-n-test.true in
+    let below : k < length txs = omega (arith, more) in
+    let cites : TxCites store tx = subst (TxCites store) (sym c.index-txs-txs.is) (c.requires.cites k tx below) in
+    c.in_ok-back.ensures.cites now (cites-extended store now c.loop-n.invariant.extends tx cites)
+
+pub put_back-requires-clause-applies : goal.put_back-requires-clause-applies
+put_back-requires-clause-applies g c =
+    let txs = c.args.txs.now in
+    let store = c.args.self.now.store in
+    let now = c.loop-n.self.store in
+    let tx = c.index-txs-txs.result in
+    let k = length txs - 1 - c.loop-n.n in
+    let more : c.loop-n.n < length txs = c.loop-n-test.true in
+    let below : k < length txs = omega (arith, more) in
+    let cites : TxCites store tx = subst (TxCites store) (sym c.index-txs-txs.is) (c.requires.cites k tx below) in
+    let back : by_value now c.in_ok-back.back ≡ inverse (by_value store tx) = c.in_ok-back.ensures.inverse now ∙ ap inverse (by_value-extended store now c.loop-n.invariant.extends tx cites) in
+    let next : length txs - c.loop-n.n ≡ k + 1 = omega (arith, more) in
+    let left = subst (λ j. AllStand (reversal_over store (take j txs)) c.loop-n.self.items) next c.loop-n.invariant.left in
+    let stands = subst (λ l. AllStand l c.loop-n.self.items) (left_over store txs k tx below c.index-txs-txs.is) left in
+    subst (λ t. Applies t c.loop-n.self.items) (sym back) stands.0
+
+pub put_back-requires-clause-lawful : goal.put_back-requires-clause-lawful
+put_back-requires-clause-lawful g c =
+    let txs = c.args.txs.now in
+    let store = c.args.self.now.store in
+    let now = c.loop-n.self.store in
+    let tx = c.index-txs-txs.result in
+    let k = length txs - 1 - c.loop-n.n in
+    let more : c.loop-n.n < length txs = c.loop-n-test.true in
+    let below : k < length txs = omega (arith, more) in
+    let cites : TxCites store tx = subst (TxCites store) (sym c.index-txs-txs.is) (c.requires.cites k tx below) in
+    let back : by_value now c.in_ok-back.back ≡ inverse (by_value store tx) = c.in_ok-back.ensures.inverse now ∙ ap inverse (by_value-extended store now c.loop-n.invariant.extends tx cites) in
+    let next : length txs - c.loop-n.n ≡ k + 1 = omega (arith, more) in
+    let left = subst (λ j. AllStand (reversal_over store (take j txs)) c.loop-n.self.items) next c.loop-n.invariant.left in
+    let stands = subst (λ l. AllStand l c.loop-n.self.items) (left_over store txs k tx below c.index-txs-txs.is) left in
+    subst (λ t. Lawful (edited t c.loop-n.self.items)) (sym back) stands.1
+
+pub loop-n-preserved : goal.loop-n-preserved
+loop-n-preserved g c =
+    let txs = c.args.txs.now in
+    let store = c.args.self.now.store in
+    let old = c.loop-n.self in
+    let new = c.put_back.new.self in
+    let tx = c.index-txs-txs.result in
+    let k = length txs - 1 - c.loop-n.n in
+    let more : c.loop-n.n < length txs = c.loop-n-test.true in
+    let below : k < length txs = omega (arith, more) in
+    let cites : TxCites store tx = subst (TxCites store) (sym c.index-txs-txs.is) (c.requires.cites k tx below) in
+    let extends = c.loop-n.invariant.extends in
+    let back : by_value old.store c.in_ok-back.back ≡ inverse (by_value store tx) = c.in_ok-back.ensures.inverse old.store ∙ ap inverse (by_value-extended store old.store extends tx cites) in
+    let next : length txs - c.loop-n.n ≡ k + 1 = omega (arith, more) in
+    let last : k ≡ length txs - (c.loop-n.n + 1) = omega (arith, more) in
+    let left = subst (λ j. AllStand (reversal_over store (take j txs)) old.items) next c.loop-n.invariant.left in
+    let stands = subst (λ l. AllStand l old.items) (left_over store txs k tx below c.index-txs-txs.is) left in
+    let one : new ≡ put_back (inverse (by_value store tx)) old = c.in_ok-put_back.ensures.page ∙ ap (λ t. put_back t old) back in
+    record {
+      made = one ∙ ap (put_back (inverse (by_value store tx))) c.loop-n.invariant.made
+          ∙ ap (λ j. put_back (inverse (by_value store tx)) (all_put_back (reversal_over store (drop j txs)) c.args.self.now)) next
+          ∙ sym (made_more store txs k tx c.args.self.now below c.index-txs-txs.is)
+          ∙ ap (λ j. all_put_back (reversal_over store (drop j txs)) c.args.self.now) last;
+      extends = extends_on store old.store new.store extends (extends_back (inverse (by_value store tx)) old new one);
+      left = subst (λ l. AllStand (reversal_over store (take (length txs - (c.loop-n.n + 1)) txs)) l) (sym (ap (λ (r : Replica). r.items) one))
+          (subst (λ j. AllStand (reversal_over store (take j txs)) (edited (inverse (by_value store tx)) old.items)) last stands.2);
+    }

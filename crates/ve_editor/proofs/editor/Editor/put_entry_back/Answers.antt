@@ -1,0 +1,44 @@
+use Rattle.std.proofs.Common.{◌≡◌, List, All, OnOk, sym, ap, ◌∙◌, subst, arith}
+use Rattle.model_items.specs.Law.{Lawful}
+use Rattle.model_change.specs.Fault.{Applies}
+use Rattle.model_change.specs.Transaction.{edited}
+use Rattle.model_site.specs.Replica.{Replica, put_back, all_put_back}
+use Rattle.ve_tx.specs.Cites.{TxCites}
+use Rattle.ve_tx.specs.Operation.{Operation}
+use Rattle.ve_editor.specs.Edited.{AllStand, reversal_over}
+use Rattle.ve_editor.proofs.BackLemmas.{one_only}
+use Rattle.ve_editor.proofs.editor.Editor.put_entry_back.Goals as goal
+
+pub put_back-requires-clause-cites : goal.put_back-requires-clause-cites
+put_back-requires-clause-cites g c =
+    let store = c.args.self.now.store in
+    let is = one_only c.args.txs.now c.index-txs-0.result c.if-txs-eq1.true c.index-txs-0.is in
+    let P : List (List Operation) → Type 0 = All (TxCites store) in
+    c.in_ok-back.ensures.cites store (subst P is c.requires.cites 0 c.index-txs-0.result (omega arith))
+
+pub put_back-requires-clause-applies : goal.put_back-requires-clause-applies
+put_back-requires-clause-applies g c =
+    let r = c.args.self.now in
+    let is = one_only c.args.txs.now c.index-txs-0.result c.if-txs-eq1.true c.index-txs-0.is in
+    let stands = subst (λ l. AllStand (reversal_over r.store l) r.items) is c.requires.stands in
+    subst (λ t. Applies t r.items) (sym (c.in_ok-back.ensures.inverse r.store)) stands.0
+
+pub put_back-requires-clause-lawful : goal.put_back-requires-clause-lawful
+put_back-requires-clause-lawful g c =
+    let r = c.args.self.now in
+    let is = one_only c.args.txs.now c.index-txs-0.result c.if-txs-eq1.true c.index-txs-0.is in
+    let stands = subst (λ l. AllStand (reversal_over r.store l) r.items) is c.requires.stands in
+    subst (λ t. Lawful (edited t r.items)) (sym (c.in_ok-back.ensures.inverse r.store)) stands.1
+
+pub returns-then-txs-eq1-clause-page : goal.returns-then-txs-eq1-clause-page
+returns-then-txs-eq1-clause-page g c =
+    let r = c.args.self.now in
+    let is = one_only c.args.txs.now c.index-txs-0.result c.if-txs-eq1.true c.index-txs-0.is in
+    let e = ap (λ t. put_back t r) (c.in_ok-back.ensures.inverse r.store) ∙ ap (λ l. all_put_back (reversal_over r.store l) r) (sym is) in
+    subst (λ q. OnOk c.put_back.result (c.put_back.new.self ≡ q)) e c.put_back.ensures.page
+
+pub put_all_back-requires-clause-stands : goal.put_all_back-requires-clause-stands
+put_all_back-requires-clause-stands g c = subst (λ (r : Replica). AllStand (reversal_over r.store c.args.txs.now) r.items) (sym c.in_ok-copy.ensures.ok) c.requires.stands
+
+pub returns-clause-page : goal.returns-clause-page
+returns-clause-page g c = c.copy-2.view_is ∙ c.in_ok-put_all_back.ensures ∙ ap (λ (r : Replica). all_put_back (reversal_over r.store c.args.txs.now) r) c.in_ok-copy.ensures.ok
