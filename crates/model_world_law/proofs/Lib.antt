@@ -10,3 +10,5 @@ pub mod LinkLemmas
 pub mod ReachLemmas
 pub mod ShownLemmas
 pub mod ShownItemLemmas
+pub mod PastedLemmas
+pub mod PastedExamples

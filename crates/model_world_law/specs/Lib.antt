@@ -2,3 +2,4 @@ pub mod Fit
 pub mod Causes
 pub mod Reached
 pub mod ShownLaws
+pub mod Pasted

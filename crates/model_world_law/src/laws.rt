@@ -1,8 +1,11 @@
 // The laws of worlds, each on a function that does nothing.
 ghost use Rattle.model_world_law.specs.Fit.{LinesAreWritten, ChangesFit, MovesFit, PagesAreSound};
 ghost use Rattle.model_world_law.specs.Causes.{StoreFullIsFull, MovesFillStore};
+ghost use Rattle.model_world_law.specs.Pasted.{FragmentsAreChildren, PastingStaysLawful};
 ghost use Rattle.model_world_law.specs.ShownLaws.{ShownIsRead};
 ghost use Rattle.model_world_law.specs.Reached.{EveryWorldIsReached, EverySiteHolds, SitesMeet, UneditedIsWrittenBack};
+
+use model_edit_law::fragment_stays_lawful;
 
 /// A line that is read asks for operations in normal form, and for no opening with two attributes of one name. On a
 /// sound list, one that is lawful and has names apart, every change that was read gives a reduced transaction that puts
@@ -54,3 +57,12 @@ pub fn sites_meet()
 pub fn unedited_is_written_back()
     ensures { UneditedIsWrittenBack }
 {}
+
+/// The items of a fragment are children of some kind, whatever kinds are open. So pasting one leaves a lawful list lawful, unless nodes are then
+/// nested over 100 deep.
+pub fn pasting_stays_lawful()
+    ensures pieces { FragmentsAreChildren }
+    ensures lawful { PastingStaysLawful }
+{
+    fragment_stays_lawful();
+}

@@ -4,6 +4,7 @@
 //! - `Fit`: what a line that is read can ask, and that what it asks is what the layers below expect ([`layers_fit`]);
 //! - `ShownLaws`: items that a line can write, and that they are shown so that they are read back ([`shown_is_read`]);
 //! - `Causes`: when a refusal tells of a full store ([`store_full_is_full`]);
+//! - `Pasted`: what a fragment becomes stands together under some kind, so pasting keeps the law ([`pasting_stays_lawful`]);
 //! - `Reached`: which events make a world ([`every_world_is_reached`]), what each of its sites holds
 //!   ([`every_site_holds`]), when sites have one list ([`sites_meet`]), and when a page is written as it was opened
 //!   ([`unedited_is_written_back`]).
@@ -12,6 +13,6 @@
 mod laws;
 
 pub use laws::{
-    every_site_holds, every_world_is_reached, layers_fit, shown_is_read, sites_meet,
-    store_full_is_full, unedited_is_written_back,
+    every_site_holds, every_world_is_reached, layers_fit, pasting_stays_lawful, shown_is_read,
+    sites_meet, store_full_is_full, unedited_is_written_back,
 };
