@@ -227,8 +227,10 @@ fragments_are_children stack f = by (is_flow k && is_white (source_of parts))
   where
     parts : Parts
     parts = parts_of f
+
     k : Kind
     k = context_of parts stack
+
     by : (b : Bool) → AreOfSome (
         if b
         then Opening P empty_head [] [] None false ∷ map (λ c. Char c []) (chars (source_of parts)) ++ Closing P [] ∷ []
