@@ -80,7 +80,7 @@ at_contains : (values : List Value) (at : ℕ) (v : Value) → slice_get values 
 at_contains values at v h = (at, slice_get_within values at v h, get_or_from_slice_get values at v v h)
 
 -- what `insert_full` tells of a place that was seen, and of one that was not
-seen_keys : (places new : List ℕ) (p : ℕ) (is_new : Bool) → new ≡ insert_key nat_eq places p → is_new ≡ not (list_any (nat_eq p) places) → is_new ≡ false → new ≡ places
+pub seen_keys : (places new : List ℕ) (p : ℕ) (is_new : Bool) → new ≡ insert_key nat_eq places p → is_new ≡ not (list_any (nat_eq p) places) → is_new ≡ false → new ≡ places
 seen_keys places new p is_new keys added old =
     let there : list_any (nat_eq p) places ≡ true = by (list_any (nat_eq p) places) (sym added ∙ old) in
     keys ∙ ap (λ b. if b then places else places ++ p ∷ []) there

@@ -5,6 +5,7 @@ pub mod EndsLemmas
 pub mod CopiesLemmas
 pub mod AlikeLemmas
 pub mod RecitedLemmas
+pub mod TakenLemmas
 pub mod AttrsLemmas
 pub mod CheckLemmas
 pub mod FaultLemmas

@@ -21,6 +21,7 @@ pub mod Cites
 pub mod Ends
 pub mod Parcel
 pub mod Copied
+pub mod Taken
 pub mod Checked
 pub mod Attrs
 pub mod Making

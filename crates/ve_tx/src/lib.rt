@@ -9,7 +9,8 @@
 //! - `inverse` (specs/Turned.antt), `filled` (specs/Filled.antt), `with_ends` (specs/Ends.antt) and `active_range`
 //!   (specs/Range.antt) make other transactions of one, as the model does.
 //! - `Entry` is transactions that are undone together (specs/Entry.antt). `Parcel` is an entry over its own values, to be
-//!   sent (specs/Parcel.antt). `Draft` is a transaction with values that no store has yet.
+//!   sent (specs/Parcel.antt); `recite` is the way back into a store (specs/Taken.antt). `Draft` is a transaction with
+//!   values that no store has yet.
 //!
 //! The laws are clauses of these calls: `undone` of `inverse`, `restorable` of `filled`, `applied` of `apply`. The tests stand
 //! in ve_tx_samples.
@@ -31,6 +32,7 @@ mod op;
 mod parcel;
 mod range;
 mod same;
+mod taken;
 mod transaction;
 
 pub use change::Change;

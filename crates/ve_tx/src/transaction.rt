@@ -3,14 +3,15 @@ ghost use Rattle.std.specs.Prelude.{◌≡◌, ◌≤◌, ◌+◌, All, length, 
 ghost use Rattle.model_items.specs.Plain.{plain_list, CitesWell};
 ghost use Rattle.model_change.specs.Inverse.{inverse};
 ghost use Rattle.model_change.specs.Join.{active_range, core, with_ends};
-ghost use Rattle.model_change.specs.Store.{fill};
-ghost use Rattle.model_change.specs.Transaction.{is_normal};
+ghost use Rattle.model_change.specs.Store.{cited, fill};
+ghost use Rattle.model_change.specs.Transaction.{all_inserted, is_normal};
 ghost use Rattle.ve_tx.specs.Applied.{AppliesTo, IsOverActive, IsRestorableOn, Undoes, applied_to, fault_on, filled_on, plain_after, store_after};
 ghost use Rattle.ve_tx.specs.Changed.{IsRefusal};
 ghost use Rattle.ve_tx.specs.Cites.{TxCites};
 ghost use Rattle.ve_tx.specs.Copied.{AreCopied, TransactionsAlike};
 ghost use Rattle.ve_tx.specs.Operation.{unkept, bare, by_value};
 ghost use Rattle.ve_tx.specs.Parcel.{transaction_cited_in};
+ghost use Rattle.ve_tx.specs.Taken.{HasRemoved};
 
 use crate::change::prepared;
 use crate::check::check;
@@ -20,11 +21,12 @@ use crate::filled::filled;
 use crate::inverse::inverted;
 use crate::normal::is_normal;
 use crate::range::range_of;
+use crate::taken::Taken;
 use crate::{Change, Op, OpList};
 use model_change::TxFault;
 use std::alloc::Global;
 use std::marker::Model;
-use ve_base::{ListOf, Memory, TryCopy};
+use ve_base::{ListOf, Memory, TryCopy, Value};
 use ve_items::Linear;
 use ve_store::Store;
 
@@ -102,6 +104,43 @@ impl Transaction {
             ops: made.ops,
             kept: made.kept,
         })
+    }
+
+    /// The same transaction, citing a store in place of the list of values that it cites: the way back of a parcel's. All
+    /// positions are kept. The store takes each value that it lacks when it is first cited, in one operation by the items
+    /// removed and then by those inserted; so where it has what the removed items cite, as it does where the transaction
+    /// applies to a list that cites it, the values inserted fill it. An `Err` changes nothing.
+    pub fn recite(
+        &self,
+        alloc: Global,
+        values: &[Value],
+        store: &mut Store,
+    ) -> Result<Transaction, Memory>
+        requires cites { TxCites values.now self.now }
+        ensures same { IfOk result (λ tx. by_value store.new tx ≡ by_value values.now self.now) }
+        ensures cites { IfOk result (TxCites store.new) }
+        ensures filled { OnOk result (store.new ≡ fill store.old (transaction_cited_in values.now self.now)) }
+        ensures inserted { OnOk result (HasRemoved values.now store.old self.now → store.new ≡ fill store.old (cited (all_inserted (by_value values.now self.now)))) }
+        ensures kept { OnErr result (store.new ≡ store.old) }
+    {
+        let before = store.len();
+        let mut taken = Taken::new(alloc);
+        match taken.ops(
+            alloc,
+            values,
+            store,
+            self.ops.as_slice(),
+            self.kept.as_slice(),
+        ) {
+            Ok(made) => Ok(Transaction {
+                ops: made.ops,
+                kept: made.kept,
+            }),
+            Err(Memory) => {
+                store.truncate(before);
+                Err(Memory)
+            }
+        }
     }
 
     /// What undoes it: removed and inserted change places, and so do the old and the new value of each attribute; the
