@@ -22,13 +22,6 @@ pub struct Join {
     pub second_closing: usize,
 }
 
-/// Whether two kinds are one.
-pub fn is_same(one: Kind, other: Kind) -> bool
-    ensures { result ≡ table.kind_same one other }
-{
-    one == other
-}
-
 fn are_content(first: Kind, second: Kind) -> bool
     ensures { result ≡ (table.is_content_branch first && table.is_content_branch second) }
 {

@@ -11,11 +11,11 @@ ghost use Rattle.ve_build_remove.specs.Joined.{join_of, edits_between};
 ghost use Rattle.ve_edits.specs.Collected.{IsTransactionOf, CitesAsItems};
 ghost use Rattle.ve_edits.specs.Refused.{IsRefusal};
 
-use crate::join::{Join, is_same, join_at};
+use crate::join::{Join, join_at};
 use model_edit::BuildFault;
 use std::alloc::Global;
 use ve_base::Memory;
-use ve_edits::{Edits, has_internal, is_bad_span, is_unmatched};
+use ve_edits::{Edits, has_internal, is_bad_span, is_unmatched, same_kind};
 use ve_items::Item;
 use ve_offsets::Doc;
 use ve_tx::Transaction;
@@ -82,7 +82,7 @@ fn joined(
 {
     let mut edits = Edits::new(alloc);
     edits.change(doc.list, from, to - from, &[])?;
-    if is_same(join.first, join.second) {
+    if same_kind(join.first, join.second) {
         let tx = edits.transaction(doc.list)?;
         return Ok(tx);
     }

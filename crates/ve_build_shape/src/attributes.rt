@@ -12,15 +12,14 @@ ghost use Rattle.ve_tx.specs.Operation.{by_value};
 ghost use Rattle.ve_edits.specs.Refused.{IsRefusal};
 ghost use Rattle.ve_build_shape.specs.Setting.{attribute_spelled, begins_element, value_spelled, retain_ops, setting_ops, IsSetting, MaySetAt};
 
-use crate::remark::is_reserved;
 use model_edit::BuildFault;
 use std::alloc::Global;
-use ve_base::{Attr, Memory, Same, Text, TryCopy, Value, ValueId};
+use ve_base::{Attr, Memory, Text, TryCopy, ValueId};
 use ve_items::Item;
 use ve_kinds::is_element;
 use ve_offsets::Doc;
 use ve_store::Store;
-use ve_tx::{Op, OpList, Transaction};
+use ve_tx::{Op, OpList, Transaction, attrs_of, is_reserved, same_text};
 
 /// Whether the item opens an element.
 fn opens_element(item: Item) -> bool
@@ -42,26 +41,6 @@ fn begins_element(doc: Doc<'_>, at: usize) -> bool
         return false;
     }
     opens_element(doc.list.get(at))
-}
-
-/// The attributes of the head that is cited.
-fn attrs_of(store: &Store, head: Option<ValueId>) -> &[Attr]
-    requires { CitesHead store.now head }
-    ensures { result.now ≡ (head_in (value_at store.now head)).attrs }
-{
-    let Some(id) = head else {
-        return &[];
-    };
-    match store.get(id) {
-        Value::Head(head) => head.attrs.as_slice(),
-        Value::White(_) | Value::Marks(_) => &[],
-    }
-}
-
-fn same_text(one: &Text, other: &Text) -> bool
-    ensures { result ≡ text_same one.now other.now }
-{
-    one.same(other)
 }
 
 /// The value of the attribute of this name.

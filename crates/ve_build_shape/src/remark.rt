@@ -13,10 +13,11 @@ ghost use Rattle.ve_build_shape.specs.Remarked as spec;
 ghost use Rattle.ve_build_shape.specs.Remarked.{marks_after, CitesItsMarks, HasMarks, IsMarksFilled, IsItemFilled};
 
 use std::alloc::Global;
-use ve_base::{Attr, MAX_MARKS, Mark, Memory, Same, Text, Value, ValueId};
+use ve_base::{Attr, MAX_MARKS, Mark, Memory, Text, Value, ValueId};
 use ve_items::Item;
 use ve_kinds::{is_annotation_tag, is_inline_leaf};
-use ve_store::{NewValues, Store, with_mark, without_mark};
+use ve_store::{NewValues, Store, has_mark, with_mark, without_mark};
+use ve_tx::is_reserved;
 
 /// What is done with a mark.
 #[derive(Clone, Copy)]
@@ -31,13 +32,6 @@ fn is_annotation(tag: &Text) -> bool
     is_annotation_tag(tag.as_str())
 }
 
-/// Names that say what an element is, and are not set like others.
-pub fn is_reserved(name: &Text) -> bool
-    ensures { result ≡ attributes.is_reserved name.now }
-{
-    name.is("about") || name.is("typeof")
-}
-
 fn has_reserved(attrs: &[Attr]) -> bool
     ensures { result ≡ list_any (λ attr. attributes.is_reserved attr.name) attrs.now }
 {
@@ -50,18 +44,6 @@ pub fn is_bad_mark(mark: &Mark) -> bool
     ensures { result ≡ model.is_bad_mark mark.now }
 {
     !is_annotation(&mark.tag) || has_reserved(mark.attrs.as_slice())
-}
-
-fn same_mark(one: &Mark, other: &Mark) -> bool
-    ensures { result ≡ mark_same one.now other.now }
-{
-    one.same(other)
-}
-
-fn has_mark(marks: &[Mark], mark: &Mark) -> bool
-    ensures { result ≡ list_any (mark_same mark.now) marks.now }
-{
-    marks.iter().any(|one| same_mark(mark, one))
 }
 
 /// The marks that are cited.

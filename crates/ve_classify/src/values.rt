@@ -38,7 +38,8 @@ pub fn is_held(attrs: AttrTokens<'_>) -> bool
     spelled_value(attrs, "about").is_some() || has_type(attrs, TypeTest::Held)
 }
 
-fn is_white(text: &str) -> bool
+/// Whether a text is of whitespace alone.
+pub fn is_white(text: &str) -> bool
     ensures { result ≡ page.is_white text.now }
 {
     text.as_bytes().iter().all(|b| is_white_byte(*b))

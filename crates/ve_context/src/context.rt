@@ -9,19 +9,11 @@ ghost use Rattle.ve_classify.specs.Standing.{LeadsOn};
 ghost use Rattle.ve_classify.specs.Fits.{OfSiblings};
 ghost use Rattle.ve_context.specs.Context as spec;
 
-use ve_classify::{is_held, is_white_text};
+use ve_classify::{is_held, is_white, is_white_text};
 use ve_html_scan::Token;
 use ve_html_tree::Forest;
 use ve_kinds::{Kind, is_content_branch, is_flow, is_inline_tag, kind_of_tag, may_hold};
 use ve_lawful::State;
-
-fn is_white(text: &str) -> bool
-    ensures { result ≡ page.is_white text.now }
-{
-    text.as_bytes()
-        .iter()
-        .all(|b| *b == b'\t' || *b == b'\n' || *b == 0x0c || *b == b' ')
-}
 
 fn may_hold_tag(kind: Kind, name: &str) -> bool
     ensures { result ≡ fragment.may_hold_tag kind name.now }

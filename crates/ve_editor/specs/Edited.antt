@@ -55,6 +55,6 @@ abbrev pub IsUncited : Entry → ℕ → Replica → Type 0
 IsUncited e was r =
     was ≡ e.store_after → e.store_before < e.store_after → (v : Value) → Contains (cited r.items) v → Contains (take e.store_before r.store) v
 
--- So does the list that taking the entry back leaves.
+-- The list that taking the entry back leaves cites none of the values that are then cut off.
 abbrev pub CutsUncited : Entry → Replica → Type 0
 CutsUncited e r = IsUncited e (length r.store) (all_put_back (reversal e.txs) r)

@@ -1,5 +1,6 @@
 // The other bracket of a node, and the node round an offset, by the tree.
 ghost use Rattle.std.specs.Prelude.{◌≡◌, ◌≤◌, ◌<◌, [], ◌&&◌, not, nat_le, nat_lt, length};
+ghost use Rattle.ve_kinds.specs.Table.{kind_same};
 ghost use Rattle.model_items.specs.Plain.{plain_list};
 ghost use Rattle.model_items.specs.Tree.{node_at};
 ghost use Rattle.model_items.specs.Offsets as model;
@@ -8,7 +9,15 @@ ghost use Rattle.ve_offsets.specs.Docs.{IsDoc};
 ghost use Rattle.ve_tree.specs.IsTree.{unvalued};
 
 use ve_items::Item;
+use ve_kinds::Kind;
 use ve_offsets::Doc;
+
+/// Whether two kinds are one.
+pub fn same_kind(one: Kind, other: Kind) -> bool
+    ensures { result ≡ kind_same one other }
+{
+    one == other
+}
 
 /// Where the innermost node round an offset begins, and just past where it ends; for the root 0 and the length.
 pub fn range_round(doc: Doc<'_>, o: usize) -> (usize, usize)

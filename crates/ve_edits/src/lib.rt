@@ -21,7 +21,7 @@ mod spans;
 #[cfg(test)]
 mod tests;
 
-pub use brackets::{is_unmatched, opening_round, partner, range_round};
+pub use brackets::{is_unmatched, opening_round, partner, range_round, same_kind};
 pub use copies::copy_of;
 pub use edits::Edits;
 pub use laws::values_may_grow;

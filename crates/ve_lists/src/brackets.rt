@@ -6,11 +6,10 @@ ghost use Rattle.model_items.specs.Offsets as offsets;
 ghost use Rattle.model_edit.specs.Brackets.{is_opening_of, is_closing_of};
 ghost use Rattle.model_edit.specs.Lists.{passes_before};
 ghost use Rattle.model_edit.specs.Lists as model;
-ghost use Rattle.ve_kinds.specs.Table as table;
 ghost use Rattle.ve_offsets.specs.Docs.{IsDoc};
 ghost use Rattle.ve_lists.specs.Moved.{open_of, nested_in};
 
-use ve_edits::opening_round;
+use ve_edits::{opening_round, same_kind};
 use ve_items::Item;
 use ve_kinds::Kind;
 use ve_offsets::{Doc, state_at};
@@ -22,13 +21,6 @@ pub struct ListStart {
     pub from: usize,
 }
 
-/// Whether two kinds are one.
-fn is_same(one: Kind, other: Kind) -> bool
-    ensures { result ≡ table.kind_same one other }
-{
-    one == other
-}
-
 /// Whether the item opens a node of the kind.
 fn opens(item: Item, kind: Kind) -> bool
     ensures { (values : _) → result ≡ is_opening_of kind (plain values item) }
@@ -36,7 +28,7 @@ fn opens(item: Item, kind: Kind) -> bool
     match item {
         Item::Char { .. } => false,
         Item::Closing { .. } => false,
-        Item::Opening { kind: opened, .. } => is_same(opened, kind),
+        Item::Opening { kind: opened, .. } => same_kind(opened, kind),
     }
 }
 
@@ -47,7 +39,7 @@ fn closes(item: Item, kind: Kind) -> bool
     match item {
         Item::Char { .. } => false,
         Item::Opening { .. } => false,
-        Item::Closing { kind: closed, .. } => is_same(closed, kind),
+        Item::Closing { kind: closed, .. } => same_kind(closed, kind),
     }
 }
 
@@ -106,7 +98,7 @@ pub fn nested_list(doc: Doc<'_>, o: usize) -> Option<ListStart>
         return None;
     }
     let from = opening_round(doc, o);
-    if !is_same(state.kind(1), Kind::Li) {
+    if !same_kind(state.kind(1), Kind::Li) {
         return None;
     }
     Some(ListStart {

@@ -31,76 +31,77 @@ struct Case {
     joined: Result<&'static str, RebaseFault>,
 }
 
-fn conflict(a_range: (usize, usize), b_range: (usize, usize)) -> Result<&'static str, RebaseFault> {
-    Err(RebaseFault::Conflict { a_range, b_range })
-}
-
-fn cases() -> [Case; 10] {
-    [
-        Case {
-            change: "2 +x 8",
-            makes: "<p>axb</p><p>cd</p>",
-            other: "6 +y 4",
-            joined: Ok("<p>axb</p><p>cyd</p>"),
-        },
-        // at one place the first comes first
-        Case {
-            change: "2 +x 8",
-            makes: "<p>axb</p><p>cd</p>",
-            other: "2 +y 8",
-            joined: Ok("<p>axyb</p><p>cd</p>"),
-        },
-        Case {
-            change: "5 -cd+x 3",
-            makes: "<p>ab</p><p>x</p>",
-            other: "1 -ab 7",
-            joined: Ok("<p></p><p>x</p>"),
-        },
-        Case {
-            change: "3 -</p><p> 5",
-            makes: "<p>abcd</p>",
-            other: "1 +x 9",
-            joined: Ok("<p>xabcd</p>"),
-        },
-        Case {
-            change: "2 +</p><p> 8",
-            makes: "<p>a</p><p>b</p><p>cd</p>",
-            other: "6 -d 3",
-            joined: Ok("<p>a</p><p>b</p><p>c</p>"),
-        },
-        Case {
-            change: "1 -ab 7",
-            makes: "<p></p><p>cd</p>",
-            other: "2 +x 8",
-            joined: conflict((1, 3), (2, 2)),
-        },
-        Case {
-            change: "id:>x 10",
-            makes: "<p id=\"x\">ab</p><p>cd</p>",
-            other: "4 class:>y 6",
-            joined: Ok("<p id=\"x\">ab</p><p class=\"y\">cd</p>"),
-        },
-        // both put an attribute after the last one
-        Case {
-            change: "id:>x 10",
-            makes: "<p id=\"x\">ab</p><p>cd</p>",
-            other: "class:>y 10",
-            joined: conflict((0, 1), (0, 1)),
-        },
-        Case {
-            change: "id:>x 10",
-            makes: "<p id=\"x\">ab</p><p>cd</p>",
-            other: "1 -a+z 8",
-            joined: Ok("<p id=\"x\">zb</p><p>cd</p>"),
-        },
-        Case {
-            change: "10",
-            makes: PAGE,
-            other: "1 -a 8",
-            joined: Ok("<p>b</p><p>cd</p>"),
-        },
-    ]
-}
+/// What pairs of changes of the page make.
+const CASES: [Case; 10] = [
+    Case {
+        change: "2 +x 8",
+        makes: "<p>axb</p><p>cd</p>",
+        other: "6 +y 4",
+        joined: Ok("<p>axb</p><p>cyd</p>"),
+    },
+    // at one place the first comes first
+    Case {
+        change: "2 +x 8",
+        makes: "<p>axb</p><p>cd</p>",
+        other: "2 +y 8",
+        joined: Ok("<p>axyb</p><p>cd</p>"),
+    },
+    Case {
+        change: "5 -cd+x 3",
+        makes: "<p>ab</p><p>x</p>",
+        other: "1 -ab 7",
+        joined: Ok("<p></p><p>x</p>"),
+    },
+    Case {
+        change: "3 -</p><p> 5",
+        makes: "<p>abcd</p>",
+        other: "1 +x 9",
+        joined: Ok("<p>xabcd</p>"),
+    },
+    Case {
+        change: "2 +</p><p> 8",
+        makes: "<p>a</p><p>b</p><p>cd</p>",
+        other: "6 -d 3",
+        joined: Ok("<p>a</p><p>b</p><p>c</p>"),
+    },
+    Case {
+        change: "1 -ab 7",
+        makes: "<p></p><p>cd</p>",
+        other: "2 +x 8",
+        joined: Err(RebaseFault::Conflict {
+            a_range: (1, 3),
+            b_range: (2, 2),
+        }),
+    },
+    Case {
+        change: "id:>x 10",
+        makes: "<p id=\"x\">ab</p><p>cd</p>",
+        other: "4 class:>y 6",
+        joined: Ok("<p id=\"x\">ab</p><p class=\"y\">cd</p>"),
+    },
+    // both put an attribute after the last one
+    Case {
+        change: "id:>x 10",
+        makes: "<p id=\"x\">ab</p><p>cd</p>",
+        other: "class:>y 10",
+        joined: Err(RebaseFault::Conflict {
+            a_range: (0, 1),
+            b_range: (0, 1),
+        }),
+    },
+    Case {
+        change: "id:>x 10",
+        makes: "<p id=\"x\">ab</p><p>cd</p>",
+        other: "1 -a+z 8",
+        joined: Ok("<p id=\"x\">zb</p><p>cd</p>"),
+    },
+    Case {
+        change: "10",
+        makes: PAGE,
+        other: "1 -a 8",
+        joined: Ok("<p>b</p><p>cd</p>"),
+    },
+];
 
 /// Finds the list lawful, and builds its tree.
 fn rebuild<L: Ledger>(rt: &HostRuntime, blank: Blank, list: &Linear) -> Result<(), Fail>
@@ -193,9 +194,9 @@ fn is_joined(alloc: Global, case: &Case) -> Result<bool, Fail> {
 
 #[test]
 fn changes_are_applied_undone_rebuilt_and_joined(rt: HostRuntime) -> Result<(), Fail> {
-    for case in cases() {
-        let done = is_done_and_undone::<Brand>(&rt, Blank::new(1), &case)?;
-        let joined = is_joined(rt.alloc(), &case)?;
+    for case in CASES.iter() {
+        let done = is_done_and_undone::<Brand>(&rt, Blank::new(1), case)?;
+        let joined = is_joined(rt.alloc(), case)?;
         assert!(rt; done && joined, "{} with {}", case.change, case.other);
     }
     Ok(())

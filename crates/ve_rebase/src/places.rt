@@ -6,20 +6,14 @@ ghost use Rattle.model_change.specs.Join.{meets_one, some_meet};
 ghost use Rattle.ve_tx.specs.Normal.{total_size};
 ghost use Rattle.ve_rebase.specs.Places.{passes, places, placed, change_of, meets_first, ahead, AllFrom, SkipsNone, TellsMeeting, TellsPassing};
 
-use ve_base::{Same, Text};
-use ve_tx::Op;
+use ve_base::Text;
+use ve_tx::{Op, same_text};
 
 /// How many operations are passed, and the place in the old list after them.
 #[derive(Clone, Copy)]
 struct Cursor {
     passed: usize,
     at: usize,
-}
-
-fn same_text(one: &Text, other: &Text) -> bool
-    ensures { result ≡ text_same one.now other.now }
-{
-    one.same(other)
 }
 
 fn passes(op: &Op) -> usize

@@ -1,4 +1,5 @@
 pub mod Run
 pub mod Status
+pub mod Ended
 pub use Rattle.model_script.specs.Lines
 pub use Rattle.model_script.specs.Output

@@ -6,8 +6,9 @@
 //! definitions, in reading order:
 //!
 //! - `Run`: what a run changes, at one moment (`Scene`); what was answered; and how a run ends (`Ran`, `Stopped`, `Broke`,
-//!   `Starved`, `WrotePrefix`), which the clauses of `run` cite;
-//! - `Status`: the words that a run is asked for by, the usage line, and the number of a status.
+//!   `Starved`, `WrotePrefix`);
+//! - `Status`: the words that a run is asked for by, the usage line, and the number of a status;
+//! - `Ended`: what a run has done, by the status that it ended with, which `run` promises.
 #![tactic(auto)]
 
 mod answer;

@@ -176,90 +176,92 @@ fn ran_with<L: Ledger>(
     })
 }
 
+/// Scripts of three lines and neighbours of them, whole and broken off.
+const CASES: [Case; 13] = [
+    USUAL,
+    // one byte a read, and pieces of odd sizes
+    Case {
+        cuts: &[1, 1, 1, 1, 1, 1],
+        ..USUAL
+    },
+    Case {
+        cuts: &[3, 1, 2],
+        ..USUAL
+    },
+    // a last line without a newline, an empty one, and one with a carriage return
+    Case {
+        script: b"a\nb\nc",
+        cuts: &[5],
+        ..USUAL
+    },
+    Case {
+        script: b"\n\n\r",
+        ..USUAL
+    },
+    Case {
+        script: b"",
+        written: b"",
+        answered: 0,
+        ..USUAL
+    },
+    // what had ended is answered, and what hadn't isn't
+    Case {
+        read: Some(0),
+        status: Status::ReadFault,
+        written: b"",
+        answered: 0,
+        ..USUAL
+    },
+    Case {
+        cuts: &[2],
+        read: Some(1),
+        status: Status::ReadFault,
+        written: b"ok 1\n",
+        answered: 1,
+        ..USUAL
+    },
+    Case {
+        cuts: &[3],
+        read: Some(1),
+        status: Status::ReadFault,
+        written: b"ok 1\n",
+        answered: 1,
+        ..USUAL
+    },
+    Case {
+        room: 7,
+        status: Status::WriteFault,
+        written: b"ok 1\nok",
+        answered: 2,
+        ..USUAL
+    },
+    Case {
+        most: 1,
+        status: Status::Memory,
+        written: b"ok 1\n",
+        answered: 1,
+        ..USUAL
+    },
+    Case {
+        words: &[],
+        status: Status::Usage,
+        written: b"usage: vemodel run | make | soak [--start N] [--edits N]\n",
+        answered: 0,
+        ..USUAL
+    },
+    Case {
+        words: &["run", "run"],
+        room: 5,
+        status: Status::WriteFault,
+        written: b"usage",
+        answered: 0,
+        ..USUAL
+    },
+];
+
 #[test]
 fn every_line_is_answered_in_turn(rt: HostRuntime) -> Result<(), Fail> {
-    let cases = [
-        USUAL,
-        // one byte a read, and pieces of odd sizes
-        Case {
-            cuts: &[1, 1, 1, 1, 1, 1],
-            ..USUAL
-        },
-        Case {
-            cuts: &[3, 1, 2],
-            ..USUAL
-        },
-        // a last line without a newline, an empty one, and one with a carriage return
-        Case {
-            script: b"a\nb\nc",
-            cuts: &[5],
-            ..USUAL
-        },
-        Case {
-            script: b"\n\n\r",
-            ..USUAL
-        },
-        Case {
-            script: b"",
-            written: b"",
-            answered: 0,
-            ..USUAL
-        },
-        // what had ended is answered, and what hadn't isn't
-        Case {
-            read: Some(0),
-            status: Status::ReadFault,
-            written: b"",
-            answered: 0,
-            ..USUAL
-        },
-        Case {
-            cuts: &[2],
-            read: Some(1),
-            status: Status::ReadFault,
-            written: b"ok 1\n",
-            answered: 1,
-            ..USUAL
-        },
-        Case {
-            cuts: &[3],
-            read: Some(1),
-            status: Status::ReadFault,
-            written: b"ok 1\n",
-            answered: 1,
-            ..USUAL
-        },
-        Case {
-            room: 7,
-            status: Status::WriteFault,
-            written: b"ok 1\nok",
-            answered: 2,
-            ..USUAL
-        },
-        Case {
-            most: 1,
-            status: Status::Memory,
-            written: b"ok 1\n",
-            answered: 1,
-            ..USUAL
-        },
-        Case {
-            words: &[],
-            status: Status::Usage,
-            written: b"usage: vemodel run | make | soak [--start N] [--edits N]\n",
-            answered: 0,
-            ..USUAL
-        },
-        Case {
-            words: &["run", "run"],
-            room: 5,
-            status: Status::WriteFault,
-            written: b"usage",
-            answered: 0,
-            ..USUAL
-        },
-    ];
-    for (number, case) in cases.iter().enumerate() {
+    for (number, case) in CASES.iter().enumerate() {
         for drips in [false, true] {
             let outcome = ran_with::<Brand>(&rt, Blank::new(1), case, drips)?;
             assert_eq!(rt; outcome.written.as_slice(), case.written, "case {number}");

@@ -1,12 +1,11 @@
 // The top call.
-ghost use Rattle.std.specs.Prelude.{◌≡◌, ◌≤◌, ◌<◌, ◌⊎◌, ◌↔◌, ◌∷◌, [], Some, ℕ, length, IsTrue, IfSome, IsSomeAnd};
+ghost use Rattle.std.specs.Prelude.{◌≡◌, ◌≤◌, ◌⊎◌, ◌↔◌, [], Some, IsTrue, IfSome};
 ghost use Rattle.std.specs.Io.KnownBytes.{Appends};
-ghost use Rattle.ve_base.specs.Limits.{max_script};
-ghost use Rattle.ve_base.specs.Outside.{Rose};
 ghost use Rattle.model_script.specs.Lines.{lines_of};
 ghost use Rattle.model_script.specs.Output.{output, state_after};
 ghost use Rattle.ve_json.specs.Spelled.{spelled};
-ghost use Rattle.ve_run.specs.Run.{scene, AppendsPrefix, Ran, Stopped, Broke, Starved, WrotePrefix, NoFaults};
+ghost use Rattle.ve_run.specs.Ended.{moment, Ended, EndsByLength};
+ghost use Rattle.ve_run.specs.Run.{scene, AppendsPrefix, WrotePrefix, NoFaults};
 ghost use Rattle.ve_run.specs.Status.{IsRun, usage_line};
 
 use crate::answer::write_all;
@@ -42,44 +41,21 @@ pub fn run<S: Source, K: Sink, M: Machine, L: Ledger>(
         Appends (K.held sink.old) (K.held sink.new) (output spelled M.meaning world.old script)
         × (S.left source.new ≡ Some [])
         × (world.new ≡ state_after M.meaning world.old (lines_of script))) }
-    // The same where the source doesn't tell its bytes: some bytes were taken, and it is at its end.
-    ensures done { result ≡ Status.Done → IsRun words.now
-        × Ran M.meaning (S.left source.old) (S.left source.new)
-        (scene world.old steps.old (K.held sink.old)) (scene world.new steps.new (K.held sink.new)) }
-
-    // The machine stands after the lines that were answered: all that had ended when the source failed.
-    ensures read_fault { result ≡ Status.ReadFault → IsRun words.now
-        × Rose (S.faults source.old) (S.faults source.new)
-        × Stopped M.meaning (S.left source.old) (S.left source.new)
-        (scene world.old steps.old (K.held sink.old)) (scene world.new steps.new (K.held sink.new)) [] }
-    // The same, where as many bytes as a script may have and one more were taken: all lines that end before that one.
-    ensures too_long { result ≡ Status.InputTooLong → IsRun words.now
-        × ((extra : ℕ) × Stopped M.meaning (S.left source.old) (S.left source.new)
-        (scene world.old steps.old (K.held sink.old)) (scene world.new steps.new (K.held sink.new)) (extra ∷ [])) }
-    // The machine stands after the lines whose replies were written and the one whose reply was not, or not whole.
-    ensures write_fault { result ≡ Status.WriteFault → Rose (K.faults sink.old) (K.faults sink.new)
-        × (IsRun words.now → Broke M.meaning (S.left source.old) (S.left source.new)
-        (scene world.old steps.old (K.held sink.old)) (scene world.new steps.new (K.held sink.new))) }
-    ensures memory { result ≡ Status.Memory → IsRun words.now
-        × Starved M.meaning (S.left source.old) (S.left source.new)
-        (scene world.old steps.old (K.held sink.old)) (scene world.new steps.new (K.held sink.new)) }
+    // At each status, also where the source doesn't tell its bytes.
+    ensures ended { Ended M.meaning words.now
+        (moment (scene world.old steps.old (K.held sink.old)) (S.left source.old) (S.faults source.old) (K.faults sink.old))
+        (moment (scene world.new steps.new (K.held sink.new)) (S.left source.new) (S.faults source.new) (K.faults sink.new)) result }
     // At every status what was written is a prefix of the output of the bytes taken.
     ensures prefix { IsRun words.now → WrotePrefix M.meaning (S.left source.old) (S.left source.new)
         (scene world.old steps.old (K.held sink.old)) (scene world.new steps.new (K.held sink.new)) }
 
-    ensures usage { result ≡ Status.Usage → (IsRun words.now → ⊥) × Appends (K.held sink.old) (K.held sink.new) usage_line }
     ensures other_words { (IsRun words.now → ⊥) → (result ≡ Status.Usage) ⊎ (result ≡ Status.WriteFault) }
     ensures untouched { (IsRun words.now → ⊥) → (source.new ≡ source.old) × (world.new ≡ world.old) × (steps.new ≡ steps.old)
         × AppendsPrefix (K.held sink.old) (K.held sink.new) usage_line }
-    ensures no_help { result ≡ Status.Help → ⊥ }
 
     // It doesn't give up by itself.
     ensures complete { IsRun words.now → NoFaults (S.faults source.old) (S.faults source.new) (K.faults sink.old) (K.faults sink.new)
-        → IsSomeAnd (S.left source.old) (λ script. length script ≤ max_script)
-        → (result ≡ Status.Done) ⊎ (result ≡ Status.Memory) }
-    ensures complete_past_limit { IsRun words.now → NoFaults (S.faults source.old) (S.faults source.new) (K.faults sink.old) (K.faults sink.new)
-        → IsSomeAnd (S.left source.old) (λ script. max_script < length script)
-        → (result ≡ Status.InputTooLong) ⊎ (result ≡ Status.Memory) }
+        → IfSome (S.left source.old) (λ script. EndsByLength script result) }
     ensures source_later { S.faults source.old ≤ S.faults source.new }
     ensures sink_later { K.faults sink.old ≤ K.faults sink.new }
     ensures counted { steps.old ≤ steps.new }

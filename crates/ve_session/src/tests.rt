@@ -84,77 +84,79 @@ fn ran<L: Ledger>(rt: &HostRuntime, blank: Blank, case: &Case) -> Result<(Status
     Ok((status, written))
 }
 
+/// Scripts on a page of one paragraph, whole and broken off.
+const CASES: [Case; 12] = [
+    USUAL,
+    Case {
+        cuts: &[1, 1, 1, 5, 31, 1, 1],
+        ..USUAL
+    },
+    // the last line has no newline
+    Case {
+        script: b"{\"do\":\"open\",\"page\":\"<p>ab</p>\"}",
+        written: b"ok 6\n",
+        ..USUAL
+    },
+    Case {
+        script: b"",
+        written: b"",
+        ..USUAL
+    },
+    // no JSON, no text, nothing that is asked, and no page
+    Case {
+        script: b"{\n\n\xff\n[]\n{\"do\":\"html\"}\n",
+        written: b"no bad_json\nno bad_json\nno bad_json\nno not_yet\nno not_open\n",
+        ..USUAL
+    },
+    // a refused page leaves the one that is open, and a refused text changes nothing
+    Case {
+        script: b"{\"do\":\"open\",\"page\":\"<p>ab</p>\"}\n{\"do\":\"open\",\"page\":\"<b>\"}\n{\"do\":\"text\",\"at\":0,\"text\":\"X\"}\n{\"do\":\"html\"}\n",
+        written: b"ok 6\nno not_yet\nno not_yet\nok \"<p>ab</p>\"\n",
+        ..USUAL
+    },
+    // the text is escaped in the page
+    Case {
+        script: b"{\"do\":\"open\",\"page\":\"<p></p>\"}\n{\"do\":\"text\",\"at\":1,\"text\":\"a<&>\\u00a0\"}\n{\"do\":\"html\"}\n",
+        written: b"ok 4\nok 9\nok \"<p>a&lt;&amp;&gt;&nbsp;</p>\"\n",
+        ..USUAL
+    },
+    // faults
+    Case {
+        read: Some(0),
+        status: Status::ReadFault,
+        written: b"",
+        ..USUAL
+    },
+    Case {
+        cuts: &[FIRST_LINE],
+        read: Some(1),
+        status: Status::ReadFault,
+        written: b"ok 6\n",
+        ..USUAL
+    },
+    Case {
+        write: Some(0),
+        status: Status::WriteFault,
+        written: b"",
+        ..USUAL
+    },
+    Case {
+        write: Some(2),
+        status: Status::WriteFault,
+        written: b"ok 6\nok 7\n",
+        ..USUAL
+    },
+    Case {
+        room: 7,
+        status: Status::WriteFault,
+        written: b"ok 6\nok",
+        ..USUAL
+    },
+];
+
 #[test]
 fn scripts_are_answered(rt: HostRuntime) -> Result<(), Fail> {
-    let cases = [
-        USUAL,
-        Case {
-            cuts: &[1, 1, 1, 5, 31, 1, 1],
-            ..USUAL
-        },
-        // the last line has no newline
-        Case {
-            script: b"{\"do\":\"open\",\"page\":\"<p>ab</p>\"}",
-            written: b"ok 6\n",
-            ..USUAL
-        },
-        Case {
-            script: b"",
-            written: b"",
-            ..USUAL
-        },
-        // no JSON, no text, nothing that is asked, and no page
-        Case {
-            script: b"{\n\n\xff\n[]\n{\"do\":\"html\"}\n",
-            written: b"no bad_json\nno bad_json\nno bad_json\nno not_yet\nno not_open\n",
-            ..USUAL
-        },
-        // a refused page leaves the one that is open, and a refused text changes nothing
-        Case {
-            script: b"{\"do\":\"open\",\"page\":\"<p>ab</p>\"}\n{\"do\":\"open\",\"page\":\"<b>\"}\n{\"do\":\"text\",\"at\":0,\"text\":\"X\"}\n{\"do\":\"html\"}\n",
-            written: b"ok 6\nno not_yet\nno not_yet\nok \"<p>ab</p>\"\n",
-            ..USUAL
-        },
-        // the text is escaped in the page
-        Case {
-            script: b"{\"do\":\"open\",\"page\":\"<p></p>\"}\n{\"do\":\"text\",\"at\":1,\"text\":\"a<&>\\u00a0\"}\n{\"do\":\"html\"}\n",
-            written: b"ok 4\nok 9\nok \"<p>a&lt;&amp;&gt;&nbsp;</p>\"\n",
-            ..USUAL
-        },
-        // faults
-        Case {
-            read: Some(0),
-            status: Status::ReadFault,
-            written: b"",
-            ..USUAL
-        },
-        Case {
-            cuts: &[FIRST_LINE],
-            read: Some(1),
-            status: Status::ReadFault,
-            written: b"ok 6\n",
-            ..USUAL
-        },
-        Case {
-            write: Some(0),
-            status: Status::WriteFault,
-            written: b"",
-            ..USUAL
-        },
-        Case {
-            write: Some(2),
-            status: Status::WriteFault,
-            written: b"ok 6\nok 7\n",
-            ..USUAL
-        },
-        Case {
-            room: 7,
-            status: Status::WriteFault,
-            written: b"ok 6\nok",
-            ..USUAL
-        },
-    ];
-    for (number, case) in cases.iter().enumerate() {
+    for (number, case) in CASES.iter().enumerate() {
         let (status, written) = ran::<Brand>(&rt, Blank::new(1), case)?;
         assert_eq!(rt; written.as_slice(), case.written, "case {number}");
         assert_eq!(rt; status, case.status, "case {number}");

@@ -20,6 +20,6 @@ mod store;
 mod tests;
 
 pub use fault::StoreFault;
-pub use marks::{with_mark, without_mark};
+pub use marks::{has_mark, same_mark, with_mark, without_mark};
 pub use new_values::NewValues;
 pub use store::Store;

@@ -13,13 +13,15 @@ use crate::{NewValues, Store};
 use std::alloc::Global;
 use ve_base::{Mark, Marks, Memory, Same, TryCopy, Value, ValueId};
 
-fn same_mark(one: &Mark, other: &Mark) -> bool
+/// Whether two marks are one: their tags, and their attributes in their order.
+pub fn same_mark(one: &Mark, other: &Mark) -> bool
     ensures { result ≡ mark_same one.now other.now }
 {
     one.same(other)
 }
 
-fn has_mark(marks: &[Mark], mark: &Mark) -> bool
+/// Whether a mark is among marks.
+pub fn has_mark(marks: &[Mark], mark: &Mark) -> bool
     ensures { result ≡ list_any (mark_same mark.now) marks.now }
 {
     marks.iter().any(|one| same_mark(mark, one))

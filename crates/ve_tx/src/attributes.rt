@@ -17,14 +17,14 @@ use ve_kinds::is_element;
 use ve_store::Store;
 
 /// Names that say what a node is, and are not set like others.
-fn is_reserved(name: &Text) -> bool
+pub fn is_reserved(name: &Text) -> bool
     ensures { result ≡ attributes.is_reserved name.now }
 {
     name.is("about") || name.is("typeof")
 }
 
 /// The attributes of the head that an opening cites.
-fn attrs_of<'s>(store: &'s Store, head: Option<ValueId>) -> &'s [Attr]
+pub fn attrs_of<'s>(store: &'s Store, head: Option<ValueId>) -> &'s [Attr]
     requires { CitesHead store.now head }
     ensures { result.now ≡ (head_in (value_at store.now head)).attrs }
 {

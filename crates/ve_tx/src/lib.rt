@@ -35,11 +35,13 @@ mod same;
 mod taken;
 mod transaction;
 
+pub use attributes::{attrs_of, is_reserved};
 pub use change::Change;
 pub use draft::Draft;
 pub use entry::{Entry, EntryList};
 pub use making::copy_range;
 pub use model_change::TxFault;
+pub use normal::same_text;
 pub use op::{Op, OpList};
 pub use parcel::{Parcel, ParcelList, ValueList};
 pub use transaction::{Transaction, TxList};

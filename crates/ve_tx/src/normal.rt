@@ -7,6 +7,7 @@ ghost use Rattle.ve_tx.specs.Normal.{names_apart, may_stand_before, is_some_op, 
 use crate::Op;
 use ve_base::{MAX_TOTAL_LENGTH, Same, Text};
 
+/// Whether two texts are one.
 pub fn same_text(one: &Text, other: &Text) -> bool
     ensures { result ≡ text_same one.now other.now }
 {

@@ -19,12 +19,12 @@ opening_round-from-requires-clause-open c = λ none.
     let some : 0 < length state.stack = omega (arith, c.depth.ensures.depth, c.if-depth-lt2.false) in
     none_open (opens_at (plain_list [] items) c.args.o) state.stack (stack_is [] items c.args.o state c.state_at-state.ensures) some none
 
-pub returns-then-not-is_same-clause-means : goal.returns-then-not-is_same-clause-means
-returns-then-not-is_same-clause-means c = λ values.
+pub returns-then-not-same_kind-clause-means : goal.returns-then-not-same_kind-clause-means
+returns-then-not-same_kind-clause-means c = λ values.
     let items = c.args.doc.list.now.items in
     let state = c.state_at-state.result in
     sym (nested_other (opens_at (plain_list values items) c.args.o) state.stack c.kind.result (stack_is values items c.args.o state c.state_at-state.ensures) c.kind.ensures
-    (sym c.is_same.ensures ∙ c.if-not-is_same.true))
+    (sym c.same_kind.ensures ∙ c.if-not-same_kind.true))
 
 pub returns-clause-within : goal.returns-clause-within
 returns-clause-within c =
@@ -39,4 +39,4 @@ returns-clause-means c = λ values.
     let from = c.opening_round-from.result in
     let round = c.opening_round-from.ensures values in
     nested_found (opens_at all c.args.o) (opens_at all from) state.stack c.kind-2.result c.kind.result round.kind from (stack_is values items c.args.o state c.state_at-state.ensures)
-    c.kind-2.ensures c.kind.ensures (sym c.is_same.ensures ∙ c.if-not-is_same.false) round.opens
+    c.kind-2.ensures c.kind.ensures (sym c.same_kind.ensures ∙ c.if-not-same_kind.false) round.opens

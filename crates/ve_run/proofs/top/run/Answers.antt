@@ -1,5 +1,5 @@
-use Rattle.std.proofs.Common.{◌≡◌, ◌≤◌, inl, inr, ◌++◌, ◌∷◌, [], ℕ, List, Option, None, Some, arith, refl, ap, ◌∙◌, length, length-append}
-use Rattle.std.specs.Option.{IsSomeAnd}
+use Rattle.std.proofs.Common.{◌≡◌, ◌≤◌, inl, inr, ◌<◌, ◌++◌, ◌∷◌, [], ℕ, List, Option, None, Some, arith, refl, ap, ◌∙◌, subst, length, length-append}
+use Rattle.std.specs.Option.{IfSome}
 use Rattle.ve_run.specs.declared.stop.Stop.{Stop}
 use Rattle.ve_run.specs.declared.stop.Stop.TheVariants.{Memory, ReadFault, WriteFault, InputTooLong}
 use Rattle.model_script.specs.Output.{Meaning}
@@ -34,20 +34,27 @@ returns-in-Err-run_script-clause-prefix g c _ =
     (λ e. prefix_at_fault _ _ _ _ _ (c.run_script.ensures.write_fault (cc (e, c.in-Err-run_script.is))))
     (λ e. let (x, stopped) = c.run_script.ensures.too_long (cc (e, c.in-Err-run_script.is)) in prefix_at_stop _ _ _ _ _ (x ∷ []) stopped)
 
--- a byte past the limit can't be taken where no more than the limit were left
-not_past : (a c : Option (List ℕ)) (script : List ℕ) (x : ℕ) → Took a c script (x ∷ []) → IsSomeAnd a (λ s. length s ≤ max_script) → ⊥
-not_past None c script x h short = short
-not_past (Some s) None script x h short = h.consumed
-not_past (Some s) (Some ys) script x h short =
+-- a byte past the limit was taken only where more than the limit were left
+took_past : (s : List ℕ) (c : Option (List ℕ)) (script : List ℕ) (x : ℕ) → Took (Some s) c script (x ∷ []) → max_script < length s
+took_past s None script x h = absurd h.consumed
+took_past s (Some ys) script x h =
     elim h.beyond [
       | inl none ↦ cc none
-      | inr past ↦ omega (arith, past.0, short, ap length h.consumed, length-append (script ++ x ∷ []) ys, length-append script (x ∷ []))
+      | inr past ↦ omega (arith, past.0, ap length h.consumed, length-append (script ++ x ∷ []) ys, length-append script (x ∷ []))
     ]
 
+-- what is known of an option holds of its value
+if_known : (a : Option (List ℕ)) (P : List ℕ → Type 0) → ((s : List ℕ) → a ≡ Some s → P s) → IfSome a P
+if_known None P f = tt
+if_known (Some s) P f = f s refl
+
 pub returns-in-Err-run_script-clause-complete : goal.returns-in-Err-run_script-clause-complete
-returns-in-Err-run_script-clause-complete g c _ no_faults short =
-    by_cause _ c.in-Err-run_script.stop
-    (λ e. inr (c.status.ensures ∙ ap status_of e))
+returns-in-Err-run_script-clause-complete g c _ no_faults =
+    if_known _ _ (λ script known. by_cause _ c.in-Err-run_script.stop
+    (λ e. let ended = c.status.ensures ∙ ap status_of e in record { whole = λ _. inr ended; too_long = λ _. inr ended })
     (λ e. absurd (no_faults.0 (c.run_script.ensures.read_cause (cc (e, c.in-Err-run_script.is)))))
     (λ e. absurd (no_faults.1 (c.run_script.ensures.write_cause (cc (e, c.in-Err-run_script.is)))))
-    (λ e. let (x, stopped) = c.run_script.ensures.too_long (cc (e, c.in-Err-run_script.is)) in absurd (not_past _ _ stopped.script x stopped.took short))
+    (λ e.
+    let (x, stopped) = c.run_script.ensures.too_long (cc (e, c.in-Err-run_script.is)) in
+    let past = took_past script _ stopped.script x (subst (λ left. Took left _ stopped.script (x ∷ [])) known stopped.took) in
+    record { whole = λ short. absurd (omega (arith, short, past)); too_long = λ _. inl (c.status.ensures ∙ ap status_of e) }))
