@@ -1,4 +1,4 @@
-use Rattle.std.proofs.Common.{◌≡◌, ◌≤◌, inl, inr, ◌<◌, ◌++◌, ◌∷◌, [], ℕ, List, Option, None, Some, arith, refl, ap, ◌∙◌, subst, length, length-append}
+use Rattle.std.proofs.Common.{◌≡◌, inl, inr, ◌<◌, ◌++◌, ◌∷◌, [], ℕ, List, Option, None, Some, arith, refl, ap, subst, length, length-append}
 use Rattle.std.specs.Option.{IfSome}
 use Rattle.ve_run.specs.declared.stop.Stop.{Stop}
 use Rattle.ve_run.specs.declared.stop.Stop.TheVariants.{Memory, ReadFault, WriteFault, InputTooLong}
@@ -6,6 +6,8 @@ use Rattle.model_script.specs.Output.{Meaning}
 use Rattle.ve_json.specs.declared.reply.Reply.{Reply}
 use Rattle.ve_base.specs.Limits.{max_script}
 use Rattle.ve_run.specs.Run.{Scene, Took, Stopped, Broke, Starved, WrotePrefix}
+use Rattle.ve_run.specs.declared.status.Status.{Status}
+use Rattle.ve_run.specs.Ended.{EndsByLength}
 use Rattle.ve_run.specs.Status.{status_of}
 use Rattle.ve_run.proofs.Runs.{AppendsPrefix-answered, AppendsPrefix-broke_off, AppendsPrefix-gave_up}
 use Rattle.ve_run.proofs.top.run.Goals as goal
@@ -48,13 +50,20 @@ if_known : (a : Option (List ℕ)) (P : List ℕ → Type 0) → ((s : List ℕ)
 if_known None P f = tt
 if_known (Some s) P f = f s refl
 
+-- where nothing failed, only a script that is too long or want of memory stops a run
+ends_by_length : {W : Type 0} (m : Meaning W Reply) (left_before left : Option (List ℕ)) (a b : Scene W) (script : List ℕ) (status : Status) (stop : Stop) → status ≡ status_of stop → left_before ≡ Some script
+    → (stop ≡ ReadFault → ⊥) → (stop ≡ WriteFault → ⊥) → (stop ≡ InputTooLong → (x : ℕ) × Stopped m left_before left a b (x ∷ [])) → EndsByLength script status
+ends_by_length m left_before left a b script status Memory e known reads writes past = record { whole = λ _. inr e; too_long = λ _. inr e }
+ends_by_length m left_before left a b script status ReadFault e known reads writes past = absurd (reads refl)
+ends_by_length m left_before left a b script status WriteFault e known reads writes past = absurd (writes refl)
+ends_by_length m left_before left a b script status InputTooLong e known reads writes past =
+    let (x, stopped) = past refl in
+    let beyond = took_past script left stopped.script x (subst (λ before. Took before left stopped.script (x ∷ [])) known stopped.took) in
+    record { whole = λ short. absurd (omega (arith, short, beyond)); too_long = λ _. inl e }
+
 pub returns-in-Err-run_script-clause-complete : goal.returns-in-Err-run_script-clause-complete
 returns-in-Err-run_script-clause-complete g c _ no_faults =
-    if_known _ _ (λ script known. by_cause _ c.in-Err-run_script.stop
-    (λ e. let ended = c.status.ensures ∙ ap status_of e in record { whole = λ _. inr ended; too_long = λ _. inr ended })
-    (λ e. absurd (no_faults.0 (c.run_script.ensures.read_cause (cc (e, c.in-Err-run_script.is)))))
-    (λ e. absurd (no_faults.1 (c.run_script.ensures.write_cause (cc (e, c.in-Err-run_script.is)))))
-    (λ e.
-    let (x, stopped) = c.run_script.ensures.too_long (cc (e, c.in-Err-run_script.is)) in
-    let past = took_past script _ stopped.script x (subst (λ left. Took left _ stopped.script (x ∷ [])) known stopped.took) in
-    record { whole = λ short. absurd (omega (arith, short, past)); too_long = λ _. inl (c.status.ensures ∙ ap status_of e) }))
+    if_known _ _ (λ script known. ends_by_length _ _ _ _ _ script _ c.in-Err-run_script.stop c.status.ensures known
+    (λ e. no_faults.0 (c.run_script.ensures.read_cause (cc (e, c.in-Err-run_script.is))))
+    (λ e. no_faults.1 (c.run_script.ensures.write_cause (cc (e, c.in-Err-run_script.is))))
+    (λ e. c.run_script.ensures.too_long (cc (e, c.in-Err-run_script.is))))
