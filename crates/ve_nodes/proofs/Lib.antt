@@ -1,0 +1,3 @@
+pub mod SiblingLemmas
+pub mod DepthLemmas
+pub mod AfterLemmas
