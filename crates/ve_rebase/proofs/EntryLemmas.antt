@@ -16,10 +16,10 @@ use Rattle.ve_rebase.specs.Shifted.{IsShifted, shifted_by_value, all_by_value, o
 use Rattle.ve_rebase.proofs.WrittenLemmas.{written_by_value, written_mine, each_follows, follows}
 
 -- the values that each transaction of parcels cites, from what joining leaves as it was
-abbrev values_by : List (ℕ × Parcel) → List (List Value)
+abbrev pub values_by : List (ℕ × Parcel) → List (List Value)
 values_by outlines = flat_map (λ o. replicate o.0 o.1.values) outlines
 
-abbrev values_of : List Parcel → List (List Value)
+abbrev pub values_of : List Parcel → List (List Value)
 values_of parcels = values_by (map outline parcels)
 
 zipped-alike : (v : List Value) (values : List (List Value)) (xs ys : List (List Operation)) →
@@ -27,12 +27,12 @@ zipped-alike : (v : List Value) (values : List (List Value)) (xs ys : List (List
 zipped-alike v values [] ys = refl
 zipped-alike v values (x ∷ xs) ys = ap (λ l. by_value v x ∷ l) (zipped-alike v values xs ys)
 
-parcels_each : (parcels : List Parcel) → parcels_by_value parcels ≡ each_by_value (values_of parcels) (operations_of parcels)
+pub parcels_each : (parcels : List Parcel) → parcels_by_value parcels ≡ each_by_value (values_of parcels) (operations_of parcels)
 parcels_each [] = refl
 parcels_each (p ∷ parcels) =
     ap (λ l. parcel_by_value p ++ l) (parcels_each parcels) ∙ sym (zipped-alike p.values (values_of parcels) p.entry.txs (operations_of parcels))
 
-written_parcels : (parcels made : List Parcel) (all : List Shifted) → AreWritten (operations_of made) all → map outline made ≡ map outline parcels →
+pub written_parcels : (parcels made : List Parcel) (all : List Shifted) → AreWritten (operations_of made) all → map outline made ≡ map outline parcels →
     parcels_by_value made ≡ all_by_value (values_of parcels) all
 written_parcels parcels made all h e =
     parcels_each made ∙ (ap (λ o. each_by_value (values_by o) (operations_of made)) e ∙ written_by_value (values_of parcels) (operations_of made) all h)
@@ -139,7 +139,7 @@ pub record PartedSoFar (parcels : List Parcel) (i : ℕ) (all left : List Shifte
   pub outlines : map outline made ≡ map outline (take i parcels)
   pub cite : All ParcelCites parcels → All ParcelCites made
 
-here : (parcels : List Parcel) (i : ℕ) (p : Parcel) → i < length parcels → p ≡ get_or parcels i p → drop i parcels ≡ p ∷ drop (suc i) parcels
+pub here : (parcels : List Parcel) (i : ℕ) (p : Parcel) → i < length parcels → p ≡ get_or parcels i p → drop i parcels ≡ p ∷ drop (suc i) parcels
 here [] i p lt is = absurd (omega arith)
 here (q ∷ parcels) zero p lt is = ap (λ r. r ∷ parcels) (sym is)
 here (q ∷ parcels) (suc i) p lt is = here parcels i p (omega arith) is

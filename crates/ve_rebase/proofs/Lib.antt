@@ -10,3 +10,4 @@ pub mod RowLemmas
 pub mod WrittenLemmas
 pub mod NormalLemmas
 pub mod EntryLemmas
+pub mod UntilLemmas

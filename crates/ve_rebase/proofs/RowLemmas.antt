@@ -14,7 +14,7 @@ use Rattle.ve_rebase.specs.declared.shifted.Shifted.{Shifted}
 use Rattle.ve_rebase.specs.Span.{old_size, new_size}
 use Rattle.ve_rebase.specs.Pair.{between}
 use Rattle.ve_rebase.specs.Lists.{IsRefusedAs, zipped}
-use Rattle.ve_rebase.specs.Shifted.{MayMove, IsShifted, shifted_by_value, all_by_value, operations, FollowFrom, ArePaired, IsRow, AreRows, StartTogether}
+use Rattle.ve_rebase.specs.Shifted.{MayMove, IsShifted, shifted_by_value, all_by_value, operations, FollowFrom, length_after, ArePaired, IsRow, AreRows, StartTogether}
 
 -- a row after what is joined of it
 abbrev pub row_after : List Transaction → Result (List Transaction × Transaction) RangeConflict → Result (List Transaction × Transaction) RangeConflict
@@ -239,6 +239,13 @@ row_fails : (xs ys : List Transaction) (y : Transaction) (why : RebaseFault) →
 row_fails xs ys y Memory h = tt
 row_fails xs ys y (Conflict a b) h = ap (λ r. after_row r (λ over. join_list over ys)) h
 
+-- committed ones and those of mine that are left start from lists of one length, and what is left ends where all of mine does
+pub record GoesOn (n : ℕ) (mine now left : List Shifted) : Type 0 where
+  pub size : ℕ
+  pub committed : FollowFrom size now
+  pub mine_left : FollowFrom size left
+  pub end : length_after size left ≡ length_after n mine
+
 -- how far the rows are joined
 pub record RowsSoFar (old now mine_old mine_now : List Shifted) (j : ℕ) : Type 0 where
   pub kept : map operations now ≡ map operations old
@@ -246,6 +253,7 @@ pub record RowsSoFar (old now mine_old mine_now : List Shifted) (j : ℕ) : Type
   pub shifted : All IsShifted now
   pub mine_shifted : All IsShifted mine_now
   pub left : StartTogether now (drop j mine_now)
+  pub follow : (n : ℕ) → FollowFrom n old → FollowFrom n mine_old → GoesOn n mine_old now (drop j mine_now)
   pub joined : (values : List (List Value)) (others : List Value) →
       join_list (all_by_value values old) (map (shifted_by_value others) mine_old)
       ≡ list_after (map (shifted_by_value others) (take j mine_now)) (join_list (all_by_value values now) (map (shifted_by_value others) (drop j mine_now)))
@@ -257,6 +265,7 @@ rows_begun committed mine h k start = record {
   shifted = h;
   mine_shifted = k;
   left = start;
+  follow = λ n h k. record { size = n; committed = h; mine_left = k; end = refl };
   joined = λ values others. list_after-none (join_list (all_by_value values committed) (map (shifted_by_value others) mine));
 }
 
@@ -283,6 +292,18 @@ module _ (old now mine_old mine_now : List Shifted) (j : ℕ) (one : Shifted) (s
       (subst (λ l. IsRefusedAs (join_list (all_by_value values now) (map f l)) why) (sym mine_here)
       (row_fails (all_by_value values now) (map f (drop (suc j) mine_now)) (f one) why (h values others))))
 
+  goes_on : (n : ℕ) → GoesOn n mine_old now (drop j mine_now) → (over : List Shifted) (span : Span) → FollowFrom (new_size one.span) over →
+      GoesOn n mine_old over (drop (suc j) (slice_set mine_now j (record { tx = one.tx; span = span })))
+  goes_on n g over span h =
+      let next : Shifted = record { tx = one.tx; span = span } in
+      let mine : FollowFrom g.size (one ∷ drop (suc j) mine_now) = subst (FollowFrom g.size) mine_here g.mine_left in
+      subst (GoesOn n mine_old over) (sym (drop-set j mine_now next)) (record {
+        size = new_size one.span;
+        committed = h;
+        mine_left = mine.1;
+        end = ap (length_after g.size) (sym mine_here) ∙ g.end;
+      })
+
   pub rows_next : (over : List Shifted) (span : Span) → IsRow now one over span →
       RowsSoFar old over mine_old (slice_set mine_now j (record { tx = one.tx; span = span })) (suc j)
   rows_next over span row = record {
@@ -295,6 +316,7 @@ module _ (old now mine_old mine_now : List Shifted) (j : ℕ) (one : Shifted) (s
       committed_follow = row.follow;
       mine_follow = subst (FollowFrom (new_size one.span)) (sym (drop-set j mine_now (record { tx = one.tx; span = span }))) mine_left.1;
     };
+    follow = λ n h k. goes_on n (so_far.follow n h k) over span row.follow;
     joined = λ values others.
         let f = shifted_by_value others in
         let next : Shifted = record { tx = one.tx; span = span } in
@@ -317,6 +339,9 @@ rows_done old now mine_old mine_now j so_far end =
       mine_kept = so_far.mine_kept;
       shifted = so_far.shifted;
       mine_shifted = so_far.mine_shifted;
+      follow = λ n h k.
+          let g = so_far.follow n h k in
+          subst (λ m. FollowFrom m now) (ap (length_after g.size) (sym none) ∙ g.end) g.committed;
       joined = λ values others.
           let f = shifted_by_value others in
           so_far.joined values others

@@ -80,7 +80,7 @@ written_mine v (t ∷ txs) [] h = absurd h
 old_is : (v : List Value) (tx : List Operation) (one : Shifted) → by_value v tx ≡ shifted_by_value v one → IsShifted one → old_size one.span ≡ old_length (by_value v tx)
 old_is v tx one e h = sym (ap old_length e ∙ old_stands one.span (by_value v one.tx.now) (h.stands v))
 
-new_is : (v : List Value) (tx : List Operation) (one : Shifted) → by_value v tx ≡ shifted_by_value v one → IsShifted one → new_length (by_value v tx) ≡ new_size one.span
+pub new_is : (v : List Value) (tx : List Operation) (one : Shifted) → by_value v tx ≡ shifted_by_value v one → IsShifted one → new_length (by_value v tx) ≡ new_size one.span
 new_is v tx one e h = ap new_length e ∙ new_stands one.span (by_value v one.tx.now) (h.stands v)
 
 pub follows : (v : List Value) (n : ℕ) (txs : List (List Operation)) (all : List Shifted) → AreWritten txs all → All IsShifted all → RunOnLength n (map (by_value v) txs) → FollowFrom n all

@@ -2,6 +2,8 @@ pub use Rattle.model_change.specs.Join
 pub use Rattle.ve_tx.specs.Operation
 pub use Rattle.ve_tx.specs.Cites
 pub use Rattle.ve_tx.specs.Normal
+pub use Rattle.model_site.specs.Joined
+pub use Rattle.model_site.specs.Session
 pub mod Span
 pub mod Pair
 pub mod Totals
@@ -10,3 +12,4 @@ pub mod Laws
 pub mod Lists
 pub mod Shifted
 pub mod Entries
+pub mod Until

@@ -40,6 +40,11 @@ abbrev pub FollowFrom : ℕ → List Shifted → Type 0
 FollowFrom n [] = Unit {0}
 FollowFrom n (one ∷ others) = (old_size one.span ≡ n) × FollowFrom (new_size one.span) others
 
+-- the length of the lists that they give, the first on lists of n items
+abbrev pub length_after : ℕ → List Shifted → ℕ
+length_after n [] = n
+length_after n (one ∷ others) = length_after (new_size one.span) others
+
 -- both from lists of one length
 pub record StartTogether (committed mine : List Shifted) : Type 0 where
   pub length : ℕ
@@ -85,6 +90,8 @@ pub record AreRows (committed mine over mine_over : List Shifted) : Type 0 where
   pub mine_kept : map operations mine_over ≡ map operations mine
   pub shifted : All IsShifted over
   pub mine_shifted : All IsShifted mine_over
+  -- the committed ones are on lists as mine give
+  pub follow : (n : ℕ) → FollowFrom n committed → FollowFrom n mine → FollowFrom (length_after n mine) over
 
 -- these operations are the shifted ones, written out
 abbrev pub AreWritten : List (List Operation) → List Shifted → Type 0

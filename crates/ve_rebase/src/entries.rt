@@ -13,7 +13,7 @@ use ve_base::{Memory, TryCopy};
 use ve_tx::{Entry, Parcel, ParcelList};
 
 /// The transactions of all parcels, before any is joined.
-fn all_begun<'a>(alloc: Global, parcels: &'a [Parcel]) -> Result<Vec<Shifted<'a>>, Memory>
+pub fn all_begun<'a>(alloc: Global, parcels: &'a [Parcel]) -> Result<Vec<Shifted<'a>>, Memory>
     ensures shifted { IfOk result (λ all. All IsShifted all.items) }
     ensures written { IfOk result (λ all. AreWritten (operations_of parcels.now) all.items) }
     ensures kept { IfOk result (λ all. map operations all.items ≡ operations_of parcels.now) }
@@ -27,7 +27,7 @@ fn all_begun<'a>(alloc: Global, parcels: &'a [Parcel]) -> Result<Vec<Shifted<'a>
 }
 
 /// A parcel with these transactions in the place of its own.
-fn parcel_with(alloc: Global, parcel: &Parcel, all: &[Shifted<'_>]) -> Result<Parcel, Memory>
+pub fn parcel_with(alloc: Global, parcel: &Parcel, all: &[Shifted<'_>]) -> Result<Parcel, Memory>
     requires shifted { All IsShifted all.now }
     requires kept { map operations all.now ≡ parcel.now.entry.txs }
     ensures written { IfOk result (λ made. AreWritten made.entry.txs all.now) }

@@ -1,7 +1,8 @@
 //! Whether changes on one list conflict, and all of them joined. `conflict` is the model's `conflict`: two transactions that set attributes alone
 //! conflict where operations of theirs meet at a place, all others where their active ranges overlap. `pair` is the model's `join`, or both active
 //! ranges where they conflict. `lists` is the model's `join_list`, or the ranges of the first two that conflict: it keeps a span for each transaction
-//! and writes each result once. `entry_over_list` is the same of entries, each of which cites its own values.
+//! and writes each result once. `entry_over_list` is the same of entries, each of which cites its own values. `entries_over_list` joins entries one after
+//! the other up to the first conflict (the model's `join_entries`), as a server accepts them.
 //!
 //! It knows transactions by their operations and reads no value that these cite, so its clauses hold over every list of values; it knows neither
 //! lists of items nor stores.
@@ -9,7 +10,7 @@
 //! Definitions, in reading order: `Span` (what a transaction leaves before and after its active range, and the lengths between), `Totals` and
 //! `Places` (what one pass over operations finds), `Pair` (both results by value, and when they are refused), `Lists` (when lists may be joined, and
 //! what a refusal names), `Entries` (entries by value, and what stays of them), `Shifted` (transactions as joining has moved them so far, and rows of
-//! them joined), `Laws`.
+//! them joined), `Until` (entries joined up to the first conflict), `Laws`.
 //!
 //! Laws: `spans_decide` says that the spans of two joined transactions, their lengths and whether their ranges overlap are found from the two spans
 //! alone; `joined_stay_normal` that joined transactions keep the bound of 2^60 where the list with all that both sides insert is within it.
@@ -31,9 +32,11 @@ mod span;
 #[cfg(test)]
 mod tests;
 mod totals;
+mod until;
 
 pub use entries::entry_over_list;
 pub use fault::RebaseFault;
 pub use join::{conflict, pair};
 pub use join_lists::lists;
 pub use laws::{joined_stay_normal, spans_decide};
+pub use until::{JoinedEntries, entries_over_list};

@@ -1,14 +1,20 @@
-// Lists of insertions joined, with ample memory.
-ghost use Rattle.std.specs.Prelude.{◌≡◌, ◌+◌, suc, IfOk};
+// Lists of transactions and entries joined, with ample memory.
+ghost use Rattle.std.specs.Prelude.{◌≡◌, ◌+◌, [], ◌∷◌, suc, IfOk};
 ghost use Rattle.model_change.specs.Transaction.{old_length, new_length};
 ghost use Rattle.ve_tx.specs.Operation.{by_value};
+ghost use Rattle.ve_rebase.specs.Entries.{parcel_by_value};
 
-use crate::{RebaseFault, lists};
+use crate::{JoinedEntries, RebaseFault, entries_over_list, lists};
+use model_site::Clash;
 use std::alloc::Global;
 use std::test::Fail;
 use ve_base::Memory;
 use ve_items::{Item, Items};
-use ve_tx::{Op, OpList, Transaction, TxList};
+use ve_tx::{Entry, Op, OpList, Parcel, Transaction, TxList, ValueList};
+
+fn letter(ch: char) -> Item {
+    Item::Char { ch, marks: None }
+}
 
 /// One character put between so many items.
 fn insertion(alloc: Global, at: usize, after: usize) -> Result<Transaction, Memory>
@@ -16,10 +22,7 @@ fn insertion(alloc: Global, at: usize, after: usize) -> Result<Transaction, Memo
     ensures new { IfOk result (λ tx. (values : _) → new_length (by_value values tx) ≡ suc (at + after)) }
 {
     let mut inserted = Items::new(alloc);
-    inserted.push(Item::Char {
-        ch: 'x',
-        marks: None,
-    })?;
+    inserted.push(letter('x'))?;
     let mut ops = OpList::new(alloc);
     ops.push(Op::Retain(at))?;
     ops.push(Op::Replace {
@@ -31,6 +34,42 @@ fn insertion(alloc: Global, at: usize, after: usize) -> Result<Transaction, Memo
         Ok(tx) => Ok(tx),
         Err(_) => Err(Memory),
     }
+}
+
+/// Two characters taken out between so many items.
+fn removal(alloc: Global, at: usize, after: usize) -> Result<Transaction, Memory>
+    ensures old { IfOk result (λ tx. (values : _) → old_length (by_value values tx) ≡ at + suc (suc after)) }
+{
+    let mut removed = Items::new(alloc);
+    removed.push(letter('x'))?;
+    removed.push(letter('y'))?;
+    let mut ops = OpList::new(alloc);
+    ops.push(Op::Retain(at))?;
+    ops.push(Op::Replace {
+        removed,
+        inserted: Items::new(alloc),
+    })?;
+    ops.push(Op::Retain(after))?;
+    match Transaction::from_ops(ops) {
+        Ok(tx) => Ok(tx),
+        Err(_) => Err(Memory),
+    }
+}
+
+/// An entry of one transaction, which cites nothing.
+fn entry(alloc: Global, tx: Transaction) -> Result<Parcel, Memory>
+    ensures { IfOk result (λ parcel. parcel_by_value parcel ≡ by_value [] tx ∷ []) }
+{
+    let mut txs = TxList::new(alloc);
+    txs.push(tx)?;
+    Ok(Parcel {
+        entry: Entry {
+            txs,
+            store_before: 0,
+            store_after: 0,
+        },
+        values: ValueList::new(alloc),
+    })
 }
 
 /// Where a transaction's first change lies.
@@ -60,5 +99,33 @@ fn what_is_committed_comes_first_at_one_place(rt: HostRuntime) -> Result<(), Fai
     assert_eq!(rt; mine_over.len(), 2);
     assert_eq!(rt; (place(&over[0]), place(&over[1])), (2, 1));
     assert_eq!(rt; (place(&mine_over[0]), place(&mine_over[1])), (4, 7));
+    Ok(())
+}
+
+/// A character near the end, and then the two round a committed one taken out.
+fn joined_until(alloc: Global) -> Result<JoinedEntries, Memory> {
+    let committed = [entry(alloc, insertion(alloc, 2, 3)?)?];
+    let mine = [
+        entry(alloc, insertion(alloc, 4, 1)?)?,
+        entry(alloc, removal(alloc, 1, 3)?)?,
+    ];
+    entries_over_list(alloc, &committed, &mine)
+}
+
+#[test]
+fn entries_are_kept_up_to_the_first_conflict(rt: HostRuntime) -> Result<(), Fail> {
+    let joined = joined_until(rt.alloc())?;
+    let kept = joined.kept.as_slice();
+    assert_eq!(rt; kept.len(), 1);
+    let txs = kept[0].entry.txs.as_slice();
+    assert_eq!(rt; txs.len(), 1);
+    assert_eq!(rt; place(&txs[0]), 5);
+    assert_eq!(rt;
+        joined.clash,
+        Some(Clash {
+            committed: (2, 2),
+            submitted: (1, 3),
+        })
+    );
     Ok(())
 }
