@@ -3,6 +3,7 @@
 //!
 //! - `put_text`: the characters of a text; `put_start`, `put_end`: the tags of an element. Each appends whole, or not at all;
 //! - `push_escaped` appends the characters of a text or a value without a piece of its own, so an `Err` leaves a prefix of them (`Tags` in specs/);
+//!   `push_attr` appends an attribute so;
 //! - their meaning is `escaped` and `start_tag` in `Written` of `model_spelling`, and `end_text` in its `Grammar`.
 //!
 //! There are no laws here: that what is written is read back is a law of `model_spelling`.
@@ -13,7 +14,7 @@ mod tags;
 mod texts;
 
 pub use escape::push_escaped;
-pub use tags::{put_end, put_start};
+pub use tags::{push_attr, put_end, put_start};
 pub use texts::put_text;
 
 #[cfg(test)]

@@ -1,22 +1,21 @@
 //! Tags.
 
 ghost use Rattle.std.specs.Prelude.{◌≡◌, ◌++◌, IfOk, OnOk, OnErr};
-ghost use Rattle.model_spelling.specs.Grammar.{end_text};
-ghost use Rattle.ve_html_write.specs.Tags.{attr_written};
-ghost use Rattle.model_spelling.specs.Written.{start_tag};
+ghost use Rattle.model_spelling.specs.Grammar.{attr_text, end_text};
+ghost use Rattle.model_spelling.specs.Written.{canon_attr, start_tag};
 
 use crate::escape::push_escaped;
 use std::alloc::Global;
-use ve_base::{Attr, Attrs, Bytes, Memory};
+use ve_base::{Attrs, Bytes, Memory};
 
 /// Appends a space, the name, and the value in double quotes. After an `Err` a part may have been appended.
-fn push_attr(out: &mut Bytes, attr: &Attr) -> Result<(), Memory>
-    ensures { OnOk result (out.new ≡ out.old ++ attr_written attr.now) }
+pub fn push_attr(out: &mut Bytes, name: &str, value: &str) -> Result<(), Memory>
+    ensures { OnOk result (out.new ≡ out.old ++ attr_text (canon_attr (name.now, value.now))) }
 {
     out.push(b" ")?;
-    out.push(attr.name.as_str().as_bytes())?;
+    out.push(name.as_bytes())?;
     out.push(b"=\"")?;
-    push_escaped(out, attr.value.as_str().as_bytes(), true)?;
+    push_escaped(out, value.as_bytes(), true)?;
     out.push(b"\"")
 }
 
@@ -27,7 +26,7 @@ fn start_bytes(alloc: Global, tag: &str, attrs: &Attrs) -> Result<Bytes, Memory>
     bytes.push(b"<")?;
     bytes.push(tag.as_bytes())?;
     for attr in attrs.as_slice() {
-        push_attr(&mut bytes, attr)?;
+        push_attr(&mut bytes, attr.name.as_str(), attr.value.as_str())?;
     }
     bytes.push(b">")?;
     Ok(bytes)

@@ -1,6 +1,6 @@
 // A `data-mw` with another body.
 ghost use Rattle.std.specs.Prelude.{◌≡◌, Some, false, IsSome, IfOk, OnOk, option_map, codes};
-ghost use Rattle.std.specs.Str.{chars};
+ghost use Rattle.std.specs.Str.{chars, encode_utf8_all};
 ghost use Rattle.serde_json.specs.Data.{object, put};
 ghost use Rattle.serde_json.specs.Find.{get_member};
 ghost use Rattle.serde_json.specs.Read as json;
@@ -104,7 +104,8 @@ fn with_body(
 /// The compact JSON of an object without floats.
 fn spelled(alloc: Global, members: Map<String, Value>) -> Result<Text, Memory>
     requires { written.members_have_float (members_view members.entries) ≡ false }
-    ensures { IfOk result (λ t. t ≡ chars (written.compact_text (object (members_view members.entries)))) }
+    ensures text { IfOk result (λ t. t ≡ chars (written.compact_text (object (members_view members.entries)))) }
+    ensures bytes { IfOk result (λ t. encode_utf8_all t ≡ written.compact_text (object (members_view members.entries))) }
 {
     Ok(Text::from_string(Value::Object(members).to_string(alloc)?))
 }
@@ -113,7 +114,8 @@ fn spelled(alloc: Global, members: Map<String, Value>) -> Result<Text, Memory>
 /// their names' bytes. All other members stay, those of the body too.
 pub fn compose(alloc: Global, mw: &str, body: Option<&str>) -> Result<Text, Memory>
     requires { IsSome (model.reference_of mw.now) }
-    ensures { IfOk result (λ t. t ≡ chars (model.composed_mw mw.now (option_map (λ b. b.now) body.entry))) }
+    ensures text { IfOk result (λ t. t ≡ chars (model.composed_mw mw.now (option_map (λ b. b.now) body.entry))) }
+    ensures bytes { IfOk result (λ t. encode_utf8_all t ≡ model.composed_mw mw.now (option_map (λ b. b.now) body.entry)) }
 {
     let members = editable_members(alloc, mw)?;
     let members = with_body(alloc, members, body)?;
