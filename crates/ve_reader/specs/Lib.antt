@@ -1,0 +1,4 @@
+pub mod ReadSoFar
+pub mod Stops
+pub mod Shown
+pub mod Laws

@@ -1,0 +1,25 @@
+// Pieces, and reading them one after the other.
+ghost use Rattle.ve_reader.specs.Laws.{DepthsJoin, InsidesAreEven, MarksAreLeft, NodeDepths, NodesJoin, PiecesAreEven, PiecesJoin};
+
+/// What parts become has a span for each opening and whole nodes alone, and so has what stands inside a branch.
+#[tactic(auto, using(crate::proofs::EvenLemmas::pieces_are_even, crate::proofs::EvenLemmas::insides_are_even))]
+pub fn pieces_are_even()
+    ensures parts { PiecesAreEven }
+    ensures insides { InsidesAreEven }
+{}
+
+/// Joined pieces are read one after the other, a node as its opening, what is in it, and its closing, and what stands inside of a mark before the mark
+/// is left.
+#[tactic(auto, using(crate::proofs::JoinLemmas::pieces_join, crate::proofs::JoinLemmas::nodes_join, crate::proofs::JoinLemmas::marks_are_left))]
+pub fn pieces_join()
+    ensures pieces { PiecesJoin }
+    ensures nodes { NodesJoin }
+    ensures marks { MarksAreLeft }
+{}
+
+/// The first opening that is too deep stands in the first of two pieces or else in the other; of a node it is its own, or else it stands inside.
+#[tactic(auto, using(crate::proofs::JoinLemmas::depths_join, crate::proofs::JoinLemmas::node_depths))]
+pub fn depths_join()
+    ensures pieces { DepthsJoin }
+    ensures nodes { NodeDepths }
+{}
