@@ -1,0 +1,6 @@
+mod PieceLemmas
+mod PlaceLemmas
+mod CitedLemmas
+mod ReopenLemmas
+mod RefusalLemmas
+mod TypedLemmas

@@ -1,0 +1,22 @@
+use Rattle.std.proofs.Common.{option_map, sym, ap, ◌∙◌}
+use Rattle.model_items.specs.Plain.{plain_list}
+use Rattle.ve_build_insert.proofs.PlaceLemmas.{none_mixed, placed_by, none_of}
+use Rattle.ve_build_insert.proofs.place.place_pieces.Goals as goal
+
+pub returns-then-is_mixed-clause-means : goal.returns-then-is_mixed-clause-means
+returns-then-is_mixed-clause-means c = λ values.
+    sym (none_mixed c.args.state.now.stack (plain_list values c.args.pieces.now) (sym (c.is_mixed.ensures values) ∙ c.if-is_mixed.true))
+
+pub returns-in_default-clause-means : goal.returns-in_default-clause-means
+returns-in_default-clause-means c = λ values.
+    let items = plain_list values c.in_ok-items.items in
+    ap (option_map (λ levels. (items, levels))) (sym (none_of c.levels_up.result c.in_default.not-Some))
+    ∙ placed_by c.args.state.now.stack (plain_list values c.args.pieces.now) items (plain_list values c.as_slice.result.now) c.innermost.result c.levels_up.result
+    (sym (c.is_mixed.ensures values) ∙ c.if-is_mixed.false) c.innermost.ensures (c.in_ok-items.ensures.means values) (ap (plain_list values) c.as_slice.ensures) (c.levels_up.ensures.means values)
+
+pub returns-clause-means : goal.returns-clause-means
+returns-clause-means c = λ values.
+    let items = plain_list values c.in_ok-items.items in
+    ap (option_map (λ levels. (items, levels))) (sym c.in-Some.is)
+    ∙ placed_by c.args.state.now.stack (plain_list values c.args.pieces.now) items (plain_list values c.as_slice.result.now) c.innermost.result c.levels_up.result
+    (sym (c.is_mixed.ensures values) ∙ c.if-is_mixed.false) c.innermost.ensures (c.in_ok-items.ensures.means values) (ap (plain_list values) c.as_slice.ensures) (c.levels_up.ensures.means values)

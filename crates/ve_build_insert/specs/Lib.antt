@@ -1,0 +1,16 @@
+pub use Rattle.model_items.specs.Plain
+pub use Rattle.model_items.specs.Offsets
+pub use Rattle.model_change.specs.Transaction
+pub use Rattle.model_edit.specs.Insert
+pub use Rattle.model_edit.specs.Causes
+pub use Rattle.ve_tx.specs.Operation
+pub use Rattle.ve_tx.specs.Cites
+pub use Rattle.ve_store.specs.Following
+pub use Rattle.ve_tree.specs.IsTree
+pub use Rattle.ve_offsets.specs.Docs
+pub use Rattle.ve_edits.specs.Collected
+pub use Rattle.ve_edits.specs.Filled
+pub use Rattle.ve_edits.specs.Refused
+pub mod Placed
+pub mod Reopened
+pub mod Typed

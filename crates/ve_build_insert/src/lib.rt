@@ -1,0 +1,27 @@
+//! What is put into a page at an offset, as the change that it is: `insertion` puts pieces there, `text_insertion` and
+//! `plain_text_insertion` a text, with the marks of what stands to the left and without marks, and `split` parts the nodes
+//! that are open there. Each gives the model's transaction, or the model's refusal, and writes nothing.
+//!
+//! Pieces go into the innermost open node that may hold them: the nodes inside that one are closed before them, and after
+//! them copies of those nodes are opened. Content outside every branch of content is put into a paragraph. The heads of the
+//! copies go into the `NewValues` that are passed: after a success just those that the inserted items bring. It knows no
+//! tree but through `ve_edits`, and no page text.
+//!
+//! Definitions, in reading order: `Placed` (what is asked of pieces, where they may stand, and what their insertion means),
+//! `Reopened` (closings and copies, as they are made), `Typed` (text as pieces, and what its insertion means). What an
+//! insertion and a split are stands in `model_edit`'s `Insert`, how they refuse in `ve_edits`' `Refused`, and what new values
+//! they bring in its `Filled`. It has no law of its own: those of `model_edit_law` hold of the results by the clauses.
+#![tactic(auto)]
+
+mod inserts;
+mod pieces;
+mod place;
+mod reopen;
+mod splits;
+#[cfg(test)]
+mod tests;
+mod text;
+
+pub use inserts::insertion;
+pub use splits::split;
+pub use text::{plain_text_insertion, text_insertion};

@@ -1,0 +1,136 @@
+// What pieces are: content, blocks, or both side by side, and what may hold them.
+ghost use Rattle.std.specs.Prelude.{◌≡◌, ◌+◌, ◌<◌, ◌^◌, ◌&&◌, not, IfOk};
+ghost use Rattle.std.specs.List.{list_all};
+ghost use Rattle.ve_kinds.specs.Table as table;
+ghost use Rattle.model_items.specs.Plain.{plain, plain_list};
+ghost use Rattle.model_edit.specs.Insert as model;
+ghost use Rattle.ve_build_insert.specs.Placed.{asked, depth_after, passes_outer, CitesAsPieces, IsPlaced};
+
+use std::alloc::Global;
+use ve_base::Memory;
+use ve_items::{Item, Items};
+use ve_kinds::{Kind, is_content_branch, is_inline_leaf, may_hold};
+
+/// What is asked of each piece that stands in no other.
+#[derive(Clone, Copy)]
+pub enum Question {
+    IsContent,
+    IsBlock,
+    IsHeldBy(Kind),
+}
+
+/// Whether an item is a character or the opening of an inline leaf.
+fn is_content_item(item: Item) -> bool
+    ensures { (values : _) → result ≡ model.is_content_item (plain values item) }
+{
+    match item {
+        Item::Char { .. } => true,
+        Item::Opening { kind, .. } => is_inline_leaf(kind),
+        Item::Closing { .. } => false,
+    }
+}
+
+/// Whether a node of the kind may hold what the item is or opens.
+fn may_hold_item(parent: Kind, item: Item) -> bool
+    ensures { (values : _) → result ≡ model.may_hold_item parent (plain values item) }
+{
+    match item {
+        Item::Char { .. } => is_content_branch(parent),
+        Item::Opening { kind, .. } => may_hold(parent, kind),
+        Item::Closing { .. } => false,
+    }
+}
+
+fn is_so(question: Question, item: Item) -> bool
+    ensures { (values : _) → result ≡ asked question (plain values item) }
+{
+    match question {
+        Question::IsContent => is_content_item(item),
+        Question::IsBlock => !is_content_item(item),
+        Question::IsHeldBy(parent) => may_hold_item(parent, item),
+    }
+}
+
+/// Whether the item answers the question, where it stands in no other piece; closings aren't asked.
+fn passes(question: Question, depth: usize, item: Item) -> bool
+    ensures { (values : _) → result ≡ passes_outer question depth (plain values item) }
+{
+    if depth > 0 {
+        return true;
+    }
+    match item {
+        Item::Closing { .. } => true,
+        Item::Char { .. } | Item::Opening { .. } => is_so(question, item),
+    }
+}
+
+/// How many pieces are open after an item.
+fn opened(depth: usize, item: Item) -> usize
+    requires { depth + 1 < 2 ^ 64 }
+    ensures { (values : _) → result ≡ depth_after depth (plain values item) }
+{
+    match item {
+        Item::Char { .. } => depth,
+        Item::Opening { .. } => depth + 1,
+        Item::Closing { .. } => depth.saturating_sub(1),
+    }
+}
+
+/// Whether each piece that stands in no other is so.
+pub fn all_outer(pieces: &[Item], question: Question) -> bool
+    ensures { (values : _) → result ≡ list_all (asked question) (model.outer_items 0 (plain_list values pieces.now)) }
+{
+    let mut depth: usize = 0;
+    for item in pieces {
+        if !passes(question, depth, *item) {
+            return false;
+        }
+        depth = opened(depth, *item);
+    }
+    true
+}
+
+/// Whether content and blocks stand side by side.
+pub fn is_mixed(pieces: &[Item]) -> bool
+    ensures { (values : _) → result ≡ model.is_mixed (plain_list values pieces.now) }
+{
+    let content = all_outer(pieces, Question::IsContent);
+    let blocks = all_outer(pieces, Question::IsBlock);
+    !blocks && !content
+}
+
+/// Whether the pieces are content that a node of the kind doesn't hold.
+fn wants_paragraph(parent: Kind, pieces: &[Item]) -> bool
+    ensures { (values : _) → result ≡ (model.is_content_pieces (plain_list values pieces.now) && not (table.is_content_branch parent)) }
+{
+    if is_content_branch(parent) {
+        return false;
+    }
+    all_outer(pieces, Question::IsContent)
+}
+
+/// The pieces; content in a paragraph, unless it is to stand in a branch of content.
+pub fn in_paragraph(alloc: Global, parent: Kind, pieces: &[Item]) -> Result<Items, Memory>
+    ensures means { IfOk result (IsPlaced parent pieces.now) }
+    ensures cites { IfOk result (CitesAsPieces pieces.now) }
+{
+    let mut placed = Items::new(alloc);
+    if !wants_paragraph(parent, pieces) {
+        placed.extend(pieces)?;
+        return Ok(placed);
+    }
+    placed.push(Item::Opening {
+        kind: Kind::P,
+        generated: false,
+        head: None,
+        marks: None,
+        pre: None,
+        origin: None,
+    })?;
+    placed.extend(pieces)?;
+    placed.push(Item::Closing {
+        kind: Kind::P,
+        pre: None,
+    })?;
+    Ok(placed)
+}
