@@ -28,18 +28,18 @@ taken_is (x ∷ values) zero i v h = cc
 taken_is (x ∷ values) (suc n) zero v h = h
 taken_is (x ∷ values) (suc n) (suc i) v h = taken_is values n i v h
 
-head_once : (head : Head) → head ≢ empty_head → head_cited head ≡ value.Head head ∷ []
+pub head_once : (head : Head) → head ≢ empty_head → head_cited head ≡ value.Head head ∷ []
 head_once head some =
     elim (cases_Bool (head_same head empty_head)) [
       | inl same ↦ absurd (some (Means-head_same.equal head empty_head same))
       | inr other ↦ ap (λ b. if b then [] else value.Head head ∷ []) other
     ]
 
-marks_once : (marks : List Mark) → marks ≢ [] → marks_cited marks ≡ value.Marks marks ∷ []
+pub marks_once : (marks : List Mark) → marks ≢ [] → marks_cited marks ≡ value.Marks marks ∷ []
 marks_once [] some = absurd (some refl)
 marks_once (m ∷ ms) some = refl
 
-white_once : (text : List ℕ) → text ≢ [] → white_cited text ≡ value.White text ∷ []
+pub white_once : (text : List ℕ) → text ≢ [] → white_cited text ≡ value.White text ∷ []
 white_once [] some = absurd (some refl)
 white_once (c ∷ cs) some = refl
 

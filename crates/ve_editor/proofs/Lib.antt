@@ -6,3 +6,6 @@ pub mod PerformLemmas
 pub mod SelectedLemmas
 pub mod CutLemmas
 pub mod BackLemmas
+pub mod RemovedLemmas
+pub mod OtherLemmas
+pub mod AdmitLemmas

@@ -16,10 +16,11 @@ use Rattle.ve_items.specs.ItemList.{ItemList}
 use Rattle.ve_tx.specs.Applied.{spliced_by}
 use Rattle.ve_tx.specs.declared.draft.Draft.{Draft}
 use Rattle.ve_editor.specs.declared.prepare.Prepared.{Prepared}
+use Rattle.ve_editor.specs.declared.perform.Admitting.{Admitting}
 use Rattle.ve_editor.specs.declared.perform.Performing.{Performing}
 use Rattle.ve_editor.specs.Edited.{drafted, entry_by_value}
 use Rattle.ve_editor.specs.Page.{page_of}
-use Rattle.ve_editor.specs.Prepared.{WillBe, MayPerform, IsReadyBack}
+use Rattle.ve_editor.specs.Prepared.{WillBe, MayPerform, IsReadyBack, IsReadyOther}
 use Rattle.ve_editor.proofs.CauseLemmas.{cause_of_list}
 
 -- a change of the list, made
@@ -58,3 +59,10 @@ pub put_back_is : (t : Transaction) (store new : List Value) (items committed : 
 put_back_is t store new items committed selected moved list p ready same made selects =
     changed_is t store new (changed_heads t (plain_list store items)) items committed selected moved list p ready.change same made
     (ready.store ∙ ap (λ l. fill store (changed_heads t (plain_list store l))) same) selects
+
+pub other_is : (t : Transaction) (store new : List Value) (items committed : List Item) (selected moved : Selection) (list : ItemList) (a : Admitting) →
+    IsReadyOther t store new list a → list.items ≡ items → committed ≡ spliced_by list.items a.prepared.change →
+    moved ≡ moved_selection t (plain_list new committed) selected → page_of new committed moved ≡ performed t (page_of store items selected)
+other_is t store new items committed selected moved list a ready same made selects =
+    changed_is t store new (brought t (plain_list store items)) items committed selected moved list a.prepared ready.change same made
+    (ready.store ∙ ap (λ l. fill store (brought t (plain_list store l))) same) selects

@@ -1,5 +1,5 @@
 -- A change of a page that needs no more memory. For private functions.
-use Rattle.std.specs.Prelude.{◌≡◌, ◌≤◌, ◌+◌, None, List, [], ◌∷◌, All, length}
+use Rattle.std.specs.Prelude.{◌≡◌, ◌≤◌, ◌+◌, None, List, [], ◌∷◌, All, length, map}
 use Rattle.ve_base.specs.declared.value.Value.{Value}
 use Rattle.model_items.specs.declared.item.Item.{Item}
 use Rattle.model_items.specs.Plain.{plain_list, CitesWell}
@@ -11,9 +11,12 @@ use Rattle.ve_items.specs.ItemList.{ItemList}
 use Rattle.ve_tree.specs.IsTree.{unvalued}
 use Rattle.ve_tree.specs.TreeOf.{IsTreeOf}
 use Rattle.ve_tx.specs.Applied.{plain_after, spliced_by}
+use Rattle.ve_tx.specs.Cites.{TxCites}
+use Rattle.ve_tx.specs.Operation.{by_value}
 use Rattle.ve_tx.specs.declared.change.Change.{Change}
 use Rattle.ve_tx.specs.declared.draft.Draft.{Draft}
 use Rattle.ve_editor.specs.declared.prepare.Prepared.{Prepared}
+use Rattle.ve_editor.specs.declared.perform.Admitting.{Admitting}
 use Rattle.ve_editor.specs.declared.perform.Performing.{Performing}
 use Rattle.ve_editor.specs.Edited.{drafted, entry_by_value, EntryCites}
 use Rattle.ve_editor.specs.Refusal.{list_cause}
@@ -49,3 +52,10 @@ pub record MayPerform (d : Draft) (old new : List Value) (list : ItemList) (perf
 pub record IsReadyBack (t : Transaction) (old new : List Value) (list : ItemList) (prepared : Prepared) : Type 0 where
   pub change : WillBe t old new list prepared
   pub store : new ≡ fill old (changed_heads t (plain_list old list.items))
+
+-- a transaction of another is ready, as an entry keeps it, and the store has what it brings
+pub record IsReadyOther (t : Transaction) (old new : List Value) (list : ItemList) (admitting : Admitting) : Type 0 where
+  pub change : WillBe t old new list admitting.prepared
+  pub store : new ≡ fill old (brought t (plain_list old list.items))
+  pub txs : map (by_value new) admitting.txs ≡ filled t (plain_list old list.items) ∷ []
+  pub cites : All (TxCites new) admitting.txs

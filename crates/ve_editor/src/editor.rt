@@ -1,19 +1,20 @@
 // A page under edit.
-ghost use Rattle.std.specs.Prelude.{◌≡◌, ◌≢◌, ◌≤◌, ◌+◌, [], ◌∷◌, All, None, IfOk, IfErr, OnOk, OnErr};
+ghost use Rattle.std.specs.Prelude.{◌≡◌, ◌≢◌, ◌≤◌, ◌+◌, [], ◌∷◌, All, None, map, IfOk, IfErr, OnOk, OnErr};
 ghost use Rattle.model_items.specs.Law.{Lawful};
 ghost use Rattle.model_items.specs.Plain.{plain_list, AreDistinct, CitesWell};
 ghost use Rattle.model_edit.specs.Translate.{between};
 ghost use Rattle.model_site.specs.Entries.{cut_back, entry_of, reverted};
 ghost use Rattle.model_site.specs.Refused.{edit_cause};
 ghost use Rattle.model_change.specs.Fault.{Applies};
+ghost use Rattle.model_change.specs.Inverse.{filled};
 ghost use Rattle.model_change.specs.Transaction.{edited};
-ghost use Rattle.model_site.specs.Replica.{all_put_back, performed, put_back};
+ghost use Rattle.model_site.specs.Replica.{all_filled, all_performed, all_put_back, performed, put_back};
 ghost use Rattle.ve_tx.specs.Cites.{TxCites};
 ghost use Rattle.ve_tx.specs.Operation.{by_value};
 ghost use Rattle.ve_tree.specs.IsTree.{unvalued};
 ghost use Rattle.ve_tree.specs.TreeOf.{most_steps};
 
-use crate::perform::{ready, ready_back};
+use crate::perform::{ready, ready_back, ready_other};
 use crate::prepare::commit;
 use crate::selected::moved;
 use model_edit::Selection;
@@ -21,12 +22,12 @@ use model_site::EditFault;
 use std::alloc::Global;
 use std::marker::Model;
 use std::sync::ledger::Ledger;
-use ve_base::{Memory, Steps, TryCopy};
+use ve_base::{Memory, Steps, TryCopy, Value};
 use ve_items::Linear;
 use ve_offsets::Doc;
 use ve_store::Store;
 use ve_tree::Tree;
-use ve_tx::{Draft, Entry, Transaction};
+use ve_tx::{Draft, Entry, Parcel, Transaction, TxList};
 
 /// A page's list, the values that its items cite, the tree of the list, and what is selected. It is seen as a site's replica: the list by value, the
 /// store as its values, and the selection.
@@ -52,7 +53,7 @@ impl Model for Editor {
 
 impl Editor {
     ghost use Rattle.ve_editor.specs.Page.{IsPage, page_of};
-    ghost use Rattle.ve_editor.specs.Edited.{IsDraftOf, drafted, entry_by_value, EntryCites, AllStand, CanBeReverted, CutsUncited, IsUncited, reversal_over};
+    ghost use Rattle.ve_editor.specs.Edited.{IsDraftOf, drafted, entry_by_value, EntryCites, AllStand, parcel_by_value, ParcelCites, CanBeReverted, CutsUncited, IsUncited, reversal_over};
     ghost use Rattle.ve_editor.specs.Refusal.{IsEditRefusal};
 
     /// An editor of a lawful list whose items cite values of the store, with the selection at the start. Its tree is built, in at most eight steps for
@@ -243,6 +244,118 @@ impl Editor {
         copy.put_all_back(txs, steps)?;
         *self = copy;
         Ok(())
+    }
+
+    /// Performs a transaction that cites a list of values, applies and leaves a lawful list, and gives it as an entry keeps it. An `Err` changes nothing.
+    fn perform_other<L: Ledger>(
+        &mut self,
+        tx: &Transaction,
+        values: &[Value],
+        steps: &mut Steps<L>,
+    ) -> Result<TxList, Memory>
+        requires cites { TxCites values.now tx.now }
+        requires applies { Applies (by_value values.now tx.now) self.old.items }
+        requires lawful { Lawful (edited (by_value values.now tx.now) self.old.items) }
+        ensures page { OnOk result (self.new ≡ performed (by_value values.now tx.now) self.old) }
+        ensures txs { IfOk result (λ txs. map (by_value self.new.store) txs ≡ filled (by_value values.now tx.now) self.old.items ∷ []) }
+        ensures cites { IfOk result (λ txs. All (TxCites self.new.store) txs) }
+        ensures kept { OnErr result (self.new ≡ self.old) }
+    {
+        let stored = self.store.len();
+        match ready_other(
+            self.alloc,
+            &mut self.list,
+            &mut self.store,
+            tx,
+            values,
+            steps,
+        ) {
+            Ok(admitting) => {
+                commit(&mut self.list, &mut self.tree, admitting.prepared);
+                let doc = Doc {
+                    list: &self.list,
+                    tree: &self.tree,
+                    store: &self.store,
+                };
+                let selection = self.selection;
+                self.selection = moved(doc, tx, selection);
+                Ok(admitting.txs)
+            }
+            Err(Memory) => {
+                self.store.truncate(stored);
+                Err(Memory)
+            }
+        }
+    }
+
+    /// Performs transactions that cite a list of values, one after the other, and gives them as an entry keeps them. An `Err` may leave some of them
+    /// performed.
+    fn perform_others<L: Ledger>(
+        &mut self,
+        txs: &[Transaction],
+        values: &[Value],
+        steps: &mut Steps<L>,
+    ) -> Result<TxList, Memory>
+        requires cites { All (TxCites values.now) txs.now }
+        requires stands { AllStand (map (by_value values.now) txs.now) self.old.items }
+        ensures page { OnOk result (self.new ≡ all_performed (map (by_value values.now) txs.now) self.old) }
+        ensures txs { IfOk result (λ kept. map (by_value self.new.store) kept ≡ all_filled (map (by_value values.now) txs.now) self.old.items) }
+        ensures cites { IfOk result (λ kept. All (TxCites self.new.store) kept) }
+    {
+        let mut kept = TxList::new(self.alloc);
+        for tx in txs {
+            let own = self.perform_other(tx, values, steps)?;
+            kept.append(own)?;
+        }
+        Ok(kept)
+    }
+
+    /// The same, and an `Err` changes nothing. One transaction is performed in place, and more on a copy, so that want of memory in the second leaves
+    /// nothing of the first.
+    fn admit_all<L: Ledger>(
+        &mut self,
+        txs: &[Transaction],
+        values: &[Value],
+        steps: &mut Steps<L>,
+    ) -> Result<TxList, Memory>
+        requires cites { All (TxCites values.now) txs.now }
+        requires stands { AllStand (map (by_value values.now) txs.now) self.old.items }
+        ensures page { OnOk result (self.new ≡ all_performed (map (by_value values.now) txs.now) self.old) }
+        ensures txs { IfOk result (λ kept. map (by_value self.new.store) kept ≡ all_filled (map (by_value values.now) txs.now) self.old.items) }
+        ensures cites { IfOk result (λ kept. All (TxCites self.new.store) kept) }
+        ensures kept { OnErr result (self.new ≡ self.old) }
+    {
+        if txs.len() == 1 {
+            return self.perform_other(&txs[0], values, steps);
+        }
+        let mut grown = self.copy(steps)?;
+        let kept = grown.perform_others(txs, values, steps)?;
+        *self = grown;
+        Ok(kept)
+    }
+
+    /// Performs another's parcel, and gives it as an entry: the same transactions over this store, with the positions of the attributes that they remove,
+    /// and the lengths of the store before and after. It is asked that each transaction applies to what those before it leave, and leaves a lawful list;
+    /// the limits of items and of values don't bind it. An `Err` changes nothing.
+    pub fn admit<L: Ledger>(
+        &mut self,
+        parcel: &Parcel,
+        steps: &mut Steps<L>,
+    ) -> Result<Entry, Memory>
+        requires cites { ParcelCites parcel.now }
+        requires stands { AllStand (parcel_by_value parcel.now) self.old.items }
+        ensures page { OnOk result (self.new ≡ all_performed (parcel_by_value parcel.now) self.old) }
+        ensures entry { IfOk result (λ entry. entry_by_value self.new.store entry ≡ entry_of (parcel_by_value parcel.now) self.old) }
+        ensures cites { IfOk result (EntryCites self.new.store) }
+        ensures kept { OnErr result (self.new ≡ self.old) }
+    {
+        let store_before = self.store.len();
+        let txs = self.admit_all(parcel.entry.txs.as_slice(), parcel.values.as_slice(), steps)?;
+        Ok(Entry {
+            txs,
+            store_before,
+            store_after: self.store.len(),
+        })
     }
 
     /// Takes an entry back: its reversals are made, the last transaction's first, and the store takes the heads that they change. Where the entry's

@@ -2,8 +2,8 @@
 //! doesn't choose edits, and keeps no history: what is performed is given as an entry, which its owner can have taken back.
 //!
 //! An `Editor` is seen as the model's `Replica` (model_site), by value. `perform` is the model's `performed`, with the entry `entry_of` and the refusal
-//! of `edit_cause`; `revert` is `reverted`. Performing another's entry is still to come. Its type keeps that the list is lawful, that the tree is the
-//! list's, and that each value that is cited is in the store and of the sort that is asked for (`IsPage`).
+//! of `edit_cause`; `admit` is `all_performed` of another's parcel, with its `entry_of`; `revert` is `reverted`. Its type keeps that the list is lawful,
+//! that the tree is the list's, and that each value that is cited is in the store and of the sort that is asked for (`IsPage`).
 //!
 //! Definitions, in reading order: `Page` (what the type keeps), `Edited` (drafts and entries by value; what may be performed or taken back), `Refusal`
 //! (how a refusal names its cause). `Prepared` and `Rest` serve private functions: a change that needs no more memory, the law over a list's end. There

@@ -15,7 +15,7 @@ ghost use Rattle.ve_tx.specs.Making.{Extends};
 ghost use Rattle.ve_tx.specs.Operation.{by_value};
 ghost use Rattle.ve_editor.specs.Edited.{IsDraftOf, drafted};
 ghost use Rattle.ve_editor.specs.Page.{IsPage, page_of};
-ghost use Rattle.ve_editor.specs.Prepared.{HasTree, IsReadyBack, MayPerform};
+ghost use Rattle.ve_editor.specs.Prepared.{HasTree, IsReadyBack, IsReadyOther, MayPerform};
 ghost use Rattle.ve_editor.specs.Refusal.{IsEditRefusal};
 
 use crate::faults::of_transaction;
@@ -25,7 +25,7 @@ use crate::verdict::may_become;
 use model_site::EditFault;
 use std::alloc::Global;
 use std::sync::ledger::Ledger;
-use ve_base::{Memory, Steps};
+use ve_base::{Memory, Steps, Value};
 use ve_items::Linear;
 use ve_offsets::Doc;
 use ve_store::Store;
@@ -37,6 +37,32 @@ use ve_tx::{Change, Draft, Entry, Transaction, TxList};
 pub struct Performing {
     pub entry: Entry,
     pub prepared: Prepared,
+}
+
+/// A transaction of another that may be performed: as an entry keeps it, and its change with all that this needs.
+#[derive(Drop)]
+pub struct Admitting {
+    pub txs: TxList,
+    pub prepared: Prepared,
+}
+
+/// A transaction that applies to the list, as an entry keeps it.
+fn one_filled(
+    alloc: Global,
+    list: &Linear,
+    store: &Store,
+    tx: &Transaction,
+) -> Result<TxList, Memory>
+    requires list { All (CitesWell store.now) list.now.items }
+    requires applies { AppliesTo store.now tx.now list.now.items }
+    requires cites { TxCites store.now tx.now }
+    ensures txs { IfOk result (λ txs. map (by_value store.now) txs ≡ filled_on store.now tx.now list.now.items ∷ []) }
+    ensures cites { IfOk result (λ txs. All (TxCites store.now) txs) }
+{
+    let filled = tx.filled(alloc, list, store)?;
+    let mut txs = TxList::new(alloc);
+    txs.push(filled)?;
+    Ok(txs)
 }
 
 /// The entry of one transaction, which applies to the list, from when the store had so many values.
@@ -55,9 +81,7 @@ fn entry_of(
     ensures after { IfOk result (λ entry. entry.store_after ≡ length store.now) }
     ensures cites { IfOk result (λ entry. All (TxCites store.now) entry.txs) }
 {
-    let filled = tx.filled(alloc, list, store)?;
-    let mut txs = TxList::new(alloc);
-    txs.push(filled)?;
+    let txs = one_filled(alloc, list, store, tx)?;
     Ok(Entry {
         txs,
         store_before,
@@ -157,4 +181,30 @@ pub fn ready_back<L: Ledger>(
         Ok(change) => prepare(alloc, list, change, steps),
         Err(_) => Err(Memory),
     }
+}
+
+/// Makes a transaction ready that cites a list of values, applies to a page and leaves it lawful. The store takes what it brings, and the list room; an
+/// `Err` may leave values after those that were there.
+pub fn ready_other<L: Ledger>(
+    alloc: Global,
+    list: &mut Linear,
+    store: &mut Store,
+    tx: &Transaction,
+    values: &[Value],
+    steps: &mut Steps<L>,
+) -> Result<Admitting, Memory>
+    requires list { All (CitesWell store.old) list.old.items }
+    requires cites { TxCites values.now tx.now }
+    requires applies { Applies (by_value values.now tx.now) (plain_list store.old list.old.items) }
+    requires lawful { Lawful (edited (by_value values.now tx.now) (plain_list store.old list.old.items)) }
+    ensures ok { IfOk result (IsReadyOther (by_value values.now tx.now) store.old store.new list.new) }
+    ensures items { list.new.items ≡ list.old.items }
+    ensures extends { Extends store.old store.new }
+{
+    // its type keeps that it is in normal form, which `ops` tells
+    let _ops = tx.ops();
+    let own = tx.recite(alloc, values, store)?;
+    let txs = one_filled(alloc, list, store, &own)?;
+    let prepared = ready_back(alloc, list, store, &own, steps)?;
+    Ok(Admitting { txs, prepared })
 }

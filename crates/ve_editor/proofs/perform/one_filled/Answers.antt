@@ -2,7 +2,7 @@ use Rattle.std.proofs.Common.{All, List, [], ◌∷◌, ◌++◌, sym, ap, ◌�
 use Rattle.ve_tx.specs.Cites.{TxCites}
 use Rattle.ve_tx.specs.Operation.{Operation}
 use Rattle.ve_editor.proofs.ReadyLemmas.{one_cites}
-use Rattle.ve_editor.proofs.perform.entry_of.Goals as goal
+use Rattle.ve_editor.proofs.perform.one_filled.Goals as goal
 
 pub returns-clause-cites : goal.returns-clause-cites
 returns-clause-cites c =

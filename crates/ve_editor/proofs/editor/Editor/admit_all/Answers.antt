@@ -1,0 +1,56 @@
+use Rattle.std.proofs.Common.{◌≡◌, List, All, IfOk, OnOk, map, sym, ap, ◌∙◌, subst, arith}
+use Rattle.model_items.specs.Law.{Lawful}
+use Rattle.model_change.specs.Fault.{Applies}
+use Rattle.model_change.specs.Transaction.{edited}
+use Rattle.model_site.specs.Replica.{Replica, all_filled, all_performed}
+use Rattle.ve_tx.specs.Cites.{TxCites}
+use Rattle.ve_tx.specs.Operation.{Operation, by_value}
+use Rattle.ve_editor.specs.Edited.{AllStand}
+use Rattle.ve_editor.proofs.BackLemmas.{one_only}
+use Rattle.ve_editor.proofs.editor.Editor.admit_all.Goals as goal
+
+pub perform_other-requires-clause-cites : goal.perform_other-requires-clause-cites
+perform_other-requires-clause-cites g c =
+    let is = one_only c.args.txs.now c.index-txs-0.result c.if-txs-eq1.true c.index-txs-0.is in
+    let P : List (List Operation) → Type 0 = All (TxCites c.args.values.now) in
+    subst P is c.requires.cites 0 c.index-txs-0.result (omega arith)
+
+pub perform_other-requires-clause-applies : goal.perform_other-requires-clause-applies
+perform_other-requires-clause-applies g c =
+    let is = one_only c.args.txs.now c.index-txs-0.result c.if-txs-eq1.true c.index-txs-0.is in
+    let stands = subst (λ l. AllStand (map (by_value c.args.values.now) l) c.args.self.now.items) is c.requires.stands in
+    stands.0
+
+pub perform_other-requires-clause-lawful : goal.perform_other-requires-clause-lawful
+perform_other-requires-clause-lawful g c =
+    let is = one_only c.args.txs.now c.index-txs-0.result c.if-txs-eq1.true c.index-txs-0.is in
+    let stands = subst (λ l. AllStand (map (by_value c.args.values.now) l) c.args.self.now.items) is c.requires.stands in
+    stands.1
+
+pub returns-then-txs-eq1-clause-page : goal.returns-then-txs-eq1-clause-page
+returns-then-txs-eq1-clause-page g c =
+    let is = one_only c.args.txs.now c.index-txs-0.result c.if-txs-eq1.true c.index-txs-0.is in
+    let e = ap (λ l. all_performed (map (by_value c.args.values.now) l) c.args.self.now) (sym is) in
+    subst (λ q. OnOk c.perform_other.result (c.perform_other.new.self ≡ q)) e c.perform_other.ensures.page
+
+pub returns-then-txs-eq1-clause-txs : goal.returns-then-txs-eq1-clause-txs
+returns-then-txs-eq1-clause-txs g c =
+    let is = one_only c.args.txs.now c.index-txs-0.result c.if-txs-eq1.true c.index-txs-0.is in
+    let e = ap (λ l. all_filled (map (by_value c.args.values.now) l) c.args.self.now.items) (sym is) in
+    subst (λ q. IfOk c.perform_other.result (λ kept. map (by_value c.perform_other.new.self.store) kept ≡ q)) e c.perform_other.ensures.txs
+
+pub perform_others-requires-clause-stands : goal.perform_others-requires-clause-stands
+perform_others-requires-clause-stands g c =
+    subst (λ (r : Replica). AllStand (map (by_value c.args.values.now) c.args.txs.now) r.items) (sym c.in_ok-grown.ensures.ok) c.requires.stands
+
+pub returns-clause-page : goal.returns-clause-page
+returns-clause-page g c =
+    c.in_ok-kept.ensures.page ∙ ap (all_performed (map (by_value c.args.values.now) c.args.txs.now)) c.in_ok-grown.ensures.ok
+
+pub returns-clause-txs : goal.returns-clause-txs
+returns-clause-txs g c =
+    c.in_ok-kept.ensures.txs
+    ∙ ap (λ (r : Replica). all_filled (map (by_value c.args.values.now) c.args.txs.now) r.items) c.in_ok-grown.ensures.ok
+
+pub returns-clause-cites : goal.returns-clause-cites
+returns-clause-cites g c = c.in_ok-kept.ensures.cites

@@ -1,0 +1,19 @@
+use Rattle.std.proofs.Common.{◌≡◌, [], ◌∷◌, sym, ap, ◌∙◌, subst}
+use Rattle.model_items.specs.Plain.{plain_list}
+use Rattle.model_change.specs.Inverse.{filled}
+use Rattle.model_site.specs.Replica.{Replica, performed}
+use Rattle.ve_tx.specs.Operation.{by_value}
+use Rattle.ve_editor.proofs.PerformLemmas.{other_is}
+use Rattle.ve_editor.proofs.editor.Editor.perform_other.Goals as goal
+
+pub returns-in-Ok-clause-page : goal.returns-in-Ok-clause-page
+returns-in-Ok-clause-page g c =
+    other_is (by_value c.args.values.now c.args.tx.now) c.self.inside.store c.ready_other.new.store c.self.inside.list.items c.commit.new.list.items c.self.inside.selection
+    c.moved-self-inside.result c.ready_other.new.list c.in-Ok.admitting c.in-Ok.ensures.ok c.in-Ok.ensures.items c.commit.ensures.items
+    (c.moved-self-inside.ensures c.ready_other.new.store c.args.values.now)
+    ∙ ap (performed (by_value c.args.values.now c.args.tx.now)) c.self.view_is
+
+pub returns-in-Ok-clause-txs : goal.returns-in-Ok-clause-txs
+returns-in-Ok-clause-txs g c =
+    let t = by_value c.args.values.now c.args.tx.now in
+    c.in-Ok.ensures.ok.txs ∙ ap (λ l. filled t (plain_list c.self.inside.store l) ∷ []) c.in-Ok.ensures.items ∙ ap (λ (r : Replica). filled t r.items ∷ []) c.self.view_is
