@@ -1,0 +1,3 @@
+pub mod InlineLemmas
+pub mod RunLemmas
+pub mod BareLemmas
