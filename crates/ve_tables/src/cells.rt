@@ -10,12 +10,13 @@ ghost use Rattle.ve_tables.specs.Rows.{attrs_in, row_placed, row_after, HasPlace
 use crate::children::children_of;
 use model_edit::TableFault;
 use std::alloc::Global;
-use ve_base::{Attr, MAX_COLUMN_SPAN, MAX_ROW_SPAN, Memory, Value};
+use ve_base::{Attr, MAX_COLUMN_SPAN, MAX_ROW_SPAN, Memory};
 use ve_grid::{Placing, span_of};
 use ve_items::Item;
 use ve_kinds::Kind;
 use ve_offsets::Doc;
 use ve_store::Store;
+use ve_tx::attrs_of;
 
 /// How many rows and columns a cell spans.
 #[derive(Clone, Copy)]
@@ -25,16 +26,13 @@ pub struct Spans {
 }
 
 /// The attributes of an item; only an opening has some.
-fn attrs_of(store: &Store, item: Item) -> &[Attr]
+fn item_attrs(store: &Store, item: Item) -> &[Attr]
     requires { CitesWell store.now item }
     ensures { result.now ≡ attrs_in (plain store.now item) }
 {
-    let Item::Opening { head: Some(id), .. } = item else {
-        return &[];
-    };
-    match store.get(id) {
-        Value::Head(head) => head.attrs.as_slice(),
-        Value::White(_) | Value::Marks(_) => &[],
+    match item {
+        Item::Opening { head, .. } => attrs_of(store, head),
+        Item::Char { .. } | Item::Closing { .. } => &[],
     }
 }
 
@@ -54,7 +52,7 @@ fn spans_at(doc: Doc<'_>, at: usize) -> Spans
             columns: 1,
         };
     }
-    let attrs = attrs_of(doc.store, doc.list.get(at));
+    let attrs = item_attrs(doc.store, doc.list.get(at));
     Spans {
         rows: span_of(attrs, "rowspan", MAX_ROW_SPAN),
         columns: span_of(attrs, "colspan", MAX_COLUMN_SPAN),
