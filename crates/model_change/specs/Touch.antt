@@ -99,7 +99,7 @@ touch t items = touch_count (map (seen_by t) (nodes_of items)) (map (seen_by (in
 abbrev pub NodesAreCounted : Type 0
 NodesAreCounted = (items : List PlainItem) → length (nodes_of items) ≡ number_of_nodes items
 
--- What is retained stands at its new place, as it was but for attributes; and the inverse leads back to the old one.
+-- What is retained stands at its new place with the shape that it had, and the inverse leads back to the old place.
 pub record IsRetained (t : Transaction) (items : List PlainItem) (at to : ℕ) (old : PlainItem) : Type 0 where
   pub new : PlainItem
   pub stands : slice_get (edited t items) to ≡ Some new

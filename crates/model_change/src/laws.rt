@@ -73,8 +73,8 @@ pub fn values_are_filled()
     ensures brought { BroughtIsNew }
 {}
 
-/// Touched nodes are found by retained places: what is retained stands at its new place as it was but for attributes, and the inverse leads
-/// back. All nodes are counted.
+/// Touched nodes are found by retained places: what is retained stands at its new place with the shape that it had, and the inverse leads
+/// back. All nodes are counted. (`model_change_law` says what becomes of the rest of it: attributes change, nothing else.)
 pub fn retained_items_stay()
     ensures retained { RetainedStays }
     ensures counted { NodesAreCounted }

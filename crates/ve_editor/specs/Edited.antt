@@ -7,13 +7,12 @@ use Rattle.model_change.specs.Fault.{Applies}
 use Rattle.model_change.specs.Replay.{reversal}
 use Rattle.model_change.specs.Store.{cited, fill}
 use Rattle.model_change.specs.Transaction.{Transaction, all_inserted, edited}
-use Rattle.model_site.specs.Entries.{Entry, Parcel}
+use Rattle.model_site.specs.Entries.{Entry}
 use Rattle.model_site.specs.Replica.{Replica, all_put_back}
 use Rattle.ve_tx.specs.Cites.{TxCites}
 use Rattle.ve_tx.specs.Operation.{Operation, by_value}
 use Rattle.ve_tx.specs.declared.draft.Draft.{Draft}
 use Rattle.ve_tx.specs.declared.entry.Entry.{Entry as KeptEntry}
-use Rattle.ve_tx.specs.declared.parcel.Parcel.{Parcel as SentParcel}
 
 -- what a draft's items cite: the store's values, and after them its own
 abbrev pub drafted_values : List Value → Draft → List Value
@@ -37,14 +36,6 @@ entry_by_value store e = record { txs = map (by_value store) e.txs; store_before
 -- the items of the entry's transactions cite values of the store
 abbrev pub EntryCites : List Value → KeptEntry → Type 0
 EntryCites store e = All (TxCites store) e.txs
-
--- a parcel by value
-abbrev pub parcel_by_value : SentParcel → Parcel
-parcel_by_value p = map (by_value p.values) p.entry.txs
-
--- the items of the parcel's transactions cite the values that it brings
-abbrev pub ParcelCites : SentParcel → Type 0
-ParcelCites p = All (TxCites p.values) p.entry.txs
 
 -- one after the other, each applies and leaves a lawful list
 abbrev pub AllStand : List Transaction → List PlainItem → Type 0

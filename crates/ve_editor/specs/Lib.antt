@@ -7,6 +7,7 @@ pub use Rattle.model_site.specs.Refused
 pub use Rattle.model_site.specs.Entries
 pub use Rattle.ve_tx.specs.Operation
 pub use Rattle.ve_tx.specs.Cites
+pub use Rattle.ve_tx.specs.ByValue
 pub use Rattle.ve_tree.specs.TreeOf
 pub mod Page
 pub mod Edited

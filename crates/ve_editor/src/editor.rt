@@ -53,7 +53,8 @@ impl Model for Editor {
 
 impl Editor {
     ghost use Rattle.ve_editor.specs.Page.{IsPage, page_of};
-    ghost use Rattle.ve_editor.specs.Edited.{IsDraftOf, drafted, entry_by_value, EntryCites, AllStand, parcel_by_value, ParcelCites, CanBeReverted, CutsUncited, IsUncited, reversal_over};
+    ghost use Rattle.ve_editor.specs.Edited.{IsDraftOf, drafted, entry_by_value, EntryCites, AllStand, CanBeReverted, CutsUncited, IsUncited, reversal_over};
+    ghost use Rattle.ve_tx.specs.ByValue.{parcel_by_value, ParcelCites};
     ghost use Rattle.ve_editor.specs.Refusal.{IsEditRefusal};
 
     /// An editor of a lawful list whose items cite values of the store, with the selection at the start. Its tree is built, in at most eight steps for

@@ -17,6 +17,7 @@ mod items;
 mod linear;
 mod moves;
 mod room;
+mod same;
 mod stack;
 mod table;
 #[cfg(test)]
@@ -25,3 +26,4 @@ mod tests;
 pub use items::Items;
 pub use linear::Linear;
 pub use model_items::Item;
+pub use same::same_item;

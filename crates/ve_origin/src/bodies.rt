@@ -2,9 +2,8 @@
 ghost use Rattle.std.specs.Prelude.{◌≡◌, ◌≤◌, ◌<◌, ◌+◌, ◌^◌, ◌∷◌, ◌↔◌, ◌&&◌, [], ℕ, Option, IsTrue, drop, length};
 ghost use Rattle.ve_origin.specs.Bodies.{cited_inside, closes, depth_after, AreSameBodies, Compares, IsAtMost};
 
-use crate::compare::is_same;
 use model_items::Item;
-use ve_items::Linear;
+use ve_items::{Linear, same_item};
 
 /// What is found where two bodies were compared in step; `Open` has how many nodes are open in both.
 #[derive(Clone, Copy, Debug)]
@@ -52,7 +51,7 @@ fn compare_items(depth: usize, one: Item, other: Item) -> Compared
     if both_close(depth, one, other) {
         return Compared::Same;
     }
-    if !is_same(one, other) {
+    if !same_item(one, other) {
         return Compared::Different;
     }
     Compared::Open(depth_after(depth, one))

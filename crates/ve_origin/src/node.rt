@@ -2,9 +2,9 @@
 ghost use Rattle.std.specs.Prelude.{◌≡◌, ◌≤◌, ◌<◌, ◌+◌, ◌↔◌, IsTrue, length, slice_range};
 ghost use Rattle.ve_origin.specs.Without.{without, AreSameNodes};
 
-use crate::compare::{alike, is_same};
+use crate::compare::alike;
 use model_items::Item;
-use ve_items::Linear;
+use ve_items::{Linear, same_item};
 
 /// The item without the whitespace before it.
 fn without_pre(item: Item) -> Item
@@ -40,7 +40,7 @@ pub fn same_node(now: &Linear, from: usize, first: &Linear, place: usize, count:
 {
     let _here = now.len();
     let _there = first.len();
-    if !is_same(without_pre(now.get(from)), without_pre(first.get(place))) {
+    if !same_item(without_pre(now.get(from)), without_pre(first.get(place))) {
         return false;
     }
     alike(now, from + 1, first, place + 1, count - 1) == count - 1

@@ -10,7 +10,8 @@ use Rattle.ve_tx.specs.declared.parcel.Parcel.{Parcel}
 use Rattle.ve_tx.specs.Operation.{Operation, by_value}
 use Rattle.ve_rebase.specs.declared.fault.RebaseFault.{RebaseFault}
 use Rattle.ve_rebase.specs.declared.shifted.Shifted.{Shifted}
-use Rattle.ve_rebase.specs.Entries.{parcel_by_value, parcels_by_value, operations_of, outline, ParcelCites}
+use Rattle.ve_rebase.specs.Entries.{parcels_by_value, operations_of, outline}
+use Rattle.ve_tx.specs.ByValue.{parcel_by_value, ParcelCites}
 use Rattle.ve_rebase.specs.Lists.{RunOnLength, RunFromOneLength, IsRefusedAs, each_by_value}
 use Rattle.ve_rebase.specs.Shifted.{IsShifted, shifted_by_value, all_by_value, operations, StartTogether, AreRows, AreWritten}
 use Rattle.ve_rebase.proofs.WrittenLemmas.{written_by_value, written_mine, each_follows, follows}

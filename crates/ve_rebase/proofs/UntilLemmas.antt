@@ -11,7 +11,8 @@ use Rattle.ve_tx.specs.declared.parcel.Parcel.{Parcel}
 use Rattle.ve_tx.specs.Operation.{Operation, by_value}
 use Rattle.ve_rebase.specs.declared.shifted.Shifted.{Shifted}
 use Rattle.ve_rebase.specs.declared.until.JoinedEntries.{JoinedEntries}
-use Rattle.ve_rebase.specs.Entries.{parcel_by_value, parcels_by_value, operations_of, outline, ParcelCites}
+use Rattle.ve_rebase.specs.Entries.{parcels_by_value, operations_of, outline}
+use Rattle.ve_tx.specs.ByValue.{parcel_by_value, ParcelCites}
 use Rattle.ve_rebase.specs.declared.fault.RebaseFault.{RebaseFault}
 use Rattle.ve_rebase.specs.Lists.{RunOnLength, RunFromOneLength, IsRefusedAs}
 use Rattle.ve_rebase.specs.Shifted.{IsShifted, FollowFrom, length_after, shifted_by_value, all_by_value, StartTogether, AreRows, AreWritten}

@@ -1,6 +1,7 @@
 pub use Rattle.model_change.specs.Join
 pub use Rattle.ve_tx.specs.Operation
 pub use Rattle.ve_tx.specs.Cites
+pub use Rattle.ve_tx.specs.ByValue
 pub use Rattle.ve_tx.specs.Normal
 pub use Rattle.model_site.specs.Joined
 pub use Rattle.model_site.specs.Session

@@ -8,7 +8,8 @@ use Rattle.model_site.specs.Session.{clash_of}
 use Rattle.ve_tx.specs.declared.parcel.Parcel.{Parcel}
 use Rattle.ve_rebase.specs.declared.shifted.Shifted.{Shifted}
 use Rattle.ve_rebase.specs.declared.until.JoinedEntries.{JoinedEntries}
-use Rattle.ve_rebase.specs.Entries.{parcel_by_value, parcels_by_value, outline, ParcelCites}
+use Rattle.ve_rebase.specs.Entries.{parcels_by_value, outline}
+use Rattle.ve_tx.specs.ByValue.{parcel_by_value, ParcelCites}
 use Rattle.ve_rebase.specs.Lists.{RunOnLength}
 use Rattle.ve_rebase.specs.Shifted.{IsShifted, FollowFrom, all_by_value}
 

@@ -1,7 +1,8 @@
 // An entry joined with the entries before it.
 ghost use Rattle.std.specs.Prelude.{◌≡◌, All, Ok, length, map, IfOk, IfErr};
 ghost use Rattle.ve_tx.specs.Cites.{TxCites};
-ghost use Rattle.ve_rebase.specs.Entries.{joined_entries, both_entries, parcel_by_value, parcels_by_value, outline, operations_of, ParcelCites};
+ghost use Rattle.ve_rebase.specs.Entries.{joined_entries, both_entries, parcels_by_value, outline, operations_of};
+ghost use Rattle.ve_tx.specs.ByValue.{parcel_by_value, ParcelCites};
 ghost use Rattle.ve_rebase.specs.Lists.{RunFromOneLength, IsRefusedAs};
 ghost use Rattle.ve_rebase.specs.Shifted.{IsShifted, AreWritten, operations};
 

@@ -2,7 +2,7 @@
 ghost use Rattle.std.specs.Prelude.{◌≡◌, ◌+◌, [], ◌∷◌, suc, IfOk};
 ghost use Rattle.model_change.specs.Transaction.{old_length, new_length};
 ghost use Rattle.ve_tx.specs.Operation.{by_value};
-ghost use Rattle.ve_rebase.specs.Entries.{parcel_by_value};
+ghost use Rattle.ve_tx.specs.ByValue.{parcel_by_value};
 
 use crate::{JoinedEntries, RebaseFault, entries_over_list, lists};
 use model_site::Clash;

@@ -1,7 +1,8 @@
 // Entries joined over committed ones, until two transactions conflict.
 ghost use Rattle.std.specs.Prelude.{◌≡◌, All, length, map, IfOk, IfErr, OnOk};
 ghost use Rattle.model_change.specs.Join.{join_list};
-ghost use Rattle.ve_rebase.specs.Entries.{parcel_by_value, parcels_by_value};
+ghost use Rattle.ve_rebase.specs.Entries.{parcels_by_value};
+ghost use Rattle.ve_tx.specs.ByValue.{parcel_by_value};
 ghost use Rattle.ve_rebase.specs.Lists.{RunFromOneLength, IsRefusedAs};
 ghost use Rattle.ve_rebase.specs.Shifted.{IsShifted, all_by_value};
 ghost use Rattle.ve_rebase.specs.Until.{AreJoined, IsJoinedOver, Meet};

@@ -20,6 +20,7 @@ pub mod Entry
 pub mod Cites
 pub mod Ends
 pub mod Parcel
+pub mod ByValue
 pub mod Copied
 pub mod Taken
 pub mod Checked

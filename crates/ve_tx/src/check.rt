@@ -10,9 +10,8 @@ ghost use Rattle.ve_tx.specs.Operation.{unkept};
 
 use crate::Op;
 use crate::attributes::may_change;
-use crate::same::same_item;
 use model_change::TxFault;
-use ve_items::{Item, Linear};
+use ve_items::{Item, Linear, same_item};
 use ve_store::Store;
 
 /// The length of the lists that the operations apply to.

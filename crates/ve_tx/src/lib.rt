@@ -31,7 +31,6 @@ mod normal;
 mod op;
 mod parcel;
 mod range;
-mod same;
 mod taken;
 mod transaction;
 

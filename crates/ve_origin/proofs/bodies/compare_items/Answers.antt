@@ -8,11 +8,11 @@ returns-then-both_close-clause-found c =
     let p = and_parts _ _ (sym c.both_close.ensures ∙ c.if-both_close.true) in
     both_close c.args.depth c.args.one c.args.other p.0 p.1
 
-pub returns-then-not-is_same-clause-found : goal.returns-then-not-is_same-clause-found
-returns-then-not-is_same-clause-found c =
+pub returns-then-not-same_item-clause-found : goal.returns-then-not-same_item-clause-found
+returns-then-not-same_item-clause-found c =
     items_differ c.args.depth c.args.one c.args.other (sym c.both_close.ensures ∙ c.if-both_close.false)
-    (λ e. let yes = c.is_same.ensures.1 e in absurd cc)
+    (λ e. let yes = c.same_item.ensures.1 e in absurd cc)
 
 pub returns-clause-found : goal.returns-clause-found
 returns-clause-found c =
-    open_items c.args.depth c.args.one c.args.other _ c.depth_after.ensures.depth (sym c.both_close.ensures ∙ c.if-both_close.false) (c.is_same.ensures.0 c.if-not-is_same.false)
+    open_items c.args.depth c.args.one c.args.other _ c.depth_after.ensures.depth (sym c.both_close.ensures ∙ c.if-both_close.false) (c.same_item.ensures.0 c.if-not-same_item.false)

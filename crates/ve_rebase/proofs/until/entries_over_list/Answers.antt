@@ -1,6 +1,6 @@
 use Rattle.std.proofs.Common.{◌+◌, refl, sym, subst}
 use Rattle.model_change.specs.Join.{join_list}
-use Rattle.ve_rebase.specs.Entries.{parcel_by_value}
+use Rattle.ve_tx.specs.ByValue.{parcel_by_value}
 use Rattle.ve_rebase.specs.Lists.{IsRefusedAs}
 use Rattle.ve_rebase.specs.Shifted.{all_by_value}
 use Rattle.ve_rebase.proofs.EntryLemmas.{values_of}

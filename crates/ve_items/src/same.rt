@@ -1,15 +1,8 @@
 // Whether two items are equal.
 ghost use Rattle.std.specs.Prelude.{◌≡◌, ◌↔◌, IsTrue};
 
+use model_items::Item;
 use ve_base::ValueId;
-use ve_items::Item;
-use ve_kinds::Kind;
-
-fn same_kind(one: Kind, other: Kind) -> bool
-    ensures { IsTrue result ↔ (one ≡ other) }
-{
-    one == other
-}
 
 fn same_id(one: Option<ValueId>, other: Option<ValueId>) -> bool
     ensures { IsTrue result ↔ (one ≡ other) }
@@ -62,7 +55,7 @@ pub fn same_item(one: Item, other: Item) -> bool
                 origin: other_origin,
             },
         ) => {
-            same_kind(kind, other_kind)
+            kind == other_kind
                 && generated == other_generated
                 && same_id(head, other_head)
                 && same_id(marks, other_marks)
@@ -75,7 +68,7 @@ pub fn same_item(one: Item, other: Item) -> bool
                 kind: other_kind,
                 pre: other_pre,
             },
-        ) => same_kind(kind, other_kind) && same_id(pre, other_pre),
+        ) => kind == other_kind && same_id(pre, other_pre),
         (Item::Char { .. }, Item::Opening { .. } | Item::Closing { .. })
         | (Item::Opening { .. }, Item::Char { .. } | Item::Closing { .. })
         | (Item::Closing { .. }, Item::Char { .. } | Item::Opening { .. }) => false,
