@@ -24,7 +24,7 @@ mod MarkedLemmas
 mod ListLemmas
 pub mod IndentLemmas
 pub mod OutdentLemmas
-mod TablePlaceLemmas
+pub mod TablePlaceLemmas
 mod SpanLemmas
 pub mod TableFineLemmas
 mod TableLawfulLemmas
