@@ -323,6 +323,12 @@ sibling_of items (suc a) t lawful h =
       Ok-same {E = ListCause} _ t q.1,
     )
 
+pub indent_order : (items : List PlainItem) (at : ℕ) (t : Transaction) → Lawful items → indent items at ≡ Ok t →
+    InOrder 0 (length items) (indent_edits items at (kind_at items at)) × (transaction_of items (indent_edits items at (kind_at items at)) ≡ t)
+indent_order items at t lawful h =
+    let s = sibling_of items at t lawful h in
+    (subst (λ n. InOrder 0 (length items) (indent_edits items n (kind_at items n))) (sym s.1) (kept items s.0 lawful s.2).1, s.3)
+
 indent_keeps : (items : List PlainItem) (at : ℕ) (t : Transaction) → Lawful items → indent items at ≡ Ok t →
     (((verdict (edited t items) ≡ None) ⊎ ((n : ℕ) × (verdict (edited t items) ≡ Some (TooDeep n)))) × (filter is_character_or_leaf (edited t items) ≡ filter is_character_or_leaf items)) × Fine items t
 indent_keeps items at t lawful h =

@@ -44,3 +44,5 @@ mod RowOutLemmas
 mod RowOutGridLemmas
 mod ColOutLemmas
 mod ColOutGridLemmas
+mod ResultLemmas
+mod ResultExamples

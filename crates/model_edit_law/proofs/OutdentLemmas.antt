@@ -19,7 +19,7 @@ use Rattle.model_items.specs.Tree.{Open, length_to_close}
 use Rattle.model_change.specs.Transaction.{Transaction, edited}
 use Rattle.model_edit.specs.Brackets.{closing_of, copy_of}
 use Rattle.model_items.specs.Offsets.{opens_at, partner}
-use Rattle.model_edit.specs.Edits.{Edit, Change, transaction_of}
+use Rattle.model_edit.specs.Edits.{Edit, Change, InOrder, transaction_of}
 use Rattle.model_edit_law.proofs.EditLemmas.{edited-two, filter-append}
 use Rattle.model_edit_law.proofs.BracketLemmas.{state_of, fits, fits-after, fits_parts, opened_fits, kinds_after, slice_get-split, HoldsSame-itself, Ends, Ends-after, Opened, Opened-after, Closes, closes, NodeParts, node_parts}
 use Rattle.model_edit_law.proofs.NodeLemmas.{whole_node, opened_state}
@@ -268,6 +268,7 @@ module _ (items : List PlainItem) (at : ℕ) (lawful : Lawful items) (head : Hea
 
     gives : (edited (transaction_of items (end_before at list ∷ begin_after items (partner items at) list ∷ [])) items ≡ new_list)
         × Fine items (transaction_of items (end_before at list ∷ begin_after items (partner items at) list ∷ []))
+        × InOrder 0 (length items) (end_before at list ∷ begin_after items (partner items at) list ∷ [])
     gives =
         let l : at ≡ length f.kept + length f.gone = sym place ∙ ap length f.parts ∙ length-append f.kept f.gone in
         let two = edited-two f.kept f.gone (x ∷ inside) b.gone b.kept f.new b.new items (length f.kept) (length f.gone) (at + suc (length inside)) (length b.gone)
@@ -275,7 +276,11 @@ module _ (items : List PlainItem) (at : ℕ) (lawful : Lawful items) (head : Hea
         let edits : end_before at list ∷ begin_after items (partner items at) list ∷ []
         ≡ Change (length f.kept) (length f.gone) f.new ∷ Change (at + suc (length inside)) (length b.gone) b.new ∷ [] =
         ap (λ v. v ∷ begin_after items (partner items at) list ∷ []) f.edit ∙ ap (λ v. Change (length f.kept) (length f.gone) f.new ∷ v ∷ []) b.edit in
-        (ap (λ v. edited (transaction_of items v) items) edits ∙ two.0, subst (λ v. Fine items (transaction_of items v)) (sym edits) (Fine-edits items (Change (length f.kept) (length f.gone) f.new ∷ Change (at + suc (length inside)) (length b.gone) b.new ∷ []) two.1 tt))
+        let plain = Change (length f.kept) (length f.gone) f.new ∷ Change (at + suc (length inside)) (length b.gone) b.new ∷ [] in (
+          ap (λ v. edited (transaction_of items v) items) edits ∙ two.0,
+          subst (λ v. Fine items (transaction_of items v)) (sym edits) (Fine-edits items plain two.1 tt),
+          subst (InOrder 0 (length items)) (sym edits) two.1,
+        )
 
     stays_lawful : Lawful new_list
     stays_lawful =
@@ -332,9 +337,16 @@ nested_in items at (list ∷ outer ∷ others) t h =
     let p = if_ok_then (kind_same outer.kind Li) _ _ t h in
     record { list = list; outer = outer; others = others; opens = refl; nested = Means-kind_same.equal outer.kind Li p.0; made = Ok-same {E = ListCause} _ t p.1 }
 
-outdent_keeps : (items : List PlainItem) (at : ℕ) (t : Transaction) → Lawful items → outdent items at ≡ Ok t →
-    (Lawful (edited t items) × (filter is_character_or_leaf (edited t items) ≡ filter is_character_or_leaf items)) × Fine items t
-outdent_keeps items at t lawful h =
+-- what an outdent of a lawful list gives
+record Outdents (items : List PlainItem) (at : ℕ) (t : Transaction) : Type 0 where
+  pub nested : Nested items at (opens_at items at) t
+  pub order : InOrder 0 (length items) (end_before at nested.list ∷ begin_after items (partner items at) nested.list ∷ [])
+  pub fine : Fine items t
+  pub lawful : Lawful (edited t items)
+  pub text : filter is_character_or_leaf (edited t items) ≡ filter is_character_or_leaf items
+
+outdents : (items : List PlainItem) (at : ℕ) (t : Transaction) → Lawful items → outdent items at ≡ Ok t → Outdents items at t
+outdents items at t lawful h =
     let p = if_ok_then (is_list_item items at) _ _ t h in
     let o = opening_shape Li (slice_get items at) p.0 in
     let m = nested_in items at (opens_at items at) t p.1 in
@@ -342,19 +354,32 @@ outdent_keeps items at t lawful h =
     let f = prefix items at lawful o.0 o.1 o.2 o.3 o.4 o.5 n m.list m.outer m.others m.opens m.nested in
     let b = back items at lawful o.0 o.1 o.2 o.3 o.4 o.5 n m.list m.outer m.others m.opens m.nested in
     let g = gives items at lawful o.0 o.1 o.2 o.3 o.4 o.5 n m.list m.outer m.others m.opens m.nested f b in
-    let e = ap (λ v. edited v items) (sym m.made) ∙ g.0 in (
-      (
-        subst Lawful (sym e) (stays_lawful items at lawful o.0 o.1 o.2 o.3 o.4 o.5 n m.list m.outer m.others m.opens m.nested f b),
-        ap (filter is_character_or_leaf) e ∙ keeps_text items at lawful o.0 o.1 o.2 o.3 o.4 o.5 n m.list m.outer m.others m.opens m.nested f b,
-      ),
-      subst (Fine items) m.made g.1,
-    )
+    let e = ap (λ v. edited v items) (sym m.made) ∙ g.0 in
+    record {
+      nested = m;
+      order = g.2;
+      fine = subst (Fine items) m.made g.1;
+      lawful = subst Lawful (sym e) (stays_lawful items at lawful o.0 o.1 o.2 o.3 o.4 o.5 n m.list m.outer m.others m.opens m.nested f b);
+      text = ap (filter is_character_or_leaf) e ∙ keeps_text items at lawful o.0 o.1 o.2 o.3 o.4 o.5 n m.list m.outer m.others m.opens m.nested f b;
+    }
 
 pub outdent_keeps_text : OutdentKeepsText
-outdent_keeps_text items at t lawful h = (outdent_keeps items at t lawful h).0.1
+outdent_keeps_text items at t lawful h = (outdents items at t lawful h).text
 
 pub outdent_stays_lawful : OutdentStaysLawful
-outdent_stays_lawful items at t lawful h = (outdent_keeps items at t lawful h).0.0
+outdent_stays_lawful items at t lawful h = (outdents items at t lawful h).lawful
 
 pub outdent_fine : OutdentIsFine
-outdent_fine items at t lawful h = (outdent_keeps items at t lawful h).1
+outdent_fine items at t lawful h = (outdents items at t lawful h).fine
+
+-- its edits stand in order, at the open nodes
+pub outdent_order : (items : List PlainItem) (at : ℕ) (list : Open) (outer : List Open) (t : Transaction) → Lawful items → opens_at items at ≡ list ∷ outer → outdent items at ≡ Ok t →
+    InOrder 0 (length items) (end_before at list ∷ begin_after items (partner items at) list ∷ [])
+    × (transaction_of items (end_before at list ∷ begin_after items (partner items at) list ∷ []) ≡ t)
+outdent_order items at list outer t lawful opens h =
+    let r = outdents items at t lawful h in
+    let m = r.nested in
+    let both : list ∷ outer ≡ m.list ∷ m.outer ∷ m.others = sym opens ∙ m.opens in
+    let same : m.list ≡ list = cc in
+    subst (λ v. InOrder 0 (length items) (end_before at v ∷ begin_after items (partner items at) v ∷ [])
+    × (transaction_of items (end_before at v ∷ begin_after items (partner items at) v ∷ []) ≡ t)) same (r.order, m.made)

@@ -118,17 +118,21 @@ edits_rise items from to (Some j) low high h =
     alike true past within = omega arith
     alike false past within = (omega arith, omega arith)
 
-pub removal_fine : (items : List PlainItem) (from to : ℕ) (t : Transaction) → Lawful items → removal items from to ≡ Ok t → Fine items t
-removal_fine items from to t lawful h =
-    let p = if_ok_else (is_bad_removal items from to) _ _ t h in
-    let span = (or_parts (is_bad_span items from to) _ p.0).0 in
+pub removal_rises : (items : List PlainItem) (from to : ℕ) → Lawful items → is_bad_removal items from to ≡ false →
+    Rising 0 (length items) (removal_edits items from to (join_at items (unmatched_places items from to)))
+removal_rises items from to lawful h =
+    let span = (or_parts (is_bad_span items from to) _ h).0 in
     let a = or_parts (nat_le to from) _ span in
     let b = or_parts (nat_lt (length items) to) _ a.1 in
     let low = leb-false to from a.0 in
     let high = ltb-false (length items) to b.0 in
     let ns = unmatched_places items from to in
-    let edits = removal_edits items from to (join_at items ns) in
     let all : AllIn (is_unmatched items from to) from to ns =
     subst (λ e. AllIn (is_unmatched items from to) from e ns) (omega arith) (AllIn-filter (is_unmatched items from to) from (to - from)) in
-    let rise = edits_rise items from to (join_at items ns) (omega arith) high (λ j g. join_fits items from to lawful ns j all g) in
-    subst (Fine items) (Ok-same {E = BuildCause} (transaction_of items edits) t p.1) (Fine-Rising items edits rise)
+    edits_rise items from to (join_at items ns) (omega arith) high (λ j g. join_fits items from to lawful ns j all g)
+
+pub removal_fine : (items : List PlainItem) (from to : ℕ) (t : Transaction) → Lawful items → removal items from to ≡ Ok t → Fine items t
+removal_fine items from to t lawful h =
+    let p = if_ok_else (is_bad_removal items from to) _ _ t h in
+    let edits = removal_edits items from to (join_at items (unmatched_places items from to)) in
+    subst (Fine items) (Ok-same {E = BuildCause} (transaction_of items edits) t p.1) (Fine-Rising items edits (removal_rises items from to lawful p.0))

@@ -18,7 +18,9 @@ use Rattle.model_edit.specs.Edits.{Edit, Change, transaction_of}
 use Rattle.model_edit_law.proofs.OrderLemmas.{Rising, Fine-Rising, Rising-within, Rising-append}
 use Rattle.model_edit_law.proofs.BracketLemmas.{node_parts, partner-opening}
 use Rattle.model_edit.specs.declared.wrap_plan.Shape.{Shape}
-use Rattle.model_edit.specs.Wrap.{is_whole_nodes, is_bad_wrap, Claim, opening_claims, closing_claims, node_claims, first_wrong, nodes_in, wrong_place, closings_of, node_edits, wrap_edits, wrapped_unless}
+use Rattle.model_edit.specs.declared.wrap_plan.WrapPlan.{WrapPlan}
+use Rattle.model_change.specs.Transaction.{Transaction}
+use Rattle.model_edit.specs.Wrap.{wrap, is_whole_nodes, is_bad_wrap, Claim, opening_claims, closing_claims, node_claims, first_wrong, nodes_in, wrong_place, closings_of, node_edits, wrap_edits, wrapped_unless}
 use Rattle.model_edit_law.specs.ShapeLaws.{WrapIsFine}
 
 if_ok_else : {A E : Type 0} (b : Bool) (e : E) (r : Result A E) (t : A) → (if b then Err e else r) ≡ Ok t → (b ≡ false) × (r ≡ Ok t)
@@ -163,8 +165,10 @@ outer_fits items (kind ∷ kinds) first to lawful high o c =
     fits : Ahead items first → partner items first ≡ to + length kinds → to + suc (length kinds) ≤ length items
     fits a e = let b = a.1 in omega arith
 
-pub wrap_fine : WrapIsFine
-wrap_fine items from to plan t lawful h =
+-- a wrap that was not refused is edits in order
+pub wrap_rises : (items : List PlainItem) (from to : ℕ) (plan : WrapPlan) (t : Transaction) → Lawful items → wrap items from to plan ≡ Ok t →
+    Rising 0 (length items) (wrap_edits items from to plan) × (transaction_of items (wrap_edits items from to plan) ≡ t)
+wrap_rises items from to plan t lawful h =
     let p = if_ok_else (is_bad_wrap items from to) _ _ t h in
     let bad = or_parts (not (is_whole_nodes items from to)) _ p.0 in
     let w = and_parts (nat_lt from to) _ (Rattle.std.proofs.lemmas.Bool.not-false _ bad.0) in
@@ -175,15 +179,16 @@ wrap_fine items from to plan t lawful h =
     by (wrong_place items from to plan.unwrap_outer plan.unwrap_each) refl p.1 low high m
   where
     by : (o : Option ℕ) → wrong_place items from to plan.unwrap_outer plan.unwrap_each ≡ o → wrapped_unless o (transaction_of items (wrap_edits items from to plan)) ≡ Ok t →
-        from < to → to ≤ length items → list_any (is_unmatched items from to) (places_in from to) ≡ false → Fine items t
+        from < to → to ≤ length items → list_any (is_unmatched items from to) (places_in from to) ≡ false →
+        Rising 0 (length items) (wrap_edits items from to plan) × (transaction_of items (wrap_edits items from to plan) ≡ t)
     by (Some at) e g low high m = cc
-    by None e g low high m = placed (nat_lt from (length plan.unwrap_outer)) refl e
+    by None e g low high m = (placed (nat_lt from (length plan.unwrap_outer)) refl e, Ok-same {E = BuildCause} (transaction_of items (wrap_edits items from to plan)) t g)
       where
         placed : (b : Bool) → nat_lt from (length plan.unwrap_outer) ≡ b →
             (if b then Some 0 else first_wrong
             (opening_claims items (from - length plan.unwrap_outer) plan.unwrap_outer
             ++ (flat_map (λ (node : Open). node_claims items plan.unwrap_each node.from) (nodes_in items from to)
-            ++ closing_claims items (from - length plan.unwrap_outer) (length plan.unwrap_outer) to))) ≡ None → Fine items t
+            ++ closing_claims items (from - length plan.unwrap_outer) (length plan.unwrap_outer) to))) ≡ None → Rising 0 (length items) (wrap_edits items from to plan)
         placed true b e = cc
         placed false b e =
             let room = ltb-false from (length plan.unwrap_outer) b in
@@ -197,11 +202,14 @@ wrap_fine items from to plan t lawful h =
             let lf : length prefix ≡ from = length-take-le from items (omega arith) in
             let lr : length range ≡ to - from = length-take-le (to - from) (drop from items) (omega (arith, length-drop from items)) in
             let nodes = nodes_rise items rest from to plan.unwrap_each plan.wrap_each lawful m range prefix 0 from parts (sym lf) (omega arith) (omega arith) (omega arith) c2.0 in
-            let last = outer_fits items plan.unwrap_outer first to lawful high c1.0 c2.1 in
-            let all : Rising 0 (length items) (wrap_edits items from to plan) = (
+            let last = outer_fits items plan.unwrap_outer first to lawful high c1.0 c2.1 in (
               omega arith,
               Rising-within from (first + length plan.unwrap_outer) (length items) (length items) _ (omega arith) (omega arith)
                   (Rising-append from to (length items) (flat_map (λ (node : Open). node_edits node.from (end_of_node items node.from) (length plan.unwrap_each) plan.wrap_each) (nodes_in items from to))
                   (Change to (length plan.unwrap_outer) (closings_of plan.wrap_outer) ∷ []) nodes (omega arith, last)),
-            ) in
-            subst (Fine items) (Ok-same {E = BuildCause} (transaction_of items (wrap_edits items from to plan)) t g) (Fine-Rising items (wrap_edits items from to plan) all)
+            )
+
+pub wrap_fine : WrapIsFine
+wrap_fine items from to plan t lawful h =
+    let r = wrap_rises items from to plan t lawful h in
+    subst (Fine items) r.1 (Fine-Rising items (wrap_edits items from to plan) r.0)

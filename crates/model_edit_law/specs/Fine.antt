@@ -1,5 +1,5 @@
 -- What every edit is: a transaction that cannot be written shorter, and that applies to the list.
-use Rattle.std.specs.Prelude.{◌≡◌, ◌+◌, ◌^◌, true, nat_le, List, length}
+use Rattle.std.specs.Prelude.{◌≡◌, ◌+◌, true, nat_le, List, length}
 use Rattle.ve_base.specs.Limits.{max_total_length}
 use Rattle.model_items.specs.declared.plain_item.PlainItem.{PlainItem}
 use Rattle.model_change.specs.Transaction.{Transaction, all_inserted, edited, is_reduced, is_normal}

@@ -1,4 +1,5 @@
 pub mod Fine
+pub mod ResultLaws
 pub mod ApartLaws
 pub mod InsertLaws
 pub mod RemoveLaws

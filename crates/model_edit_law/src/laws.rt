@@ -5,6 +5,7 @@ ghost use Rattle.model_edit_law.specs.InsertLaws.{FragmentStaysLawful, Insertion
 ghost use Rattle.model_edit_law.specs.ListLaws.{IndentIsFine, IndentIsUndone, IndentKeepsText, IndentStaysLawful, OutdentIsFine, OutdentKeepsText, OutdentStaysLawful};
 ghost use Rattle.model_edit_law.specs.NextLaws.{CaretStaysInBranch, CaretStopsAtEnds};
 ghost use Rattle.model_edit_law.specs.RemoveLaws.{RemovalIsFine, RemovalStaysLawful};
+ghost use Rattle.model_edit_law.specs.ResultLaws.{AttributeSets, ColInPuts, ColOutTakes, ConvertConverts, IndentIndents, InsertionPuts, MarkingMarks, OutdentOutdents, RemovalTakes, RowInPuts, RowOutTakes, SplitParts, TypingPuts, UnmarkingUnmarks, WrapWraps};
 ghost use Rattle.model_edit_law.specs.SelectLaws.{OffsetsKeepNeighbours, OffsetsKeepOrder, OffsetsOutsideStay, OffsetsStayWithin, SelectionKeepsDirection, SelectionKeepsItems};
 ghost use Rattle.model_edit_law.specs.ShapeLaws.{AttributeIsFine, AttributeStaysLawful, ConvertIsFine, ConvertStaysLawful, MarkingIsFine, MarkingStaysLawful, UnmarkingIsFine, UnmarkingStaysLawful, WrapIsFine};
 ghost use Rattle.model_edit_law.specs.TableLaws.{ColInIsFine, ColInStaysLawful, ColOutGrid, ColOutIsFine, ColOutLays, ColOutStaysLawful, GridLays, RowInIsFine, RowInStaysLawful, RowOutGrid, RowOutIsFine, RowOutLays, RowOutStaysLawful};
@@ -15,6 +16,27 @@ pub fn edits_are_one_transaction()
     ensures fine { EditsAreFine }
     ensures gives { EditsSubstitute }
     ensures normal { FineIsNormal }
+{}
+
+/// What each edit makes of the list. Typing puts just the text at its place, an insertion its pieces with the brackets round them, and a split the
+/// brackets alone; a removal takes its range but for the brackets that stay; marks change in their range, and a kind and an attribute at their
+/// places. Wraps, list items, rows and columns are the list with their edits made: each of these stands in order.
+pub fn edits_give()
+    ensures typing { TypingPuts }
+    ensures insertion { InsertionPuts }
+    ensures split { SplitParts }
+    ensures removal { RemovalTakes }
+    ensures marking { MarkingMarks }
+    ensures unmarking { UnmarkingUnmarks }
+    ensures convert { ConvertConverts }
+    ensures attribute { AttributeSets }
+    ensures wrap { WrapWraps }
+    ensures indent { IndentIndents }
+    ensures outdent { OutdentOutdents }
+    ensures row_in { RowInPuts }
+    ensures col_in { ColInPuts }
+    ensures row_out { RowOutTakes }
+    ensures col_out { ColOutTakes }
 {}
 
 /// An insertion and a split are reduced transactions that apply, and can put back what they remove.

@@ -2,6 +2,7 @@
 //! of:
 //!
 //! - `Fine`: every edit is one transaction that cannot be written shorter, applies, and can put back what it removes;
+//! - `ResultLaws`: what each edit makes of the list;
 //! - `ApartLaws`: what edits insert has names apart;
 //! - `InsertLaws`, `RemoveLaws`, `ShapeLaws`, `ListLaws`: that each edit leaves a lawful list lawful, and what it keeps of the text;
 //! - `Spans`, `TableLaws`: a table as the spans of its cells, and the grid after a row or a column is put in or taken out;
@@ -14,7 +15,7 @@ mod laws;
 
 pub use laws::{
     carets_stay_in_content, col_in_stays_lawful, convert_stays_lawful, edits_are_one_transaction,
-    edits_stay_apart, fragment_stays_lawful, grids_lay, indent_is_undone, indent_keeps,
+    edits_give, edits_stay_apart, fragment_stays_lawful, grids_lay, indent_is_undone, indent_keeps,
     inserted_names_are_apart, insertions_are_fine, marks_stay_lawful, moves_are_fine,
     offsets_lead_on, outdent_keeps, outs_leave_the_others, outs_stay_lawful, removal_is_fine,
     removal_stays_lawful, row_in_stays_lawful, selections_lead_on, shapes_are_fine,
