@@ -20,4 +20,5 @@ pub mod ReplicaSessionLemmas
 pub mod SelectionLemmas
 pub mod KeptLemmas
 pub mod EditLemmas
+pub mod CountLemmas
 mod LawExamples

@@ -1,5 +1,5 @@
 -- The laws of sites and server, over every list of events.
-use Rattle.std.specs.Prelude.{◌≡◌, ◌<◌, ℕ, suc, Bool, true, false, List, [], ◌∷◌, length, map, take, slice_get, Option, Some, None, Ok, Err}
+use Rattle.std.specs.Prelude.{◌≡◌, ◌<◌, ◌≤◌, ℕ, suc, Bool, true, false, List, [], ◌∷◌, length, map, take, slice_get, Option, Some, None, Ok, Err}
 use Rattle.model_items.specs.declared.plain_item.PlainItem.{PlainItem}
 use Rattle.model_items.specs.Plain.{AreDistinct}
 use Rattle.model_change.specs.Transaction.{Transaction}
@@ -67,6 +67,14 @@ CommittedRun = (base : Replica) (sites : ℕ) (events : List Event) → Opens ba
 
 abbrev pub ListIsSound : Type 0
 ListIsSound = Always (λ base w m. Sound m.site.replica.items)
+
+-- A site has seen no more entries than are committed.
+abbrev pub SeenIsCommitted : Type 0
+SeenIsCommitted = Always (λ base w m. m.site.seen ≤ length w.committed)
+
+-- There are always as many sites as began.
+abbrev pub SitesStay : Type 0
+SitesStay = (base : Replica) (sites : ℕ) (events : List Event) → length (run (started base sites) events).members ≡ sites
 
 -- The number acknowledged is the number of entries that the site still holds as sent when it takes the answer.
 abbrev pub AckCounts : Type 0

@@ -1,5 +1,5 @@
 // What sites and server keep, whatever happens. Each function does nothing, and its contract is a law that is proved.
-ghost use Rattle.model_site_law.specs.Laws.{AckCounts, CommittedRun, EntriesJoin, EntriesRun, FirstReplicaOpens, FirstStoreIsDistinct, JoinedUntilConflict, ListIsReplay, ListIsSound, OneList, RedoneIsAsBefore, RevokeLeavesOut, StoreHolds, StoreIsDistinct, UndoneAtOnce, UndoneIsFirst};
+ghost use Rattle.model_site_law.specs.Laws.{AckCounts, CommittedRun, EntriesJoin, EntriesRun, FirstReplicaOpens, FirstStoreIsDistinct, JoinedUntilConflict, ListIsReplay, ListIsSound, OneList, RedoneIsAsBefore, RevokeLeavesOut, SeenIsCommitted, SitesStay, StoreHolds, StoreIsDistinct, UndoneAtOnce, UndoneIsFirst};
 ghost use Rattle.model_site_law.specs.SelectionLaws.{FirstSelectionStands, MovedStands, SelectionStands};
 ghost use Rattle.model_site_law.specs.MayHappen.{EditMayRun};
 ghost use Rattle.model_site_law.specs.KeptLaws.{EventsKeep, HoldsAtFirst};
@@ -20,6 +20,13 @@ pub fn lists_are_replays()
     ensures runs { EntriesRun }
     ensures committed { CommittedRun }
     ensures sound { ListIsSound }
+{}
+
+/// A site has seen no more entries than are committed, and there are always as many sites as began.
+#[tactic(auto, using(crate::proofs::CountLemmas::seen_is_committed, crate::proofs::CountLemmas::sites_stay))]
+pub fn counts_stay_within()
+    ensures seen { SeenIsCommitted }
+    ensures sites { SitesStay }
 {}
 
 /// The number that the server accepts is the number of entries that the site still holds as sent when it takes the answer.

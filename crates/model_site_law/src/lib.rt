@@ -14,6 +14,6 @@
 mod laws;
 
 pub use laws::{
-    acks_count, entries_join, events_keep, lists_are_replays, revokes_leave_out, selections_stand,
-    sites_meet, stores_hold, undo_gives_back,
+    acks_count, counts_stay_within, entries_join, events_keep, lists_are_replays,
+    revokes_leave_out, selections_stand, sites_meet, stores_hold, undo_gives_back,
 };

@@ -12,3 +12,5 @@ pub mod ShownLemmas
 pub mod ShownItemLemmas
 pub mod PastedLemmas
 pub mod PastedExamples
+pub mod RedoneLemmas
+pub mod RedoneExamples

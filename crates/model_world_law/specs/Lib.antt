@@ -2,4 +2,5 @@ pub mod Fit
 pub mod Causes
 pub mod Reached
 pub mod ShownLaws
+pub mod Redone
 pub mod Pasted

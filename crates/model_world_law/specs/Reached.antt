@@ -1,5 +1,6 @@
 -- What always holds of a world, whatever lines it was given: the laws of sites and server hold of it.
-use Rattle.std.specs.Prelude.{◌≡◌, ℕ, List, [], ◌∷◌, length, slice_get, Some, Ok, IsUtf8}
+use Rattle.std.specs.Prelude.{◌≡◌, ◌≤◌, ℕ, List, [], ◌∷◌, ◌++◌, length, slice_get, Some, Ok, IsUtf8}
+use Rattle.model_items.specs.Plain.{AreDistinct}
 use Rattle.model_change.specs.Store.{cited}
 use Rattle.model_change.specs.Replay.{replay, AllRun, flattened}
 use Rattle.model_page.specs.PageItems.{Opened}
@@ -11,6 +12,8 @@ use Rattle.model_site.specs.Events.{Event, run}
 use Rattle.model_site_law.specs.Sound.{Sound, AllIn, Opens}
 use Rattle.model_site_law.specs.MayHappen.{AllMayHappen}
 use Rattle.model_site_law.specs.SelectionLaws.{StandsIn, AllSelectWithin}
+use Rattle.model_world.specs.declared.command.Command.TheVariants.{OpenPage}
+use Rattle.model_world.specs.Commands.{command}
 use Rattle.model_world.specs.Opening.{open_page}
 use Rattle.model_world.specs.World.{World, Closed, Open, world_after}
 
@@ -21,25 +24,33 @@ pub record Becomes (w next : Session) : Type 0 where
   pub within : AllSelectWithin w events
   pub same : next ≡ run w events
 
--- the session is what some events make of sites that began with the page's items
-pub record IsReached (page : Opened) (w : Session) : Type 0 where
-  -- the text that was opened
+-- The session is what some events make of the sites that one of the lines asked for, each of which began with the items of the page that
+-- this line gave.
+pub record IsReached (lines : List (List ℕ)) (page : Opened) (w : Session) : Type 0 where
+  pub before : List (List ℕ)
+  pub line : List ℕ
+  pub after : List (List ℕ)
+  pub split : before ++ line ∷ after ≡ lines
+  -- the text of the page, and the number of sites
   pub text : List ℕ
-  pub opened : open_page text ≡ Ok page
   pub sites : ℕ
+  pub asked : command line ≡ Ok (OpenPage text sites)
+  pub opened : open_page text ≡ Ok page
+  -- there are still as many
+  pub members : length w.members ≡ sites
   pub events : List Event
   pub opens : Opens (opened_with page.items)
   pub may : AllMayHappen (started (opened_with page.items) sites) events
   pub within : AllSelectWithin (started (opened_with page.items) sites) events
   pub same : w ≡ run (started (opened_with page.items) sites) events
 
-abbrev pub WorldReached : World → Type 0
-WorldReached Closed = Unit {0}
-WorldReached (Open page session) = IsReached page session
+abbrev pub WorldReached : List (List ℕ) → World → Type 0
+WorldReached lines Closed = Unit {0}
+WorldReached lines (Open page session) = IsReached lines page session
 
 -- Over every list of lines: each world that they lead to is what some events make of freshly started sites. So what holds of sites and server over every list of events holds of every world.
 abbrev pub EveryWorldIsReached : Type 0
-EveryWorldIsReached = (lines : List (List ℕ)) → WorldReached (world_after Closed lines)
+EveryWorldIsReached = (lines : List (List ℕ)) → WorldReached lines (world_after Closed lines)
 
 -- ---- so the laws of sites and server hold of every site of every world
 
@@ -49,8 +60,11 @@ pub record SiteHolds (base : Replica) (w : Session) (m : Member) : Type 0 where
   -- it is the replay of the committed entries that it has seen, of those sent and of those unsent, each of which can be performed and undone
   pub list : m.site.replica.items ≡ replay (flattened (entries_of w.committed m.site)) base.items
   pub runs : AllRun (flattened (entries_of w.committed m.site)) base.items
-  -- its store has every value that its list cites
+  -- it has seen no more entries than are committed
+  pub seen : m.site.seen ≤ length w.committed
+  -- its store has every value that its list cites, and has each value once
   pub stored : AllIn m.site.replica.store (cited m.site.replica.items)
+  pub distinct : AreDistinct m.site.replica.store
   -- both ends of its selection stand in the list, and not inside a leaf
   pub selection : StandsIn m.site.replica.items m.site.replica.selection
   -- the answer that it takes next counts the entries that it still holds as sent

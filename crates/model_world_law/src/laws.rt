@@ -3,6 +3,7 @@ ghost use Rattle.model_world_law.specs.Fit.{LinesAreWritten, ChangesFit, MovesFi
 ghost use Rattle.model_world_law.specs.Causes.{StoreFullIsFull, MovesFillStore};
 ghost use Rattle.model_world_law.specs.Pasted.{FragmentsAreChildren, PastingStaysLawful};
 ghost use Rattle.model_world_law.specs.ShownLaws.{ShownIsRead};
+ghost use Rattle.model_world_law.specs.Redone.{LinesRedo};
 ghost use Rattle.model_world_law.specs.Reached.{EveryWorldIsReached, EverySiteHolds, SitesMeet, UneditedIsWrittenBack};
 
 use model_edit_law::fragment_stays_lawful;
@@ -33,17 +34,24 @@ pub fn store_full_is_full()
 {}
 
 /// Whatever lines a world is given, it is what some events make of the sites that began on its page, events that the
-/// laws of sites and server speak of.
+/// laws of sites and server speak of. One of the lines opened the page, for just so many sites as there are.
 #[tactic(auto, using(crate::proofs::ReachLemmas::every_world_is_reached))]
 pub fn every_world_is_reached()
     ensures { EveryWorldIsReached }
 {}
 
-/// So each site of every world has a sound list, the replay of what it has seen and made; its store has what the list
-/// cites; its selection stands in the list; the server's answers count what it still holds as sent; and with everything
+/// So each site of every world has a sound list, the replay of what it has seen and made; it has seen no more than is
+/// committed; its store has what the list cites, and each value once; its selection stands in the list; the server's answers count what it still holds as sent; and with everything
 /// undone, and nothing taken, it has the page's items and the first store.
 pub fn every_site_holds()
     ensures { EverySiteHolds }
+{}
+
+/// A site that has taken nothing and has nothing undone may undo and redo, line by line and in any order: once nothing
+/// is undone again, its list and its store are as before.
+#[tactic(auto, using(crate::proofs::RedoneLemmas::lines_redo))]
+pub fn lines_redo()
+    ensures { LinesRedo }
 {}
 
 /// Sites that have seen as much, and have nothing pending, have one list, and so write one page.

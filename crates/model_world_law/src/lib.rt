@@ -7,12 +7,13 @@
 //! - `Pasted`: what a fragment becomes stands together under some kind, so pasting keeps the law ([`pasting_stays_lawful`]);
 //! - `Reached`: which events make a world ([`every_world_is_reached`]), what each of its sites holds
 //!   ([`every_site_holds`]), when sites have one list ([`sites_meet`]), and when a page is written as it was opened
-//!   ([`unedited_is_written_back`]).
+//!   ([`unedited_is_written_back`]);
+//! - `Redone`: what a site undoes and redoes, line by line ([`lines_redo`]).
 #![tactic(auto)]
 
 mod laws;
 
 pub use laws::{
-    every_site_holds, every_world_is_reached, layers_fit, pasting_stays_lawful, shown_is_read,
-    sites_meet, store_full_is_full, unedited_is_written_back,
+    every_site_holds, every_world_is_reached, layers_fit, lines_redo, pasting_stays_lawful,
+    shown_is_read, sites_meet, store_full_is_full, unedited_is_written_back,
 };
