@@ -1,5 +1,5 @@
 -- What a `data-mw` says, as texts.
-use Rattle.std.specs.Prelude.{Option, Some, None, option_map, codes}
+use Rattle.std.specs.Prelude.{ℕ, List, Option, Some, None, option_map, codes, IsUtf8}
 use Rattle.std.specs.Borrow.{Bor}
 use Rattle.std.specs.Str.{chars}
 use Rattle.serde_json.specs.Data.{Data, Members, no_members}
@@ -13,6 +13,15 @@ use Rattle.ve_internal.specs.declared.reference.RefRead.{RefRead}
 -- group, name and body as texts
 abbrev pub as_texts : model.RefRead → RefRead
 as_texts r = record { group = chars r.group; name = option_map chars r.name; html = option_map chars r.html }
+
+-- the text of the body, if there is one, is UTF-8
+abbrev pub TextIsUtf8 : Option (List ℕ) → Type 0
+TextIsUtf8 None = Unit {0}
+TextIsUtf8 (Some text) = IsUtf8 text
+
+abbrev pub BodyIsUtf8 : Option model.RefRead → Type 0
+BodyIsUtf8 None = Unit {0}
+BodyIsUtf8 (Some r) = TextIsUtf8 r.html
 
 -- ---- as the code asks
 

@@ -1,9 +1,9 @@
 // What an editable `data-mw` says.
-ghost use Rattle.std.specs.Prelude.{◌≡◌, IfOk, option_map};
+ghost use Rattle.std.specs.Prelude.{◌≡◌, IfOk, IfSome, option_map};
 ghost use Rattle.std.specs.Str.{chars};
 ghost use Rattle.serde_json.specs.View.{members_view};
 ghost use Rattle.model_page.specs.DataMw as model;
-ghost use Rattle.ve_internal.specs.Read.{as_texts, in_members};
+ghost use Rattle.ve_internal.specs.Read.{as_texts, in_members, BodyIsUtf8};
 
 use crate::members::{
     attribute, html_or_none, member_of, members_or_none, read_json, text_or_empty, whole_object,
@@ -39,7 +39,8 @@ fn unless_empty<'a>(text: &'a str) -> Option<&'a str>
 
 /// What the members of a `data-mw` say.
 fn reference_in(alloc: Global, members: &Map<String, Value>) -> Result<Option<RefRead>, Memory>
-    ensures { IfOk result (λ r. r ≡ option_map as_texts (in_members (members_view members.now.entries))) }
+    ensures reference { IfOk result (λ r. r ≡ option_map as_texts (in_members (members_view members.now.entries))) }
+    ensures body { IfOk result (λ r. IfSome r (λ _. BodyIsUtf8 (in_members (members_view members.now.entries)))) }
 {
     let Some(attrs) = members_or_none(member_of(members, "attrs")) else {
         return Ok(None);
@@ -64,9 +65,10 @@ fn reference_in(alloc: Global, members: &Map<String, Value>) -> Result<Option<Re
 }
 
 /// What a `data-mw` says of a reference; none where it isn't editable: where it isn't JSON, isn't an object, has a number
-/// that is no integer of 64 bits, or has members that say neither an owner nor a reuse.
+/// that is no integer of 64 bits, or has members that say neither an owner nor a reuse. The text of the body is UTF-8.
 pub fn reference_of(alloc: Global, mw: &str) -> Result<Option<RefRead>, Memory>
-    ensures { IfOk result (λ r. r ≡ option_map as_texts (model.reference_of mw.now)) }
+    ensures reference { IfOk result (λ r. r ≡ option_map as_texts (model.reference_of mw.now)) }
+    ensures body { IfOk result (λ r. IfSome r (λ _. BodyIsUtf8 (model.reference_of mw.now))) }
 {
     let Some(value) = read_json(alloc, mw)? else {
         return Ok(None);
