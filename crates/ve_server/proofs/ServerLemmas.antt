@@ -1,0 +1,131 @@
+-- Queues are staged and released one after the other; entries by value are flattened.
+use Rattle.std.proofs.Common.{◌≡◌, ℕ, zero, suc, ◌+◌, ◌-◌, ◌<◌, ◌≤◌, List, [], ◌∷◌, ◌++◌, length, map, take, drop, set, get_or, replicate, Option, refl, sym, ap, subst, ◌∙◌, arith}
+use Rattle.std.proofs.lemmas.Grind.{replicate_next}
+use Rattle.std.proofs.lemmas.List.{map-set, map-append, get_or-map, take_all, take-append-drop, drop_all, append-nil, drop-map, length-drop}
+use Rattle.model_change.specs.Replay.{flattened}
+use Rattle.model_site.specs.Entries.{Parcel}
+use Rattle.model_site.specs.Site.{Submission}
+use Rattle.model_site.specs.Joined.{join_entries}
+use Rattle.model_site.specs.Session.{SiteFeed, feed_for, accepted_of}
+use Rattle.ve_tx.specs.declared.parcel.Parcel.{Parcel as SentParcel}
+use Rattle.ve_tx.specs.ByValue.{parcel_by_value}
+use Rattle.ve_rebase.specs.Entries.{parcels_by_value}
+use Rattle.ve_rebase.specs.Lists.{RunFromOneLength}
+use Rattle.ve_rebase.specs.Until.{joined_until}
+use Rattle.ve_server.specs.declared.feed.Feed.{Feed}
+use Rattle.ve_server.specs.Fed.{feed_of}
+use Rattle.ve_server.specs.Serving.{Serving, all_queued, first_of, fed, served}
+use Rattle.ve_server.specs.Waiting.{Waiting, feeds_in, released, all_staged}
+
+flattened_by_value : (ps : List SentParcel) → parcels_by_value ps ≡ flattened (map parcel_by_value ps)
+flattened_by_value [] = refl
+flattened_by_value (p ∷ ps) = ap (λ ts. parcel_by_value p ++ ts) (flattened_by_value ps)
+
+-- ---- what is accepted
+
+committed_since : (base : ℕ) (ps : List SentParcel) (committed : List Parcel) → map parcel_by_value ps ≡ committed →
+    parcels_by_value (take (length ps - base) (drop base ps)) ≡ flattened (drop base committed)
+committed_since base ps committed e =
+    ap parcels_by_value (take_all (length ps - base) (drop base ps) (omega (arith, length-drop base ps)))
+    ∙ (flattened_by_value (drop base ps) ∙ ap flattened (sym (drop-map parcel_by_value base ps) ∙ ap (drop base) e))
+
+pub may_join : (base : ℕ) (ps ms : List SentParcel) (committed entries : List Parcel) → map parcel_by_value ps ≡ committed → map parcel_by_value ms ≡ entries →
+    RunFromOneLength (flattened (drop base committed)) (flattened entries) → RunFromOneLength (parcels_by_value (take (length ps - base) (drop base ps))) (parcels_by_value ms)
+may_join base ps ms committed entries e f run =
+    subst (λ xs. RunFromOneLength xs (parcels_by_value ms)) (sym (committed_since base ps committed e))
+    (subst (RunFromOneLength (flattened (drop base committed))) (sym (flattened_by_value ms ∙ ap flattened f)) run)
+
+pub is_accepted : (base : ℕ) (ps ms : List SentParcel) (committed entries : List Parcel) → map parcel_by_value ps ≡ committed → map parcel_by_value ms ≡ entries →
+    joined_until (take (length ps - base) (drop base ps)) ms ≡ accepted_of committed (record { base = base; entries = entries })
+is_accepted base ps ms committed entries e f =
+    ap (λ xs. join_entries xs (map parcel_by_value ms)) (committed_since base ps committed e) ∙ ap (join_entries (flattened (drop base committed))) f
+
+-- ---- staging
+
+pub staged_keep : (sender k : ℕ) (entries : List Parcel) (ws : List Waiting) → feeds_in (all_staged sender k entries ws) ≡ feeds_in ws
+staged_keep sender k entries [] = refl
+staged_keep sender k entries (w ∷ ws) = ap (λ qs. w.feeds ∷ qs) (staged_keep sender (suc k) entries ws)
+
+-- the first k queues are staged, and the others as they were
+abbrev pub staged_to : (sender : ℕ) → List Parcel → List Waiting → ℕ → List Waiting
+staged_to sender entries ws k = all_staged sender 0 entries (take k ws) ++ drop k ws
+
+one_staged : (sender j n k : ℕ) (entries : List Parcel) (ws : List Waiting) (d w : Waiting) → n ≡ j + k → k < length ws →
+    w.feeds ≡ (get_or ws k d).feeds → w.staged ≡ feed_for sender n entries →
+    set (all_staged sender j entries (take k ws) ++ drop k ws) k w ≡ all_staged sender j entries (take (suc k) ws) ++ drop (suc k) ws
+one_staged sender j n zero entries (v ∷ vs) d w e lt f s =
+    let same : n ≡ j = omega arith in
+    ap (λ q. q ∷ vs) (ap (λ fs. record { feeds = fs; staged = w.staged }) f ∙ ap (λ fs. record { feeds = v.feeds; staged = fs }) (s ∙ ap (λ m. feed_for sender m entries) same))
+one_staged sender j n (suc k) entries (v ∷ vs) d w e lt f s =
+    ap (λ qs. record { feeds = v.feeds; staged = feed_for sender j entries } ∷ qs) (one_staged sender (suc j) n k entries vs d w (omega arith) (omega arith) f s)
+one_staged sender j n k entries [] d w e lt f s = absurd (omega arith)
+
+kept_after : (sender j k : ℕ) (entries : List Parcel) (ws : List Waiting) (d : Waiting) → get_or (all_staged sender j entries (take k ws) ++ drop k ws) k d ≡ get_or ws k d
+kept_after sender j zero entries ws d = refl
+kept_after sender j (suc k) entries [] d = refl
+kept_after sender j (suc k) entries (w ∷ ws) d = kept_after sender (suc j) k entries ws d
+
+pub staged_next : (sender k : ℕ) (entries : List Parcel) (old now : List Waiting) (v w : Waiting) → now ≡ staged_to sender entries old k → k < length old →
+    w.feeds ≡ (get_or now k v).feeds → w.staged ≡ feed_for sender k entries → set now k w ≡ staged_to sender entries old (k + 1)
+staged_next sender k entries old now v w is lt f s =
+    let e : suc k ≡ k + 1 = omega arith in
+    ap (λ qs. set qs k w) is
+    ∙ (one_staged sender 0 k k entries old v w (omega arith) lt (f ∙ ap (λ q. q.feeds) (ap (λ qs. get_or qs k v) is ∙ kept_after sender 0 k entries old v)) s
+    ∙ ap (staged_to sender entries old) e)
+
+pub staged_all : (sender k : ℕ) (entries : List Parcel) (old : List Waiting) → length old ≤ k → staged_to sender entries old k ≡ all_staged sender 0 entries old
+staged_all sender k entries old end =
+    ap (λ qs. all_staged sender 0 entries qs ++ drop k old) (take_all k old end) ∙ (ap (λ qs. all_staged sender 0 entries old ++ qs) (drop_all k old end) ∙ append-nil (all_staged sender 0 entries old))
+
+-- while queues are staged, what can be taken of them stays
+pub feeds_stay : (sender k : ℕ) (entries : List Parcel) (old : List Waiting) → feeds_in (staged_to sender entries old k) ≡ feeds_in old
+feeds_stay sender k entries old = staying 0 k old
+  where
+    staying : (j n : ℕ) (ws : List Waiting) → feeds_in (all_staged sender j entries (take n ws) ++ drop n ws) ≡ feeds_in ws
+    staying j zero ws = refl
+    staying j (suc n) [] = refl
+    staying j (suc n) (w ∷ ws) = ap (λ qs. w.feeds ∷ qs) (staying (suc j) n ws)
+
+pub feeds_put : (k : ℕ) (ws : List Waiting) (v w : Waiting) → w.feeds ≡ (get_or ws k v).feeds → feeds_in (set ws k w) ≡ feeds_in ws
+feeds_put k [] v w f = refl
+feeds_put zero (x ∷ xs) v w f = ap (λ q. q ∷ feeds_in xs) f
+feeds_put (suc k) (x ∷ xs) v w f = ap (λ qs. x.feeds ∷ qs) (feeds_put k xs v w f)
+
+pub released_are_queued : (sender k : ℕ) (entries : List Parcel) (ws : List Waiting) → feeds_in (map released (all_staged sender k entries ws)) ≡ all_queued sender k entries (feeds_in ws)
+released_are_queued sender k entries [] = refl
+released_are_queued sender k entries (w ∷ ws) = ap (λ qs. (w.feeds ++ feed_for sender k entries) ∷ qs) (released_are_queued sender (suc k) entries ws)
+
+-- ---- one queue
+
+pub all_ready : (n ready : ℕ) (feeds : List Feed) → n ≡ length feeds →
+    ◌≡◌ {A = Waiting} (record { feeds = map feed_of (take n feeds); staged = map feed_of (drop n feeds) })
+    (record { feeds = map feed_of (take ready feeds) ++ map feed_of (drop ready feeds); staged = [] })
+all_ready n ready feeds e =
+    let all : map feed_of (take n feeds) ≡ map feed_of (take ready feeds) ++ map feed_of (drop ready feeds) =
+    ap (map feed_of) (take_all n feeds (omega arith)) ∙ (ap (map feed_of) (sym (take-append-drop ready feeds)) ∙ map-append feed_of (take ready feeds) (drop ready feeds)) in
+    let none : map feed_of (drop n feeds) ≡ [] = ap (map feed_of) (drop_all n feeds (omega arith)) in
+    ap (λ fs. record { feeds = fs; staged = map feed_of (drop n feeds) }) all
+    ∙ ap (λ fs. record { feeds = map feed_of (take ready feeds) ++ map feed_of (drop ready feeds); staged = fs }) none
+
+pub is_fed : (k : ℕ) (committed : List Parcel) (ws : List Waiting) (v w : Waiting) (next : Option SiteFeed) → k < length ws → v ≡ get_or ws k v →
+    (next, w.feeds) ≡ first_of v.feeds →
+    ◌≡◌ {A = Option SiteFeed × Serving} (next, record { committed = committed; queues = feeds_in (set ws k w) }) (fed k (record { committed = committed; queues = feeds_in ws }))
+is_fed k committed ws v w next lt read e =
+    let there : v.feeds ≡ get_or (feeds_in ws) k [] = ap (λ q. q.feeds) read ∙ sym (get_or-map (λ (q : Waiting). q.feeds) ws k v [] lt) in
+    let left : Option SiteFeed × List SiteFeed → Option SiteFeed × Serving = λ r. (r.0, record { committed = committed; queues = set (feeds_in ws) k r.1 }) in
+    ap (λ qs. (next, record { committed = committed; queues = qs })) (map-set (λ (q : Waiting). q.feeds) ws k w) ∙ ap left (e ∙ ap first_of there)
+
+pub one_more : (n : ℕ) (ws : List Waiting) (w : Waiting) → feeds_in ws ≡ replicate n [] → w.feeds ≡ [] → feeds_in (ws ++ w ∷ []) ≡ replicate (n + 1) []
+one_more n ws w e f =
+    map-append (λ (q : Waiting). q.feeds) ws (w ∷ []) ∙ (ap (λ qs. qs ++ w.feeds ∷ []) e ∙ (ap (λ fs. replicate n [] ++ fs ∷ []) f ∙ sym (replicate_next n [])))
+
+-- ---- all queues
+
+pub is_served : (sender : ℕ) (s : Submission) (committed kept after : List Parcel) (old staged new : List Waiting) → kept ≡ (accepted_of committed s).kept →
+    after ≡ committed ++ kept → staged ≡ all_staged sender 0 kept old → new ≡ map released staged →
+    ◌≡◌ {A = Serving} (record { committed = after; queues = feeds_in new }) (served sender s (record { committed = committed; queues = feeds_in old }))
+is_served sender s committed kept after old staged new k a f r =
+    let fed_all : List Parcel → Serving = λ more. record { committed = committed ++ more; queues = all_queued sender 0 more (feeds_in old) } in
+    ap (λ qs. record { committed = after; queues = feeds_in qs }) (r ∙ ap (map released) f)
+    ∙ (ap (λ cs. record { committed = cs; queues = feeds_in (map released (all_staged sender 0 kept old)) }) a
+    ∙ (ap (λ qs. record { committed = committed ++ kept; queues = qs }) (released_are_queued sender 0 kept old) ∙ ap fed_all k))

@@ -1,0 +1,10 @@
+pub use Rattle.model_change.specs.Transaction
+pub use Rattle.model_change.specs.Replay
+pub use Rattle.model_site.specs.Site
+pub use Rattle.model_site.specs.Session
+pub use Rattle.ve_rebase.specs.Entries
+pub use Rattle.ve_rebase.specs.Lists
+pub mod Fed
+pub mod Waiting
+pub mod Serving
+pub mod Laws

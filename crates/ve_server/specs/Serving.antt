@@ -1,0 +1,33 @@
+-- The server by itself: the committed entries, and for each site what it is to be fed.
+use Rattle.std.specs.Prelude.{ℕ, suc, List, [], ◌∷◌, ◌++◌, map, slice_index_or, slice_set, Option, Some, None}
+use Rattle.model_site.specs.Entries.{Parcel}
+use Rattle.model_site.specs.Site.{Submission}
+use Rattle.model_site.specs.Session.{Session, SiteFeed, feed_for, accepted_of}
+
+pub record Serving : Type 0 where
+  pub committed : List Parcel
+  -- the queue to each site, the first feed the next
+  pub queues : List (List SiteFeed)
+
+-- a session's
+abbrev pub serving_of : Session → Serving
+serving_of w = record { committed = w.committed; queues = map (λ m. m.feeds) w.members }
+
+-- the sender's queue gets how many entries were accepted, and each other one the entries, if there is one
+abbrev pub all_queued : (sender k : ℕ) → List Parcel → List (List SiteFeed) → List (List SiteFeed)
+all_queued sender k entries [] = []
+all_queued sender k entries (feeds ∷ queues) = (feeds ++ feed_for sender k entries) ∷ all_queued sender (suc k) entries queues
+
+-- the accepted entries of a submission are committed, and each queue is fed
+abbrev pub served : (sender : ℕ) → Submission → Serving → Serving
+served sender s v = let j = accepted_of v.committed s in
+    record { committed = v.committed ++ j.kept; queues = all_queued sender 0 j.kept v.queues }
+
+-- the first of a queue, if there is one, and the others
+abbrev pub first_of : List SiteFeed → Option SiteFeed × List SiteFeed
+first_of [] = (None, [])
+first_of (feed ∷ feeds) = (Some feed, feeds)
+
+-- the next feed of the site at k, if there is one, and the server without it
+abbrev pub fed : ℕ → Serving → Option SiteFeed × Serving
+fed k v = let r = first_of (slice_index_or v.queues k []) in (r.0, record v { queues = slice_set v.queues k r.1 })
