@@ -1,0 +1,85 @@
+-- One step in content.
+use Rattle.std.proofs.Common.{◌≡◌, ℕ, ◌+◌, Bool, true, List, [], ◌∷◌, ◌++◌, drop, sym, ap, ◌∙◌, subst, append_assoc, Option, Some}
+use Rattle.std.specs.Prelude.{zero, suc, unwrap_or}
+use Rattle.std.specs.List.{slice_get}
+use Rattle.std.proofs.lemmas.Bool.{and_parts}
+use Rattle.ve_base.specs.declared.marks.Mark.{Mark}
+use Rattle.ve_base.specs.declared.value.Value.{Value}
+use Rattle.ve_base.specs.declared.value.ValueId.{ValueId}
+use Rattle.ve_kinds.specs.declared.kind.Kind.{Kind}
+use Rattle.model_items.specs.declared.item.Item.{Item}
+use Rattle.model_items.specs.declared.item.Item.TheVariants.{Char, Opening}
+use Rattle.model_items.specs.Plain.{value_at, head_in, marks_in, plain, plain_list}
+use Rattle.model_page.specs.Editable.{all_refer, head_refers, item_refers}
+use Rattle.model_page_write.specs.Nodes.{NodesEnding, Start, first_outer, node_items}
+use Rattle.model_page_write.specs.Written.{Writer, content, marks_changed, letter, leaf_text}
+use Rattle.ve_nodes.specs.Siblings.{View, ending_at, Ends, is_end}
+use Rattle.ve_nodes.specs.After.{Follows}
+use Rattle.ve_nodes.specs.declared.ends.After.{After}
+use Rattle.ve_nodes.proofs.SiblingLemmas.{found_at, char_here, opening_here, start_of, node_later, none_here}
+use Rattle.ve_node_text.specs.Leaves.{leaf_of}
+use Rattle.ve_node_text.proofs.LeafLemmas.{leaf_is}
+use Rattle.ve_fresh.specs.Told.{content_at, GoesOn, IsAppended}
+
+-- ---- what items cite
+
+item_at_refers : (values : List Value) (items : List Item) (at : ℕ) (item : Item) → all_refer (plain_list values items) ≡ true → slice_get items at ≡ Some item → item_refers (plain values item) ≡ true
+item_at_refers values [] at item all found = cc
+item_at_refers values (x ∷ items) zero item all found =
+    let same : x ≡ item = cc in
+    subst (λ y. item_refers (plain values y) ≡ true) same (and_parts (item_refers (plain values x)) (all_refer (plain_list values items)) all).0
+item_at_refers values (x ∷ items) (suc at) item all found =
+    item_at_refers values items at item (and_parts (item_refers (plain values x)) (all_refer (plain_list values items)) all).1 found
+
+pub refers_at : (values : List Value) (items : List Item) (at : ℕ) (kind : Kind) (generated : Bool) (head marks pre : Option ValueId) (origin : Option ℕ) → all_refer (plain_list values items) ≡ true →
+    slice_get items at ≡ Some (Opening kind generated head marks pre origin) → head_refers kind (head_in (value_at values head)) ≡ true
+refers_at values items at kind generated head marks pre origin all found = item_at_refers values items at (Opening kind generated head marks pre origin) all found
+
+-- ---- joining
+
+pub three : (old mid new more a b : List ℕ) → mid ≡ old ++ a → new ≡ mid ++ b → new ++ more ≡ old ++ ((a ++ b) ++ more)
+three old mid new more a b e f = ap (λ l. l ++ more) (f ∙ ap (λ l. l ++ b) e ∙ append_assoc old a b) ∙ append_assoc old (a ++ b) more
+
+pub goes_on : (values : List Value) (texts : ℕ → Option (List ℕ)) (old mid new : List ℕ) (f g h : Writer → View → List ℕ) → GoesOn values texts old mid f g → GoesOn values texts mid new g h → GoesOn values texts old new f h
+goes_on values texts old mid new f g h p q w bodies told = q w bodies told ∙ p w bodies told
+
+pub changed_is : (old mid : List ℕ) (a b a' b' : List Mark) → mid ≡ old ++ marks_changed a b → a ≡ a' → b ≡ b' → mid ≡ old ++ marks_changed a' b'
+changed_is old mid a b a' b' e f g = e ∙ ap (λ m. old ++ marks_changed m b) f ∙ ap (λ m. old ++ marks_changed a' m) g
+
+-- ---- a character
+
+pub char_put : (values : List Value) (texts : ℕ → Option (List ℕ)) (items : List Item) (at : ℕ) (ch : ℕ) (opened marks : Option ValueId) (old mid new : List ℕ) →
+    slice_get items at ≡ Some (Char ch marks) → mid ≡ old ++ marks_changed (marks_in (value_at values opened)) (marks_in (value_at values marks)) → new ≡ mid ++ letter ch →
+    GoesOn values texts old new (λ w v. content_at w v items (marks_in (value_at values opened)) at) (λ w v. content_at w v items (marks_in (value_at values marks)) (at + 1))
+char_put values texts items at ch opened marks old mid new found e f w bodies told =
+    let v : View = record { values = values; bodies = bodies } in
+    three old mid new (content_at w v items (marks_in (value_at values marks)) (at + 1)) _ _ e f
+    ∙ sym (ap (λ (x : NodesEnding). old ++ content w (marks_in (value_at values opened)) x.here) (char_here v items at ch marks (found_at items at _ found)))
+
+-- ---- a leaf
+
+pub leaf_put : (values : List Value) (texts : ℕ → Option (List ℕ)) (items : List Item) (at : ℕ) (kind : Kind) (generated : Bool) (head marks pre : Option ValueId) (origin : Option ℕ) (opened : Option ValueId)
+    (end : ℕ) (after : After) (old mid new : List ℕ) → slice_get items at ≡ Some (Opening kind generated head marks pre origin) → Ends items (at + 1) end → Follows items end after →
+    mid ≡ old ++ marks_changed (marks_in (value_at values opened)) (marks_in (value_at values marks)) → new ≡ mid ++ leaf_of (head_in (value_at values head)) (texts at) kind →
+    GoesOn values texts old new (λ w v. content_at w v items (marks_in (value_at values opened)) at) (λ w v. content_at w v items (marks_in (value_at values marks)) after.at)
+leaf_put values texts items at kind generated head marks pre origin opened end after old mid new found ends follows e f w bodies told =
+    let v : View = record { values = values; bodies = bodies } in
+    let s : Start = start_of v at kind generated head marks pre origin in
+    let here = opening_here v items at kind generated head marks pre origin (found_at items at _ found) in
+    let A = marks_in (value_at values opened) in
+    let B = marks_in (value_at values marks) in
+    let L = leaf_of (head_in (value_at values head)) (texts at) kind in
+    let own = node_items s (ending_at v items (at + 1)).here (first_outer (ending_at v items (at + 1)).outer).pre in
+    let text : L ≡ unwrap_or (w.original s own) (leaf_text w s kind) =
+    sym (ap (λ o. unwrap_or o (leaf_text w s kind)) (told.fresh s own) ∙ leaf_is w s kind ∙ ap (λ h. leaf_of (head_in (value_at values head)) h kind) (told.known at)) in
+    three old mid new (content w B (ending_at v items after.at).here) (marks_changed A B) L e f
+    ∙ ap (λ l. old ++ ((marks_changed A B ++ l) ++ content w B (ending_at v items after.at).here)) text
+    ∙ ap (λ n. old ++ ((marks_changed A B ++ unwrap_or (w.original s own) (leaf_text w s kind)) ++ content w B n)) (sym (node_later items (at + 1) end after ends follows v))
+    ∙ sym (ap (λ (x : NodesEnding). old ++ content w A x.here) here)
+
+-- ---- where content ends
+
+pub content_done : (values : List Value) (texts : ℕ → Option (List ℕ)) (items : List Item) (at : ℕ) (opened : List Mark) (old mid new : List ℕ) (f : Writer → View → List ℕ) → is_end (drop at items) ≡ true →
+    GoesOn values texts old mid f (λ w v. content_at w v items opened at) → new ≡ mid ++ marks_changed opened [] → IsAppended values texts old new f
+content_done values texts items at opened old mid new f h so e w bodies told =
+    e ∙ ap (λ n. mid ++ content w opened n) (sym (none_here (record { values = values; bodies = bodies }) items at h)) ∙ so w bodies told
