@@ -41,7 +41,7 @@ stored_grows (t ∷ ts) items S =
     grown_twice S next (stored ts (edited t items) next) (fill_grows S (brought t items)) (stored_grows ts (edited t items) next)
 
 -- filling positions changes nothing of it
-inserted-filled : (t : Transaction) (items : List PlainItem) → all_inserted (filled t items) ≡ all_inserted t
+pub inserted-filled : (t : Transaction) (items : List PlainItem) → all_inserted (filled t items) ≡ all_inserted t
 inserted-filled [] items = refl
 inserted-filled (Retain count ∷ ops) items = inserted-filled ops _
 inserted-filled (Replace gone new ∷ ops) items = ap (λ r. new ++ r) (inserted-filled ops _)

@@ -1,13 +1,15 @@
 -- The words of the laws, at work.
-use Rattle.std.proofs.Common.{◌≡◌, ℕ, true, false, List, [], ◌∷◌, codes, refl}
+use Rattle.std.proofs.Common.{◌≡◌, ℕ, Bool, true, false, List, [], ◌∷◌, codes, refl}
 use Rattle.ve_base.specs.declared.marks.Mark.{Mark}
 use Rattle.ve_base.specs.declared.value.Value.TheVariants as value
+use Rattle.model_items.specs.declared.plain_item.PlainItem.{PlainItem}
 use Rattle.model_items.specs.declared.plain_item.PlainItem.TheVariants.{Char}
 use Rattle.model_change.specs.Transaction.{Retain, Replace, Transaction}
 use Rattle.model_site.specs.Session.{Foreign, Ack}
-use Rattle.model_site.specs.Events.{Undo, Redo}
+use Rattle.model_site.specs.Events.{Perform, Undo, Redo}
 use Rattle.model_site_law.specs.Chain.{needed_values, stored}
 use Rattle.model_site_law.specs.Protocol.{InStep, kept_under}
+use Rattle.model_site_law.specs.ItemLaws.{Inserts}
 use Rattle.model_site_law.specs.Laws.{turns}
 
 abbrev bold : List Mark
@@ -39,3 +41,11 @@ in_step = ((insertion 1 3 ∷ []) ∷ [], refl, ([], refl, refl, refl))
 
 back_and_forth : turns 2 (true ∷ true ∷ false ∷ []) ≡ Undo 2 ∷ Undo 2 ∷ Redo 2 ∷ []
 back_and_forth = refl
+
+abbrev is_char : PlainItem → Bool
+is_char (Char c marks) = true
+is_char _ = false
+
+-- what is performed is asked for its inserted items alone: the removal passes any test, and of what is undone nothing is asked
+one_letter : Inserts is_char (Perform 0 (removal ∷ insertion 1 3 ∷ [])) × Inserts (λ item. false) (Perform 0 (removal ∷ [])) × Inserts (λ item. false) (Undo 0)
+one_letter = ((tt, ((refl, tt), tt)), (tt, tt), tt)

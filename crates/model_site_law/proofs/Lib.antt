@@ -21,4 +21,5 @@ pub mod SelectionLemmas
 pub mod KeptLemmas
 pub mod EditLemmas
 pub mod CountLemmas
+pub mod ItemLemmas
 mod LawExamples

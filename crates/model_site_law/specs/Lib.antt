@@ -6,3 +6,4 @@ pub mod Holds
 pub mod Protocol
 pub mod SelectionLaws
 pub mod KeptLaws
+pub mod ItemLaws

@@ -2,6 +2,7 @@
 ghost use Rattle.model_site_law.specs.Laws.{AckCounts, CommittedRun, EntriesJoin, EntriesRun, FirstReplicaOpens, FirstStoreIsDistinct, JoinedUntilConflict, ListIsReplay, ListIsSound, OneList, RedoneIsAsBefore, RevokeLeavesOut, SeenIsCommitted, SitesStay, StoreHolds, StoreIsDistinct, UndoneAtOnce, UndoneIsFirst};
 ghost use Rattle.model_site_law.specs.SelectionLaws.{FirstSelectionStands, MovedStands, SelectionStands};
 ghost use Rattle.model_site_law.specs.MayHappen.{EditMayRun};
+ghost use Rattle.model_site_law.specs.ItemLaws.{ItemsKeep};
 ghost use Rattle.model_site_law.specs.KeptLaws.{EventsKeep, HoldsAtFirst};
 
 /// Entries are joined over committed transactions up to the first conflict: the transactions of those kept join as one list, and with the next entry's
@@ -75,4 +76,10 @@ pub fn events_keep()
     ensures first { HoldsAtFirst }
     ensures then { EventsKeep }
     ensures edits { EditMayRun }
+{}
+
+/// What holds of each item that is opened and of each that is inserted, and is kept where an attribute is set, holds of each item of every site's
+/// list: what is undone, redone, joined and taken back inserts no other items.
+pub fn items_keep()
+    ensures { ItemsKeep }
 {}

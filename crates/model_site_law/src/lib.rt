@@ -6,6 +6,7 @@
 //! - `Laws`: that each list is a replay, that sites meet, that stores hold what lists cite, what an undo and a revoke give back;
 //! - `Chain`, `Holds`, `Protocol`: what always holds of a store, of a site, and of sites, queues and server together;
 //! - `SelectionLaws`: where the ends of selections stand;
+//! - `ItemLaws`: what holds of each item of every list, since it holds of each that is inserted;
 //! - `KeptLaws`: all this holds at first and after each event.
 //!
 //! The laws stand in `laws`: each public function there does nothing, and its contract is a law that is proved.
@@ -14,6 +15,6 @@
 mod laws;
 
 pub use laws::{
-    acks_count, counts_stay_within, entries_join, events_keep, lists_are_replays,
+    acks_count, counts_stay_within, entries_join, events_keep, items_keep, lists_are_replays,
     revokes_leave_out, selections_stand, sites_meet, stores_hold, undo_gives_back,
 };

@@ -14,3 +14,9 @@ pub mod PastedLemmas
 pub mod PastedExamples
 pub mod RedoneLemmas
 pub mod RedoneExamples
+pub mod FewMarks
+pub mod StandLemmas
+pub mod StandEditLemmas
+pub mod StandReadLemmas
+pub mod ChangeStand
+mod StandingExamples

@@ -44,7 +44,14 @@ use Rattle.model_world.specs.declared.reply.Reply.TheVariants as reply
 use Rattle.model_world.specs.Refusals.{refused_as, build_refusal, undo_refusal, redo_refusal, send_refusal, revoke_refusal, table_refusal, list_refusal}
 use Rattle.model_world.specs.Edits.{BatchRefusal, allowed, unless_faulty, change_of, change_on, batch_from, batch_on}
 use Rattle.model_world.specs.Answers.{Outcome, Asked, asked, with_site, site_of, replica_of, site_items, told, refused, changed_or_no, performed_or_no, batch_or_no, selected, is_no_end, select_between, next_place, moved_or_no, lower, higher, is_collapsed, to_erase, erased_or_no, typing, after_text, typed_or_no, items_shown_or_no, node_told, node_or_no, grid_or_no, table_changed, list_changed, sent_or_no, served_or_no, taken_or_no, revoked_or_no, edge_or}
-use Rattle.model_world_law.specs.Fit.{Fit, IsWritten, AllWritten, RequestWritten, LayersFit}
+use Rattle.model_change.proofs.Fits.{parts_of_Applies}
+use Rattle.model_site_law.specs.ItemLaws.{AllInsert, AllPass, Inserts}
+use Rattle.model_site_law.specs.Protocol.{Every}
+use Rattle.model_site_law.proofs.ItemLemmas.{edited_all}
+use Rattle.model_site_law.proofs.SessionLemmas.{every_get}
+use Rattle.model_world_law.specs.Standing.{may_stand}
+use Rattle.model_world_law.proofs.StandLemmas.{setting_keeps}
+use Rattle.model_world_law.specs.Fit.{Fit, InsertsStanding, IsWritten, AllWritten, RequestWritten, LayersFit}
 use Rattle.model_world.specs.Laws.{MadeInTurn}
 use Rattle.model_world.proofs.BatchLemmas.{batch_is_whole}
 use Rattle.model_world_law.specs.Reached.{Becomes}
@@ -98,6 +105,29 @@ batch_may fit i (c ∷ cs) r ts written sound h = by_first (λ j s us. batch_may
             let same : t ∷ us ≡ ts = cc in
             subst (λ vs. AllMayRun vs r.items) same (may, rest_may (suc i) (performed t r) us (sound_next t r.items sound may) d)
 
+-- each change of a batch inserts such items, since those before it leave such items
+batch_stand : LayersFit → (i : ℕ) (cs : List Change) (r : Replica) (ts : List Transaction) → AllWritten cs → Sound r.items → AllPass may_stand r.items → batch_from i cs r ≡ Ok ts → AllInsert may_stand ts
+batch_stand fit i [] r ts written sound p h = let e : ◌≡◌ {A = List Transaction} [] ts = cc in subst (AllInsert may_stand) e tt
+batch_stand fit i (c ∷ cs) r ts written sound p h = by_first (λ j s us. batch_stand fit j cs s us written.1) (change_on r c) refl h
+  where
+    by_first : ((j : ℕ) (s : Replica) (us : List Transaction) → Sound s.items → AllPass may_stand s.items → batch_from j cs s ≡ Ok us → AllInsert may_stand us) →
+        (first : Result Transaction Refusal) → change_on r c ≡ first →
+        (elim first as (λ _. Result (List Transaction) BatchRefusal) [
+          | Err f ↦ Err (record { at = i; refusal = f })
+          | Ok t ↦ elim (batch_from (suc i) cs (performed t r)) as (λ _. Result (List Transaction) BatchRefusal) [ Err f ↦ Err f | Ok us ↦ Ok (t ∷ us) ]
+        ]) ≡ Ok ts → AllInsert may_stand ts
+    by_first rest_stand (Err f) e h = cc
+    by_first rest_stand (Ok t) e h = by_rest (batch_from (suc i) cs (performed t r)) refl h
+      where
+        by_rest : (rest : Result (List Transaction) BatchRefusal) → batch_from (suc i) cs (performed t r) ≡ rest →
+            (elim rest as (λ _. Result (List Transaction) BatchRefusal) [ Err f ↦ Err f | Ok us ↦ Ok (t ∷ us) ]) ≡ Ok ts → AllInsert may_stand ts
+        by_rest (Err f) d h = cc
+        by_rest (Ok us) d h =
+            let may = may_run r (change_of r.items c) t (λ u k. fit.changes r.items c u written.0 sound k) e in
+            let inserts = fit.changes_stand r.items c t written.0 sound p (allowed_is r (change_of r.items c) t e).given in
+            let same : t ∷ us ≡ ts = cc in
+            subst (AllInsert may_stand) same (inserts, rest_stand (suc i) (performed t r) us (sound_next t r.items sound may) (edited_all may_stand setting_keeps t r.items (parts_of_Applies t r.items may.applies).1 inserts p) d)
+
 typing_written : (s : Selection) (text : List ℕ) → AllWritten (typing s text)
 typing_written s text = by_test (is_collapsed s)
   where
@@ -133,10 +163,18 @@ Leads a (Ok r) = Becomes a.session r.1
 Leads a (Err r) = Unit {0}
 
 stays : (a : Asked) → Becomes a.session a.session
-stays a = record { events = []; may = tt; within = tt; same = refl }
+stays a = record { events = []; may = tt; within = tt; inserts = λ every. tt; same = refl }
 
-one_event : (a : Asked) (e : Event) (next : Session) → MayHappen a.session e → SelectsWithin a.session e → next ≡ happens a.session e → Becomes a.session next
-one_event a e next may within same = record { events = e ∷ []; may = (may, tt); within = (within, tt); same = same }
+-- the items of the site that is asked may stand, where those of every site may
+abbrev Items : Asked → Type 0
+Items a = AllPass may_stand (site_items a)
+
+asked_items : (a : Asked) → Stands a → Every (λ m. AllPass may_stand m.site.replica.items) a.session.members → Items a
+asked_items a s every = every_get (λ m. AllPass may_stand m.site.replica.items) a.session.members a.k a.member every s.there
+
+one_event : (a : Asked) → Stands a → (e : Event) (next : Session) → MayHappen a.session e → SelectsWithin a.session e → (Items a → Inserts may_stand e) → next ≡ happens a.session e → Becomes a.session next
+one_event a s e next may within inserts same =
+    record { events = e ∷ []; may = (may, tt); within = (within, tt); inserts = λ every. (inserts (asked_items a s every), tt); same = same }
 
 same_member : (a : Asked) → Stands a → (m : Member) → slice_get a.session.members a.k ≡ Some m → a.member ≡ m
 same_member a s m e = let f : Some a.member ≡ Some m = sym s.there ∙ e in cc
@@ -148,30 +186,35 @@ of_member a s f = ap (λ o. at_member a.session o f) (sym s.there)
 perform_same : (a : Asked) → Stands a → (ts : List Transaction) → with_site a (with_entry ts (site_of a)) ≡ happens a.session (Perform a.k ts)
 perform_same a s ts = of_member a s (λ m. events.with_site a.k m (with_entry ts m.site) a.session)
 
-performs : (a : Asked) → Stands a → (ts : List Transaction) → AllMayRun ts (site_items a) → Becomes a.session (with_site a (with_entry ts (site_of a)))
-performs a s ts may =
-    one_event a (Perform a.k ts) _ (λ m e. subst (λ n. AllMayRun ts n.site.replica.items) (same_member a s m e) may) tt (perform_same a s ts)
+performs : (a : Asked) → Stands a → (ts : List Transaction) → AllMayRun ts (site_items a) → (Items a → AllInsert may_stand ts) → Becomes a.session (with_site a (with_entry ts (site_of a)))
+performs a s ts may inserts =
+    one_event a s (Perform a.k ts) _ (λ m e. subst (λ n. AllMayRun ts n.site.replica.items) (same_member a s m e) may) tt inserts (perform_same a s ts)
 
-performed_leads : (a : Asked) → Stands a → (r : Result Transaction Refusal) → ((t : Transaction) → r ≡ Ok t → MayRun t (site_items a)) → Leads a (performed_or_no a r)
-performed_leads a s (Err refusal) may = tt
-performed_leads a s (Ok t) may = performs a s (t ∷ []) (may t refl, tt)
+performed_leads : (a : Asked) → Stands a → (r : Result Transaction Refusal) → ((t : Transaction) → r ≡ Ok t → MayRun t (site_items a)) → ((t : Transaction) → r ≡ Ok t → Items a → InsertsStanding t) →
+    Leads a (performed_or_no a r)
+performed_leads a s (Err refusal) may inserts = tt
+performed_leads a s (Ok t) may inserts = performs a s (t ∷ []) (may t refl, tt) (λ p. (inserts t refl p, tt))
 
-allowed_leads : (a : Asked) → Stands a → (r : Result Transaction Refusal) → ((u : Transaction) → r ≡ Ok u → Fit u) → Leads a (performed_or_no a (allowed (replica_of a) r))
-allowed_leads a s r fit = performed_leads a s (allowed (replica_of a) r) (λ t e. may_run (replica_of a) r t fit e)
+allowed_leads : (a : Asked) → Stands a → (r : Result Transaction Refusal) → ((u : Transaction) → r ≡ Ok u → Fit u) → ((u : Transaction) → r ≡ Ok u → Items a → InsertsStanding u) →
+    Leads a (performed_or_no a (allowed (replica_of a) r))
+allowed_leads a s r fit inserts =
+    performed_leads a s (allowed (replica_of a) r) (λ t e. may_run (replica_of a) r t fit e) (λ t e p. inserts t (allowed_is (replica_of a) r t e).given p)
 
-batch_leads : (a : Asked) → Stands a → (r : Result (List Transaction) BatchRefusal) → ((ts : List Transaction) → r ≡ Ok ts → AllMayRun ts (site_items a)) → Leads a (batch_or_no a r)
-batch_leads a s (Err f) may = tt
-batch_leads a s (Ok ts) may = performs a s ts (may ts refl)
+batch_leads : (a : Asked) → Stands a → (r : Result (List Transaction) BatchRefusal) → ((ts : List Transaction) → r ≡ Ok ts → AllMayRun ts (site_items a)) → ((ts : List Transaction) → r ≡ Ok ts → Items a → AllInsert may_stand ts) →
+    Leads a (batch_or_no a r)
+batch_leads a s (Err f) may inserts = tt
+batch_leads a s (Ok ts) may inserts = performs a s ts (may ts refl) (inserts ts refl)
 
 selects : (a : Asked) → Stands a → (sel : Selection) → StandsIn (site_items a) sel → Leads a (selected a sel)
 selects a s sel within =
-    one_event a (Select a.k sel) _ tt (λ m e. subst (λ n. StandsIn n.site.replica.items sel) (same_member a s m e) within)
+    one_event a s (Select a.k sel) _ tt (λ m e. subst (λ n. StandsIn n.site.replica.items sel) (same_member a s m e) within) (λ p. tt)
     (of_member a s (λ m. events.with_site a.k m (with_selection sel m.site) a.session))
 
 typed_leads : (a : Asked) → Stands a → (r : Result (List Transaction) BatchRefusal) → ((ts : List Transaction) → r ≡ Ok ts → AllMayRun ts (site_items a)) →
-    ((ts : List Transaction) → r ≡ Ok ts → selection.EndStands (all_performed ts (replica_of a)).items (after_text ts)) → Leads a (typed_or_no a r)
-typed_leads a s (Err f) may stands = tt
-typed_leads a s (Ok ts) may stands =
+    ((ts : List Transaction) → r ≡ Ok ts → selection.EndStands (all_performed ts (replica_of a)).items (after_text ts)) → ((ts : List Transaction) → r ≡ Ok ts → Items a → AllInsert may_stand ts) →
+    Leads a (typed_or_no a r)
+typed_leads a s (Err f) may stands inserts = tt
+typed_leads a s (Ok ts) may stands inserts =
     let sel = between (after_text ts) (after_text ts) in
     let middle : Member = record a.member { site = with_entry ts (site_of a) } in
     let last : Member = record a.member { site = with_selection sel (with_entry ts (site_of a)) } in
@@ -184,6 +227,7 @@ typed_leads a s (Ok ts) may stands =
       events = Perform a.k ts ∷ Select a.k sel ∷ [];
       may = ((λ m e. subst (λ n. AllMayRun ts n.site.replica.items) (same_member a s m e) (may ts refl)), (tt, tt));
       within = (tt, (subst (λ (v : Session). (m : Member) → slice_get v.members a.k ≡ Some m → StandsIn m.site.replica.items sel) (perform_same a s ts) of_middle, tt));
+      inserts = λ every. (inserts ts refl (asked_items a s every), (tt, tt));
       same = ap (λ ms. record a.session { members = ms }) (sym (put_put a.k last middle a.session.members))
           ∙ ap (λ o. at_member w o (λ m. events.with_site a.k m (with_selection sel m.site) w)) (sym there)
           ∙ ap (λ v. happens v (Select a.k sel)) (perform_same a s ts);
@@ -246,19 +290,19 @@ grid_leads a (Err f) = tt
 
 undo_leads : (a : Asked) → Stands a → (r : Result Site UndoCause) → undo (site_of a) ≡ r → Leads a (changed_or_no a (refused_as undo_refusal r))
 undo_leads a s (Err f) e = tt
-undo_leads a s (Ok site) e = one_event a (Undo a.k) _ tt tt
+undo_leads a s (Ok site) e = one_event a s (Undo a.k) _ tt tt (λ p. tt)
     (ap (λ r. with_site_of a.k a.member r a.session) (sym e) ∙ of_member a s (λ m. with_site_of a.k m (undo m.site) a.session))
 
 redo_leads : (a : Asked) → Stands a → (r : Result Site RedoCause) → redo (site_of a) ≡ r → Leads a (changed_or_no a (refused_as redo_refusal r))
 redo_leads a s (Err f) e = tt
-redo_leads a s (Ok site) e = one_event a (Redo a.k) _ tt tt
+redo_leads a s (Ok site) e = one_event a s (Redo a.k) _ tt tt (λ p. tt)
     (ap (λ r. with_site_of a.k a.member r a.session) (sym e) ∙ of_member a s (λ m. with_site_of a.k m (redo m.site) a.session))
 
 revoke_leads : (a : Asked) → Stands a → (i : ℕ) → i < (site_of a).seen → (r : Result Site RangeConflict) → revoke_entry a.session.committed i (site_of a) ≡ r →
     Leads a (changed_or_no a (refused_as revoke_refusal r))
 revoke_leads a s i seen (Err f) e = tt
-revoke_leads a s i seen (Ok site) e = one_event a (Revoke a.k i) _
-    (λ m there. subst (λ n. i < n.site.seen) (same_member a s m there) seen) tt
+revoke_leads a s i seen (Ok site) e = one_event a s (Revoke a.k i) _
+    (λ m there. subst (λ n. i < n.site.seen) (same_member a s m there) seen) tt (λ p. tt)
     (ap (λ r. with_site_of a.k a.member r a.session) (sym e) ∙ of_member a s (λ m. with_site_of a.k m (revoke_entry a.session.committed i m.site) a.session))
 
 revoked_leads : (a : Asked) → Stands a → (i : ℕ) → Leads a (revoked_or_no a i)
@@ -273,35 +317,30 @@ revoked_leads a s i = by_seen (nat_lt i (site_of a).seen) refl
 
 send_leads : (a : Asked) → Stands a → (r : Result (Site × Submission) SendCause) → send (site_of a) ≡ r → Leads a (sent_or_no a (refused_as send_refusal r))
 send_leads a s (Err f) e = tt
-send_leads a s (Ok r) e = one_event a (Send a.k) _ tt tt
+send_leads a s (Ok r) e = one_event a s (Send a.k) _ tt tt (λ p. tt)
     (ap (λ x. with_sent a.k a.member x a.session) (sym e) ∙ of_member a s (λ m. with_sent a.k m (send m.site) a.session))
 
 serve_leads : (a : Asked) → Stands a → (o : Option (Session × Served)) → serve_next a.k a.member a.session ≡ o → Leads a (served_or_no o)
 serve_leads a s None e = tt
-serve_leads a s (Some r) e = one_event a (Serve a.k) _ tt tt
+serve_leads a s (Some r) e = one_event a s (Serve a.k) _ tt tt (λ p. tt)
     (ap (after_turn a.session) (sym e) ∙ of_member a s (λ m. after_turn a.session (serve_next a.k m a.session)))
 
 take_leads : (a : Asked) → Stands a → (o : Option (Session × Taken)) → take_next a.k a.member a.session ≡ o → Leads a (taken_or_no o)
 take_leads a s None e = tt
-take_leads a s (Some r) e = one_event a (Take a.k) _ tt tt
+take_leads a s (Some r) e = one_event a s (Take a.k) _ tt tt (λ p. tt)
     (ap (after_turn a.session) (sym e) ∙ of_member a s (λ m. after_turn a.session (take_next a.k m a.session)))
 
-table_leads : (a : Asked) → Stands a → (r : Result Transaction TableCause) → ((t : Transaction) → r ≡ Ok t → Fit t) → Leads a (table_changed a r)
-table_leads a s r fit = allowed_leads a s (refused_as table_refusal r) (by_result r fit)
-  where
-    by_result : (r : Result Transaction TableCause) → ((t : Transaction) → r ≡ Ok t → Fit t) → (u : Transaction) → refused_as table_refusal r ≡ Ok u → Fit u
-    by_result (Ok t) fit u e = let same : t ≡ u = cc in subst Fit same (fit t refl)
-    by_result (Err f) fit u e = cc
+table_leads : (a : Asked) → Stands a → (r : Result Transaction TableCause) → ((t : Transaction) → r ≡ Ok t → Fit t) → ((t : Transaction) → r ≡ Ok t → InsertsStanding t) → Leads a (table_changed a r)
+table_leads a s r fit inserts =
+    allowed_leads a s (refused_as table_refusal r) (λ u e. fit u (given table_refusal r u e)) (λ u e p. inserts u (given table_refusal r u e))
 
-list_leads : (a : Asked) → Stands a → (r : Result Transaction ListCause) → ((t : Transaction) → r ≡ Ok t → Fit t) → Leads a (list_changed a r)
-list_leads a s r fit = allowed_leads a s (refused_as list_refusal r) (by_result r fit)
-  where
-    by_result : (r : Result Transaction ListCause) → ((t : Transaction) → r ≡ Ok t → Fit t) → (u : Transaction) → refused_as list_refusal r ≡ Ok u → Fit u
-    by_result (Ok t) fit u e = let same : t ≡ u = cc in subst Fit same (fit t refl)
-    by_result (Err f) fit u e = cc
+list_leads : (a : Asked) → Stands a → (r : Result Transaction ListCause) → ((t : Transaction) → r ≡ Ok t → Fit t) → ((t : Transaction) → r ≡ Ok t → InsertsStanding t) → Leads a (list_changed a r)
+list_leads a s r fit inserts =
+    allowed_leads a s (refused_as list_refusal r) (λ u e. fit u (given list_refusal r u e)) (λ u e p. inserts u (given list_refusal r u e))
 
 change_leads : LayersFit → (a : Asked) → Stands a → (c : Change) → IsWritten c → Leads a (performed_or_no a (change_on (replica_of a) c))
-change_leads fit a s c written = allowed_leads a s (change_of (site_items a) c) (λ u e. fit.changes (site_items a) c u written s.sound e)
+change_leads fit a s c written =
+    allowed_leads a s (change_of (site_items a) c) (λ u e. fit.changes (site_items a) c u written s.sound e) (λ u e p. fit.changes_stand (site_items a) c u written s.sound p e)
 
 erased_leads : LayersFit → (a : Asked) → Stands a → (r : Result Selection Refusal) → Leads a (erased_or_no a r)
 erased_leads fit a s (Err refusal) = tt
@@ -340,7 +379,8 @@ asked_leads fit a s request.Take o = take_leads a s (take_next a.k a.member a.se
 asked_leads fit a s (request.ShowItems from to) o = show_leads a from (unwrap_or to (length (site_items a)))
 asked_leads fit a s (request.At at) o = node_leads a at
 asked_leads fit a s (request.Edit c) o = change_leads fit a s c o
-asked_leads fit a s (request.Batch cmds) o = batch_leads a s (batch_on (replica_of a) cmds) (λ ts e. batch_may fit 0 cmds (replica_of a) ts o s.sound e)
+asked_leads fit a s (request.Batch cmds) o =
+    batch_leads a s (batch_on (replica_of a) cmds) (λ ts e. batch_may fit 0 cmds (replica_of a) ts o s.sound e) (λ ts e p. batch_stand fit 0 cmds (replica_of a) ts o s.sound p e)
 asked_leads fit a s (request.Select anchor focus) o = select_leads a s anchor focus
 asked_leads fit a s (request.Move dir by keep) o =
     moved_leads a s keep (next_place (site_items a) (replica_of a).selection.focus dir by) (λ at e. place_stands (site_items a) (replica_of a).selection.focus dir by at s.sound.lawful e)
@@ -349,12 +389,13 @@ asked_leads fit a s (request.TypeText text) o =
     let may : (ts : List Transaction) → batch_on (replica_of a) (typing sel text) ≡ Ok ts → AllMayRun ts (site_items a) =
     λ ts e. batch_may fit 0 (typing sel text) (replica_of a) ts (typing_written sel text) s.sound e in
     typed_leads a s (batch_on (replica_of a) (typing sel text)) may (λ ts e. typing_after (replica_of a) sel text ts o e (may ts e))
+    (λ ts e p. batch_stand fit 0 (typing sel text) (replica_of a) ts (typing_written sel text) s.sound p e)
 asked_leads fit a s (request.Erase dir by) o = erased_leads fit a s (to_erase (replica_of a) dir by)
 asked_leads fit a s (request.Grid at) o = grid_leads a (grid (site_items a) at)
-asked_leads fit a s (request.RowIn at row) o = table_leads a s (row_in (site_items a) at row) (λ t e. fit.moves.row_in (site_items a) at row t s.sound e)
-asked_leads fit a s (request.RowOut at row) o = table_leads a s (row_out (site_items a) at row) (λ t e. fit.moves.row_out (site_items a) at row t s.sound e)
-asked_leads fit a s (request.ColIn at column) o = table_leads a s (col_in (site_items a) at column) (λ t e. fit.moves.col_in (site_items a) at column t s.sound e)
-asked_leads fit a s (request.ColOut at column) o = table_leads a s (col_out (site_items a) at column) (λ t e. fit.moves.col_out (site_items a) at column t s.sound e)
-asked_leads fit a s (request.Indent at) o = list_leads a s (indent (site_items a) at) (λ t e. fit.moves.indent (site_items a) at t s.sound e)
-asked_leads fit a s (request.Outdent at) o = list_leads a s (outdent (site_items a) at) (λ t e. fit.moves.outdent (site_items a) at t s.sound e)
+asked_leads fit a s (request.RowIn at row) o = table_leads a s (row_in (site_items a) at row) (λ t e. fit.moves.row_in (site_items a) at row t s.sound e) (λ t e. fit.moves_stand.row_in (site_items a) at row t s.sound e)
+asked_leads fit a s (request.RowOut at row) o = table_leads a s (row_out (site_items a) at row) (λ t e. fit.moves.row_out (site_items a) at row t s.sound e) (λ t e. fit.moves_stand.row_out (site_items a) at row t s.sound e)
+asked_leads fit a s (request.ColIn at column) o = table_leads a s (col_in (site_items a) at column) (λ t e. fit.moves.col_in (site_items a) at column t s.sound e) (λ t e. fit.moves_stand.col_in (site_items a) at column t s.sound e)
+asked_leads fit a s (request.ColOut at column) o = table_leads a s (col_out (site_items a) at column) (λ t e. fit.moves.col_out (site_items a) at column t s.sound e) (λ t e. fit.moves_stand.col_out (site_items a) at column t s.sound e)
+asked_leads fit a s (request.Indent at) o = list_leads a s (indent (site_items a) at) (λ t e. fit.moves.indent (site_items a) at t s.sound e) (λ t e. fit.moves_stand.indent (site_items a) at t s.sound e)
+asked_leads fit a s (request.Outdent at) o = list_leads a s (outdent (site_items a) at) (λ t e. fit.moves.outdent (site_items a) at t s.sound e) (λ t e. fit.moves_stand.outdent (site_items a) at t s.sound e)
 asked_leads fit a s (request.Revoke entry) o = revoked_leads a s entry

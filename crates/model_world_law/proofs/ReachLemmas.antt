@@ -1,5 +1,5 @@
 -- Every world is reached by events.
-use Rattle.std.proofs.Common.{◌≡◌, ℕ, nat_lt, Bool, true, false, List, [], ◌∷◌, ◌++◌, length, slice_get, Option, Some, None, Result, Ok, Err, refl, sym, ap, ◌∙◌, subst}
+use Rattle.std.proofs.Common.{◌≡◌, ℕ, suc, nat_lt, Bool, true, false, List, [], ◌∷◌, ◌++◌, length, slice_get, Option, Some, None, Result, Ok, Err, refl, sym, ap, ◌∙◌, subst}
 use Rattle.std.proofs.lemmas.List.{append_assoc, append-nil}
 use Rattle.std.specs.Prelude.{IsUtf8, encode_utf8_all, unwrap_or}
 use Rattle.model_spelling.specs.declared.scan_fault.ScanFault.{ScanFault}
@@ -35,7 +35,14 @@ use Rattle.model_world.specs.Answers.{Outcome, Asked, asked}
 use Rattle.ve_base.specs.Limits.{max_line}
 use Rattle.model_world.specs.World.{World, Closed, Open, Answer, opened_or_no, on_page, asked_of, answered, answered_if, answer, settled, reply, world_after}
 use Rattle.model_world_law.specs.Fit.{RequestWritten, LayersFit}
-use Rattle.model_world_law.specs.Reached.{Becomes, IsReached, WorldReached, EveryWorldIsReached, SiteHolds, EverySiteHolds, SitesMeet, UneditedIsWrittenBack}
+use Rattle.model_world_law.specs.Reached.{Becomes, IsReached, WorldReached, EveryItemStands, EveryWorldIsReached, SiteHolds, EverySiteHolds, SitesMeet, UneditedIsWrittenBack}
+use Rattle.std.specs.List.{AllByRecursion}
+use Rattle.model_site_law.specs.ItemLaws.{AllPass, Inserts}
+use Rattle.model_site_law.specs.Protocol.{Every}
+use Rattle.model_site_law.proofs.ItemLemmas.{items_keep}
+use Rattle.model_world_law.specs.Standing.{may_stand}
+use Rattle.model_world_law.proofs.ChangeStand.{changes_stand, moves_stand, pages_stand}
+use Rattle.model_world_law.proofs.StandLemmas.{setting_keeps}
 use Rattle.model_world_law.proofs.LinkLemmas.{Stands, Leads, asked_leads}
 use Rattle.model_world_law.proofs.WrittenLemmas.{lines_are_written}
 use Rattle.model_world_law.proofs.ChangeLemmas.{given, changes_fit, pages_are_sound}
@@ -52,6 +59,20 @@ may-append (e ∷ es) fs w p q = (p.0, may-append es fs (happens w e) p.1 q)
 within-append : (es fs : List Event) (w : Session) → AllSelectWithin w es → AllSelectWithin (run w es) fs → AllSelectWithin w (es ++ fs)
 within-append [] fs w p q = q
 within-append (e ∷ es) fs w p q = (p.0, within-append es fs (happens w e) p.1 q)
+
+inserts-append : (es fs : List Event) → AllByRecursion (Inserts may_stand) es → AllByRecursion (Inserts may_stand) fs → AllByRecursion (Inserts may_stand) (es ++ fs)
+inserts-append [] fs p q = q
+inserts-append (e ∷ es) fs p q = (p.0, inserts-append es fs p.1 q)
+
+every_from : (P : Member → Type 0) (ms : List Member) → ((k : ℕ) (m : Member) → slice_get ms k ≡ Some m → P m) → Every P ms
+every_from P [] h = tt
+every_from P (m ∷ ms) h = (h 0 m refl, every_from P ms (λ k n e. h (suc k) n e))
+
+-- the items of each site may stand
+reached_stand : (lines : List (List ℕ)) (o : Opened) (w : Session) (k : ℕ) (m : Member) → IsReached lines o w → slice_get w.members k ≡ Some m → IsUtf8 o.page → AllPass may_stand m.site.replica.items
+reached_stand lines o w k m r e u =
+    items_keep may_stand (opened_with o.items) r.sites r.events k m setting_keeps r.opens r.may (pages_stand r.text o u r.opened) (r.inserts u)
+    (ap (λ (v : Session). slice_get v.members k) (sym r.same) ∙ e)
 
 -- events lead on from a session that is reached, at one more line
 further : (past : List (List ℕ)) (line : List ℕ) (o : Opened) (w next : Session) → IsReached past o w → Becomes w next → IsReached (past ++ line ∷ []) o next
@@ -73,13 +94,14 @@ further past line o w next r b =
       opens = r.opens;
       may = may-append r.events b.events start r.may (subst (λ v. AllMayHappen v b.events) r.same b.may);
       within = within-append r.events b.events start r.within (subst (λ v. AllSelectWithin v b.events) r.same b.within);
+      inserts = λ u. inserts-append r.events b.events (r.inserts u) (b.inserts (every_from (λ m. AllPass may_stand m.site.replica.items) w.members (λ k m e. reached_stand past o w k m r e u)));
       same = same;
     }
 
 -- a line that changes nothing
 unchanged : (past : List (List ℕ)) (line : List ℕ) (w : World) → WorldReached past w → WorldReached (past ++ line ∷ []) w
 unchanged past line Closed reached = tt
-unchanged past line (Open o w) reached = further past line o w w reached (record { events = []; may = tt; within = tt; same = refl })
+unchanged past line (Open o w) reached = further past line o w w reached (record { events = []; may = tt; within = tt; inserts = λ every. tt; same = refl })
 
 -- the site that is asked stands
 site_stands : (past : List (List ℕ)) (o : Opened) (w : Session) (k : ℕ) (m : Member) → IsReached past o w → slice_get w.members k ≡ Some m →
@@ -133,6 +155,7 @@ open_reached fit past line page sites c (Ok o) e = record {
   opens = first_replica_opens o.items (fit.pages page o e);
   may = tt;
   within = tt;
+  inserts = λ u. tt;
   same = refl;
 }
 
@@ -166,7 +189,15 @@ lines_reached fit (line ∷ lines) past w reached =
     (lines_reached fit lines (past ++ line ∷ []) (reply w line).1 (reply_reached fit past w reached line))
 
 layers_fit : LayersFit
-layers_fit = record { lines = lines_are_written; changes = changes_fit; moves = moves_fit; pages = pages_are_sound }
+layers_fit = record {
+  lines = lines_are_written;
+  changes = changes_fit;
+  moves = moves_fit;
+  pages = pages_are_sound;
+  changes_stand = changes_stand;
+  moves_stand = moves_stand;
+  pages_stand = pages_stand;
+}
 
 pub every_world_is_reached : EveryWorldIsReached
 every_world_is_reached lines = lines_reached layers_fit lines [] Closed tt
@@ -188,6 +219,9 @@ site_holds lines o w k m r e =
       acknowledged = acks_count base r.sites r.events k m r.opens r.may there;
       undone = undone_is_first base r.sites r.events k m r.opens r.may there;
     })
+
+pub every_item_stands : EveryItemStands
+every_item_stands lines page w k m h e u = reached_stand lines page w k m (subst (WorldReached lines) h (every_world_is_reached lines)) e u
 
 pub every_site_holds : EverySiteHolds
 every_site_holds lines page w k m h e = site_holds lines page w k m (subst (WorldReached lines) h (every_world_is_reached lines)) e

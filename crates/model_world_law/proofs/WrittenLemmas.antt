@@ -25,6 +25,10 @@ use Rattle.model_world.specs.Operations.{ops_in}
 use Rattle.model_world.specs.Changes.{some_text_in, some_source_in, text_marks_in, text_read, insert_read, remove_read, split_read, mark_read, wrap_read, convert_read, attr_read, apply_read, changes, reader_in, if_well_formed, change_with, change_in}
 use Rattle.model_world.specs.Commands.{some_number_in, dir_in, by_in, at_read, table_read, show_read, is_batch, batch_read, select_read, move_read, type_read, erase_read, revoke_read, requests, ask_read, open_read, commands, or_bad_command, read_by, command_in, command_or_refusal}
 use Rattle.model_world.specs.Values.{line_json}
+use Rattle.model_edit.specs.declared.wrap_plan.Shape.{Shape}
+use Rattle.model_world.specs.declared.change.OpWords.{OpWords}
+use Rattle.model_world_law.specs.Standing.{OpsStand, ShapesOfElements}
+use Rattle.model_world_law.proofs.StandReadLemmas.{ops_stand, shapes_of_elements}
 use Rattle.model_world_law.specs.Fit.{IsWritten, AllWritten, RequestWritten, LinesAreWritten}
 use Rattle.model_edit_law.specs.ApartLaws.{ShapesApart}
 use Rattle.model_world_law.proofs.ReadLemmas.{Of-then, Of-then_with, Of-such_that, Of-passing, Of-always, Of-choice, Of-list_in, Of-member_in, Of-member_or, Of-weaken, shapes_apart, ops_written, Of, OfOk, Each, OpsWritten}
@@ -69,12 +73,22 @@ split_written ms = bind IsWritten (needed field.At number_in ms) _ (λ at. bind 
 mark_written : (changed : ℕ → ℕ → base.Mark → Change) → ((from to : ℕ) (mark : base.Mark) → IsWritten (changed from to mark)) → Reads IsWritten (mark_read changed)
 mark_written changed h ms = bind IsWritten (needed field.From number_in ms) _ (λ from. bind IsWritten (needed field.To number_in ms) _ (λ to. bind IsWritten (needed field.Tag text_in ms) _ (λ tag. bind IsWritten (defaulted field.Attrs [] attrs_in ms) _ (λ attrs. h from to (record { tag = tag; attrs = attrs })))))
 
+both : {A : Type 0} (P Q : A → Type 0) (o : Option A) → Of P o → Of Q o → Of (λ x. P x × Q x) o
+both P Q None p q = tt
+both P Q (Some x) p q = (p, q)
+
+abbrev Shapes : List Shape → Type 0
+Shapes shapes = ShapesApart shapes × ShapesOfElements shapes
+
+shapes_written : (json : Data) → Of Shapes (shapes_in json)
+shapes_written json = both ShapesApart ShapesOfElements (shapes_in json) (shapes_apart json) (shapes_of_elements json)
+
 wrap_written : Reads IsWritten wrap_read
 wrap_written ms =
     bind IsWritten (needed field.From number_in ms) _ (λ from. bind IsWritten (needed field.To number_in ms) _ (λ to. bind IsWritten (defaulted field.UnwrapOuter [] kinds_in ms) _ (λ unwrap_outer.
-    bind_with ShapesApart IsWritten (defaulted field.WrapOuter [] shapes_in ms) _ (defaulted_is ShapesApart field.WrapOuter [] shapes_in ms tt shapes_apart) (λ wrap_outer p.
+    bind_with Shapes IsWritten (defaulted field.WrapOuter [] shapes_in ms) _ (defaulted_is Shapes field.WrapOuter [] shapes_in ms (tt, tt) shapes_written) (λ wrap_outer p.
     bind IsWritten (defaulted field.UnwrapEach [] kinds_in ms) _ (λ unwrap_each.
-    bind_with ShapesApart IsWritten (defaulted field.WrapEach [] shapes_in ms) _ (defaulted_is ShapesApart field.WrapEach [] shapes_in ms tt shapes_apart) (λ wrap_each q. (p, q)))))))
+    bind_with Shapes IsWritten (defaulted field.WrapEach [] shapes_in ms) _ (defaulted_is Shapes field.WrapEach [] shapes_in ms (tt, tt) shapes_written) (λ wrap_each q. ((p.0, q.0), (p.1, q.1))))))))
 
 convert_written : Reads IsWritten convert_read
 convert_written ms = bind IsWritten (needed field.At number_in ms) _ (λ at. bind IsWritten (needed field.Kind branch_in ms) _ (λ kind. tt))
@@ -82,8 +96,11 @@ convert_written ms = bind IsWritten (needed field.At number_in ms) _ (λ at. bin
 attr_written : Reads IsWritten attr_read
 attr_written ms = bind IsWritten (needed field.At number_in ms) _ (λ at. bind IsWritten (needed field.Name name_in ms) _ (λ name. bind IsWritten (needed field.To text_or_null_in ms) _ (λ to. tt)))
 
+abbrev OpsAll : List OpWords → Type 0
+OpsAll ops = OpsWritten ops × OpsStand ops
+
 apply_written : Reads IsWritten apply_read
-apply_written ms = bind_with OpsWritten IsWritten (needed field.Ops ops_in ms) _ (needed_is OpsWritten field.Ops ops_in ms ops_written) (λ ops p. p)
+apply_written ms = bind_with OpsAll IsWritten (needed field.Ops ops_in ms) _ (needed_is OpsAll field.Ops ops_in ms (λ json. both OpsWritten OpsStand (ops_in json) (ops_written json) (ops_stand json))) (λ ops p. (p.0.0, p.0.1, p.1))
 
 -- each row's reader
 abbrev Rows : {A : Type 0} → (A → Type 0) → List (List ℕ × Reader A) → Type 0

@@ -1,8 +1,8 @@
 -- What the layers below the world make sure of: lines are read as written, what they ask gives transactions that are reduced and put in names apart, and pages open as sound lists.
-use Rattle.std.specs.Prelude.{◌≡◌, ◌<◌, ℕ, true, List, [], ◌∷◌, length, Ok}
+use Rattle.std.specs.Prelude.{◌≡◌, ◌<◌, ℕ, true, List, [], ◌∷◌, length, Ok, IsUtf8}
 use Rattle.model_items.specs.declared.plain_item.PlainItem.{PlainItem}
 use Rattle.model_change.specs.Attributes.{AllNamesApart}
-use Rattle.model_change.specs.Transaction.{Transaction, is_reduced, InsertedApart}
+use Rattle.model_change.specs.Transaction.{Transaction, all_inserted, is_reduced, InsertedApart}
 use Rattle.model_page.specs.PageItems.{Opened}
 use Rattle.model_edit.specs.Tables.{row_in, row_out, col_in, col_out}
 use Rattle.model_edit.specs.Lists.{indent, outdent}
@@ -19,6 +19,8 @@ use Rattle.model_world.specs.Operations.{words_are_normal}
 use Rattle.model_world.specs.Commands.{command}
 use Rattle.model_world.specs.Edits.{change_of}
 use Rattle.model_world.specs.Opening.{open_page}
+use Rattle.model_site_law.specs.ItemLaws.{AllPass}
+use Rattle.model_world_law.specs.Standing.{OpsStand, PlanOfElements, may_stand}
 
 -- ---- what reading a line makes sure of
 
@@ -29,10 +31,10 @@ OpsApart (op.Retain count ∷ ops) = OpsApart ops
 OpsApart (op.Remove count insert ∷ ops) = AllNamesApart insert × OpsApart ops
 OpsApart (op.Attr name to ∷ ops) = OpsApart ops
 
--- operations are in normal form, and what is put in has distinct names
+-- operations are in normal form, and what is put in has distinct names, and may stand
 abbrev pub IsWritten : Change → Type 0
-IsWritten (change.Apply ops) = (words_are_normal ops ≡ true) × OpsApart ops
-IsWritten (change.Wrap from to plan) = PlanApart plan
+IsWritten (change.Apply ops) = (words_are_normal ops ≡ true) × OpsApart ops × OpsStand ops
+IsWritten (change.Wrap from to plan) = PlanApart plan × PlanOfElements plan
 IsWritten _ = Unit {0}
 
 abbrev pub AllWritten : List Change → Type 0
@@ -72,8 +74,35 @@ pub record MovesFit : Type 0 where
 abbrev pub PagesAreSound : Type 0
 PagesAreSound = (page : List ℕ) (o : Opened) → open_page page ≡ Ok o → Sound o.items
 
+-- ---- and which items
+
+-- all that the transaction inserts may stand
+abbrev pub InsertsStanding : Transaction → Type 0
+InsertsStanding t = AllPass may_stand (all_inserted t)
+
+-- So it is where the list's items may stand: of each change that was read,
+abbrev pub ChangesStand : Type 0
+ChangesStand = (items : List PlainItem) (c : Change) (t : Transaction) → IsWritten c → Sound items → AllPass may_stand items →
+    change_of items c ≡ Ok t → InsertsStanding t
+
+-- and of rows, columns and moved list items.
+pub record MovesStand : Type 0 where
+  pub row_in : (items : List PlainItem) (at row : ℕ) (t : Transaction) → Sound items → row_in items at row ≡ Ok t → InsertsStanding t
+  pub row_out : (items : List PlainItem) (at row : ℕ) (t : Transaction) → Sound items → row_out items at row ≡ Ok t → InsertsStanding t
+  pub col_in : (items : List PlainItem) (at column : ℕ) (t : Transaction) → Sound items → col_in items at column ≡ Ok t → InsertsStanding t
+  pub col_out : (items : List PlainItem) (at column : ℕ) (t : Transaction) → Sound items → col_out items at column ≡ Ok t → InsertsStanding t
+  pub indent : (items : List PlainItem) (at : ℕ) (t : Transaction) → Sound items → indent items at ≡ Ok t → InsertsStanding t
+  pub outdent : (items : List PlainItem) (at : ℕ) (t : Transaction) → Sound items → outdent items at ≡ Ok t → InsertsStanding t
+
+-- A page that opens and is UTF-8 has such items.
+abbrev pub PagesStand : Type 0
+PagesStand = (page : List ℕ) (o : Opened) → IsUtf8 o.page → open_page page ≡ Ok o → AllPass may_stand o.items
+
 -- all of this
 pub record LayersFit : Type 0 where
+  pub changes_stand : ChangesStand
+  pub moves_stand : MovesStand
+  pub pages_stand : PagesStand
   pub lines : LinesAreWritten
   pub changes : ChangesFit
   pub moves : MovesFit

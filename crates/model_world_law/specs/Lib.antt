@@ -1,3 +1,4 @@
+pub mod Standing
 pub mod Fit
 pub mod Causes
 pub mod Reached

@@ -1,5 +1,6 @@
 -- What always holds of a world, whatever lines it was given: the laws of sites and server hold of it.
 use Rattle.std.specs.Prelude.{◌≡◌, ◌≤◌, ℕ, List, [], ◌∷◌, ◌++◌, length, slice_get, Some, Ok, IsUtf8}
+use Rattle.std.specs.List.{AllByRecursion}
 use Rattle.model_items.specs.Plain.{AreDistinct}
 use Rattle.model_change.specs.Store.{cited}
 use Rattle.model_change.specs.Replay.{replay, AllRun, flattened}
@@ -11,10 +12,13 @@ use Rattle.model_site.specs.Session.{SiteFeed, Ack, Member, Session, started}
 use Rattle.model_site.specs.Events.{Event, run}
 use Rattle.model_site_law.specs.Sound.{Sound, AllIn, Opens}
 use Rattle.model_site_law.specs.MayHappen.{AllMayHappen}
+use Rattle.model_site_law.specs.Protocol.{Every}
+use Rattle.model_site_law.specs.ItemLaws.{AllPass, Inserts}
 use Rattle.model_site_law.specs.SelectionLaws.{StandsIn, AllSelectWithin}
 use Rattle.model_world.specs.declared.command.Command.TheVariants.{OpenPage}
 use Rattle.model_world.specs.Commands.{command}
 use Rattle.model_world.specs.Opening.{open_page}
+use Rattle.model_world_law.specs.Standing.{may_stand}
 use Rattle.model_world.specs.World.{World, Closed, Open, world_after}
 
 -- some events lead from one session to the other
@@ -22,6 +26,8 @@ pub record Becomes (w next : Session) : Type 0 where
   pub events : List Event
   pub may : AllMayHappen w events
   pub within : AllSelectWithin w events
+  -- where the items of every site may stand, so may all that is inserted
+  pub inserts : Every (λ m. AllPass may_stand m.site.replica.items) w.members → AllByRecursion (Inserts may_stand) events
   pub same : next ≡ run w events
 
 -- The session is what some events make of the sites that one of the lines asked for, each of which began with the items of the page that
@@ -42,6 +48,7 @@ pub record IsReached (lines : List (List ℕ)) (page : Opened) (w : Session) : T
   pub opens : Opens (opened_with page.items)
   pub may : AllMayHappen (started (opened_with page.items) sites) events
   pub within : AllSelectWithin (started (opened_with page.items) sites) events
+  pub inserts : IsUtf8 page.page → AllByRecursion (Inserts may_stand) events
   pub same : w ≡ run (started (opened_with page.items) sites) events
 
 abbrev pub WorldReached : List (List ℕ) → World → Type 0
@@ -75,6 +82,12 @@ pub record SiteHolds (base : Replica) (w : Session) (m : Member) : Type 0 where
 abbrev pub EverySiteHolds : Type 0
 EverySiteHolds = (lines : List (List ℕ)) (page : Opened) (w : Session) (k : ℕ) (m : Member) → world_after Closed lines ≡ Open page w → slice_get w.members k ≡ Some m →
     SiteHolds (opened_with page.items) w m
+
+-- Where the page is UTF-8, each item of each site's list may stand: a reference is editable and has its key, an internal item has its key, and no
+-- item has more than 64 marks.
+abbrev pub EveryItemStands : Type 0
+EveryItemStands = (lines : List (List ℕ)) (page : Opened) (w : Session) (k : ℕ) (m : Member) → world_after Closed lines ≡ Open page w → slice_get w.members k ≡ Some m →
+    IsUtf8 page.page → AllPass may_stand m.site.replica.items
 
 -- Sites that have seen as much, and have nothing pending, have one list, and so write one page.
 abbrev pub SitesMeet : Type 0

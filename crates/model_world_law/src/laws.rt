@@ -1,14 +1,15 @@
 // The laws of worlds, each on a function that does nothing.
-ghost use Rattle.model_world_law.specs.Fit.{LinesAreWritten, ChangesFit, MovesFit, PagesAreSound};
+ghost use Rattle.model_world_law.specs.Fit.{LinesAreWritten, ChangesFit, ChangesStand, MovesFit, MovesStand, PagesAreSound, PagesStand};
 ghost use Rattle.model_world_law.specs.Causes.{StoreFullIsFull, MovesFillStore};
 ghost use Rattle.model_world_law.specs.Pasted.{FragmentsAreChildren, PastingStaysLawful};
 ghost use Rattle.model_world_law.specs.ShownLaws.{ShownIsRead};
 ghost use Rattle.model_world_law.specs.Redone.{LinesRedo};
-ghost use Rattle.model_world_law.specs.Reached.{EveryWorldIsReached, EverySiteHolds, SitesMeet, UneditedIsWrittenBack};
+ghost use Rattle.model_world_law.specs.Reached.{EveryItemStands, EveryWorldIsReached, EverySiteHolds, SitesMeet, UneditedIsWrittenBack};
 
 use model_edit_law::fragment_stays_lawful;
 
-/// A line that is read asks for operations in normal form, and for no opening with two attributes of one name. On a
+/// A line that is read asks for operations in normal form, for no opening with two attributes of one name, and for
+/// characters and elements alone, with at most 64 marks. On a
 /// sound list, one that is lawful and has names apart, every change that was read gives a reduced transaction that puts
 /// in names apart, and so do rows, columns and moved list items. Every page that opens is a sound list.
 pub fn layers_fit()
@@ -45,6 +46,19 @@ pub fn every_world_is_reached()
 /// undone, and nothing taken, it has the page's items and the first store.
 pub fn every_site_holds()
     ensures { EverySiteHolds }
+{}
+
+/// Where a list's items may stand, so may all that a change, a row, a column or a moved list item inserts: references
+/// that are editable and have their keys, and items with at most 64 marks. So may the items of a page that is UTF-8.
+pub fn insertions_stand()
+    ensures changes { ChangesStand }
+    ensures moves { MovesStand }
+    ensures pages { PagesStand }
+{}
+
+/// So in every world whose page is UTF-8 each item of each site's list may stand.
+pub fn every_item_stands()
+    ensures { EveryItemStands }
 {}
 
 /// A site that has taken nothing and has nothing undone may undo and redo, line by line and in any order: once nothing

@@ -1,12 +1,14 @@
 //! What always holds of a world, whatever lines it was given. It has laws alone: what they speak of is `model_world`'s and
 //! the layers' below it. Definitions stand in specs/, in this order:
 //!
-//! - `Fit`: what a line that is read can ask, and that what it asks is what the layers below expect ([`layers_fit`]);
+//! - `Standing`: which items a page under edit may have;
+//! - `Fit`: what a line that is read can ask, and that what it asks is what the layers below expect ([`layers_fit`],
+//!   [`insertions_stand`]);
 //! - `ShownLaws`: items that a line can write, and that they are shown so that they are read back ([`shown_is_read`]);
 //! - `Causes`: when a refusal tells of a full store ([`store_full_is_full`]);
 //! - `Pasted`: what a fragment becomes stands together under some kind, so pasting keeps the law ([`pasting_stays_lawful`]);
 //! - `Reached`: which events make a world ([`every_world_is_reached`]), what each of its sites holds
-//!   ([`every_site_holds`]), when sites have one list ([`sites_meet`]), and when a page is written as it was opened
+//!   ([`every_site_holds`], [`every_item_stands`]), when sites have one list ([`sites_meet`]), and when a page is written as it was opened
 //!   ([`unedited_is_written_back`]);
 //! - `Redone`: what a site undoes and redoes, line by line ([`lines_redo`]).
 #![tactic(auto)]
@@ -14,6 +16,7 @@
 mod laws;
 
 pub use laws::{
-    every_site_holds, every_world_is_reached, layers_fit, lines_redo, pasting_stays_lawful,
-    shown_is_read, sites_meet, store_full_is_full, unedited_is_written_back,
+    every_item_stands, every_site_holds, every_world_is_reached, insertions_stand, layers_fit,
+    lines_redo, pasting_stays_lawful, shown_is_read, sites_meet, store_full_is_full,
+    unedited_is_written_back,
 };

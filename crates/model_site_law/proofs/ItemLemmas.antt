@@ -1,0 +1,366 @@
+-- What holds of each item that is opened or inserted holds of each item of every list: transactions that are undone, joined and taken back insert nothing else.
+use Rattle.std.specs.List.{AllByRecursion}
+use Rattle.std.proofs.Common.{◌≡◌, ℕ, zero, suc, ◌<◌, ◌==◌, Bool, true, false, if◌then◌else◌, List, [], ◌∷◌, ◌++◌, length, map, take, drop, replicate, slice_get, Option, Some, None, Result, Ok, Err, refl, sym, ap, ◌∙◌, subst, arith}
+use Rattle.std.proofs.lemmas.List.{append_assoc, append-nil, take-append-drop}
+use Rattle.model_items.specs.declared.plain_item.PlainItem.{PlainItem}
+use Rattle.model_change.specs.Attributes.{AttrChange, change_back, item_changed}
+use Rattle.model_change.specs.Fault.{first_allows}
+use Rattle.model_change.specs.Inverse.{attribute_ops, inverse, inverse_after}
+use Rattle.model_change.specs.Join.{RangeConflict, join_list}
+use Rattle.model_change.specs.Replay.{AllRun, entry_at, flattened, made_after, made_before, mine_of, replay, reversal, revoke}
+use Rattle.model_change.specs.Transaction.{Attribute, Replace, Retain, Transaction, all_inserted, edited, on_first}
+use Rattle.model_change.proofs.Fits.{Fits, parts_of_Applies}
+use Rattle.model_change_law.proofs.InsertedLemmas.{join_lists_insert_the_same}
+use Rattle.model_site.specs.Causes.{RedoCause, SendCause, UndoCause}
+use Rattle.model_site.specs.Entries.{Entry, Parcel, entry_of, parcels, reverted}
+use Rattle.model_site.specs.Events.{Event, Perform, Redo, Revoke, Select, Send, Serve, Take, Undo, after_turn, at_member, happens, run, with_sent, with_site, with_site_of}
+use Rattle.model_site.specs.Joined.{join_entries, joined_first}
+use Rattle.model_site.specs.Replica.{Replica, all_filled}
+use Rattle.model_site.specs.Session.{Ack, Foreign, Member, Session, SiteFeed, accepted_of, all_fed, feed_for, foreign_feed, joining, put_member, serve_first, started, take_first}
+use Rattle.model_site.specs.Site.{Site, Submission, entries_of, parted, pending, redo, redo_first, revoke_by, send, undo, undo_last, with_entry, with_selection}
+use Rattle.model_site.specs.Take.{noted, take_ack, take_entry, take_foreign}
+use Rattle.model_site_law.specs.ItemLaws.{AllInsert, AllPass, Inserts, ItemsKeep, SettingKeeps}
+use Rattle.model_site_law.specs.MayHappen.{AllMayHappen, MayHappen}
+use Rattle.model_site_law.specs.Protocol.{Every, MemberHolds, SessionHolds}
+use Rattle.model_site_law.proofs.FreshLemmas.{inserted-filled}
+use Rattle.model_site_law.proofs.LawLemmas.{all_entries_run, base_stays, list_is_replay}
+use Rattle.model_site_law.proofs.MemberLemmas.{sends}
+use Rattle.model_site_law.proofs.ReplayLemmas.{parcels-append, parcels-drop, parcels-noted, parcels-take}
+use Rattle.model_site_law.proofs.ServeLemmas.{event_holds, start_holds}
+use Rattle.model_site_law.proofs.SessionLemmas.{every_get, every_put, seen_runs}
+use Rattle.model_site_law.proofs.SiteLemmas.{entries_run, parted_is, seen_within}
+
+-- ---- all of a list
+
+all-append : {A : Type 0} (P : A → Type 0) (xs ys : List A) → AllByRecursion P xs → AllByRecursion P ys → AllByRecursion P (xs ++ ys)
+all-append P [] ys p q = q
+all-append P (x ∷ xs) ys p q = (p.0, all-append P xs ys p.1 q)
+
+all-parts : {A : Type 0} (P : A → Type 0) (xs ys : List A) → AllByRecursion P (xs ++ ys) → AllByRecursion P xs × AllByRecursion P ys
+all-parts P [] ys p = (tt, p)
+all-parts P (x ∷ xs) ys p = let q = all-parts P xs ys p.1 in ((p.0, q.0), q.1)
+
+all-cut : {A : Type 0} (P : A → Type 0) (n : ℕ) (xs : List A) → AllByRecursion P xs → AllByRecursion P (take n xs) × AllByRecursion P (drop n xs)
+all-cut P n xs p = all-parts P (take n xs) (drop n xs) (subst (AllByRecursion P) (sym (take-append-drop n xs)) p)
+
+runs-parts : (ts us : List Transaction) (items : List PlainItem) → AllRun (ts ++ us) items → AllRun ts items × AllRun us (replay ts items)
+runs-parts [] us items r = (tt, r)
+runs-parts (t ∷ ts) us items r = let p = runs-parts ts us (edited t items) r.1 in ((r.0, p.0), p.1)
+
+-- the transactions before an entry, its own, and those after it
+flattened-at : (entries : List Parcel) (i : ℕ) → i < length entries → flattened entries ≡ made_before entries i ++ (entry_at entries i ++ made_after entries i)
+flattened-at [] i l = absurd (omega (arith, l))
+flattened-at (entry ∷ entries) zero l = refl
+flattened-at (entry ∷ entries) (suc i) l = ap (λ ts. entry ++ ts) (flattened-at entries i (omega (arith, l))) ∙ sym (append_assoc entry (made_before entries i) (entry_at entries i ++ made_after entries i))
+
+module _ (test : PlainItem → Bool) (keeps : SettingKeeps test) where
+  abbrev pub P : PlainItem → Type 0
+  P item = test item ≡ true
+
+  abbrev pub All : List PlainItem → Type 0
+  All items = AllByRecursion P items
+
+  abbrev pub Ins : Transaction → Type 0
+  Ins t = AllByRecursion P (all_inserted t)
+
+  -- ---- one transaction
+
+  on_first_all : (c : AttrChange) (items : List PlainItem) → first_allows c items ≡ true → All items → All (on_first (item_changed c) items)
+  on_first_all c [] h p = cc
+  on_first_all c (item ∷ items) h p = (keeps c item h p.0, p.1)
+
+  pub edited_all : (t : Transaction) (items : List PlainItem) → Fits t items → Ins t → All items → All (edited t items)
+  edited_all [] items f i p = p
+  edited_all (Retain count ∷ ops) items f i p =
+      let q = all-cut P count items p in
+      all-append P (take count items) (edited ops (drop count items)) q.0 (edited_all ops (drop count items) f i q.1)
+  edited_all (Replace gone new ∷ ops) items f i p =
+      let q = all-parts P new (all_inserted ops) i in
+      all-append P new (edited ops (drop (length gone) items)) q.0 (edited_all ops (drop (length gone) items) f.1 q.1 (all-cut P (length gone) items p).1)
+  edited_all (Attribute c ∷ ops) items f i p = edited_all ops (on_first (item_changed c) items) f.1 i (on_first_all c items f.0 p)
+
+  ops_insert : (changes : List AttrChange) (ops : Transaction) → Ins ops → Ins (attribute_ops changes ++ ops)
+  ops_insert [] ops i = i
+  ops_insert (c ∷ changes) ops i = ops_insert changes ops i
+
+  inverse_inserts : (ops : Transaction) (changes : List AttrChange) (items : List PlainItem) → Fits ops items → All items → Ins (inverse_after changes ops)
+  inverse_inserts [] changes items f p = subst Ins (append-nil (attribute_ops changes)) (ops_insert changes [] tt)
+  inverse_inserts (Retain count ∷ ops) changes items f p =
+      ops_insert changes (Retain count ∷ inverse_after [] ops) (inverse_inserts ops [] (drop count items) f (all-cut P count items p).1)
+  inverse_inserts (Replace gone new ∷ ops) changes items f p =
+      let q = all-parts P gone (drop (length gone) items) (subst All f.0 p) in
+      ops_insert changes (Replace new gone ∷ inverse_after [] ops)
+      (all-append P gone (all_inserted (inverse_after [] ops)) q.0 (inverse_inserts ops [] (drop (length gone) items) f.1 q.1))
+  inverse_inserts (Attribute c ∷ ops) changes items f p = inverse_inserts ops (change_back c ∷ changes) (on_first (item_changed c) items) f.1 (on_first_all c items f.0 p)
+
+  -- ---- several
+
+  replay_all : (ts : List Transaction) (items : List PlainItem) → AllRun ts items → AllInsert test ts → All items → All (replay ts items)
+  replay_all [] items runs i p = p
+  replay_all (t ∷ ts) items runs i p =
+      replay_all ts (edited t items) runs.1 i.1 (edited_all t items (parts_of_Applies t items runs.0.applies).1 i.0 p)
+
+  reversal_inserts : (ts : List Transaction) (items : List PlainItem) → AllRun ts items → AllInsert test ts → All items → AllInsert test (reversal ts)
+  reversal_inserts [] items runs i p = tt
+  reversal_inserts (t ∷ ts) items runs i p =
+      let fits = (parts_of_Applies t items runs.0.applies).1 in
+      all-append Ins (reversal ts) (inverse t ∷ []) (reversal_inserts ts (edited t items) runs.1 i.1 (edited_all t items fits i.0 p)) (inverse_inserts t [] items fits p, tt)
+
+  filled_insert : (ts : List Transaction) (items : List PlainItem) → AllInsert test ts → AllInsert test (all_filled ts items)
+  filled_insert [] items i = tt
+  filled_insert (t ∷ ts) items i = (subst All (sym (inserted-filled t items)) i.0, filled_insert ts (edited t items) i.1)
+
+  -- what is inserted, list by list
+  from_lists : (ts : List Transaction) → AllByRecursion All (map all_inserted ts) → AllInsert test ts
+  from_lists [] i = tt
+  from_lists (t ∷ ts) i = (i.0, from_lists ts i.1)
+
+  to_lists : (ts : List Transaction) → AllInsert test ts → AllByRecursion All (map all_inserted ts)
+  to_lists [] i = tt
+  to_lists (t ∷ ts) i = (i.0, to_lists ts i.1)
+
+  joined_insert : (committed mine : List Transaction) (joined : List Transaction × List Transaction) → join_list committed mine ≡ Ok joined →
+      AllInsert test committed → AllInsert test mine → AllInsert test joined.0 × AllInsert test joined.1
+  joined_insert committed mine joined e i j =
+      let same = join_lists_insert_the_same committed mine joined e in (
+        from_lists joined.0 (subst (AllByRecursion All) (sym same.0) (to_lists committed i)),
+        from_lists joined.1 (subst (AllByRecursion All) (sym same.1) (to_lists mine j)),
+      )
+
+  -- ---- entries
+
+  abbrev Entries : List Parcel → Type 0
+  Entries ps = AllByRecursion (AllInsert test) ps
+
+  flat : (ps : List Parcel) → Entries ps → AllInsert test (flattened ps)
+  flat [] i = tt
+  flat (p ∷ ps) i = all-append Ins p (flattened ps) i.0 (flat ps i.1)
+
+  kept_insert : (committed : List Transaction) (es : List Parcel) → AllInsert test committed → Entries es → Entries (join_entries committed es).kept
+  kept_insert committed [] i j = tt
+  kept_insert committed (e ∷ es) i j = by_first (λ over o. kept_insert over es o j.1) (join_list committed e) refl
+    where
+      by_first : ((over : List Transaction) → AllInsert test over → Entries (join_entries over es).kept) → (r : Result (List Transaction × List Transaction) RangeConflict) → join_list committed e ≡ r →
+          Entries (joined_first committed r (λ over. join_entries over es)).kept
+      by_first rest (Err clash) d = tt
+      by_first rest (Ok joined) d = let both = joined_insert committed e joined d i j.0 in (both.1, rest joined.0 both.0)
+
+  revoke_inserts : (entries : List Parcel) (i : ℕ) (back : List Transaction) (base : List PlainItem) → i < length entries → AllRun (flattened entries) base → AllInsert test (flattened entries) → All base →
+      revoke entries i ≡ Ok back → AllInsert test back
+  revoke_inserts entries i back base l runs ins p e =
+      let before : List Transaction = made_before entries i in
+      let entry : List Transaction = entry_at entries i in
+      let after : List Transaction = made_after entries i in
+      let parts : flattened entries ≡ before ++ (entry ++ after) = flattened-at entries i l in
+      let first = runs-parts before (entry ++ after) base (subst (λ ts. AllRun ts base) parts runs) in
+      let second = runs-parts entry after (replay before base) first.1 in
+      let a = all-parts Ins before (entry ++ after) (subst (AllInsert test) parts ins) in
+      let b = all-parts Ins entry after a.1 in
+      mine after (reversal entry) (join_list after (reversal entry)) refl b.1 (reversal_inserts entry (replay before base) second.0 b.0 (replay_all before base first.0 a.0 p)) e
+    where
+      mine : (later its : List Transaction) (r : Result (List Transaction × List Transaction) RangeConflict) → join_list later its ≡ r → AllInsert test later → AllInsert test its →
+          mine_of r ≡ Ok back → AllInsert test back
+      mine later its (Ok joined) d i j e = let same : joined.1 ≡ back = cc in subst (AllInsert test) same (joined_insert later its joined d i j).1
+      mine later its (Err clash) d i j e = cc
+
+  -- ---- sites and their queues
+
+  abbrev Feeds : SiteFeed → Type 0
+  Feeds (Foreign ps) = Entries ps
+  Feeds (Ack n) = Unit {0}
+
+  record Sites (s : Site) : Type 0 where
+    pub sent : Entries (parcels s.sent)
+    pub unsent : Entries (parcels s.unsent)
+    pub undone : Entries s.undone
+
+  record Inside (m : Member) : Type 0 where
+    pub site : Sites m.site
+    pub submissions : AllByRecursion (λ (s : Submission). Entries s.entries) m.submissions
+    pub feeds : AllByRecursion Feeds m.feeds
+
+  record InSession (w : Session) : Type 0 where
+    pub committed : Entries w.committed
+    pub members : Every Inside w.members
+
+  pending_insert : (s : Site) → Sites s → Entries (parcels (pending s))
+  pending_insert s h = subst Entries (sym (parcels-append s.sent s.unsent)) (all-append (AllInsert test) (parcels s.sent) (parcels s.unsent) h.sent h.unsent)
+
+  known_insert : (committed : List Parcel) (s : Site) → Entries committed → Sites s → Entries (entries_of committed s)
+  known_insert committed s c h = all-append (AllInsert test) (take s.seen committed) (parcels (pending s)) (all-cut (AllInsert test) s.seen committed c).0 (pending_insert s h)
+
+  with_entry_inserts : (ts : List Transaction) (s : Site) → AllInsert test ts → Sites s → Sites (with_entry ts s)
+  with_entry_inserts ts s i h = record {
+    sent = h.sent;
+    unsent = subst Entries (sym (parcels-append s.unsent (entry_of ts s.replica ∷ []))) (all-append (AllInsert test) (parcels s.unsent) (parcels (entry_of ts s.replica ∷ [])) h.unsent (filled_insert ts s.replica.items i, tt));
+    undone = tt;
+  }
+
+  undo_inserts : (s next : Site) → undo s ≡ Ok next → Sites s → Sites next
+  undo_inserts s next done h = by_last s.unsent refl done
+    where
+      by_last : (es : List Entry) → es ≡ s.unsent → undo_last es s ≡ Ok next → Sites next
+      by_last [] e done = cc
+      by_last (x ∷ es) e done =
+          let p = parted x es in
+          let same : record s { replica = reverted p.1 s.replica; unsent = p.0; undone = p.1.txs ∷ s.undone } ≡ next = cc in
+          let whole : parcels s.unsent ≡ parcels p.0 ++ p.1.txs ∷ [] = ap parcels (sym (parted_is x es ∙ e)) ∙ parcels-append p.0 (p.1 ∷ []) in
+          let parts = all-parts (AllInsert test) (parcels p.0) (p.1.txs ∷ []) (subst Entries whole h.unsent) in
+          subst Sites same (record { sent = h.sent; unsent = parts.0; undone = (parts.1.0, h.undone) })
+
+  redo_inserts : (s next : Site) → redo s ≡ Ok next → Sites s → Sites next
+  redo_inserts s next done h = by_first s.undone refl done
+    where
+      by_first : (us : List Parcel) → us ≡ s.undone → redo_first us s ≡ Ok next → Sites next
+      by_first [] e done = cc
+      by_first (ts ∷ us) e done =
+          let same : record (with_entry ts s) { undone = us } ≡ next = cc in
+          let parts : AllInsert test ts × Entries us = subst Entries (sym e) h.undone in
+          let new = with_entry_inserts ts s parts.0 h in
+          subst Sites same (record { sent = new.sent; unsent = new.unsent; undone = parts.1 })
+
+  take_entry_inserts : (foreign : Parcel) (s : Site) → AllInsert test foreign → Sites s → Sites (take_entry foreign s)
+  take_entry_inserts foreign s i h =
+      let new = take_entry foreign s in
+      let kept = (join_entries foreign (parcels (pending s))).kept in
+      let all = noted (length new.replica.store) kept in
+      let inserts : Entries (parcels all) = subst Entries (sym (parcels-noted (length new.replica.store) kept)) (kept_insert foreign (parcels (pending s)) i (pending_insert s h)) in
+      let cut = all-cut (AllInsert test) (length s.sent) (parcels all) inserts in
+      record {
+        sent = subst Entries (sym (parcels-take (length s.sent) all)) cut.0;
+        unsent = subst Entries (sym (parcels-drop (length s.sent) all)) cut.1;
+        undone = tt;
+      }
+
+  take_foreign_inserts : (ps : List Parcel) (s : Site) → Entries ps → Sites s → Sites (take_foreign ps s)
+  take_foreign_inserts [] s i h = record { sent = h.sent; unsent = h.unsent; undone = tt }
+  take_foreign_inserts (p ∷ ps) s i h = take_foreign_inserts ps (take_entry p s) i.1 (take_entry_inserts p s i.0 h)
+
+  -- ---- events
+
+  foreign_feeds : (ps : List Parcel) → Entries ps → AllByRecursion Feeds (foreign_feed ps)
+  foreign_feeds [] i = tt
+  foreign_feeds (p ∷ ps) i = (i, tt)
+
+  fed_inserts : (sender k : ℕ) (ps : List Parcel) (ms : List Member) → Entries ps → Every Inside ms → Every Inside (all_fed sender k ps ms)
+  fed_inserts sender k ps [] i all = tt
+  fed_inserts sender k ps (m ∷ ms) i all =
+      (record { site = all.0.site; submissions = all.0.submissions; feeds = all-append Feeds m.feeds (feed_for sender k ps) all.0.feeds (fed (k == sender)) }, fed_inserts sender (suc k) ps ms i all.1)
+    where
+      fed : (b : Bool) → AllByRecursion Feeds (if b then Ack (length ps) ∷ [] else foreign_feed ps)
+      fed true = (tt, tt)
+      fed false = foreign_feeds ps i
+
+  put_site : (w : Session) (k : ℕ) (m : Member) (s : Site) → InSession w → Inside m → Sites s → InSession (with_site k m s w)
+  put_site w k m s h p q = record {
+    committed = h.committed;
+    members = every_put Inside w.members k (record m { site = s }) h.members (record { site = q; submissions = p.submissions; feeds = p.feeds });
+  }
+
+  module _ (w : Session) (holds : SessionHolds w) (base : AllByRecursion P w.base.items) (h : InSession w) where
+    here : (k : ℕ) (m : Member) → slice_get w.members k ≡ Some m → Inside m
+    here k m e = every_get Inside w.members k m h.members e
+
+    undo_by : (k : ℕ) (m : Member) → slice_get w.members k ≡ Some m → (r : Result Site UndoCause) → undo m.site ≡ r → InSession (with_site_of k m r w)
+    undo_by k m e (Err f) d = h
+    undo_by k m e (Ok s) d = put_site w k m s h (here k m e) (undo_inserts m.site s d (here k m e).site)
+
+    redo_by : (k : ℕ) (m : Member) → slice_get w.members k ≡ Some m → (r : Result Site RedoCause) → redo m.site ≡ r → InSession (with_site_of k m r w)
+    redo_by k m e (Err f) d = h
+    redo_by k m e (Ok s) d = put_site w k m s h (here k m e) (redo_inserts m.site s d (here k m e).site)
+
+    revoke_of : (k i : ℕ) (m : Member) → slice_get w.members k ≡ Some m → i < m.site.seen → (r : Result (List Transaction) RangeConflict) → revoke (entries_of w.committed m.site) i ≡ r →
+        InSession (with_site_of k m (revoke_by r m.site) w)
+    revoke_of k i m e below (Err clash) d = h
+    revoke_of k i m e below (Ok back) d =
+        let p = every_get (MemberHolds w.base.items w.committed) w.members k m holds.members e in
+        let inside = here k m e in
+        let within = seen_within w.base.items p.before p.rest w.committed m.site p.split p.site in
+        let runs = entries_run w.base.items p.before p.rest w.committed m.site p.split (seen_runs w.base.items w.committed m holds.committed p) p.site in
+        let known = flat (entries_of w.committed m.site) (known_insert w.committed m.site h.committed inside.site) in
+        let inserts = revoke_inserts (entries_of w.committed m.site) i back w.base.items (omega arith) runs known base d in
+        put_site w k m (with_entry back m.site) h inside (with_entry_inserts back m.site inserts inside.site)
+
+    send_by : (k : ℕ) (m : Member) → slice_get w.members k ≡ Some m → (r : Result (Site × Submission) SendCause) → send m.site ≡ r → InSession (with_sent k m r w)
+    send_by k m e (Err f) d = h
+    send_by k m e (Ok r) d =
+        let inside = here k m e in
+        let s = sends m.site r d in
+        record {
+          committed = h.committed;
+          members = every_put Inside w.members k (record { site = r.0; submissions = m.submissions ++ r.1 ∷ []; feeds = m.feeds }) h.members (record {
+            site = record {
+              sent = subst (λ es. Entries (parcels es)) (sym s.sent) (pending_insert m.site inside.site);
+              unsent = subst (λ es. Entries (parcels es)) (sym s.unsent) tt;
+              undone = subst Entries (sym s.undone) inside.site.undone;
+            };
+            submissions = all-append (λ (x : Submission). Entries x.entries) m.submissions (r.1 ∷ []) inside.submissions (subst Entries (sym s.entries) inside.site.unsent, tt);
+            feeds = inside.feeds;
+          });
+        }
+
+    serve_by : (k : ℕ) (m : Member) → slice_get w.members k ≡ Some m → (ss : List Submission) → m.submissions ≡ ss → InSession (after_turn w (serve_first k m ss w))
+    serve_by k m e [] d = h
+    serve_by k m e (s ∷ later) d =
+        let inside = here k m e in
+        let queue : Entries s.entries × AllByRecursion (λ (x : Submission). Entries x.entries) later = subst (AllByRecursion (λ (x : Submission). Entries x.entries)) d inside.submissions in
+        let since = drop s.base w.committed in
+        let kept = kept_insert (flattened since) s.entries (flat since (all-cut (AllInsert test) s.base w.committed h.committed).1) queue.0 in
+        record {
+          committed = all-append (AllInsert test) w.committed (accepted_of w.committed s).kept h.committed kept;
+          members = fed_inserts k 0 (accepted_of w.committed s).kept (put_member k (record m { submissions = later }) w.members) kept
+              (every_put Inside w.members k (record m { submissions = later }) h.members (record { site = inside.site; submissions = queue.1; feeds = inside.feeds }));
+        }
+
+    take_by : (k : ℕ) (m : Member) → slice_get w.members k ≡ Some m → (fs : List SiteFeed) → m.feeds ≡ fs → InSession (after_turn w (take_first k m fs w))
+    take_by k m e [] d = h
+    take_by k m e (Foreign ps ∷ later) d =
+        let inside = here k m e in
+        let queue : Entries ps × AllByRecursion Feeds later = subst (AllByRecursion Feeds) d inside.feeds in
+        record {
+          committed = h.committed;
+          members = every_put Inside w.members k (record m { site = take_foreign ps m.site; feeds = later }) h.members (record { site = take_foreign_inserts ps m.site queue.0 inside.site; submissions = inside.submissions; feeds = queue.1 });
+        }
+    take_by k m e (Ack n ∷ later) d =
+        let inside = here k m e in
+        let queue : Unit {0} × AllByRecursion Feeds later = subst (AllByRecursion Feeds) d inside.feeds in
+        record {
+          committed = h.committed;
+          members = every_put Inside w.members k (record m { site = take_ack m.site; feeds = later }) h.members
+              (record { site = record { sent = tt; unsent = inside.site.unsent; undone = tt }; submissions = inside.submissions; feeds = queue.1 });
+        }
+
+    -- where there is such a site
+    at_by : (o : Option Member) (k : ℕ) (f : Member → Session) → slice_get w.members k ≡ o → ((m : Member) → slice_get w.members k ≡ Some m → InSession (f m)) → InSession (at_member w o f)
+    at_by None k f e all = h
+    at_by (Some m) k f e all = all m e
+
+    event_inserts : (e : Event) → MayHappen w e → Inserts test e → InSession (happens w e)
+    event_inserts (Perform k ts) may i = at_by (slice_get w.members k) k _ refl (λ m e. put_site w k m (with_entry ts m.site) h (here k m e) (with_entry_inserts ts m.site i (here k m e).site))
+    event_inserts (Select k s) may i =
+        at_by (slice_get w.members k) k _ refl (λ m e. put_site w k m (with_selection s m.site) h (here k m e) (record { sent = (here k m e).site.sent; unsent = (here k m e).site.unsent; undone = (here k m e).site.undone }))
+    event_inserts (Undo k) may i = at_by (slice_get w.members k) k _ refl (λ m e. undo_by k m e (undo m.site) refl)
+    event_inserts (Redo k) may i = at_by (slice_get w.members k) k _ refl (λ m e. redo_by k m e (redo m.site) refl)
+    event_inserts (Revoke k n) may i = at_by (slice_get w.members k) k _ refl (λ m e. revoke_of k n m e (may m e) (revoke (entries_of w.committed m.site) n) refl)
+    event_inserts (Send k) may i = at_by (slice_get w.members k) k _ refl (λ m e. send_by k m e (send m.site) refl)
+    event_inserts (Serve k) may i = at_by (slice_get w.members k) k _ refl (λ m e. serve_by k m e m.submissions refl)
+    event_inserts (Take k) may i = at_by (slice_get w.members k) k _ refl (λ m e. take_by k m e m.feeds refl)
+
+  run_inserts : (es : List Event) (w : Session) → SessionHolds w → AllByRecursion P w.base.items → InSession w → AllMayHappen w es → AllByRecursion (Inserts test) es → InSession (run w es)
+  run_inserts [] w holds base h may i = h
+  run_inserts (e ∷ es) w holds base h may i =
+      run_inserts es (happens w e) (event_holds w e holds may.0) (subst (λ (b : Replica). AllByRecursion P b.items) (sym (base_stays w e)) base) (event_inserts w holds base h e may.0 i.0) may.1 i.1
+
+  start_inserts : (base : Replica) (n : ℕ) → Every Inside (replicate n (joining base))
+  start_inserts base zero = tt
+  start_inserts base (suc n) = (record { site = record { sent = tt; unsent = tt; undone = tt }; submissions = tt; feeds = tt }, start_inserts base n)
+
+pub items_keep : ItemsKeep
+items_keep test base sites events k m keeps opens may first inserts e =
+    let start = started base sites in
+    let w = run start events in
+    let end = run_inserts test keeps events start (start_holds base sites opens.sound opens.stored) first (record { committed = tt; members = start_inserts test keeps base sites }) may inserts in
+    let inside = every_get (Inside test keeps) w.members k m end.members e in
+    let known = flat test keeps (entries_of w.committed m.site) (known_insert test keeps w.committed m.site end.committed inside.site) in
+    subst (AllPass test) (sym (list_is_replay base sites events k m opens may e))
+    (replay_all test keeps (flattened (entries_of w.committed m.site)) base.items (all_entries_run base sites events k m opens may e) known first)

@@ -1,0 +1,34 @@
+-- Which items a page under edit may have.
+use Rattle.std.specs.Prelude.{◌≡◌, Bool, true, ◌&&◌, nat_le, List, [], ◌∷◌, length}
+use Rattle.std.specs.List.{AllByRecursion}
+use Rattle.ve_kinds.specs.Table.{is_element}
+use Rattle.ve_base.specs.Limits.{max_marks}
+use Rattle.model_items.specs.declared.plain_item.PlainItem.{PlainItem}
+use Rattle.model_page.specs.Editable.{item_refers}
+use Rattle.model_site_law.specs.ItemLaws.{AllPass}
+use Rattle.model_world.specs.declared.change.OpWords.{OpWords}
+use Rattle.model_world.specs.declared.change.OpWords.TheVariants as op
+use Rattle.model_edit.specs.Marking.{item_marks}
+use Rattle.model_edit.specs.declared.wrap_plan.Shape.{Shape}
+use Rattle.model_edit.specs.declared.wrap_plan.WrapPlan.{WrapPlan}
+
+abbrev pub has_few_marks : PlainItem → Bool
+has_few_marks item = nat_le (length (item_marks item)) max_marks
+
+-- a reference has its key and is editable, an internal item has its key, and no item has more than 64 marks
+abbrev pub may_stand : PlainItem → Bool
+may_stand item = item_refers item && has_few_marks item
+
+-- the nodes that a plan wraps are elements
+abbrev pub ShapesOfElements : List Shape → Type 0
+ShapesOfElements shapes = AllByRecursion (λ (s : Shape). is_element s.kind ≡ true) shapes
+
+abbrev pub PlanOfElements : WrapPlan → Type 0
+PlanOfElements plan = ShapesOfElements plan.wrap_outer × ShapesOfElements plan.wrap_each
+
+-- all that operations insert may stand
+abbrev pub OpsStand : List OpWords → Type 0
+OpsStand [] = Unit {0}
+OpsStand (op.Retain count ∷ ops) = OpsStand ops
+OpsStand (op.Remove count insert ∷ ops) = AllPass may_stand insert × OpsStand ops
+OpsStand (op.Attr name to ∷ ops) = OpsStand ops
