@@ -1,0 +1,7 @@
+use Rattle.ve_write.proofs.CarriedLemmas.{body_read}
+use Rattle.ve_write.proofs.bodies.body_text.Goals as goal
+
+pub returns : goal.returns
+returns c =
+    body_read c.args.store.now c.args.list.now.items c.args.at c.new-spelled.result c.put_body.new.out c.as_slice.result.now c.in-Ok.text.now c.in_ok-from_str.field-0
+    c.new-spelled.ensures c.in_ok-put_body.ensures c.as_slice.ensures c.in-Ok.ensures.cases.0 c.in-Ok.ensures.cases.1 c.in_ok-from_str.ensures

@@ -1,0 +1,91 @@
+// The texts of the bodies that references carry.
+ghost use Rattle.std.specs.Prelude.{◌≡◌, ◌<◌, ◌+◌, true, List, length, encode_utf8_all, IfOk};
+ghost use Rattle.ve_base.specs.declared.value.Value.{Value as Cited};
+ghost use Rattle.model_items.specs.Plain.{plain, plain_list};
+ghost use Rattle.model_page.specs.Editable.{all_refer};
+ghost use Rattle.ve_nodes.specs.Siblings.{AllCite};
+ghost use Rattle.ve_fresh.specs.Told.{text_of, AreBodyTexts};
+ghost use Rattle.ve_origin.specs.Kept.{opens_notes};
+ghost use Rattle.ve_write.specs.BodyTexts.{carried_outside, notes_place, text_at};
+
+use indexmap::IndexMap;
+use model_items::Item;
+use model_page::RefRow;
+use std::alloc::Global;
+use ve_base::{Bytes, Memory, Text};
+use ve_fresh::put_body;
+use ve_items::Linear;
+use ve_kinds::Kind;
+use ve_references::table;
+use ve_store::Store;
+
+fn opens_notes(item: Item) -> bool
+    ensures { (values : List Cited) → result ≡ opens_notes (plain values item) }
+{
+    match item {
+        Item::Opening { kind, .. } => kind == Kind::InternalList,
+        Item::Char { .. } => false,
+        Item::Closing { .. } => false,
+    }
+}
+
+/// Where the internal list opens, or the length of a list without one.
+fn notes_at(list: &Linear) -> usize
+    ensures { (values : List Cited) → result ≡ notes_place (plain_list values list.now.items) }
+{
+    let len = list.len();
+    let mut at = 0;
+    while at < len {
+        if opens_notes(list.get(at)) {
+            return at;
+        }
+        at += 1;
+    }
+    at
+}
+
+/// Where the internal item opens whose body a reference carries. One that stands past the opening of the internal list is in it, and carries none.
+fn carried_at(row: &RefRow, notes: usize) -> Option<usize>
+    ensures { result ≡ carried_outside notes row.now }
+{
+    if notes < row.at {
+        return None;
+    }
+    if row.carrier { row.body_at } else { None }
+}
+
+/// The text of the body whose internal item stands at a place.
+fn body_text(alloc: Global, list: &Linear, store: &Store, at: usize) -> Result<Text, Memory>
+    requires cites { AllCite store.now list.now.items }
+    requires refers { all_refer (plain_list store.now list.now.items) ≡ true }
+    requires within { at < length list.now.items }
+    ensures { IfOk result (λ text. encode_utf8_all text ≡ text_at (plain_list store.now list.now.items) at) }
+{
+    let mut spelled = Bytes::new(alloc);
+    put_body(alloc, &mut spelled, list, store, at)?;
+    let Ok(text) = std::str::from_utf8(spelled.as_slice()) else {
+        return Err(Memory);
+    };
+    Ok(Text::from_str(alloc, text)?)
+}
+
+/// The text of each body that a reference carries, by the place of the reference.
+pub fn body_texts(
+    alloc: Global,
+    list: &Linear,
+    store: &Store,
+) -> Result<IndexMap<usize, Text>, Memory>
+    requires cites { AllCite store.now list.now.items }
+    requires refers { all_refer (plain_list store.now list.now.items) ≡ true }
+    ensures { IfOk result (λ texts. AreBodyTexts (plain_list store.now list.now.items) (text_of texts)) }
+{
+    let notes = notes_at(list);
+    let refs = table(alloc, list, store)?;
+    let mut texts = IndexMap::new(alloc);
+    for row in refs.as_slice() {
+        if let Some(at) = carried_at(row, notes) {
+            texts.insert(row.at, body_text(alloc, list, store, at)?)?;
+        }
+    }
+    Ok(texts)
+}

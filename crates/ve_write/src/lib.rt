@@ -1,0 +1,13 @@
+//! A list of items as the text of a page. It finds the bodies that references carry, and writes each once, where its reference stands.
+//!
+//! - `write_fresh` appends the nodes of a list without origins: model_page_write's `fresh`.
+//!
+//! `BodyTexts` in specs/ serves private functions: it says by the rows of the table of references which text is carried where. What is written is read as
+//! UTF-8 before it is kept as a body; a text that weren't would be answered as a want of memory. There are no laws here: that what is written is read back
+//! is model_page_law's.
+#![tactic(auto)]
+
+mod bodies;
+mod fresh;
+
+pub use fresh::write_fresh;
