@@ -1,6 +1,6 @@
 -- The bodies that references carry, by the rows of the table.
-use Rattle.std.proofs.Common.{◌≡◌, ℕ, zero, suc, ◌+◌, ◌<◌, ◌==◌, Bool, true, false, List, [], ◌∷◌, ◌++◌, length, drop, refl, sym, ap, ◌∙◌, arith, eqb-true, Option, Some, None}
-use Rattle.std.specs.Prelude.{find, nat_lt, not, ◌&&◌, if◌then◌else◌, option_map, option_and_then}
+use Rattle.std.proofs.Common.{◌≡◌, ℕ, suc, ◌+◌, ◌<◌, ◌==◌, Bool, true, false, List, [], ◌∷◌, ◌++◌, length, drop, refl, sym, ap, ◌∙◌, arith, eqb-true, Option, Some, None}
+use Rattle.std.specs.Prelude.{nat_lt, not, ◌&&◌, if◌then◌else◌, option_map, option_and_then}
 use Rattle.std.specs.Str.{chars, encode_utf8_all, IsUtf8}
 use Rattle.std.proofs.lemmas.Str.{encodes-chars}
 use Rattle.std.proofs.lemmas.List.{drop-map}
@@ -101,6 +101,6 @@ carried_text items at =
     from (Some r) e =
         ap (λ o. option_map html_of (option_and_then (carried_by items) o)) e
         ∙ by_tests html_of (text_at items) (body_of r.key items) (is_carrier (refs_of items) r) (nat_lt (notes_place items) r.at) r.inside
-            (inside_is 0 at false items r e ∙ ap (λ n. nat_lt n at) (let z : 0 + notes_place items ≡ notes_place items = omega arith in z) ∙ ap (nat_lt (notes_place items)) (sym (found_place (refs_of items) at r e)))
-            (text_of_key items r.key)
+        (inside_is 0 at false items r e ∙ ap (λ n. nat_lt n at) (let z : 0 + notes_place items ≡ notes_place items = omega arith in z) ∙ ap (nat_lt (notes_place items)) (sym (found_place (refs_of items) at r e)))
+        (text_of_key items r.key)
         ∙ sym (ap (λ o. option_map (text_at items) (option_and_then (carried_outside (notes_place items)) (option_map (ref_row items) o))) e)

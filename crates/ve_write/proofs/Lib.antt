@@ -1,3 +1,4 @@
 pub mod NoteLemmas
 pub mod CarriedLemmas
 pub mod TextLemmas
+mod BodyExamples

@@ -1,7 +1,7 @@
 -- Where the internal list opens, and which references stand in it.
-use Rattle.std.proofs.Common.{◌≡◌, ℕ, zero, suc, ◌+◌, ◌<◌, ◌≤◌, ◌==◌, Bool, true, false, List, [], ◌∷◌, ◌++◌, drop, refl, sym, ap, ◌∙◌, arith, eqb-true, ltb, ltb-true, ltb-false, Option, Some, None, inl, inr}
-use Rattle.std.specs.Prelude.{find, nat_lt, ◌||◌, if◌then◌else◌}
-use Rattle.std.specs.List.{slice_get, position_or_len}
+use Rattle.std.proofs.Common.{◌≡◌, ℕ, suc, ◌+◌, ◌<◌, ◌≤◌, ◌==◌, Bool, true, false, List, [], ◌∷◌, drop, refl, sym, ap, ◌∙◌, arith, eqb-true, ltb-true, ltb-false, Option, Some, None}
+use Rattle.std.specs.Prelude.{nat_lt, ◌||◌, if◌then◌else◌}
+use Rattle.std.specs.List.{slice_get}
 use Rattle.std.specs.Option.{option_or}
 use Rattle.std.proofs.lemmas.List.Folds.{find-append}
 use Rattle.ve_base.specs.declared.head.RefKey.{RefKey}

@@ -1,5 +1,5 @@
 -- The texts of bodies, by the rows of the table of references.
-use Rattle.std.specs.Prelude.{◌≡◌, ℕ, suc, ◌+◌, ◌==◌, if◌then◌else◌, nat_lt, List, drop, find, Option, Some, None, option_map, option_and_then}
+use Rattle.std.specs.Prelude.{ℕ, ◌+◌, ◌==◌, if◌then◌else◌, nat_lt, List, drop, find, Option, Some, None, option_map, option_and_then}
 use Rattle.std.specs.List.{position_or_len}
 use Rattle.model_items.specs.declared.plain_item.PlainItem.{PlainItem}
 use Rattle.model_page.specs.declared.ref_table.RefRow.{RefRow}

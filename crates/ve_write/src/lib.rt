@@ -11,3 +11,6 @@ mod bodies;
 mod fresh;
 
 pub use fresh::write_fresh;
+
+#[cfg(test)]
+mod tests;
