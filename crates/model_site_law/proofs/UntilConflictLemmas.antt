@@ -1,10 +1,13 @@
 -- Entries that are joined one after the other are the first of those that join as one list.
-use Rattle.std.proofs.Common.{◌≡◌, suc, List, [], ◌∷◌, ◌++◌, length, take, Option, Some, None, Result, Ok, Err, refl, sym, ap, ◌∙◌, append-nil, arith}
+use Rattle.std.proofs.Common.{◌≡◌, suc, List, [], ◌∷◌, ◌++◌, length, take, drop, Option, Some, None, Result, Ok, Err, refl, sym, ap, ◌∙◌, subst, append-nil, arith}
+use Rattle.std.proofs.lemmas.List.{take-append-drop}
 use Rattle.model_change.specs.Transaction.{Transaction}
 use Rattle.model_change.specs.Join.{RangeConflict, list_with, join_row, after_row, join_list}
-use Rattle.model_change.specs.Replay.{flattened}
+use Rattle.model_change.specs.Replay.{AllRun, flattened}
+use Rattle.model_change.proofs.JoinListLaw.{lists_within}
 use Rattle.model_site.specs.Joined.{joined_first, join_entries}
-use Rattle.model_site_law.specs.Laws.{IsNextInConflict, AreFirst, JoinedUntilConflict}
+use Rattle.model_site_law.specs.Laws.{IsNextInConflict, AreFirst, EntriesWithin, JoinedUntilConflict}
+use Rattle.model_site_law.proofs.ReplayLemmas.{AllRun-parts, flattened-append}
 use Rattle.model_site_law.proofs.NeedLemmas.{list_with-ok, after_row-ok}
 
 abbrev Lists : Type 0
@@ -73,3 +76,11 @@ joined_until_conflict committed (e ∷ es) = by_first (λ c. joined_until_confli
         by_clash : (o : Option RangeConflict) → IsNextInConflict r.0 es (length (join_entries r.0 es).kept) o → IsNextInConflict committed (e ∷ es) (suc (length (join_entries r.0 es).kept)) o
         by_clash None n = ap (λ k. suc k) n
         by_clash (Some clash) n = let below = n.0 in (omega arith, both (flattened (take (suc (length (join_entries r.0 es).kept)) es)) ∙ ap (with_prefix r.1) n.1)
+
+pub entries_within : EntriesWithin
+entries_within foreign entries items sound run runs =
+    let j = join_entries foreign entries in
+    let n = length j.kept in
+    let split : flattened entries ≡ flattened (take n entries) ++ flattened (drop n entries) = ap flattened (sym (take-append-drop n entries)) ∙ flattened-append (take n entries) (drop n entries) in
+    let parts = AllRun-parts (flattened (take n entries)) (flattened (drop n entries)) items (subst (λ us. AllRun us items) split runs) in
+    lists_within foreign (flattened (take n entries)) (j.committed, flattened j.kept) items sound.lawful run parts.0 (joined_until_conflict foreign entries).one_list

@@ -1,11 +1,11 @@
 -- The laws of sites and server, over every list of events.
-use Rattle.std.specs.Prelude.{◌≡◌, ◌<◌, ◌≤◌, ℕ, suc, Bool, true, false, List, [], ◌∷◌, length, map, take, slice_get, Option, Some, None, Ok, Err}
+use Rattle.std.specs.Prelude.{◌≡◌, ◌<◌, ◌≤◌, ℕ, suc, ◌+◌, Bool, true, false, List, [], ◌∷◌, length, map, take, slice_get, Option, Some, None, Ok, Err}
 use Rattle.model_items.specs.declared.plain_item.PlainItem.{PlainItem}
 use Rattle.model_items.specs.Plain.{AreDistinct}
 use Rattle.model_change.specs.Transaction.{Transaction}
 use Rattle.model_change.specs.Store.{cited}
 use Rattle.model_change.specs.Join.{RangeConflict, join_list}
-use Rattle.model_change.specs.Replay.{replay, AllRun, reversal, flattened, entry_at, made_before, made_after}
+use Rattle.model_change.specs.Replay.{replay, AllRun, AllWithin, inserted_by, reversal, flattened, entry_at, made_before, made_after}
 use Rattle.model_site.specs.Replica.{Replica, opened_with}
 use Rattle.model_site.specs.Entries.{Parcel}
 use Rattle.model_site.specs.Site.{Site, pending, with_entry, undo, entries_of, revoke_entry}
@@ -46,6 +46,15 @@ pub record AreJoined (foreign : Parcel) (entries : List Parcel) (items : List Pl
 abbrev pub EntriesJoin : Type 0
 EntriesJoin = (foreign : Parcel) (entries : List Parcel) (items : List PlainItem) → Sound items → AllRun foreign items →
     AllRun (flattened entries) items → AreJoined foreign entries items (join_entries foreign entries)
+
+-- Joined, none of their transactions is longer than the list with all that the foreign entry inserts and the kept ones do. So each is in
+-- normal form where that is at most 2^60.
+abbrev pub EntriesWithin : Type 0
+EntriesWithin = (foreign : Parcel) (entries : List Parcel) (items : List PlainItem) → Sound items → AllRun foreign items →
+    AllRun (flattened entries) items →
+    let j = join_entries foreign entries in
+    let most = length items + (inserted_by foreign + inserted_by (flattened (take (length j.kept) entries))) in
+    AllWithin most j.committed × AllWithin most (flattened j.kept)
 
 -- what holds of a base, the session and one of its members, whatever happened
 abbrev pub Always : ((base : Replica) (w : Session) (m : Member) → Type 0) → Type 0

@@ -1,5 +1,5 @@
 // What sites and server keep, whatever happens. Each function does nothing, and its contract is a law that is proved.
-ghost use Rattle.model_site_law.specs.Laws.{AckCounts, CommittedRun, EntriesJoin, EntriesRun, FirstReplicaOpens, FirstStoreIsDistinct, JoinedUntilConflict, ListIsReplay, ListIsSound, OneList, RedoneIsAsBefore, RevokeLeavesOut, SeenIsCommitted, SitesStay, StoreHolds, StoreIsDistinct, UndoneAtOnce, UndoneIsFirst};
+ghost use Rattle.model_site_law.specs.Laws.{AckCounts, CommittedRun, EntriesJoin, EntriesRun, EntriesWithin, FirstReplicaOpens, FirstStoreIsDistinct, JoinedUntilConflict, ListIsReplay, ListIsSound, OneList, RedoneIsAsBefore, RevokeLeavesOut, SeenIsCommitted, SitesStay, StoreHolds, StoreIsDistinct, UndoneAtOnce, UndoneIsFirst};
 ghost use Rattle.model_site_law.specs.SelectionLaws.{FirstSelectionStands, MovedStands, SelectionStands};
 ghost use Rattle.model_site_law.specs.MayHappen.{EditMayRun};
 ghost use Rattle.model_site_law.specs.ItemLaws.{ItemsKeep};
@@ -8,10 +8,11 @@ ghost use Rattle.model_site_law.specs.KeptLaws.{EventsKeep, HoldsAtFirst};
 /// Entries are joined over committed transactions up to the first conflict: the transactions of those kept join as one list, and with the next entry's
 /// they have that conflict. So an entry is refused or dropped exactly where it or an earlier one conflicts. Those kept run after a foreign entry, it
 /// runs, joined, after those kept, and either way gives one list. "Runs" is said of transactions that are reduced, apply one after the other, each
-/// leave a lawful list, and can be undone.
+/// leave a lawful list, and can be undone. Joined, none is longer than the list with all that both sides insert.
 pub fn entries_join()
     ensures first { JoinedUntilConflict }
     ensures agree { EntriesJoin }
+    ensures within { EntriesWithin }
 {}
 
 /// A site's list is the replay of the committed entries that it has seen, of those it has sent and of those unsent, in this order. All of these run

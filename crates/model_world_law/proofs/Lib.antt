@@ -20,3 +20,4 @@ pub mod StandEditLemmas
 pub mod StandReadLemmas
 pub mod ChangeStand
 mod StandingExamples
+pub mod CarriedLemmas

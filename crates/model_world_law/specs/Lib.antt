@@ -1,4 +1,5 @@
 pub mod Standing
+pub mod Written
 pub mod Fit
 pub mod Causes
 pub mod Reached

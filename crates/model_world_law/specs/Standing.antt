@@ -1,10 +1,15 @@
 -- Which items a page under edit may have.
-use Rattle.std.specs.Prelude.{◌≡◌, Bool, true, ◌&&◌, nat_le, List, [], ◌∷◌, length}
+use Rattle.std.specs.Prelude.{◌≡◌, ℕ, Bool, true, None, ◌&&◌, nat_le, List, [], ◌∷◌, length}
 use Rattle.std.specs.List.{AllByRecursion}
 use Rattle.ve_kinds.specs.Table.{is_element}
 use Rattle.ve_base.specs.Limits.{max_marks}
 use Rattle.model_items.specs.declared.plain_item.PlainItem.{PlainItem}
+use Rattle.ve_kinds.specs.declared.kind.Kind.{Kind}
+use Rattle.model_spelling.specs.Forest.{Forest}
 use Rattle.model_page.specs.Editable.{item_refers}
+use Rattle.model_page.specs.Fragment.{fragment_items}
+use Rattle.model_page.specs.Limits.{fragment_limit, page_limit}
+use Rattle.model_page.specs.PageItems.{items_of_page, page_made}
 use Rattle.model_site_law.specs.ItemLaws.{AllPass}
 use Rattle.model_world.specs.declared.change.OpWords.{OpWords}
 use Rattle.model_world.specs.declared.change.OpWords.TheVariants as op
@@ -12,12 +17,21 @@ use Rattle.model_edit.specs.Marking.{item_marks}
 use Rattle.model_edit.specs.declared.wrap_plan.Shape.{Shape}
 use Rattle.model_edit.specs.declared.wrap_plan.WrapPlan.{WrapPlan}
 
+-- at most 64 marks
 abbrev pub has_few_marks : PlainItem → Bool
 has_few_marks item = nat_le (length (item_marks item)) max_marks
 
 -- a reference has its key and is editable, an internal item has its key, and no item has more than 64 marks
 abbrev pub may_stand : PlainItem → Bool
 may_stand item = item_refers item && has_few_marks item
+
+-- A fragment within its limit has such items alone,
+abbrev pub FragmentsWithin : Type 0
+FragmentsWithin = (stack : List Kind) (f : Forest) → fragment_limit stack f ≡ None → AllPass has_few_marks (fragment_items stack f)
+
+-- and so has a page within its limits, reference bodies and all; it begins at any byte.
+abbrev pub PagesWithin : Type 0
+PagesWithin = (at : ℕ) (f : Forest) → page_limit at f ≡ None → AllPass has_few_marks (items_of_page (page_made at f))
 
 -- the nodes that a plan wraps are elements
 abbrev pub ShapesOfElements : List Shape → Type 0

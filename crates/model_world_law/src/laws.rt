@@ -1,6 +1,8 @@
 // The laws of worlds, each on a function that does nothing.
 ghost use Rattle.model_world_law.specs.Fit.{LinesAreWritten, ChangesFit, ChangesStand, MovesFit, MovesStand, PagesAreSound, PagesStand};
 ghost use Rattle.model_world_law.specs.Causes.{StoreFullIsFull, MovesFillStore};
+ghost use Rattle.model_world_law.specs.Standing.{FragmentsWithin, PagesWithin};
+ghost use Rattle.model_world_law.specs.Written.{ReferencesAreWritten};
 ghost use Rattle.model_world_law.specs.Pasted.{FragmentsAreChildren, PastingStaysLawful};
 ghost use Rattle.model_world_law.specs.ShownLaws.{ShownIsRead};
 ghost use Rattle.model_world_law.specs.Redone.{LinesRedo};
@@ -54,6 +56,21 @@ pub fn insertions_stand()
     ensures changes { ChangesStand }
     ensures moves { MovesStand }
     ensures pages { PagesStand }
+{}
+
+/// A fragment and a page within their limits have at most 64 marks on each item. The other way is not claimed.
+#[tactic(auto, using(crate::proofs::FewMarks::fragment_few, crate::proofs::FewMarks::page_few))]
+pub fn limits_hold()
+    ensures fragments { FragmentsWithin }
+    ensures pages { PagesWithin }
+{}
+
+/// A reference that may stand is written as an element of its group and name. That has the body that the reference
+/// carries, where a forest of at most 200 levels spells the body's text, and is not editable where none does. Where the
+/// reference carries none, the element uses one by its name, and is not editable where it has no name.
+#[tactic(auto, using(crate::proofs::CarriedLemmas::references_are_written))]
+pub fn references_are_written()
+    ensures { ReferencesAreWritten }
 {}
 
 /// So in every world whose page is UTF-8 each item of each site's list may stand.

@@ -1,7 +1,8 @@
 //! What always holds of a world, whatever lines it was given. It has laws alone: what they speak of is `model_world`'s and
 //! the layers' below it. Definitions stand in specs/, in this order:
 //!
-//! - `Standing`: which items a page under edit may have;
+//! - `Standing`: which items a page under edit may have ([`limits_hold`]);
+//! - `Written`: what a reference that may stand is written as ([`references_are_written`]);
 //! - `Fit`: what a line that is read can ask, and that what it asks is what the layers below expect ([`layers_fit`],
 //!   [`insertions_stand`]);
 //! - `ShownLaws`: items that a line can write, and that they are shown so that they are read back ([`shown_is_read`]);
@@ -17,6 +18,6 @@ mod laws;
 
 pub use laws::{
     every_item_stands, every_site_holds, every_world_is_reached, insertions_stand, layers_fit,
-    lines_redo, pasting_stays_lawful, shown_is_read, sites_meet, store_full_is_full,
-    unedited_is_written_back,
+    limits_hold, lines_redo, pasting_stays_lawful, references_are_written, shown_is_read,
+    sites_meet, store_full_is_full, unedited_is_written_back,
 };
