@@ -1,5 +1,5 @@
 -- What two insertions insert once they are joined.
-use Rattle.std.proofs.Common.{◌≡◌, List, [], ◌∷◌, map, codes, refl}
+use Rattle.std.proofs.Common.{◌≡◌, codes, refl}
 use Rattle.model_change.specs.Transaction.{all_inserted}
 use Rattle.model_change.specs.Join.{join}
 use Rattle.model_change_law.proofs.ExampleItems.{letters, inserts}

@@ -1,5 +1,5 @@
 -- An item that is retained, with an attribute set on it.
-use Rattle.std.proofs.Common.{◌≡◌, ℕ, List, [], ◌∷◌, ◌++◌, slice_get, Option, Some, None, codes, refl}
+use Rattle.std.proofs.Common.{◌≡◌, List, [], ◌∷◌, slice_get, Some, None, codes, refl}
 use Rattle.ve_kinds.specs.declared.kind.Kind.TheVariants.{P}
 use Rattle.model_items.specs.declared.plain_item.PlainItem.{PlainItem}
 use Rattle.model_change.specs.Attributes.{AttrChange}

@@ -1,4 +1,5 @@
 // What changes keep of items. Each function does nothing, and its contract is a law that is proved.
+ghost use Rattle.model_change_law.specs.Bare.{BareTells, TreeTells};
 ghost use Rattle.model_change_law.specs.Inserted.{JoinListsInsertTheSame, JoinsInsertTheSame};
 ghost use Rattle.model_change_law.specs.Retained.{AttributesAloneChange, RetainedIsChanged};
 
@@ -13,4 +14,13 @@ pub fn retained_items_are_kept()
 pub fn joins_insert_the_same()
     ensures pair { JoinsInsertTheSame }
     ensures lists { JoinListsInsertTheSame }
+{}
+
+/// A tree tells of a lawful list which items are characters and which open and close nodes of which kinds, and nothing else: neither the
+/// letters nor heads, marks, whitespace, origins and the flag generated. So much is what the links of a tree decide of its list, and
+/// what a change of letters, heads and marks leaves of the tree.
+#[tactic(auto, using(crate::proofs::BareLemmas::tree_tells, crate::proofs::BareLemmas::bare_tells))]
+pub fn trees_tell_shapes()
+    ensures list { TreeTells }
+    ensures tree { BareTells }
 {}
