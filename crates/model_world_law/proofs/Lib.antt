@@ -21,3 +21,4 @@ pub mod StandReadLemmas
 pub mod ChangeStand
 mod StandingExamples
 pub mod CarriedLemmas
+pub mod OverMarks

@@ -1,11 +1,11 @@
 -- Which items a page under edit may have.
-use Rattle.std.specs.Prelude.{◌≡◌, ℕ, Bool, true, None, ◌&&◌, nat_le, List, [], ◌∷◌, length}
+use Rattle.std.specs.Prelude.{◌≡◌, ℕ, Bool, true, Some, None, IsUtf8, ◌&&◌, nat_le, List, [], ◌∷◌, length}
 use Rattle.std.specs.List.{AllByRecursion}
 use Rattle.ve_kinds.specs.Table.{is_element}
-use Rattle.ve_base.specs.Limits.{max_marks}
+use Rattle.ve_base.specs.Limits.{max_marks, max_open_elements}
 use Rattle.model_items.specs.declared.plain_item.PlainItem.{PlainItem}
 use Rattle.ve_kinds.specs.declared.kind.Kind.{Kind}
-use Rattle.model_spelling.specs.Forest.{Forest}
+use Rattle.model_spelling.specs.Forest.{Forest, is_forest, spelling}
 use Rattle.model_page.specs.Editable.{item_refers}
 use Rattle.model_page.specs.Fragment.{fragment_items}
 use Rattle.model_page.specs.Limits.{fragment_limit, page_limit}
@@ -29,7 +29,12 @@ may_stand item = item_refers item && has_few_marks item
 abbrev pub FragmentsWithin : Type 0
 FragmentsWithin = (stack : List Kind) (f : Forest) → fragment_limit stack f ≡ None → AllPass has_few_marks (fragment_items stack f)
 
--- and so has a page within its limits, reference bodies and all; it begins at any byte.
+-- and one over it has not, where it is UTF-8;
+abbrev pub FragmentsOver : Type 0
+FragmentsOver = (stack : List Kind) (f : Forest) (at : ℕ) → is_forest max_open_elements f ≡ true → IsUtf8 (spelling f) →
+    fragment_limit stack f ≡ Some at → AllPass has_few_marks (fragment_items stack f) → ⊥
+
+-- So has a page within its limits, reference bodies and all; it begins at any byte.
 abbrev pub PagesWithin : Type 0
 PagesWithin = (at : ℕ) (f : Forest) → page_limit at f ≡ None → AllPass has_few_marks (items_of_page (page_made at f))
 

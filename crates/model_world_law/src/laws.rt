@@ -1,7 +1,7 @@
 // The laws of worlds, each on a function that does nothing.
 ghost use Rattle.model_world_law.specs.Fit.{LinesAreWritten, ChangesFit, ChangesStand, MovesFit, MovesStand, PagesAreSound, PagesStand};
 ghost use Rattle.model_world_law.specs.Causes.{StoreFullIsFull, MovesFillStore};
-ghost use Rattle.model_world_law.specs.Standing.{FragmentsWithin, PagesWithin};
+ghost use Rattle.model_world_law.specs.Standing.{FragmentsOver, FragmentsWithin, PagesWithin};
 ghost use Rattle.model_world_law.specs.Written.{ReferencesAreWritten};
 ghost use Rattle.model_world_law.specs.Pasted.{FragmentsAreChildren, PastingStaysLawful};
 ghost use Rattle.model_world_law.specs.ShownLaws.{ShownIsRead};
@@ -58,10 +58,12 @@ pub fn insertions_stand()
     ensures pages { PagesStand }
 {}
 
-/// A fragment and a page within their limits have at most 64 marks on each item. The other way is not claimed.
-#[tactic(auto, using(crate::proofs::FewMarks::fragment_few, crate::proofs::FewMarks::page_few))]
+/// A fragment is within its limit exactly where no item has more than 64 marks. Of a page one way is claimed: within its
+/// limits none has.
+#[tactic(auto, using(crate::proofs::FewMarks::fragment_few, crate::proofs::FewMarks::page_few, crate::proofs::OverMarks::fragment_over))]
 pub fn limits_hold()
     ensures fragments { FragmentsWithin }
+    ensures over { FragmentsOver }
     ensures pages { PagesWithin }
 {}
 
