@@ -1,6 +1,5 @@
 mod PieceLemmas
 mod PlaceLemmas
-mod CitedLemmas
 mod ReopenLemmas
 mod RefusalLemmas
 mod TypedLemmas

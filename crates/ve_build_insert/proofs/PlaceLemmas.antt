@@ -1,8 +1,8 @@
 -- Where something may be put, and how far out pieces go.
-use Rattle.std.proofs.Common.{◌≡◌, ◌≤◌, ◌<◌, ℕ, zero, suc, ◌+◌, Bool, true, false, ◌||◌, if◌then◌else◌, Ok, Option, Some, None, option_map, List, [], ◌∷◌, length, map, take, drop, slice_get, refl, sym, ap, ◌∙◌, arith}
+use Rattle.std.proofs.Common.{◌≡◌, ◌≤◌, ◌<◌, ℕ, zero, suc, ◌+◌, Bool, true, false, ◌||◌, if◌then◌else◌, Ok, Option, Some, None, option_map, List, [], ◌∷◌, length, take, drop, slice_get, refl, sym, ap, ◌∙◌, arith}
 use Rattle.std.specs.Prelude.{nat_le}
 use Rattle.std.proofs.lemmas.Bool.Decides.{nat_tests}
-use Rattle.std.proofs.lemmas.List.{take-map, length-map}
+use Rattle.std.proofs.lemmas.List.{length-map}
 use Rattle.ve_base.specs.declared.value.Value.{Value}
 use Rattle.ve_kinds.specs.declared.kind.Kind.{Kind}
 use Rattle.ve_kinds.specs.declared.kind.Kind.TheVariants.{Root}
@@ -10,30 +10,12 @@ use Rattle.ve_kinds.specs.Table.{is_leaf}
 use Rattle.model_items.specs.declared.item.Item.{Item}
 use Rattle.model_items.specs.declared.plain_item.PlainItem.{PlainItem}
 use Rattle.model_items.specs.Law.{State, start, after, top}
-use Rattle.model_items.specs.Offsets.{stack_at, is_inside_leaf}
+use Rattle.model_items.specs.Offsets.{is_inside_leaf}
 use Rattle.model_items.specs.Plain.{plain, plain_list}
-use Rattle.model_items.specs.Tree.{Open}
-use Rattle.model_items.proofs.NodeAtLemmas.{open_is_stack}
 use Rattle.model_edit.specs.Brackets.{is_internal}
 use Rattle.model_edit.specs.Insert.{is_bad_offset, may_hold_pieces, levels_up, is_mixed, in_paragraph}
-use Rattle.ve_tree.specs.IsTree.{unvalued}
-use Rattle.ve_edits.proofs.BracketLemmas.{opens_at-plain}
+use Rattle.ve_edits.proofs.StackLemmas.{stack_is}
 use Rattle.ve_build_insert.specs.Placed.{placement}
-
--- the open kinds are the law's state
-pub stack_is : (values : List Value) (items : List Item) (o : ℕ) (s : State) → after start (plain_list [] (take o items)) ≡ Ok s →
-    stack_at (plain_list values items) o ≡ s.stack
-stack_is values items o s h =
-    let there : after start (take o (unvalued items)) ≡ Ok s = ap (after start) (take-map (plain []) o items) ∙ h in
-    ap (map (λ (node : Open). node.kind)) (opens_at-plain values items o) ∙ open_is_stack (take o (unvalued items)) s there
-
-pub top_none : (stack : List Kind) → length stack ≡ 0 → top stack ≡ Root
-top_none [] h = refl
-top_none (k ∷ stack) h = absurd (omega arith)
-
-pub top_some : (stack : List Kind) (k : Kind) → slice_get stack 0 ≡ Some k → top stack ≡ k
-top_some [] k h = cc
-top_some (x ∷ stack) k h = cc
 
 -- nothing can be put at the end, past it, or inside a leaf
 bad_by : (items : List PlainItem) (at : ℕ) (inside : Bool) → is_inside_leaf items at ≡ inside → is_bad_offset items at ≡ (nat_le (length items) at || inside)

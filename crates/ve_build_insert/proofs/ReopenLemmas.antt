@@ -1,8 +1,8 @@
 -- Closings and copies of open nodes, and the values that they bring.
-use Rattle.std.proofs.Common.{◌≡◌, ◌<◌, ℕ, zero, suc, ◌+◌, ◌-◌, Bool, true, false, if◌then◌else◌, List, [], ◌∷◌, ◌++◌, length, map, reverse, take, drop, get_or, slice_get, Option, Some, None, refl, sym, ap, ◌∙◌, subst, arith, append-nil, append_assoc, take-append-drop}
+use Rattle.std.proofs.Common.{◌≡◌, ◌<◌, ℕ, zero, suc, ◌+◌, ◌-◌, Bool, true, false, if◌then◌else◌, List, [], ◌∷◌, ◌++◌, length, map, reverse, take, drop, get_or, slice_get, Option, Some, None, refl, sym, ap, ◌∙◌, subst, arith, append-nil, append_assoc}
 use Rattle.std.specs.Prelude.{All}
 use Rattle.std.proofs.lemmas.Grind.{reverse_onto}
-use Rattle.std.proofs.lemmas.List.{map-append, length-map, take_all, take_at, drop_all}
+use Rattle.std.proofs.lemmas.List.{map-append, length-map, drop_all}
 use Rattle.std.proofs.lemmas.List.Concat.{flat_map-append}
 use Rattle.std.proofs.lemmas.List.Elements.{All-nil, All-cons, All-append, All-head, All-tail}
 use Rattle.std.proofs.lemmas.Option.{get_or_from_slice_get, slice_get-get_or, slice_get_within}
@@ -16,43 +16,22 @@ use Rattle.model_items.specs.declared.plain_item.PlainItem.{PlainItem}
 use Rattle.model_items.specs.Plain.{plain, plain_list, value_at, head_in, marks_in, white_in, CitesHead, CitesWell}
 use Rattle.model_items.specs.Same.{head_same}
 use Rattle.model_change.specs.Store.{fill, cited, cited_by, head_cited, marks_cited, white_cited}
-use Rattle.model_change.specs.Transaction.{Retain, Replace, Attribute, Transaction, all_inserted}
+use Rattle.model_change.specs.Transaction.{all_inserted}
 use Rattle.model_edit.specs.Brackets.{closing_for, copy_of}
-use Rattle.model_edit.specs.Edits.{Change, retaining, replacing, transaction_of}
+use Rattle.model_edit.specs.Edits.{Change, transaction_of}
 use Rattle.model_edit.specs.Insert.{reopened}
 use Rattle.ve_store.proofs.StoreLemmas.{admitted_there}
 use Rattle.ve_store.specs.Following.{Following, Grows, together}
-use Rattle.ve_tx.specs.Making.{Extends}
 use Rattle.ve_tx.proofs.ValuesLemmas.{filled_on, plain-extended, all-extended, list-extended}
 use Rattle.model_items.specs.Offsets.{openings_at}
 use Rattle.ve_tx.specs.Operation.{Operation, by_value}
 use Rattle.ve_edits.specs.Filled.{BringsInserted, IsFilledFor}
 use Rattle.ve_edits.specs.Round.{AreOpeningsRound}
+use Rattle.ve_edits.proofs.BracketLemmas.{cites_there}
 use Rattle.ve_edits.proofs.CopyLemmas.{marks_filled, white_filled}
+use Rattle.ve_edits.proofs.FollowingLemmas.{grows_itself, grows_on, grows_extends, store_extends}
+use Rattle.ve_edits.proofs.PieceLemmas.{inserts_pieces}
 use Rattle.ve_build_insert.specs.Reopened.{AreClosings, AreCopies, IsReopened}
-
--- ---- values as they grow
-
-pub grows_itself : (new : Following) → Grows new new
-grows_itself new = (refl, take_all (length new.values) new.values (omega arith))
-
-more_of : (old new : Following) → Grows old new → new.values ≡ old.values ++ drop (length old.values) new.values
-more_of old new g = sym (take-append-drop (length old.values) new.values) ∙ ap (λ l. l ++ drop (length old.values) new.values) g.1
-
-pub grows_on : (old mid new : Following) → Grows old mid → Grows mid new → Grows old new
-grows_on old mid new g h =
-    let M = drop (length old.values) mid.values in
-    let N = drop (length mid.values) new.values in
-    let whole : new.values ≡ old.values ++ (M ++ N) = more_of mid new h ∙ ap (λ l. l ++ N) (more_of old mid g) ∙ append_assoc old.values M N in
-    (h.0 ∙ g.0, ap (take (length old.values)) whole ∙ take_at old.values (M ++ N) (length old.values) refl)
-
-pub grows_extends : (store : List Value) (old new : Following) → Grows old new → Extends (together store old) (together store new)
-grows_extends store old new g =
-    let M = drop (length old.values) new.values in
-    (M, ap (λ l. store ++ l) (more_of old new g) ∙ sym (append_assoc store old.values M))
-
-pub store_extends : (store : List Value) (new : Following) → Extends store (together store new)
-store_extends store new = (new.values, refl)
 
 -- ---- what is there already
 
@@ -112,9 +91,6 @@ there_plain : (values : List Value) (items : List Item) (i : ℕ) (x : Item) →
 there_plain values [] i x h = absurd (cc)
 there_plain values (y ∷ items) zero x h = let same : y ≡ x = cc in ap (λ y. Some (plain values y)) same
 there_plain values (y ∷ items) (suc i) x h = there_plain values items i x h
-
-pub cites_there : (values : List Value) (items : List Item) (i : ℕ) (x : Item) → All (CitesWell values) items → slice_get items i ≡ Some x → CitesWell values x
-cites_there values items i x all h = subst (CitesWell values) (get_or_from_slice_get items i x x h) (all i x (slice_get_within items i x h))
 
 -- one copy more
 pub copies_more : (store : List Value) (openings : List Item) (left : ℕ) (start old new : Following) (copies : List Item) (x copy : Item) →
@@ -186,23 +162,9 @@ reopened_by store openings pieces closings copies made start new listed given cl
 
 -- ---- what the transaction inserts
 
-inserted-retaining : (n : ℕ) (t : Transaction) → all_inserted (retaining n t) ≡ all_inserted t
-inserted-retaining zero t = refl
-inserted-retaining (suc n) [] = refl
-inserted-retaining (suc n) (Retain count ∷ ops) = refl
-inserted-retaining (suc n) (Replace removed inserted ∷ ops) = refl
-inserted-retaining (suc n) (Attribute change ∷ ops) = refl
-
-inserted-nothing : (inserted : List PlainItem) (n : ℕ) → all_inserted (replacing [] inserted (retaining n [])) ≡ inserted
-inserted-nothing [] n = inserted-retaining n []
-inserted-nothing (one ∷ inserted) zero = append-nil (one ∷ inserted)
-inserted-nothing (one ∷ inserted) (suc n) = append-nil (one ∷ inserted)
-
 -- one edit that removes nothing inserts its items
 pub inserted_by_one : (items : List PlainItem) (at : ℕ) (inserted : List PlainItem) → all_inserted (transaction_of items (Change at 0 inserted ∷ [])) ≡ inserted
-inserted_by_one items at inserted =
-    let rest = drop (at - 0) items in
-    inserted-retaining (at - 0) (replacing (take 0 rest) inserted (retaining (length (drop 0 rest)) [])) ∙ inserted-nothing inserted (length (drop 0 rest))
+inserted_by_one items at inserted = inserts_pieces items (Change at 0 inserted ∷ []) ∙ append-nil inserted
 
 -- ---- closings
 

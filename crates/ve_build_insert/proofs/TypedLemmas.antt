@@ -17,12 +17,12 @@ use Rattle.model_items.specs.Plain.{plain, plain_list, value_at, marks_in, Cites
 use Rattle.model_items.specs.Tree.{Open}
 use Rattle.model_edit.specs.Insert.{marks_of, marks_after, marks_before, text_pieces}
 use Rattle.ve_tree.specs.IsTree.{unvalued}
-use Rattle.ve_edits.proofs.BracketLemmas.{slice_get-plain, node_at-from, partner-Closing}
+use Rattle.ve_edits.proofs.BracketLemmas.{slice_get-plain, node_at-from, partner-Closing, cites_there}
 use Rattle.ve_edits.proofs.RoundLemmas.{round_at}
 use Rattle.ve_build_insert.specs.Typed.{MarksAreCited, AreMarksBefore, AreLetters, LettersCite}
 use Rattle.ve_store.specs.Following.{Following, together}
 use Rattle.ve_tx.proofs.ValuesLemmas.{all-extended, list-extended}
-use Rattle.ve_build_insert.proofs.ReopenLemmas.{cites_there, store_extends}
+use Rattle.ve_edits.proofs.FollowingLemmas.{store_extends}
 
 -- the characters of a text, each with these marks
 pub letters_plain : (values : List Value) (marks : Option ValueId) (text : List ℕ) → plain_list values (map (λ c. item.Char c marks) text) ≡ text_pieces (marks_in (value_at values marks)) text

@@ -8,8 +8,9 @@ ghost use Rattle.ve_build_insert.specs.Placed.{asked, depth_after, passes_outer,
 
 use std::alloc::Global;
 use ve_base::Memory;
+use ve_edits::is_content_item;
 use ve_items::{Item, Items};
-use ve_kinds::{Kind, is_content_branch, is_inline_leaf, may_hold};
+use ve_kinds::{Kind, is_content_branch, may_hold};
 
 /// What is asked of each piece that stands in no other.
 #[derive(Clone, Copy)]
@@ -17,17 +18,6 @@ pub enum Question {
     IsContent,
     IsBlock,
     IsHeldBy(Kind),
-}
-
-/// Whether an item is a character or the opening of an inline leaf.
-fn is_content_item(item: Item) -> bool
-    ensures { (values : _) → result ≡ model.is_content_item (plain values item) }
-{
-    match item {
-        Item::Char { .. } => true,
-        Item::Opening { kind, .. } => is_inline_leaf(kind),
-        Item::Closing { .. } => false,
-    }
 }
 
 /// Whether a node of the kind may hold what the item is or opens.

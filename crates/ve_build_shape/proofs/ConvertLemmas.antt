@@ -1,11 +1,10 @@
 -- A branch of content, by its item.
-use Rattle.std.proofs.Common.{◌≡◌, ◌<◌, ℕ, true, Some, List, length, All, slice_get, refl, sym, ap, ◌∙◌, subst}
-use Rattle.std.proofs.lemmas.Option.{get_or_from_slice_get, slice_get_within}
+use Rattle.std.proofs.Common.{◌≡◌, ◌<◌, ℕ, true, Some, List, length, slice_get, refl, sym, ap, ◌∙◌}
 use Rattle.ve_base.specs.declared.value.Value.{Value}
 use Rattle.ve_kinds.specs.Table.{is_content_branch}
 use Rattle.model_items.specs.declared.item.Item.{Item}
 use Rattle.model_items.specs.declared.item.Item.TheVariants as item
-use Rattle.model_items.specs.Plain.{plain, plain_list, CitesWell}
+use Rattle.model_items.specs.Plain.{plain, plain_list}
 use Rattle.model_items.specs.Law.{Lawful}
 use Rattle.model_items.specs.Offsets.{passes}
 use Rattle.model_edit.specs.Convert.{opens_kind}
@@ -24,6 +23,3 @@ bounds values items at (item.Opening kind generated head marks pre origin) lawfu
 pub opens_there : (values : List Value) (items : List Item) (at : ℕ) (x : Item) → slice_get items at ≡ Some x → passes (opens_kind is_content_branch) (slice_get (plain_list values items) at) ≡ true →
     opens_kind is_content_branch (plain values x) ≡ true
 opens_there values items at x h opens = ap (passes (opens_kind is_content_branch)) (sym (slice_get-plain values items at x h)) ∙ opens
-
-pub cites_there : (values : List Value) (items : List Item) (at : ℕ) (x : Item) → All (CitesWell values) items → slice_get items at ≡ Some x → CitesWell values x
-cites_there values items at x all h = subst (CitesWell values) (get_or_from_slice_get items at x x h) (all at x (slice_get_within items at x h))

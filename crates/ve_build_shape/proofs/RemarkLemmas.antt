@@ -19,8 +19,8 @@ use Rattle.ve_edits.proofs.SpanLemmas.{places_more, places_none}
 use Rattle.ve_store.specs.Following.{Following, Grows, together}
 use Rattle.ve_tx.proofs.ValuesLemmas.{all-extended, filled_on}
 use Rattle.ve_build_shape.specs.Remarked.{keeps_marks, remark_edits, remarked_item, remarked_items, IsRemarked}
-use Rattle.ve_build_shape.proofs.PieceLemmas.{pieces, pieces-append, inserts_pieces}
-use Rattle.ve_build_shape.proofs.GrowLemmas.{grows_on, grows_extends, store_extends}
+use Rattle.ve_edits.proofs.PieceLemmas.{pieces, pieces-append, inserts_pieces}
+use Rattle.ve_edits.proofs.FollowingLemmas.{grows_on, grows_extends, store_extends}
 
 edit_at : (List Mark → List Mark) → List PlainItem → ℕ → List Edit
 edit_at f items at = remark_edit f at (slice_get items at)

@@ -1,10 +1,7 @@
 // One attribute of an element set or taken off.
-ghost use Rattle.std.specs.Prelude.{◌≡◌, ◌<◌, ◌∷◌, [], true, Ok, IfOk, IfErr, All, length};
-ghost use Rattle.model_items.specs.Plain.{plain, plain_list, head_in, value_at, CitesHead, CitesWell};
-ghost use Rattle.model_items.specs.Same.{text_same};
-ghost use Rattle.model_change.specs.Attributes as attributes;
+ghost use Rattle.std.specs.Prelude.{◌≡◌, ◌<◌, true, Ok, IfOk, IfErr, All, length};
+ghost use Rattle.model_items.specs.Plain.{plain, plain_list, CitesWell};
 ghost use Rattle.model_edit.specs.Convert.{opens_kind};
-ghost use Rattle.model_edit.specs.Edits.{present_value};
 ghost use Rattle.ve_kinds.specs.Table as table;
 ghost use Rattle.ve_offsets.specs.Docs.{IsDoc, page_items};
 ghost use Rattle.ve_tx.specs.Cites.{TxCites};
@@ -14,12 +11,12 @@ ghost use Rattle.ve_build_shape.specs.Setting.{attribute_spelled, begins_element
 
 use model_edit::BuildFault;
 use std::alloc::Global;
-use ve_base::{Attr, Memory, Text, TryCopy, ValueId};
+use ve_base::{Memory, Text};
+use ve_edits::present_value;
 use ve_items::Item;
 use ve_kinds::is_element;
 use ve_offsets::Doc;
-use ve_store::Store;
-use ve_tx::{Op, OpList, Transaction, attrs_of, is_reserved, same_text};
+use ve_tx::{Op, OpList, Transaction, is_reserved};
 
 /// Whether the item opens an element.
 fn opens_element(item: Item) -> bool
@@ -41,39 +38,6 @@ fn begins_element(doc: Doc<'_>, at: usize) -> bool
         return false;
     }
     opens_element(doc.list.get(at))
-}
-
-/// The value of the attribute of this name.
-fn value_of(alloc: Global, attrs: &[Attr], name: &Text) -> Result<Option<Text>, Memory>
-    ensures { IfOk result (λ value. value ≡ attributes.value_of name.now attrs.now) }
-{
-    for attr in attrs {
-        if same_text(&attr.name, name) {
-            let value = attr.value.copy(alloc)?;
-            return Ok(Some(value));
-        }
-    }
-    Ok(None)
-}
-
-/// The value that an attribute of an item has.
-fn present_value(
-    alloc: Global,
-    store: &Store,
-    item: Item,
-    name: &Text,
-) -> Result<Option<Text>, Memory>
-    requires { CitesWell store.now item }
-    ensures { IfOk result (λ value. value ≡ present_value name.now (plain store.now item ∷ [])) }
-{
-    match item {
-        Item::Char { .. } => Ok(None),
-        Item::Closing { .. } => Ok(None),
-        Item::Opening { head, .. } => {
-            let value = value_of(alloc, attrs_of(store, head), name)?;
-            Ok(value)
-        }
-    }
 }
 
 fn text_of(alloc: Global, value: Option<&str>) -> Result<Option<Text>, Memory>

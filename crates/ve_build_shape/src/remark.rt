@@ -14,8 +14,9 @@ ghost use Rattle.ve_build_shape.specs.Remarked.{marks_after, CitesItsMarks, HasM
 
 use std::alloc::Global;
 use ve_base::{Attr, MAX_MARKS, Mark, Memory, Text, Value, ValueId};
+use ve_edits::is_content_item;
 use ve_items::Item;
-use ve_kinds::{is_annotation_tag, is_inline_leaf};
+use ve_kinds::is_annotation_tag;
 use ve_store::{NewValues, Store, has_mark, with_mark, without_mark};
 use ve_tx::is_reserved;
 
@@ -77,17 +78,6 @@ fn marks_of(store: &Store, item: Item) -> &[Mark]
     ensures { result.now ≡ model.item_marks (plain store.now item) }
 {
     marks_at(store, marks_id(item))
-}
-
-/// Whether an item may get marks: a character, or the opening of an inline leaf.
-fn is_content_item(item: Item) -> bool
-    ensures { (values : _) → result ≡ insert.is_content_item (plain values item) }
-{
-    match item {
-        Item::Char { .. } => true,
-        Item::Opening { kind, .. } => is_inline_leaf(kind),
-        Item::Closing { .. } => false,
-    }
 }
 
 /// Whether an item's marks stay as they are.

@@ -1,13 +1,14 @@
 -- Partners of brackets, by the innermost node round an offset.
-use Rattle.std.proofs.Common.{◌≡◌, ◌≤◌, ◌<◌, ℕ, zero, suc, ◌+◌, Some, List, [], ◌∷◌, ◌++◌, length, map, take, drop, slice_get, refl, sym, ap, ◌∙◌, arith, length-drop}
+use Rattle.std.proofs.Common.{◌≡◌, ◌≤◌, ◌<◌, ℕ, zero, suc, ◌+◌, Some, List, [], ◌∷◌, ◌++◌, length, map, take, drop, slice_get, All, refl, sym, ap, ◌∙◌, subst, arith, length-drop}
 use Rattle.std.proofs.lemmas.List.{take-map, drop-map, length-take-le, length-map}
+use Rattle.std.proofs.lemmas.Option.{get_or_from_slice_get, slice_get_within}
 use Rattle.ve_kinds.specs.declared.kind.Kind.{Kind}
 use Rattle.ve_base.specs.declared.value.Value.{Value}
 use Rattle.model_items.specs.declared.item.Item.{Item}
 use Rattle.model_items.specs.declared.item.Item.TheVariants as item
 use Rattle.model_items.specs.declared.plain_item.PlainItem.{PlainItem}
 use Rattle.model_items.specs.declared.plain_item.PlainItem.TheVariants.{Char, Opening, Closing}
-use Rattle.model_items.specs.Plain.{plain, plain_list}
+use Rattle.model_items.specs.Plain.{plain, plain_list, CitesWell}
 use Rattle.model_items.specs.Tree.{Open, opens_with, opens_after, length_to_close, place_with, node_at}
 use Rattle.model_items.specs.Offsets.{opens_at, first_from, partner_of, partner}
 use Rattle.model_items.specs.Law.{Lawful, finish}
@@ -39,6 +40,9 @@ pub slice_get-plain : (values : List Value) (items : List Item) (at : ℕ) (x : 
 slice_get-plain values [] at x h = absurd (cc)
 slice_get-plain values (y ∷ items) zero x h = let same : y ≡ x = cc in ap (λ y. Some (plain values y)) same
 slice_get-plain values (y ∷ items) (suc at) x h = slice_get-plain values items at x h
+
+pub cites_there : (values : List Value) (items : List Item) (at : ℕ) (x : Item) → All (CitesWell values) items → slice_get items at ≡ Some x → CitesWell values x
+cites_there values items at x all h = subst (CitesWell values) (get_or_from_slice_get items at x x h) (all at x (slice_get_within items at x h))
 
 -- a list up to and with an item
 pub taken : (items : List PlainItem) (m : ℕ) (x : PlainItem) → slice_get items m ≡ Some x → take (suc m) items ≡ take m items ++ x ∷ []

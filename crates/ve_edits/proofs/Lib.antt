@@ -5,3 +5,7 @@ pub mod RoundLemmas
 pub mod GrownLemmas
 mod EditExamples
 pub mod CopyLemmas
+pub mod FollowingLemmas
+pub mod StackLemmas
+pub mod PieceLemmas
+mod SettingLemmas

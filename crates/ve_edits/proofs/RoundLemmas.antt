@@ -1,18 +1,20 @@
 -- The open nodes at an offset: each begins where those outside it are open.
 use Rattle.std.proofs.Common.{◌≡◌, ◌≤◌, ◌<◌, ℕ, zero, suc, Some, Ok, List, [], ◌∷◌, ◌++◌, length, take, drop, slice_get, refl, sym, ap, ◌∙◌, subst, arith}
 use Rattle.std.proofs.lemmas.List.{length-map, take-map}
+use Rattle.std.proofs.lemmas.Option.{slice_get_within}
 use Rattle.ve_base.specs.declared.value.Value.{Value}
 use Rattle.model_items.specs.declared.item.Item.{Item}
+use Rattle.model_items.specs.declared.item.Item.TheVariants as item
 use Rattle.model_items.specs.declared.plain_item.PlainItem.{PlainItem}
 use Rattle.model_items.specs.declared.plain_item.PlainItem.TheVariants.{Char, Opening, Closing}
 use Rattle.model_items.specs.Plain.{plain, plain_list}
 use Rattle.model_items.specs.Law.{State, start, after}
 use Rattle.model_items.specs.Tree.{Open, opens_with, node_at}
 use Rattle.model_items.proofs.NodeAtLemmas.{open_is_stack}
-use Rattle.model_items.specs.Offsets.{opens_at, openings_after, openings_at, first_from}
+use Rattle.model_items.specs.Offsets.{opens_at, openings_after, openings_at, first_from, partner}
 use Rattle.ve_tree.specs.IsTree.{unvalued}
 use Rattle.ve_edits.specs.Round.{IsOpeningRound}
-use Rattle.ve_edits.proofs.BracketLemmas.{taken, opens_at-suc, opens_at-plain, node_at-from}
+use Rattle.ve_edits.proofs.BracketLemmas.{taken, opens_at-suc, opens_at-plain, node_at-from, partner-Char, partner-Closing, partner_after}
 
 openings_with : PlainItem → List PlainItem → List PlainItem
 openings_with x outer = openings_after outer (x ∷ [])
@@ -88,3 +90,27 @@ pub open_count : (items : List Item) (o : ℕ) (s : State) → after start (plai
 open_count items o s h =
     let there : after start (take o (unvalued items)) ≡ Ok s = ap (after start) (take-map (plain []) o items) ∙ h in
     sym (length-map (opens_at (unvalued items) o) (λ (node : Open). node.kind)) ∙ ap (λ l. length l) (open_is_stack (take o (unvalued items)) s there)
+
+pub item_there : (items : List Item) (at : ℕ) → at < length items → (x : Item) × (slice_get items at ≡ Some x)
+item_there [] at h = absurd (omega arith)
+item_there (x ∷ items) zero h = (x, refl)
+item_there (x ∷ items) (suc at) h = item_there items at (omega arith)
+
+-- the partner of an item stands in the list
+pub partner_within : (values : List Value) (items : List Item) (at : ℕ) → at < length items → partner (plain_list values items) at < length items
+partner_within values items at h = let there = item_there items at h in by there.0 there.0 refl there.1
+  where
+    open_within : (opens : List Open) → opens_at (unvalued items) at ≡ opens → first_from (opens_at (unvalued items) at) < length items
+    open_within [] e = let first = ap first_from e in omega arith
+    open_within (o ∷ outer) e =
+        let round = round_at values items at (omega arith) (λ none. let two : o ∷ outer ≡ [] = sym e ∙ none in cc) in
+        let within = slice_get_within items _ round.item round.there in
+        subst (λ n. n < length items) (node_at-from (unvalued items) at) within
+
+    by : (x y : Item) → x ≡ y → slice_get items at ≡ Some x → partner (plain_list values items) at < length items
+    by x (item.Char ch marks) is there = let same = partner-Char values items at x ch marks there is in omega arith
+    by x (item.Opening kind generated head marks pre origin) is there = (partner_after values items at x kind generated head marks pre origin there is).1
+    by x (item.Closing kind pre) is there =
+        let same = partner-Closing values items at x kind pre there is ∙ node_at-from (unvalued items) at in
+        let first = open_within (opens_at (unvalued items) at) refl in
+        omega arith

@@ -1,11 +1,11 @@
 -- Edits at rising places, as they are collected into operations.
-use Rattle.std.specs.Prelude.{◌≡◌, ◌≤◌, ℕ, List, [], ◌∷◌, ◌++◌, length, drop, All}
+use Rattle.std.specs.Prelude.{◌≡◌, ◌≤◌, ℕ, Some, List, [], ◌∷◌, ◌++◌, length, drop, All}
 use Rattle.ve_base.specs.declared.value.Value.{Value}
 use Rattle.model_items.specs.declared.item.Item.{Item}
 use Rattle.model_items.specs.declared.plain_item.PlainItem.{PlainItem}
 use Rattle.model_items.specs.Plain.{plain_list, CitesWell}
 use Rattle.model_change.specs.Transaction.{Transaction}
-use Rattle.model_edit.specs.Edits.{Edit, Change, retaining, replacing, transaction_from, transaction_of}
+use Rattle.model_edit.specs.Edits.{Edit, Change, Set, retaining, replacing, transaction_from, transaction_of}
 use Rattle.ve_tx.specs.declared.op.Op.{Op}
 use Rattle.ve_tx.specs.Operation.{Operation, by_value, unkept}
 use Rattle.ve_tx.specs.Cites.{TxCites}
@@ -41,6 +41,10 @@ abbrev pub MakesOneMore : List Item → (at count : ℕ) → List Item → (old 
 MakesOneMore items at count inserted old new =
     (values : List Value) (edits : List Edit) → All (CitesWell values) items → All (CitesWell values) inserted → Makes values items edits old →
     Makes values items (edits ++ Change at count (plain_list values inserted) ∷ []) new
+
+-- An attribute more is set, over the store, which has what the items of the list cite.
+abbrev pub SetsOneMore : List Value → List Item → (at : ℕ) (name to : List ℕ) → (old new : Collected) → Type 0
+SetsOneMore store items at name to old new = (edits : List Edit) → Makes store items edits old → Makes store items (edits ++ Set at name (Some to) ∷ []) new
 
 -- The transaction is that of the edits that are collected, whichever they are.
 abbrev pub IsCollected : List Item → Collected → List Operation → Type 0

@@ -1,15 +1,19 @@
 // Edits at rising places, collected into one transaction.
-ghost use Rattle.std.specs.Prelude.{◌≡◌, ◌≤◌, ◌+◌, ◌-◌, ◌++◌, [], length, IfOk, OnOk, IsTrue, ◌↔◌};
+ghost use Rattle.std.specs.Prelude.{◌≡◌, ◌≤◌, ◌<◌, ◌+◌, ◌-◌, ◌++◌, [], length, All, IfOk, OnOk, IsTrue, ◌↔◌};
+ghost use Rattle.std.specs.Str.{chars};
+ghost use Rattle.model_items.specs.Plain.{CitesWell};
 ghost use Rattle.model_edit.specs.Edits.{retaining};
 ghost use Rattle.ve_tx.specs.Cites.{TxCites};
 ghost use Rattle.ve_tx.specs.Operation.{by_value, unkept};
-ghost use Rattle.ve_edits.specs.Collected.{shown, AreCited, Makes, MakesOneMore, IsCollected, IsReplacePut, ReplaceCites};
+ghost use Rattle.ve_edits.specs.Collected.{shown, AreCited, Makes, MakesOneMore, SetsOneMore, IsCollected, IsReplacePut, ReplaceCites};
 
+use crate::attributes::present_value;
 use std::alloc::Global;
 use std::marker::Model;
 use std::mem;
-use ve_base::Memory;
+use ve_base::{Memory, Text};
 use ve_items::{Item, Items, Linear};
+use ve_store::Store;
 use ve_tx::{Op, OpList, Transaction, copy_range};
 
 /// Edits at rising places of a list. What they make is operations, and after them a retain and a replace to which the
@@ -139,6 +143,31 @@ impl Edits {
         copy_range(&mut self.removed, list, at, end)?;
         self.inserted.extend(inserted)?;
         self.at = end;
+        Ok(())
+    }
+
+    /// Sets an attribute of the opening at a place to a value. The store has what the list's items cite. Edits come in the
+    /// order of their places.
+    pub fn set(
+        &mut self,
+        list: &Linear,
+        store: &Store,
+        at: usize,
+        name: &str,
+        to: Text,
+    ) -> Result<(), Memory>
+        requires order { self.old.at ≤ at }
+        requires within { at < length list.now.items }
+        requires cites { All (CitesWell store.now) list.now.items }
+        ensures at { OnOk result (self.new.at ≡ at) }
+        ensures makes { OnOk result (SetsOneMore store.now list.now.items at (chars name.now) to self.old self.new) }
+    {
+        let name = Text::from_str(self.alloc, name)?;
+        let from = present_value(self.alloc, store, list.get(at), &name)?;
+        self.pass(at)?;
+        self.settle()?;
+        let to = Some(to);
+        self.ops.push(Op::Attribute { name, from, to })?;
         Ok(())
     }
 

@@ -1,6 +1,6 @@
 //! What all builders of edits share: edits of a page's list at rising places, collected into the one transaction that
 //! they are; the copy of an opening, whose head new values may take; and what builders ask of a page: the other bracket of
-//! a node, the nodes that are open at an offset, and whether a range may be edited.
+//! a node, the nodes that are open at an offset, the value of an attribute, and whether a range may be edited.
 //!
 //! It gives transactions and writes nothing. A page is lent as a `Doc`: brackets are found by the tree, and a range by its
 //! items. It doesn't know which edits a user's command is; that is what the crates above it say.
@@ -12,6 +12,7 @@
 //! put in between two edits).
 #![tactic(auto)]
 
+mod attributes;
 mod brackets;
 mod copies;
 mod edits;
@@ -21,9 +22,10 @@ mod spans;
 #[cfg(test)]
 mod tests;
 
+pub use attributes::present_value;
 pub use brackets::{is_unmatched, opening_round, partner, range_round, same_kind};
 pub use copies::copy_of;
 pub use edits::Edits;
 pub use laws::values_may_grow;
 pub use openings::openings_round;
-pub use spans::{has_internal, is_bad_span, is_internal, is_internal_item};
+pub use spans::{has_internal, is_bad_span, is_content_item, is_internal, is_internal_item};

@@ -2,7 +2,7 @@
 ghost use Rattle.std.specs.Prelude.{◌≤◌, IfOk, length};
 ghost use Rattle.model_items.specs.Offsets as model;
 ghost use Rattle.ve_offsets.specs.Docs.{IsDoc};
-ghost use Rattle.ve_edits.specs.Round.{AreOpeningsRound};
+ghost use Rattle.ve_edits.specs.Round.{AreOpeningsRound, CiteAsItems};
 ghost use Rattle.ve_tree.specs.IsTree.{unvalued};
 
 use crate::brackets::opening_round;
@@ -21,7 +21,8 @@ pub fn openings_round(
     requires doc { IsDoc doc }
     requires within { at ≤ length doc.list.now.items }
     requires levels { levels ≤ length (model.opens_at (unvalued doc.list.now.items) at) }
-    ensures { IfOk result (AreOpeningsRound doc.entry.list.now.items at levels) }
+    ensures round { IfOk result (AreOpeningsRound doc.entry.list.now.items at levels) }
+    ensures cites { IfOk result (CiteAsItems doc.entry.list.now.items) }
 {
     let mut all = Items::new(alloc);
     let mut o = at;

@@ -3,11 +3,12 @@ ghost use Rattle.std.specs.Prelude.{◌≡◌, ◌≤◌, ◌<◌, true, false, 
 ghost use Rattle.model_items.specs.Plain.{plain, plain_list};
 ghost use Rattle.model_edit.specs.Brackets.{is_internal_bracket};
 ghost use Rattle.model_edit.specs.Brackets as brackets;
+ghost use Rattle.model_edit.specs.Insert as insert;
 ghost use Rattle.model_items.specs.Offsets as model;
 ghost use Rattle.ve_offsets.specs.Docs.{IsDoc};
 
 use ve_items::Item;
-use ve_kinds::Kind;
+use ve_kinds::{Kind, is_inline_leaf};
 use ve_offsets::{Doc, is_inside_leaf};
 
 fn inside_leaf(doc: Doc<'_>, o: usize) -> bool
@@ -39,6 +40,17 @@ pub fn is_internal(kind: Kind) -> bool
     ensures { result ≡ brackets.is_internal kind }
 {
     kind == Kind::InternalList || kind == Kind::InternalItem
+}
+
+/// Whether an item is a character or the opening of an inline leaf.
+pub fn is_content_item(item: Item) -> bool
+    ensures { (values : _) → result ≡ insert.is_content_item (plain values item) }
+{
+    match item {
+        Item::Char { .. } => true,
+        Item::Opening { kind, .. } => is_inline_leaf(kind),
+        Item::Closing { .. } => false,
+    }
 }
 
 /// Whether an item is a bracket of the internal list or of one of its items.

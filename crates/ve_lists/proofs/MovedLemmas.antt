@@ -1,5 +1,5 @@
 -- What a move inserts, and when it is refused.
-use Rattle.std.proofs.Common.{◌≡◌, ℕ, zero, suc, ◌-◌, ◌+◌, ◌==◌, arith, eq-eqb, eqb-true, slice_get, Bool, true, false, if◌then◌else◌, Ok, Err, Result, Option, Some, None, List, [], ◌∷◌, ◌++◌, length, take, drop, refl, sym, ap, ◌∙◌, append-nil, append_assoc}
+use Rattle.std.proofs.Common.{◌≡◌, ℕ, suc, ◌-◌, ◌+◌, ◌==◌, arith, eq-eqb, eqb-true, slice_get, Bool, true, false, if◌then◌else◌, Ok, Err, Result, Option, Some, None, List, [], ◌∷◌, ◌++◌, refl, sym, ap, ◌∙◌, append-nil}
 use Rattle.std.proofs.lemmas.Bool.{false_from_ne_true}
 use Rattle.ve_kinds.specs.declared.kind.Kind.TheVariants.{Li}
 use Rattle.ve_kinds.specs.Table.{kind_same}
@@ -7,11 +7,12 @@ use Rattle.model_items.specs.declared.plain_item.PlainItem.{PlainItem}
 use Rattle.model_items.specs.Offsets.{partner}
 use Rattle.model_items.specs.Tree.{Open}
 use Rattle.model_change.specs.Store.{cited}
-use Rattle.model_change.specs.Transaction.{Retain, Replace, Attribute, Transaction, all_inserted}
+use Rattle.model_change.specs.Transaction.{Transaction, all_inserted}
 use Rattle.model_edit.specs.Brackets.{closing_of, copy_of}
 use Rattle.model_edit.specs.Causes.{ListCause, NotNested}
-use Rattle.model_edit.specs.Edits.{Edit, Change, retaining, merged, replacing, transaction_from, transaction_of}
+use Rattle.model_edit.specs.Edits.{Change, transaction_of}
 use Rattle.model_edit.specs.Lists.{outdent_from, list_ends, end_before, begin_after, copy_at}
+use Rattle.ve_edits.proofs.PieceLemmas.{inserts_pieces}
 use Rattle.ve_lists.specs.declared.brackets.ListStart.{ListStart}
 use Rattle.ve_lists.specs.Moved.{nested_in, outdent_edits}
 
@@ -29,39 +30,10 @@ outdent_nested items at (list ∷ outer ∷ others) = by (kind_same outer.kind L
     by true = refl
     by false = refl
 
-inserted-retaining : (n : ℕ) (t : Transaction) → all_inserted (retaining n t) ≡ all_inserted t
-inserted-retaining zero t = refl
-inserted-retaining (suc n) [] = refl
-inserted-retaining (suc n) (Retain count ∷ ops) = refl
-inserted-retaining (suc n) (Replace removed inserted ∷ ops) = refl
-inserted-retaining (suc n) (Attribute change ∷ ops) = refl
-
-inserted-merged : (removed inserted : List PlainItem) (t : Transaction) → all_inserted (merged removed inserted t) ≡ inserted ++ all_inserted t
-inserted-merged removed inserted [] = refl
-inserted-merged removed inserted (Replace next others ∷ ops) = append_assoc inserted others (all_inserted ops)
-inserted-merged removed inserted (Retain count ∷ ops) = refl
-inserted-merged removed inserted (Attribute change ∷ ops) = refl
-
-inserted-replacing : (removed inserted : List PlainItem) (t : Transaction) → all_inserted (replacing removed inserted t) ≡ inserted ++ all_inserted t
-inserted-replacing [] [] t = refl
-inserted-replacing [] (one ∷ inserted) t = inserted-merged [] (one ∷ inserted) t
-inserted-replacing (one ∷ removed) inserted t = inserted-merged (one ∷ removed) inserted t
-
-inserted-from : (at : ℕ) (items : List PlainItem) (place count : ℕ) (inserted : List PlainItem) (edits : List Edit) →
-    all_inserted (transaction_from at items (Change place count inserted ∷ edits)) ≡ inserted ++ all_inserted (transaction_from (place + count) (drop count (drop (place - at) items)) edits)
-inserted-from at items place count inserted edits =
-    let rest = drop (place - at) items in
-    let t = transaction_from (place + count) (drop count rest) edits in
-    inserted-retaining (place - at) (replacing (take count rest) inserted t) ∙ inserted-replacing (take count rest) inserted t
-
 -- two edits insert what they do one after the other
-pub inserted_by_two : (items : List PlainItem) (p c : ℕ) (first : List PlainItem) (q d : ℕ) (second : List PlainItem) →
+inserted_by_two : (items : List PlainItem) (p c : ℕ) (first : List PlainItem) (q d : ℕ) (second : List PlainItem) →
     all_inserted (transaction_of items (Change p c first ∷ Change q d second ∷ [])) ≡ first ++ second
-inserted_by_two items p c first q d second =
-    let rest = drop c (drop (p - 0) items) in
-    let left = drop d (drop (q - (p + c)) rest) in
-    inserted-from 0 items p c first (Change q d second ∷ [])
-    ∙ ap (λ l. first ++ l) (inserted-from (p + c) rest q d second [] ∙ ap (λ l. second ++ l) (inserted-retaining (length left) []) ∙ append-nil second)
+inserted_by_two items p c first q d second = inserts_pieces items (Change p c first ∷ Change q d second ∷ []) ∙ ap (λ l. first ++ l) (append-nil second)
 
 -- the closings before the item cite nothing
 pub cited_after : (items : List PlainItem) (at : ℕ) (list : Open) (q d : ℕ) (second : List PlainItem) →

@@ -6,7 +6,8 @@ use Rattle.ve_store.specs.Following.{together}
 use Rattle.ve_edits.proofs.RoundLemmas.{open_count}
 use Rattle.ve_build_insert.specs.declared.place.Placed.{Placed}
 use Rattle.ve_build_insert.specs.Placed.{placed_plain, HoldsPlaced}
-use Rattle.ve_build_insert.proofs.PlaceLemmas.{stack_is, none_of}
+use Rattle.ve_edits.proofs.StackLemmas.{stack_is}
+use Rattle.ve_build_insert.proofs.PlaceLemmas.{none_of}
 use Rattle.ve_build_insert.proofs.RefusalLemmas.{insertion_bad, insertion_none, insertion_is}
 use Rattle.ve_build_insert.proofs.inserts.insertion.Goals as goal
 

@@ -1,5 +1,5 @@
 use Rattle.std.proofs.Common.{sym, ◌∙◌}
-use Rattle.ve_build_insert.proofs.PlaceLemmas.{top_none, top_some}
+use Rattle.ve_edits.proofs.StackLemmas.{top_none, top_some}
 use Rattle.ve_build_insert.proofs.place.innermost.Goals as goal
 
 pub returns-then-depth-eq0 : goal.returns-then-depth-eq0

@@ -1,7 +1,8 @@
 use Rattle.std.proofs.Common.{◌-◌, arith}
 use Rattle.ve_store.specs.Following.{together}
 use Rattle.ve_tx.proofs.ValuesLemmas.{all-extended}
-use Rattle.ve_build_insert.proofs.ReopenLemmas.{copies_step, grows_extends}
+use Rattle.ve_edits.proofs.FollowingLemmas.{grows_extends}
+use Rattle.ve_build_insert.proofs.ReopenLemmas.{copies_step}
 use Rattle.ve_build_insert.proofs.reopen.copies_of.Goals as goal
 
 pub copy_of-requires-clause-cites : goal.copy_of-requires-clause-cites

@@ -2,7 +2,8 @@ use Rattle.std.proofs.Common.{Ok, inr, refl, sym, ap, ◌∙◌, arith}
 use Rattle.model_items.specs.Plain.{plain_list}
 use Rattle.model_edit.specs.Causes.{BadOffset, NotContent, BadDepth}
 use Rattle.ve_edits.proofs.RoundLemmas.{open_count}
-use Rattle.ve_build_insert.proofs.PlaceLemmas.{stack_is, none_of}
+use Rattle.ve_edits.proofs.StackLemmas.{stack_is}
+use Rattle.ve_build_insert.proofs.PlaceLemmas.{none_of}
 use Rattle.ve_build_insert.proofs.RefusalLemmas.{split_bad, split_not_content, split_bad_depth, split_given}
 use Rattle.ve_build_insert.proofs.splits.split.Goals as goal
 

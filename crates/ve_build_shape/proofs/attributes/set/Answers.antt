@@ -4,10 +4,9 @@ use Rattle.model_items.specs.Plain.{plain, plain_list}
 use Rattle.model_change.specs.Fault.{Applies}
 use Rattle.model_change.specs.Inverse.{filled}
 use Rattle.model_edit.specs.Edits.{Set, transaction_of}
-use Rattle.ve_edits.proofs.BracketLemmas.{slice_get-plain}
+use Rattle.ve_edits.proofs.BracketLemmas.{slice_get-plain, cites_there}
 use Rattle.ve_tx.specs.Cites.{TxCites}
 use Rattle.ve_tx.specs.Operation.{Operation, by_value, unkept}
-use Rattle.ve_build_shape.proofs.ConvertLemmas.{cites_there}
 use Rattle.ve_build_shape.proofs.SettingLemmas.{setting_applies, setting_filled, setting_cites}
 use Rattle.ve_build_shape.proofs.attributes.set.Goals as goal
 

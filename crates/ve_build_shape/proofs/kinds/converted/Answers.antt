@@ -6,8 +6,8 @@ use Rattle.model_items.specs.Plain.{plain, plain_list, CitesWell}
 use Rattle.model_edit.specs.Brackets.{closing_of}
 use Rattle.model_edit.specs.Convert as model
 use Rattle.model_edit.specs.Edits.{Edit, Change, transaction_of}
-use Rattle.ve_edits.proofs.BracketLemmas.{slice_get-plain}
-use Rattle.ve_build_shape.proofs.ConvertLemmas.{bounds, opens_there, cites_there}
+use Rattle.ve_edits.proofs.BracketLemmas.{slice_get-plain, cites_there}
+use Rattle.ve_build_shape.proofs.ConvertLemmas.{bounds, opens_there}
 use Rattle.ve_build_shape.proofs.kinds.converted.Goals as goal
 
 pub change-requires-2-clause-order : goal.change-requires-2-clause-order

@@ -2,8 +2,7 @@ use Rattle.std.proofs.Common.{◌≡◌, ℕ, Bool, true, false, slice_get, sym,
 use Rattle.model_items.specs.Offsets.{passes}
 use Rattle.model_items.specs.Plain.{plain_list}
 use Rattle.model_edit.specs.Marking.{is_full_for}
-use Rattle.ve_edits.proofs.BracketLemmas.{slice_get-plain}
-use Rattle.ve_build_shape.proofs.ConvertLemmas.{cites_there}
+use Rattle.ve_edits.proofs.BracketLemmas.{slice_get-plain, cites_there}
 use Rattle.ve_build_shape.proofs.RefusalLemmas.{find_here, find_on, find_none}
 use Rattle.ve_build_shape.proofs.mark.first_full.Goals as goal
 

@@ -1,7 +1,7 @@
 use Rattle.std.proofs.Common.{◌≡◌, None, inr, refl, sym, ◌∙◌}
 use Rattle.model_items.specs.Plain.{plain_list}
 use Rattle.model_edit.specs.Causes.{BadRange, BadMark, TooManyMarks}
-use Rattle.ve_build_shape.proofs.GrowLemmas.{grows_itself}
+use Rattle.ve_edits.proofs.FollowingLemmas.{grows_itself}
 use Rattle.ve_build_shape.proofs.RefusalLemmas.{marking-BadRange, marking-BadMark, marking-full, marking-given}
 use Rattle.ve_build_shape.proofs.mark.marking.Goals as goal
 

@@ -1,7 +1,6 @@
 use Rattle.std.proofs.Common.{sym, ◌∙◌}
-use Rattle.ve_edits.proofs.BracketLemmas.{slice_get-plain}
-use Rattle.ve_build_shape.proofs.ConvertLemmas.{cites_there}
-use Rattle.ve_build_shape.proofs.GrowLemmas.{grows_itself}
+use Rattle.ve_edits.proofs.BracketLemmas.{slice_get-plain, cites_there}
+use Rattle.ve_edits.proofs.FollowingLemmas.{grows_itself}
 use Rattle.ve_build_shape.proofs.RemarkLemmas.{one_kept, one_changed}
 use Rattle.ve_build_shape.specs.Remarked.{marks_after}
 use Rattle.ve_build_shape.proofs.mark.remark_item.Goals as goal

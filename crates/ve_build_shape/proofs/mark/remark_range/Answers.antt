@@ -7,7 +7,7 @@ use Rattle.model_edit.specs.Edits.{Edit, transaction_of}
 use Rattle.ve_edits.specs.Collected.{Makes}
 use Rattle.ve_store.specs.Following.{together}
 use Rattle.ve_tx.proofs.ValuesLemmas.{list-extended}
-use Rattle.ve_build_shape.proofs.GrowLemmas.{grows_itself, grows_on, store_extends}
+use Rattle.ve_edits.proofs.FollowingLemmas.{grows_itself, grows_on, store_extends}
 use Rattle.ve_build_shape.proofs.RemarkLemmas.{no_edits, no_items, inserts_remarked}
 use Rattle.ve_build_shape.specs.Remarked.{marks_after, remark_edits}
 use Rattle.ve_build_shape.proofs.mark.remark_range.Goals as goal

@@ -1,7 +1,7 @@
 use Rattle.std.proofs.Common.{inr, refl, sym, ◌∙◌}
 use Rattle.model_items.specs.Plain.{plain_list}
 use Rattle.model_edit.specs.Causes.{BadRange, BadMark}
-use Rattle.ve_build_shape.proofs.GrowLemmas.{grows_itself}
+use Rattle.ve_edits.proofs.FollowingLemmas.{grows_itself}
 use Rattle.ve_build_shape.proofs.RefusalLemmas.{unmarking-BadRange, unmarking-BadMark, unmarking-given}
 use Rattle.ve_build_shape.proofs.mark.unmarking.Goals as goal
 

@@ -7,7 +7,7 @@ use Rattle.model_change.specs.Store.{fill, marks_cited, cited_by}
 use Rattle.model_edit.specs.Marking as model
 use Rattle.ve_store.specs.Following.{together, marks_at}
 use Rattle.ve_tx.proofs.ValuesLemmas.{cites-extended, plain-extended}
-use Rattle.ve_build_shape.proofs.GrowLemmas.{store_extends, grows_extends}
+use Rattle.ve_edits.proofs.FollowingLemmas.{store_extends, grows_extends}
 use Rattle.ve_build_shape.proofs.MarkLemmas.{item_fills, same_remarked}
 use Rattle.model_edit.specs.Insert.{is_content_item}
 use Rattle.ve_build_shape.specs.Remarked.{marks_after}

@@ -1,6 +1,6 @@
 use Rattle.std.proofs.Common.{sym, ap, ◌∙◌}
 use Rattle.model_items.specs.Law.{top}
-use Rattle.ve_lists.proofs.PlaceLemmas.{stack_is, top_none, top_some}
+use Rattle.ve_edits.proofs.StackLemmas.{stack_is, top_none, top_some}
 use Rattle.ve_lists.proofs.brackets.kind_at.Goals as goal
 
 pub returns-then-depth-eq0 : goal.returns-then-depth-eq0

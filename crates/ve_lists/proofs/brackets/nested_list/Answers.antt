@@ -2,7 +2,8 @@ use Rattle.std.proofs.Common.{◌<◌, [], length, sym, ◌∙◌, arith}
 use Rattle.std.proofs.lemmas.Option.{slice_get_within}
 use Rattle.model_items.specs.Offsets.{opens_at}
 use Rattle.model_items.specs.Plain.{plain_list}
-use Rattle.ve_lists.proofs.PlaceLemmas.{stack_is, none_open, nested_few, nested_other, nested_found}
+use Rattle.ve_edits.proofs.StackLemmas.{stack_is}
+use Rattle.ve_lists.proofs.PlaceLemmas.{none_open, nested_few, nested_other, nested_found}
 use Rattle.ve_lists.proofs.brackets.nested_list.Goals as goal
 
 pub returns-then-depth-lt2-clause-means : goal.returns-then-depth-lt2-clause-means

@@ -7,7 +7,8 @@ use Rattle.model_items.specs.Plain.{plain, plain_list, CitesWell}
 use Rattle.model_edit.specs.Edits.{Change, transaction_of}
 use Rattle.model_edit.specs.Lists.{list_ends}
 use Rattle.ve_lists.specs.Moved.{joining}
-use Rattle.ve_lists.proofs.PlaceLemmas.{partner_within, list_item_past}
+use Rattle.ve_edits.proofs.RoundLemmas.{partner_within}
+use Rattle.ve_lists.proofs.PlaceLemmas.{list_item_past}
 use Rattle.ve_lists.proofs.deeper.indented.Goals as goal
 
 pub prove-unreachable-requires : goal.prove-unreachable-requires

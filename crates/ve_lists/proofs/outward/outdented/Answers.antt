@@ -8,11 +8,12 @@ use Rattle.model_change.specs.Transaction.{all_inserted, Transaction}
 use Rattle.model_edit.specs.Brackets.{copy_of}
 use Rattle.model_edit.specs.Edits.{Edit, Change, transaction_of}
 use Rattle.model_edit.specs.Lists.{end_before}
-use Rattle.ve_edits.proofs.BracketLemmas.{slice_get-plain}
+use Rattle.ve_edits.proofs.BracketLemmas.{slice_get-plain, cites_there}
 use Rattle.ve_store.specs.Following.{together}
 use Rattle.ve_tx.proofs.ValuesLemmas.{cites-extended, plain-extended, all-extended, list-extended}
 use Rattle.ve_lists.specs.Moved.{open_of}
-use Rattle.ve_lists.proofs.PlaceLemmas.{cites_there, partner_within, list_item_past}
+use Rattle.ve_edits.proofs.RoundLemmas.{partner_within}
+use Rattle.ve_lists.proofs.PlaceLemmas.{list_item_past}
 use Rattle.ve_lists.proofs.MovedLemmas.{cited_after, edit_last, edit_within}
 use Rattle.ve_lists.proofs.outward.outdented.Goals as goal
 
