@@ -1,7 +1,13 @@
 pub use Rattle.model_items.specs.Plain
 pub use Rattle.model_edit.specs.Causes
 pub use Rattle.model_edit.specs.Grid
+pub use Rattle.model_edit.specs.Tables
 pub use Rattle.ve_offsets.specs.Docs
 pub use Rattle.ve_grid.specs.Placed
+pub use Rattle.ve_tx.specs.Operation
+pub use Rattle.ve_tx.specs.Cites
 pub mod Refused
 pub mod Rows
+pub mod Asked
+pub mod Fresh
+pub mod PartWay

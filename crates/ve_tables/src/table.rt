@@ -1,5 +1,5 @@
 // The grid of a table.
-ghost use Rattle.std.specs.Prelude.{◌≡◌, ◌<◌, ◌^◌, [], Ok, length, slice_get, All, IfOk, IfErr};
+ghost use Rattle.std.specs.Prelude.{◌≡◌, ◌<◌, ◌^◌, [], Ok, length, map, slice_get, All, IfOk, IfErr};
 ghost use Rattle.ve_kinds.specs.declared.kind.Kind.TheVariants.{Table};
 ghost use Rattle.model_items.specs.Plain.{CitesWell};
 ghost use Rattle.model_items.specs.Offsets.{passes};
@@ -7,13 +7,13 @@ ghost use Rattle.model_edit.specs.Brackets.{is_opening_of};
 ghost use Rattle.model_edit.specs.Grid as model;
 ghost use Rattle.ve_offsets.specs.Docs.{IsDoc, page_items};
 ghost use Rattle.ve_tables.specs.Refused.{IsTableRefusal};
-ghost use Rattle.ve_tables.specs.Rows.{rows_after};
+ghost use Rattle.ve_tables.specs.Rows.{row_of, rows_after};
 
 use crate::cells::place_row;
 use crate::rows::{TableRow, table_rows};
 use model_edit::TableFault;
 use std::alloc::Global;
-use ve_base::Memory;
+use ve_base::{ListOf, Memory};
 use ve_grid::{Grid, Placing};
 use ve_items::Item;
 use ve_kinds::Kind;
@@ -50,12 +50,19 @@ fn place_rows(alloc: Global, doc: Doc<'_>, rows: &[TableRow]) -> Result<Placing,
     Ok(placing)
 }
 
-/// The grid of the table that opens at a place. `NotTable` comes exactly where no table opens there, and `Crooked` with
-/// the place of the first cell that would cover a place which another covers, or pass the last row of its section.
-pub fn grid(alloc: Global, doc: Doc<'_>, at: usize) -> Result<Grid, TableFault>
+/// A table: its rows, and its grid.
+#[derive(Drop)]
+pub struct LaidTable {
+    pub rows: ListOf<TableRow>,
+    pub grid: Grid,
+}
+
+/// The table that opens at a place, with its grid.
+pub fn laid_table(alloc: Global, doc: Doc<'_>, at: usize) -> Result<LaidTable, TableFault>
     requires doc { IsDoc doc }
     requires cites { All (CitesWell doc.store.now) doc.list.now.items }
-    ensures means { IfOk result (λ grid. model.grid (page_items doc.entry) at ≡ Ok grid) }
+    ensures means { IfOk result (λ table. model.grid (page_items doc.entry) at ≡ Ok table.grid) }
+    ensures rows { IfOk result (λ table. map row_of table.rows ≡ model.table_rows (page_items doc.entry) at) }
     ensures refused { IfErr result (IsTableRefusal (model.grid (page_items doc.entry) at)) }
 {
     if !opens_table(doc, at) {
@@ -66,5 +73,18 @@ pub fn grid(alloc: Global, doc: Doc<'_>, at: usize) -> Result<Grid, TableFault>
     };
     let count = rows.as_slice().len();
     let placing = place_rows(alloc, doc, rows.as_slice())?;
-    Ok(placing.finish(count))
+    let grid = placing.finish(count);
+    Ok(LaidTable { rows, grid })
+}
+
+/// The grid of the table that opens at a place. `NotTable` comes exactly where no table opens there, and `Crooked` with
+/// the place of the first cell that would cover a place which another covers, or pass the last row of its section.
+pub fn grid(alloc: Global, doc: Doc<'_>, at: usize) -> Result<Grid, TableFault>
+    requires doc { IsDoc doc }
+    requires cites { All (CitesWell doc.store.now) doc.list.now.items }
+    ensures means { IfOk result (λ grid. model.grid (page_items doc.entry) at ≡ Ok grid) }
+    ensures refused { IfErr result (IsTableRefusal (model.grid (page_items doc.entry) at)) }
+{
+    let table = laid_table(alloc, doc, at)?;
+    Ok(table.grid)
 }

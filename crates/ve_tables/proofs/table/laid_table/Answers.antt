@@ -2,7 +2,7 @@ use Rattle.std.proofs.Common.{inr, refl, sym, ◌∙◌}
 use Rattle.model_edit.specs.Causes.{NotTable}
 use Rattle.ve_offsets.specs.Docs.{page_items}
 use Rattle.ve_tables.proofs.RowLemmas.{no_table}
-use Rattle.ve_tables.proofs.table.grid.Goals as goal
+use Rattle.ve_tables.proofs.table.laid_table.Goals as goal
 
 pub returns-then-not-opens_table-clause-refused : goal.returns-then-not-opens_table-clause-refused
 returns-then-not-opens_table-clause-refused c =

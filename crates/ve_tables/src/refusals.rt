@@ -1,0 +1,66 @@
+// Why a row or a column isn't put in or taken out.
+ghost use Rattle.std.specs.Prelude.{◌≡◌, ◌||◌, ◌==◌, nat_lt};
+ghost use Rattle.model_edit.specs.Causes.{SpanFull};
+ghost use Rattle.model_edit.specs.Tables.{at_first};
+ghost use Rattle.ve_tables.specs.Asked.{asked, refusal, row_in_causes, row_out_causes, col_out_causes};
+
+use crate::asked::{Question, first_cell};
+use model_edit::{GridCell, TableFault};
+use ve_base::MAX_COLUMN_SPAN;
+use ve_grid::Grid;
+
+/// Whether there are no rows, or fewer than a number.
+fn is_past(number: usize, count: usize) -> bool
+    ensures { result ≡ ((count == 0) || nat_lt count number) }
+{
+    if count == 0 {
+        return true;
+    }
+    count < number
+}
+
+/// The refusal that names the first cell of which the answer is yes.
+fn full_fault(cells: &[GridCell], question: Question) -> Option<TableFault>
+    ensures { result ≡ refusal (at_first (asked question) cells.now (λ at. SpanFull at)) }
+{
+    let at = first_cell(cells, question)?;
+    Some(TableFault::SpanFull { at })
+}
+
+/// Why no row can be put in before a row of the grid, or after the last one.
+pub fn row_in_fault(grid: &Grid, row: usize) -> Option<TableFault>
+    ensures { result ≡ refusal (row_in_causes row grid.now) }
+{
+    let rows = grid.rows();
+    if is_past(row, rows) {
+        return Some(TableFault::BadRow { row, rows });
+    }
+    let columns = grid.columns();
+    if MAX_COLUMN_SPAN < columns {
+        return Some(TableFault::TooWide { columns });
+    }
+    full_fault(grid.cells(), Question::IsFullAtRow(row))
+}
+
+/// Why a row can't be taken out.
+pub fn row_out_fault(grid: &Grid, row: usize) -> Option<TableFault>
+    ensures { result ≡ refusal (row_out_causes row grid.now) }
+{
+    let rows = grid.rows();
+    if rows <= row {
+        return Some(TableFault::BadRow { row, rows });
+    }
+    let at = first_cell(grid.cells(), Question::GoesBelow(row))?;
+    Some(TableFault::Spanned { at })
+}
+
+/// Why a column can't be taken out.
+pub fn col_out_fault(grid: &Grid, column: usize) -> Option<TableFault>
+    ensures { result ≡ refusal (col_out_causes column grid.now) }
+{
+    let columns = grid.columns();
+    if columns <= column {
+        return Some(TableFault::BadColumn { column, columns });
+    }
+    None
+}
