@@ -1,0 +1,7 @@
+mod OverLemmas
+mod StandsLemmas
+mod StepLemmas
+mod UndoLemmas
+mod RedoLemmas
+mod SendLemmas
+mod SiteExamples

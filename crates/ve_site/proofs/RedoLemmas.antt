@@ -1,0 +1,55 @@
+-- What was undone last performed again.
+use Rattle.std.proofs.Common.{◌≡◌, ℕ, List, [], ◌∷◌, ◌++◌, map, drop, slice_get, All, Option, Some, Ok, sym, ap, ◌∙◌, subst}
+use Rattle.std.proofs.lemmas.List.Elements.{All-head, All-tail}
+use Rattle.model_change.specs.Replay.{AllRun, flattened}
+use Rattle.model_site.specs.Entries.{entry_of}
+use Rattle.model_site.specs.Replica.{Replica, all_performed}
+use Rattle.model_site.specs.Site.{Site, redo, redo_first}
+use Rattle.model_site_law.proofs.ReplayLemmas.{AllRun-parts}
+use Rattle.ve_tx.specs.declared.entry.Entry.{Entry}
+use Rattle.ve_tx.specs.declared.parcel.Parcel.{Parcel}
+use Rattle.ve_tx.specs.ByValue.{parcel_by_value, ParcelCites}
+use Rattle.ve_editor.specs.Edited.{AllStand, entry_by_value, EntryCites}
+use Rattle.ve_history.specs.Stacks.{Stacks}
+use Rattle.ve_site.specs.Numbered.{site_of, IsSite}
+use Rattle.ve_site.proofs.StandsLemmas.{all_stand, redone_stands}
+use Rattle.ve_site.proofs.StepLemmas.{pushed_same, pushed_is}
+
+begins_with : {A : Type 0} (xs : List A) (x : A) → slice_get xs 0 ≡ Some x → xs ≡ x ∷ drop 1 xs
+begins_with [] x e = cc
+begins_with (y ∷ xs) x e = let same : y ≡ x = cc in ap (λ z. z ∷ xs) same
+
+module _ (editor : Replica) (seen : ℕ) (sent : List Entry) (old : Stacks) (shared : ℕ) (flight : Option ℕ) (is : IsSite editor seen sent old shared flight)
+    (first : Parcel) (begins : slice_get old.undone 0 ≡ Some first) where
+  abbrev site : Site
+  site = site_of editor seen sent old shared flight
+
+  abbrev rest : List Parcel
+  rest = drop 1 old.undone
+
+  split : old.undone ≡ first ∷ rest
+  split = begins_with old.undone first begins
+
+  cited : All ParcelCites (first ∷ rest)
+  cited = subst (All ParcelCites) split is.undone_cite
+
+  pub first_cites : ParcelCites first
+  first_cites = All-head ParcelCites first rest cited
+
+  pub may_come : AllStand (parcel_by_value first) editor.items
+  may_come =
+      let runs = subst (λ ps. AllRun (flattened (map parcel_by_value ps)) editor.items) split is.stands.holds.undone in
+      all_stand (parcel_by_value first) editor.items (AllRun-parts (parcel_by_value first) (flattened (map parcel_by_value rest)) editor.items runs).0
+
+  module _ (new : Replica) (e : Entry) (now : Stacks) (page : new ≡ all_performed (parcel_by_value first) editor)
+      (entry : entry_by_value new.store e ≡ entry_of (parcel_by_value first) editor) (cites : EntryCites new.store e) (done : now.done ≡ old.done ++ e ∷ []) (undone : now.undone ≡ rest) where
+    pub redo_is : redo site ≡ Ok (site_of new seen sent now shared flight)
+    redo_is =
+        ap (λ ps. redo_first (map parcel_by_value ps) site) split
+        ∙ ap (λ s. Ok s) (sym (pushed_same editor seen sent old shared flight is (parcel_by_value first) new e now page entry cites done rest undone))
+
+    pub redone_is : IsSite new seen sent now shared flight
+    redone_is =
+        pushed_is editor seen sent old shared flight is (parcel_by_value first) new e now page entry cites done
+        (redone_stands site (site_of new seen sent now shared flight) is.stands redo_is)
+        (subst (All ParcelCites) (sym undone) (All-tail ParcelCites first rest cited))

@@ -1,0 +1,56 @@
+-- All unsent entries sent.
+use Rattle.std.proofs.Common.{◌≡◌, ◌<◌, ◌+◌, ℕ, List, [], ◌∷◌, ◌++◌, length, map, All, Option, Some, None, Result, Ok, refl, sym, ap, ◌∙◌, subst, arith}
+use Rattle.std.proofs.lemmas.List.{map-append, append-nil, length-map}
+use Rattle.model_site.specs.Causes.{SendCause}
+use Rattle.model_site.specs.Entries.{parcels}
+use Rattle.model_site.specs.Entries.{Entry as ModelEntry}
+use Rattle.model_site.specs.Replica.{Replica}
+use Rattle.model_site.specs.Site.{Site, Submission, send, send_unless}
+use Rattle.ve_tx.specs.declared.entry.Entry.{Entry}
+use Rattle.ve_tx.specs.ByValue.{parcel_by_value, ParcelCites}
+use Rattle.ve_editor.specs.Edited.{entry_by_value, EntryCites}
+use Rattle.ve_history.specs.Stacks.{Stacks}
+use Rattle.ve_site.specs.Ground.{AreOver, Stands}
+use Rattle.ve_site.specs.Numbered.{site_of, IsSite}
+use Rattle.ve_site.proofs.OverLemmas.{over_cites, cite_parts}
+use Rattle.ve_site.proofs.StandsLemmas.{sent_stands}
+
+sent_of : (s : Site) (es : List ModelEntry) → 0 < length es →
+    send_unless None es s ≡ Ok (record s { sent = s.sent ++ es; unsent = []; shared = s.shared + length es; in_flight = Some (length es) }, record { base = s.seen; entries = parcels es })
+sent_of s [] some = absurd (omega arith)
+sent_of s (e ∷ es) some = refl
+
+module _ (editor : Replica) (seen : ℕ) (sent : List Entry) (old : Stacks) (shared : ℕ) (flight : Option ℕ) (is : IsSite editor seen sent old shared flight) where
+  abbrev site : Site
+  site = site_of editor seen sent old shared flight
+
+  pub unsent_cite : All (EntryCites editor.store) old.done
+  unsent_cite = (cite_parts editor.store sent old.done (over_cites editor.store 0 (sent ++ old.done) is.over)).1
+
+  module _ (now : Stacks) (all : List Entry) (count total : ℕ) (sent_all : all ≡ sent ++ old.done) (done : now.done ≡ []) (undone : now.undone ≡ old.undone)
+      (counted : count ≡ length old.done) (added : total ≡ shared + count) where
+    abbrev next : Site
+    next = record site { sent = site.sent ++ site.unsent; unsent = []; shared = total; in_flight = Some count }
+
+    sent_same : site_of editor seen all now total (Some count) ≡ next
+    sent_same =
+        ap (λ es. record next { sent = map (entry_by_value editor.store) all; unsent = map (entry_by_value editor.store) es; undone = map parcel_by_value now.undone }) done
+        ∙ (ap (λ ps. record next { sent = map (entry_by_value editor.store) all; undone = map parcel_by_value ps }) undone
+        ∙ ap (λ es. record next { sent = es }) (ap (map (entry_by_value editor.store)) sent_all ∙ map-append (entry_by_value editor.store) sent old.done))
+
+    pub send_is : flight ≡ None → 0 < count →
+        send site ≡ Ok (site_of editor seen all now total (Some count), record { base = seen; entries = parcels (map (entry_by_value editor.store) old.done) })
+    send_is idle some =
+        let many : count ≡ length site.unsent = counted ∙ sym (length-map old.done (entry_by_value editor.store)) in
+        let finish : Site → Result (Site × Submission) SendCause = λ s. Ok (s, record { base = seen; entries = parcels site.unsent }) in
+        ap (λ f. send_unless f site.unsent site) idle
+        ∙ (sent_of site site.unsent (omega arith)
+        ∙ (ap (λ n. finish (record site { sent = site.sent ++ site.unsent; unsent = []; shared = shared + n; in_flight = Some n })) (sym many)
+        ∙ (ap (λ n. finish (record site { sent = site.sent ++ site.unsent; unsent = []; shared = n; in_flight = Some count })) (sym added) ∙ ap finish (sym sent_same))))
+
+    pub sent_is : IsSite editor seen all now total (Some count)
+    sent_is = record {
+      stands = subst Stands (sym sent_same) (sent_stands site total (Some count) is.stands);
+      over = subst (AreOver editor.store 0) (sym (ap (λ es. all ++ es) done ∙ (append-nil all ∙ sent_all))) is.over;
+      undone_cite = subst (All ParcelCites) (sym undone) is.undone_cite;
+    }

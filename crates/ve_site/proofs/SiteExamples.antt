@@ -1,0 +1,101 @@
+-- Sites with lists of letters.
+use Rattle.std.proofs.Common.{◌≡◌, ℕ, List, [], ◌∷◌, None, Some, codes, map, refl, arith}
+use Rattle.std.proofs.lemmas.List.Elements.{All-nil}
+use Rattle.ve_base.specs.declared.value.Value.{Value}
+use Rattle.ve_base.specs.declared.value.Value.TheVariants.{White}
+use Rattle.model_items.specs.declared.plain_item.PlainItem.{PlainItem}
+use Rattle.model_items.specs.declared.plain_item.PlainItem.TheVariants.{Char}
+use Rattle.model_change.specs.Transaction.{Retain, Replace, Transaction}
+use Rattle.model_edit.specs.Translate.{between}
+use Rattle.model_site.specs.Replica.{Replica}
+use Rattle.model_site.specs.Site.{Site, starting, undo, redo, send}
+use Rattle.model_site.specs.declared.site_fault.UndoFault.TheVariants as undo_why
+use Rattle.model_site.specs.declared.site_fault.RedoFault.TheVariants as redo_why
+use Rattle.model_site.specs.declared.site_fault.SendFault.TheVariants as send_why
+use Rattle.ve_tx.specs.declared.entry.Entry.{Entry}
+use Rattle.ve_site.specs.Ground.{ground_of, as_opened, AreOver}
+use Rattle.ve_site.specs.Numbered.{site_of, with_site}
+use Rattle.ve_site.specs.Refusal.{IsUndoRefusal, IsRedoRefusal, IsSendRefusal}
+
+abbrev letters : List ℕ → List PlainItem
+letters = map (λ c. Char c [])
+
+abbrev page : List ℕ → Replica
+page text = record { items = letters text; store = []; selection = between 0 0 }
+
+abbrev puts : (at letter after : ℕ) → Transaction
+puts at letter after = Retain at ∷ Replace [] (letters (letter ∷ [])) ∷ Retain after ∷ []
+
+-- it sent b after a, and then put c after that; it has seen two committed entries
+abbrev in_flight : Site
+in_flight = record {
+  replica = page (codes "abcd");
+  seen = 2;
+  sent = record { txs = puts 1 98 1 ∷ []; store_before = 0; store_after = 0 } ∷ [];
+  unsent = record { txs = puts 2 99 1 ∷ []; store_before = 0; store_after = 0 } ∷ [];
+  undone = [];
+  shared = 1;
+  in_flight = Some 1;
+}
+
+-- both are taken back
+ground_has_neither : ground_of in_flight ≡ letters (codes "ad")
+ground_has_neither = refl
+
+nothing_pending : ground_of (starting (page (codes "ab"))) ≡ letters (codes "ab")
+nothing_pending = refl
+
+counts_from_its_ground : (as_opened in_flight).seen ≡ 0
+counts_from_its_ground = refl
+
+keeps_all_else : (as_opened in_flight).sent ≡ in_flight.sent
+keeps_all_else = refl
+
+number_stays : with_site in_flight (record { number = 3; site = starting (page []) }) ≡ record { number = 3; site = in_flight }
+number_stays = refl
+
+-- ---- entries over a store
+
+abbrev white : List ℕ → Value
+white = White
+
+abbrev numbered : (before after : ℕ) → Entry
+numbered before after = record { txs = []; store_before = before; store_after = after }
+
+numbers_rise : AreOver (white (codes " ") ∷ white (codes "  ") ∷ []) 0 (numbered 0 1 ∷ numbered 1 1 ∷ numbered 1 2 ∷ [])
+numbers_rise = (omega arith, omega arith, All-nil _, (omega arith, omega arith, All-nil _, (omega arith, omega arith, All-nil _, omega arith)))
+
+no_number_falls : AreOver (white (codes " ") ∷ white (codes "  ") ∷ []) 0 (numbered 0 2 ∷ numbered 1 2 ∷ []) → ⊥
+no_number_falls h = let low = h.3.0 in absurd (omega arith)
+
+none_is_past_the_store : AreOver (white (codes " ") ∷ []) 0 (numbered 0 2 ∷ []) → ⊥
+none_is_past_the_store h = let low = h.3 in absurd (omega arith)
+
+-- the history's entries are the unsent ones
+by_fields : site_of (page []) 4 (numbered 0 0 ∷ []) (record { done = numbered 0 1 ∷ []; undone = []; spare = 9 }) 7 None ≡ record {
+  replica = page [];
+  seen = 4;
+  sent = record { txs = []; store_before = 0; store_after = 0 } ∷ [];
+  unsent = record { txs = []; store_before = 0; store_after = 1 } ∷ [];
+  undone = [];
+  shared = 7;
+  in_flight = None;
+}
+by_fields = refl
+
+-- ---- refusals
+
+abbrev all_sent : Site
+all_sent = record in_flight { unsent = [] }
+
+shared_is_told : IsUndoRefusal (undo all_sent) (undo_why.AlreadyShared 1)
+shared_is_told = refl
+
+not_as_nothing : IsUndoRefusal (undo all_sent) undo_why.NothingToUndo → ⊥
+not_as_nothing h = cc
+
+nothing_to_redo : IsRedoRefusal (redo in_flight) redo_why.NothingToRedo
+nothing_to_redo = refl
+
+on_its_way : IsSendRefusal (send in_flight) (send_why.InFlight 1)
+on_its_way = refl

@@ -1,0 +1,42 @@
+use Rattle.std.proofs.Common.{◌≡◌, [], ◌∷◌, ◌++◌, true, is_ok, drop, sym, ap, ◌∙◌}
+use Rattle.model_site.specs.Site.{redo}
+use Rattle.ve_tx.proofs.ChangeLemmas.{ok-holds}
+use Rattle.ve_site.specs.Numbered.{Numbered}
+use Rattle.ve_site.proofs.StepLemmas.{roomy_same, roomy_is}
+use Rattle.ve_site.proofs.RedoLemmas.{may_come, redo_is, redone_is}
+use Rattle.ve_site.proofs.site.Site.redo.Goals as goal
+
+pub admit-requires-clause-stands : goal.admit-requires-clause-stands
+admit-requires-clause-stands g c =
+    let s = c.self.inside in
+    let room = c.reserve.new.self in
+    let is = roomy_is s.editor s.seen s.sent.items s.history s.shared s.in_flight c.self.invariant room c.reserve.ensures.done c.reserve.ensures.undone in
+    may_come s.editor s.seen s.sent.items room s.shared s.in_flight is c.in-Some.undone.now (sym c.in-Some.ensures)
+
+pub invariant_of-self-2 : goal.invariant_of-self-2
+invariant_of-self-2 g c =
+    let s = c.self.inside in
+    let room = c.reserve.new.self in
+    let now = c.move_up.new.self in
+    let e = c.in-Ok.entry in
+    let f = c.in-Ok.ensures in
+    let is = roomy_is s.editor s.seen s.sent.items s.history s.shared s.in_flight c.self.invariant room c.reserve.ensures.done c.reserve.ensures.undone in
+    let ok : is_ok c.move_up.result ≡ true = sym c.is_ok-moved.ensures.value ∙ c.if-prove.false in
+    let done = ok-holds (now.done ≡ room.done ++ e ∷ []) c.move_up.result ok c.move_up.ensures.done in
+    let undone = ok-holds (now.undone ≡ drop 1 room.undone) c.move_up.result ok c.move_up.ensures.undone in
+    redone_is s.editor s.seen s.sent.items room s.shared s.in_flight is c.in-Some.undone.now (sym c.in-Some.ensures) c.admit.new.self e now f.page f.entry f.cites done undone
+
+pub returns-clause-site : goal.returns-clause-site
+returns-clause-site g c =
+    let s = c.self.inside in
+    let room = c.reserve.new.self in
+    let now = c.move_up.new.self in
+    let e = c.in-Ok.entry in
+    let f = c.in-Ok.ensures in
+    let is = roomy_is s.editor s.seen s.sent.items s.history s.shared s.in_flight c.self.invariant room c.reserve.ensures.done c.reserve.ensures.undone in
+    let ok : is_ok c.move_up.result ≡ true = sym c.is_ok-moved.ensures.value ∙ c.if-prove.false in
+    let done = ok-holds (now.done ≡ room.done ++ e ∷ []) c.move_up.result ok c.move_up.ensures.done in
+    let undone = ok-holds (now.undone ≡ drop 1 room.undone) c.move_up.result ok c.move_up.ensures.undone in
+    let same = roomy_same s.editor s.seen s.sent.items s.history s.shared s.in_flight c.self.invariant room c.reserve.ensures.done c.reserve.ensures.undone in
+    ap redo (sym (same ∙ ap (λ (v : Numbered). v.site) c.self.view_is))
+    ∙ redo_is s.editor s.seen s.sent.items room s.shared s.in_flight is c.in-Some.undone.now (sym c.in-Some.ensures) c.admit.new.self e now f.page f.entry f.cites done undone

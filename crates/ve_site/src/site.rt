@@ -1,0 +1,240 @@
+// A site.
+ghost use Rattle.std.specs.Prelude.{◌≡◌, ◌==◌, if◌then◌else◌, List, Ok, IfOk, IfErr, OnOk, OnErr};
+ghost use Rattle.model_change.specs.Transaction.{Transaction, InsertedApart};
+ghost use Rattle.model_site.specs.Entries.{entry_of, reverted};
+ghost use Rattle.model_site.specs.Replica.{all_performed};
+ghost use Rattle.model_site.specs.Site.{edit, redo, send, starting, undo, with_entry, with_selection};
+ghost use Rattle.model_site_law.specs.Sound.{AllMayRun, Sound};
+ghost use Rattle.model_site_law.specs.SelectionLaws.{StandsIn};
+
+use crate::sent::parcels_of;
+use model_edit::Selection;
+use model_site::{EditFault, RedoFault, SendFault, UndoFault};
+use std::alloc::Global;
+use std::marker::Model;
+use std::sync::ledger::Ledger;
+use ve_base::{Memory, Steps};
+use ve_editor::Editor;
+use ve_history::History;
+use ve_server::Submit;
+use ve_tx::{Draft, Entry, EntryList, Parcel};
+
+/// A site: its editor, the entries that it sent and has no answer for, those that it has not sent, and what it undid. It is seen as its number beside
+/// the model's site.
+#[derive(Drop)]
+pub struct Site {
+    number: u32,
+    editor: Editor,
+    // how many committed entries its list has
+    seen: usize,
+    sent: Vec<Entry>,
+    // the entries that are not sent, and what was undone
+    history: History,
+    // how many entries it sent since the page was opened
+    shared: usize,
+    // how many entries the submission has that is on its way
+    in_flight: Option<usize>,
+    alloc: Global,
+}
+
+impl Model for Site {
+    ghost use Rattle.ve_site.specs.Numbered.{Numbered, site_of, IsSite};
+
+    ghost Value = { Numbered };
+
+    ghost view = { λ s. record { number = s.number; site = site_of s.editor s.seen s.sent.items s.history s.shared s.in_flight } };
+
+    ghost invariant = { λ s. IsSite s.editor s.seen s.sent.items s.history s.shared s.in_flight };
+}
+
+/// Why a site that has nothing unsent undoes nothing, where it sent so many entries.
+fn nothing_to_undo(sent: usize) -> UndoFault
+    ensures { result ≡ (if sent == 0 then UndoFault.NothingToUndo else UndoFault.AlreadyShared sent) }
+{
+    if sent == 0 {
+        return UndoFault::NothingToUndo;
+    }
+    UndoFault::AlreadyShared { sent }
+}
+
+impl Site {
+    ghost use Rattle.ve_editor.specs.Edited.{IsDraftOf, drafted, entry_by_value, EntryCites};
+    ghost use Rattle.ve_editor.specs.Refusal.{IsEditRefusal};
+    ghost use Rattle.ve_server.specs.Fed.{submission_of};
+    ghost use Rattle.ve_site.specs.Numbered.{with_site};
+    ghost use Rattle.ve_site.specs.Refusal.{IsUndoRefusal, IsRedoRefusal, IsSendRefusal};
+    ghost use Rattle.model_site.specs.Refused.{edit_cause};
+
+    /// A site with the page that was opened, which has seen no committed entry and has nothing pending. It takes no memory.
+    pub fn new(alloc: Global, number: u32, editor: Editor) -> Site
+        requires sound { Sound editor.items }
+        requires selection { StandsIn editor.items editor.selection }
+        ensures { result ≡ record { number = number; site = starting editor } }
+    {
+        // its type keeps that its store has what its list cites, which `doc` tells
+        let _doc = editor.doc();
+        Site {
+            number,
+            editor,
+            seen: 0,
+            sent: Vec::new(alloc),
+            history: History::new(alloc),
+            shared: 0,
+            in_flight: None,
+            alloc,
+        }
+    }
+
+    /// Its number among the sites.
+    pub fn number(&self) -> u32
+        ensures { result ≡ self.now.number }
+    {
+        self.number
+    }
+
+    /// Lends the editor.
+    pub fn editor(&self) -> &Editor
+        ensures { result.now ≡ self.now.site.replica }
+    {
+        &self.editor
+    }
+
+    /// How many committed entries its list has.
+    pub fn seen(&self) -> usize
+        ensures { result ≡ self.now.site.seen }
+    {
+        self.seen
+    }
+
+    /// Selects something else.
+    pub fn select(&mut self, selection: Selection)
+        requires { StandsIn self.old.site.replica.items selection }
+        ensures { self.new ≡ with_site (with_selection selection self.old.site) self.old }
+    {
+        self.editor.select(selection);
+    }
+
+    /// Performs a draft as a new entry; what was undone can't be redone then. It is refused as `Editor::perform` refuses, and an `Err` changes nothing.
+    pub fn edit<L: Ledger>(&mut self, draft: &Draft, steps: &mut Steps<L>) -> Result<(), EditFault>
+        requires draft { IsDraftOf self.old.site.replica.store draft.now }
+        requires apart { InsertedApart (drafted self.old.site.replica.store draft.now) }
+        ensures site { OnOk result (edit (drafted self.old.site.replica.store draft.now) self.old.site ≡ Ok self.new.site) }
+        ensures number { self.new.number ≡ self.old.number }
+        ensures refused { IfErr result (IsEditRefusal (edit_cause (drafted self.old.site.replica.store draft.now) self.old.site.replica)) }
+        ensures kept { OnErr result (self.new ≡ self.old) }
+    {
+        if self.history.reserve().is_err() {
+            return Err(EditFault::Memory);
+        }
+        // its type keeps that it is in normal form, which `ops` tells
+        let _ops = draft.tx.ops();
+        let entry = self.editor.perform(draft, steps)?;
+        let pushed = self.history.push(entry).is_ok();
+        prove!(pushed);
+        Ok(())
+    }
+
+    /// Takes a changed copy of its editor in the place of its own, and the entry that the changes are: edits that were performed one after the other
+    /// and are one, as a batch is. What was undone can't be redone then. An `Err` changes nothing.
+    pub fn settle(&mut self, editor: Editor, entry: Entry) -> Result<(), Memory>
+        ghost ts: { List Transaction }
+        requires may { AllMayRun ts self.old.site.replica.items }
+        requires page { editor ≡ all_performed ts self.old.site.replica }
+        requires entry { entry_by_value editor.store entry ≡ entry_of ts self.old.site.replica }
+        requires cites { EntryCites editor.store entry }
+        ensures site { OnOk result (self.new ≡ with_site (with_entry ts self.old.site) self.old) }
+        ensures kept { OnErr result (self.new ≡ self.old) }
+    {
+        self.history.reserve()?;
+        self.editor = editor;
+        let pushed = self.history.push(entry).is_ok();
+        prove!(pushed);
+        Ok(())
+    }
+
+    /// Takes back the last entry that is not sent. It can be redone until something else is done or taken. Where nothing is unsent, `NothingToUndo`
+    /// comes exactly if the site sent no entry since the page was opened, and `AlreadyShared` exactly if it did. An `Err` changes nothing.
+    pub fn undo<L: Ledger>(&mut self, steps: &mut Steps<L>) -> Result<(), UndoFault>
+        ensures site { OnOk result (undo self.old.site ≡ Ok self.new.site) }
+        ensures number { self.new.number ≡ self.old.number }
+        ensures refused { IfErr result (IsUndoRefusal (undo self.old.site)) }
+        ensures kept { OnErr result (self.new ≡ self.old) }
+    {
+        if self.history.reserve().is_err() {
+            return Err(UndoFault::Memory);
+        }
+        let Some(last) = self.history.undo_top() else {
+            return Err(nothing_to_undo(self.shared));
+        };
+        let Ok(parcel) = Parcel::of(self.alloc, last, self.editor.doc().store) else {
+            return Err(UndoFault::Memory);
+        };
+        if self.editor.revert(last, steps).is_err() {
+            return Err(UndoFault::Memory);
+        }
+        let moved = self.history.move_down(parcel).is_ok();
+        prove!(moved);
+        Ok(())
+    }
+
+    /// Performs again what was undone last, as a new entry. `NothingToRedo` comes exactly where nothing was undone since the last edit or take that was
+    /// not redone. An `Err` changes nothing.
+    pub fn redo<L: Ledger>(&mut self, steps: &mut Steps<L>) -> Result<(), RedoFault>
+        ensures site { OnOk result (redo self.old.site ≡ Ok self.new.site) }
+        ensures number { self.new.number ≡ self.old.number }
+        ensures refused { IfErr result (IsRedoRefusal (redo self.old.site)) }
+        ensures kept { OnErr result (self.new ≡ self.old) }
+    {
+        if self.history.reserve().is_err() {
+            return Err(RedoFault::Memory);
+        }
+        let Some(undone) = self.history.redo_top() else {
+            return Err(RedoFault::NothingToRedo);
+        };
+        let Ok(entry) = self.editor.admit(undone, steps) else {
+            return Err(RedoFault::Memory);
+        };
+        let moved = self.history.move_up(entry).is_ok();
+        prove!(moved);
+        Ok(())
+    }
+
+    /// Sends all entries that are not sent, as one submission made on the committed entries that it has seen. `InFlight` comes exactly where a submission
+    /// is not acknowledged yet, and else `NothingToSend` exactly where nothing is unsent. An `Err` changes nothing.
+    pub fn send(&mut self) -> Result<Submit, SendFault>
+        ensures sent { IfOk result (λ sent. send self.old.site ≡ Ok (self.new.site, submission_of sent)) }
+        ensures from { IfOk result (λ sent. sent.site ≡ self.old.number) }
+        ensures number { self.new.number ≡ self.old.number }
+        ensures refused { IfErr result (IsSendRefusal (send self.old.site)) }
+        ensures kept { OnErr result (self.new ≡ self.old) }
+    {
+        if let Some(entries) = self.in_flight {
+            return Err(SendFault::InFlight { entries });
+        }
+        let unsent = self.history.done();
+        let count = unsent.len();
+        if count == 0 {
+            return Err(SendFault::NothingToSend);
+        }
+        let Some(shared) = self.shared.checked_add(count) else {
+            return Err(SendFault::Memory);
+        };
+        let Ok(parcels) = parcels_of(self.alloc, unsent, self.editor.doc().store) else {
+            return Err(SendFault::Memory);
+        };
+        if self.sent.reserve(count).is_err() {
+            return Err(SendFault::Memory);
+        }
+        let none = EntryList::new(self.alloc);
+        let mut moved = self.history.replace_done(none).into_vec();
+        let appended = self.sent.append(&mut moved).is_ok();
+        prove!(appended);
+        self.shared = shared;
+        self.in_flight = Some(count);
+        Ok(Submit {
+            site: self.number,
+            base: self.seen,
+            parcels,
+        })
+    }
+}
