@@ -1,0 +1,5 @@
+mod ListLemmas
+mod WordLemmas
+mod TestLemmas
+mod CommandExamples
+mod LineLemmas
