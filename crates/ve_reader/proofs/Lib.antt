@@ -1,3 +1,3 @@
-mod JoinLemmas
-mod EvenLemmas
+pub mod JoinLemmas
+pub mod EvenLemmas
 mod ReadLemmas

@@ -1,0 +1,4 @@
+pub mod Content
+pub mod Parts
+pub mod References
+pub mod Laws
