@@ -7,4 +7,5 @@ pub mod ReferenceLemmas
 pub mod LoopLemmas
 pub mod AnnotationLemmas
 pub mod LeafLemmas
+pub mod WholeLemmas
 mod ContentExamples

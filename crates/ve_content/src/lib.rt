@@ -20,3 +20,6 @@ mod references;
 
 pub use content::read_content;
 pub use laws::content_in_turn;
+
+#[cfg(test)]
+mod tests;
