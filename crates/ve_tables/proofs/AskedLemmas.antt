@@ -1,5 +1,5 @@
 -- The first cell of which the answer is yes, and what a call answers by its causes.
-use Rattle.std.proofs.Common.{◌≡◌, ℕ, Bool, true, false, List, [], ◌∷◌, Option, Some, None, option_map, Result, Ok, inl, inr, refl, sym, ap, ◌∙◌, subst}
+use Rattle.std.proofs.Common.{◌≡◌, ℕ, Bool, true, false, List, [], ◌∷◌, ◌++◌, Option, Some, None, option_map, Result, Ok, inl, inr, refl, sym, ap, ◌∙◌, subst}
 use Rattle.std.proofs.lemmas.Bool.{cases_Bool}
 use Rattle.std.proofs.lemmas.List.Elements.{All-nil, All-cons}
 use Rattle.model_edit.specs.declared.grid_cell.GridCell.{GridCell}
@@ -49,6 +49,11 @@ module _ (r : Result Grid TableCause) (g : Grid) (causes : Grid → List (Bool �
       by None e h = ap (λ o. fault_or o (t g)) e
       by (Some cause) e h = absurd (cc)
 
+-- and where there is none
+pub grid_refuses : (r : Result Grid TableCause) (f : Grid → Result Transaction TableCause) (fault : TableFault) → IsTableRefusal r fault → IsTableRefusal (on_grid r f) fault
+grid_refuses r f fault (inl memory) = inl memory
+grid_refuses r f fault (inr cause) = inr (cause.0, ap (λ v. on_grid v f) cause.1, cause.2)
+
 pub none_of_them : (causes : List (Bool × TableCause)) → refusal causes ≡ None → first_fault causes ≡ None
 none_of_them causes h = by (first_fault causes) refl h
   where
@@ -67,3 +72,8 @@ none_first false cause causes h = refl
 pub no_answer : (o : Option TableFault) → ((fault : TableFault) → o ≡ Some fault → ⊥) → o ≡ None
 no_answer None h = refl
 no_answer (Some fault) h = absurd (h fault refl)
+
+pub none_after : (causes others : List (Bool × TableCause)) → first_fault (causes ++ others) ≡ None → first_fault others ≡ None
+none_after [] others h = h
+none_after ((true, cause) ∷ causes) others h = absurd (cc)
+none_after ((false, cause) ∷ causes) others h = none_after causes others h

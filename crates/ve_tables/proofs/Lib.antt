@@ -2,7 +2,10 @@ pub mod ChildLemmas
 pub mod RowLemmas
 pub mod AskedLemmas
 pub mod MarkLemmas
+pub mod CoveredLemmas
 pub mod FreshLemmas
 pub mod PartWayLemmas
 pub mod PlaceLemmas
+pub mod RiseLemmas
 pub mod StandLemmas
+pub mod ColumnLemmas

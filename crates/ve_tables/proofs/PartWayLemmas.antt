@@ -4,6 +4,7 @@ use Rattle.std.proofs.lemmas.List.{drop_more, drop_all}
 use Rattle.std.proofs.Common.{◌≡◌, ℕ, suc, ◌+◌, ◌≤◌, ◌<◌, Bool, true, false, Some, List, [], ◌∷◌, ◌++◌, length, map, drop, get_or, refl, sym, ap, ◌∙◌, subst, arith, append-nil, append_assoc}
 use Rattle.ve_base.specs.declared.value.Value.{Value}
 use Rattle.model_items.specs.declared.item.Item.{Item}
+use Rattle.model_items.specs.declared.plain_item.PlainItem.{PlainItem}
 use Rattle.model_items.specs.Plain.{plain_list, CitesWell}
 use Rattle.model_items.specs.Law.{Lawful}
 use Rattle.model_items.proofs.VerdictLemmas.{verdict_reads_no_values}
@@ -75,6 +76,9 @@ order_first at end (Set place name to ∷ first) later h = (h.0, order_first (su
 -- where a set stands, it stands in the list
 pub set_within : (at end place : ℕ) (name : List ℕ) (to : _) (later : List Edit) → InOrder at end (Set place name to ∷ later) → suc place ≤ end
 set_within at end place name to later h = ends (suc place) end later h.1
+
+pub change_within : (at end place count : ℕ) (inserted : List PlainItem) (later : List Edit) → InOrder at end (Change place count inserted ∷ later) → place + count ≤ end
+change_within at end place count inserted later h = ends (place + count) end later h.1
 
 -- ---- edits of the cells of which a test holds
 

@@ -1,6 +1,6 @@
 -- Where the rows and cells of a table stand, and that the edits of each call come at rising places.
 use Rattle.std.specs.Prelude.{All, filter, slice_get}
-use Rattle.std.proofs.Common.{◌≡◌, ℕ, suc, ◌<◌, ◌≤◌, List, [], ◌∷◌, length, map, refl, sym, ap, ◌∙◌, subst, arith}
+use Rattle.std.proofs.Common.{◌≡◌, ℕ, suc, ◌+◌, ◌<◌, ◌≤◌, List, [], ◌∷◌, length, map, Some, refl, sym, ap, ◌∙◌, subst, arith}
 use Rattle.std.proofs.lemmas.List.{length-map}
 use Rattle.std.proofs.lemmas.List.Elements.{All-nil, All-cons, All-head, All-tail}
 use Rattle.ve_kinds.specs.declared.kind.Kind.{Kind}
@@ -14,10 +14,10 @@ use Rattle.model_edit.specs.Grid as model
 use Rattle.model_edit.specs.Grid.{covers_column}
 use Rattle.model_edit.specs.Tables.{row_in_edits}
 use Rattle.model_edit_law.proofs.TablePlaceLemmas.{Chain, Chain-ends, Chain-filter, row_at, cell_kinds, cell_at, Standing, grid_stands}
-use Rattle.model_edit_law.proofs.TableFineLemmas.{InOrder-within, row_in_order, row_out_order, col_out_order}
+use Rattle.model_edit_law.proofs.TableFineLemmas.{InOrder-within, row_in_order, row_out_order, col_out_order, all_row_edits}
 use Rattle.ve_tables.specs.declared.rows.TableRow.{TableRow}
 use Rattle.ve_tables.specs.declared.table.LaidTable.{LaidTable}
-use Rattle.ve_tables.specs.PartWay.{IsLaid, row_out_edits, columns_removed}
+use Rattle.ve_tables.specs.PartWay.{IsLaid, row_out_edits, col_in_edits, columns_removed}
 use Rattle.ve_tables.specs.Rows.{row_of}
 
 chain_inside : {A : Type 0} (f : A → ℕ) (items : List PlainItem) (kinds : List Kind) (low high n : ℕ) (xs : List A) → high ≤ n → Chain f items kinds low high xs → All (λ (x : A). f x < n) xs
@@ -88,3 +88,13 @@ module _ (items : List PlainItem) (table : LaidTable) (lawful : Lawful items) (l
       let chain = Chain-filter cell_at items cell_kinds test (suc laid.at) (partner items laid.at) table.grid.cells (standing.cells).chain in
       InOrder-within (suc laid.at) 0 (partner items laid.at) (length items) (columns_removed items column table.grid.cells) (omega arith) (omega arith)
       (col_out_order items (filter test table.grid.cells) (suc laid.at) (partner items laid.at) chain)
+
+  pub col_in_ordered : (column : ℕ) → InOrder 0 (length items) (col_in_edits items (map row_of table.rows) column table.grid)
+  col_in_ordered column =
+      let within = (standing.table).within in
+      let rows = model.table_rows items laid.at in
+      let all = all_row_edits items laid.at column table.grid standing rows 0 (suc laid.at) (partner items laid.at)
+      (λ n r e. let z : n ≡ 0 + n = omega arith in subst (λ m. slice_get rows m ≡ Some r) z e) standing.rows in
+      let W : List model.TableRow → Type 0 = λ rows. InOrder 0 (length items) (col_in_edits items rows column table.grid) in
+      subst W (sym laid.rows)
+      (InOrder-within (suc laid.at) 0 (partner items laid.at) (length items) (col_in_edits items rows column table.grid) (omega arith) (omega arith) all.order)

@@ -9,5 +9,6 @@ pub use Rattle.ve_tx.specs.Cites
 pub mod Refused
 pub mod Rows
 pub mod Asked
+pub mod Covered
 pub mod Fresh
 pub mod PartWay

@@ -1,13 +1,14 @@
 -- How far the edits of a change are collected.
-use Rattle.std.specs.Prelude.{◌≡◌, ℕ, suc, ◌-◌, Bool, false, List, ◌++◌, length, filter, map, slice_get, Ok, All}
+use Rattle.std.specs.Prelude.{◌≡◌, ℕ, suc, ◌-◌, Bool, false, if◌then◌else◌, List, [], ◌∷◌, ◌++◌, length, filter, flat_map, map, slice_get, Ok, All}
+use Rattle.std.specs.List.{enumerate_from}
 use Rattle.ve_base.specs.declared.value.Value.{Value}
 use Rattle.model_items.specs.declared.item.Item.{Item}
 use Rattle.model_items.specs.declared.plain_item.PlainItem.{PlainItem}
 use Rattle.model_edit.specs.declared.grid_cell.GridCell.{GridCell}
-use Rattle.model_edit.specs.Edits.{Edit, InOrder}
+use Rattle.model_edit.specs.Edits.{Edit, Change, InOrder}
 use Rattle.model_edit.specs.Grid as model
 use Rattle.model_edit.specs.Grid.{Grid, covers_column}
-use Rattle.model_edit.specs.Tables.{set_rows, spans_row, row_removed, cell_removed}
+use Rattle.model_edit.specs.Tables.{set_rows, set_columns, spans_row, spans_column, row_removed, cell_removed, cell_place, column_edits, new_cell}
 use Rattle.ve_edits.specs.Collected.{Collected, Makes}
 use Rattle.ve_tables.specs.declared.table.LaidTable.{LaidTable}
 use Rattle.ve_tables.specs.Rows.{row_of}
@@ -44,6 +45,18 @@ shrunk_rows row cells = map (λ (c : GridCell). set_rows (c.rows - 1) c) (filter
 
 abbrev pub row_out_edits : List PlainItem → List model.TableRow → ℕ → Grid → List Edit
 row_out_edits items rows row g = shrunk_rows row g.cells ++ row_removed items (slice_get rows row)
+
+-- the cells that span into a column grow
+abbrev pub grown_columns : ℕ → List GridCell → List Edit
+grown_columns column cells = map (λ (c : GridCell). set_columns (suc c.columns) c) (filter (spans_column column) cells)
+
+-- in a row that has these cells they grow, and a new one comes where none grows into it
+abbrev pub row_widened : List PlainItem → model.TableRow → ℕ → List GridCell → Bool → List Edit
+row_widened items row column cells grown =
+    grown_columns column cells ++ (if grown then [] else Change (cell_place items row column cells) 0 new_cell ∷ [])
+
+abbrev pub col_in_edits : List PlainItem → List model.TableRow → ℕ → Grid → List Edit
+col_in_edits items rows column g = flat_map (column_edits items column g) (enumerate_from 0 rows)
 
 abbrev pub columns_removed : List PlainItem → ℕ → List GridCell → List Edit
 columns_removed items column cells = map (cell_removed items) (filter (λ (c : GridCell). covers_column c column) cells)

@@ -6,13 +6,15 @@ ghost use Rattle.model_edit.specs.Tables.{first_fault, at_first};
 ghost use Rattle.ve_tables.specs.Asked.{asked};
 
 use model_edit::GridCell;
-use ve_base::MAX_ROW_SPAN;
+use ve_base::{MAX_COLUMN_SPAN, MAX_ROW_SPAN};
 
-/// What is asked of each cell, with the number of a row.
+/// What is asked of each cell, with the number of a row or a column.
 #[derive(Clone, Copy)]
 pub enum Question {
     /// Whether it spans into the row, and has the greatest span.
     IsFullAtRow(usize),
+    /// Whether it spans into the column, and has the greatest span.
+    IsFullAtColumn(usize),
     /// Whether it begins in the row, and covers more rows.
     GoesBelow(usize),
 }
@@ -32,6 +34,16 @@ pub fn covers_column(cell: GridCell, column: usize) -> bool
     ensures { result ≡ grid.covers_column cell column }
 {
     if column < cell.column {
+        return false;
+    }
+    column - cell.column < cell.columns
+}
+
+/// Whether a cell begins left of a column and reaches it.
+pub fn spans_column(cell: GridCell, column: usize) -> bool
+    ensures { result ≡ model.spans_column column cell }
+{
+    if column <= cell.column {
         return false;
     }
     column - cell.column < cell.columns
@@ -57,12 +69,23 @@ fn is_full_at_row(cell: GridCell, row: usize) -> bool
     MAX_ROW_SPAN <= cell.rows
 }
 
+/// Whether a cell spans into a column and has the greatest span.
+fn is_full_at_column(cell: GridCell, column: usize) -> bool
+    ensures { result ≡ asked (Question.IsFullAtColumn column) cell }
+{
+    if !spans_column(cell, column) {
+        return false;
+    }
+    MAX_COLUMN_SPAN <= cell.columns
+}
+
 /// What a question answers of a cell.
 fn answer(question: Question, cell: GridCell) -> bool
     ensures { result ≡ asked question cell }
 {
     match question {
         Question::IsFullAtRow(row) => is_full_at_row(cell, row),
+        Question::IsFullAtColumn(column) => is_full_at_column(cell, column),
         Question::GoesBelow(row) => goes_below(cell, row),
     }
 }

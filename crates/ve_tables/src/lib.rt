@@ -1,5 +1,5 @@
-//! The grid of a table of a page, rows put in and taken out, and columns taken out, as the changes that they are: `grid`
-//! gives the model's grid, `row_in`, `row_out` and `col_out` the model's transactions, or the model's refusals.
+//! The grid of a table of a page, and rows and columns put in and taken out, as the changes that they are: `grid` gives the
+//! model's grid, `row_in`, `row_out`, `col_in` and `col_out` the model's transactions, or the model's refusals.
 //!
 //! The rows of a table's sections and the cells of its rows are found by the tree, a look-up for each node just inside the
 //! table, its sections and its rows; the spans of a cell are read once from its attributes. Cells are then placed by
@@ -8,7 +8,7 @@
 //!
 //! Definitions, in reading order: `Refused` (how a table is refused), and for private functions `Rows` (nodes just inside
 //! another by their places, the rows of a table, and the cells of one placed after those before), `Asked` (what is asked of
-//! cells, and the causes that refuse each call), `Fresh` (the new cells of a row) and `PartWay` (how far the edits of a
+//! cells, and the causes that refuse each call), `Covered` (which places the cells of rows cover), `Fresh` (the new cells of a row) and `PartWay` (how far the edits of a
 //! change are collected). What a grid is, and a change of it, stands in `model_edit`'s `Grid` and `Tables`. It has no law
 //! of its own: those of `model_edit_law` hold of the results by the clauses.
 #![tactic(auto)]
@@ -18,6 +18,7 @@ mod cells;
 mod children;
 mod column_edits;
 mod fresh;
+mod ragged;
 mod refusals;
 mod row_edits;
 mod rows;
@@ -26,7 +27,7 @@ mod table;
 #[cfg(test)]
 mod tests;
 
-pub use column_edits::col_out;
+pub use column_edits::{col_in, col_out};
 pub use row_edits::{row_in, row_out};
 pub use table::grid;
 pub use ve_grid::{Grid, GridCell, GridCells, TableFault};

@@ -1,15 +1,18 @@
 // Why a row or a column isn't put in or taken out.
-ghost use Rattle.std.specs.Prelude.{◌≡◌, ◌||◌, ◌==◌, nat_lt};
+ghost use Rattle.std.specs.Prelude.{◌≡◌, ◌||◌, ◌==◌, nat_lt, IfOk};
 ghost use Rattle.model_edit.specs.Causes.{SpanFull};
 ghost use Rattle.model_edit.specs.Tables.{at_first};
-ghost use Rattle.ve_tables.specs.Asked.{asked, refusal, row_in_causes, row_out_causes, col_out_causes};
+ghost use Rattle.ve_tables.specs.Asked.{asked, refusal, row_in_causes, row_out_causes, col_in_causes, col_out_causes};
+ghost use Rattle.ve_tables.specs.Covered.{AreInRows};
 
 use crate::asked::{Question, first_cell};
+use crate::ragged::first_ragged;
 use model_edit::{GridCell, TableFault};
-use ve_base::MAX_COLUMN_SPAN;
+use std::alloc::Global;
+use ve_base::{MAX_COLUMN_SPAN, Memory};
 use ve_grid::Grid;
 
-/// Whether there are no rows, or fewer than a number.
+/// Whether there are no rows, or columns, or fewer than a number.
 fn is_past(number: usize, count: usize) -> bool
     ensures { result ≡ ((count == 0) || nat_lt count number) }
 {
@@ -52,6 +55,21 @@ pub fn row_out_fault(grid: &Grid, row: usize) -> Option<TableFault>
     }
     let at = first_cell(grid.cells(), Question::GoesBelow(row))?;
     Some(TableFault::Spanned { at })
+}
+
+/// Why no column can be put in before a column of the grid, or after the last one.
+pub fn col_in_fault(alloc: Global, grid: &Grid, column: usize) -> Result<Option<TableFault>, Memory>
+    requires rows { AreInRows 0 grid.now.rows grid.now.cells }
+    ensures { IfOk result (λ fault. fault ≡ refusal (col_in_causes column grid.now)) }
+{
+    let columns = grid.columns();
+    if is_past(column, columns) {
+        return Ok(Some(TableFault::BadColumn { column, columns }));
+    }
+    if let Some(row) = first_ragged(alloc, grid, column)? {
+        return Ok(Some(TableFault::Ragged { row }));
+    }
+    Ok(full_fault(grid.cells(), Question::IsFullAtColumn(column)))
 }
 
 /// Why a column can't be taken out.
