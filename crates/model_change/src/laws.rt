@@ -15,9 +15,9 @@ pub fn attributes_change_back()
     ensures commute { ChangesCommute }
 {}
 
-/// Where a reduced transaction does not apply, the cause that is given is the first, in words of the old list's places, and the only one: lengths
-/// that do not add up; else the first removed item that the list does not have at its place; else the first attribute operation that the item at
-/// its place does not allow.
+/// Where a reduced transaction does not apply, the cause that is given is the first, in words of the old
+/// list's places, and the only one: lengths that do not add up; else the first removed item that the list
+/// does not have at its place; else the first attribute operation that the item at its place does not allow.
 pub fn faults_are_first()
     ensures first { FaultIsFirst }
     ensures only { FaultIsOnly }

@@ -3,5 +3,5 @@ pub mod InsertedLemmas
 pub mod ExampleItems
 pub mod RetainedExamples
 pub mod InsertedExamples
-pub mod BareLemmas
-pub mod BareExamples
+pub mod ToldLemmas
+pub mod ToldExamples

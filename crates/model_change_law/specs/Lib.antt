@@ -1,3 +1,3 @@
 pub mod Retained
 pub mod Inserted
-pub mod Bare
+pub mod Told

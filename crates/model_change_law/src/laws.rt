@@ -1,5 +1,5 @@
 // What changes keep of items. Each function does nothing, and its contract is a law that is proved.
-ghost use Rattle.model_change_law.specs.Bare.{BareTells, TreeTells};
+ghost use Rattle.model_change_law.specs.Told.{ShapesTellTree, TreeTellsShapes};
 ghost use Rattle.model_change_law.specs.Inserted.{JoinListsInsertTheSame, JoinsInsertTheSame};
 ghost use Rattle.model_change_law.specs.Retained.{AttributesAloneChange, RetainedIsChanged};
 
@@ -16,11 +16,11 @@ pub fn joins_insert_the_same()
     ensures lists { JoinListsInsertTheSame }
 {}
 
-/// A tree tells of a lawful list which items are characters and which open and close nodes of which kinds, and nothing else: neither the
-/// letters nor heads, marks, whitespace, origins and the flag generated. So much is what the links of a tree decide of its list, and
-/// what a change of letters, heads and marks leaves of the tree.
-#[tactic(auto, using(crate::proofs::BareLemmas::tree_tells, crate::proofs::BareLemmas::bare_tells))]
+/// A tree tells of a lawful list which items are characters and which open and close nodes of which kinds, and nothing else: neither which
+/// characters they are nor heads, marks, whitespace, origins and the flag generated. So much is what the links of a tree decide of its list, and
+/// what a change of characters, heads and marks leaves of the tree.
+#[tactic(auto, using(crate::proofs::ToldLemmas::tree_tells_shapes, crate::proofs::ToldLemmas::shapes_tell_tree))]
 pub fn trees_tell_shapes()
-    ensures list { TreeTells }
-    ensures tree { BareTells }
+    ensures list { TreeTellsShapes }
+    ensures tree { ShapesTellTree }
 {}

@@ -3,7 +3,7 @@
 //!
 //! - `Retained`: what becomes of an item that a transaction retains;
 //! - `Inserted`: what transactions insert once they are joined;
-//! - `Bare`: what the tree of a list doesn't tell of its items, and so what a change of that alone leaves of the tree.
+//! - `Told`: what the tree of a list tells of its items, and what therefore leaves the tree as it is.
 //!
 //! The laws stand in `laws`: each public function there does nothing, and its contract is a law that is proved.
 #![tactic(auto)]

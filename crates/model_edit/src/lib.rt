@@ -1,5 +1,6 @@
-//! What edits of a list of items mean: which transaction each is, and when it is refused. Where a caret goes, and what the grid of a table is. It knows
-//! no site, no page text and no limit on a list's length. There are definitions in specs/, and the types that they speak of:
+//! What edits of a list of items mean: which transaction each is, and when it is refused. Where a caret goes,
+//! and what the grid of a table is. It knows no site, no page text and no limit on a list's length. There are
+//! definitions in specs/, and the types that they speak of:
 //!
 //! - `Causes`: why an edit is refused;
 //! - `Brackets`: the openings and closings that edits make;

@@ -10,17 +10,19 @@ ghost use Rattle.model_edit_law.specs.SelectLaws.{OffsetsKeepNeighbours, Offsets
 ghost use Rattle.model_edit_law.specs.ShapeLaws.{AttributeIsFine, AttributeStaysLawful, ConvertIsFine, ConvertStaysLawful, MarkingIsFine, MarkingStaysLawful, UnmarkingIsFine, UnmarkingStaysLawful, WrapIsFine};
 ghost use Rattle.model_edit_law.specs.TableLaws.{ColInIsFine, ColInStaysLawful, ColOutGrid, ColOutIsFine, ColOutLays, ColOutStaysLawful, GridLays, RowInIsFine, RowInStaysLawful, RowOutGrid, RowOutIsFine, RowOutLays, RowOutStaysLawful};
 
-/// Edits that stand in order are a transaction that cannot be written shorter, applies, can put back each attribute that it removes, and gives the
-/// list with the edits made. It is in normal form exactly where the list's length and what it inserts add up to at most 2^60.
+/// Edits that stand in order are a transaction that cannot be written shorter, applies, can put back each
+/// attribute that it removes, and gives the list with the edits made. It is in normal form exactly where the
+/// list's length and what it inserts add up to at most 2^60.
 pub fn edits_are_one_transaction()
     ensures fine { EditsAreFine }
     ensures gives { EditsSubstitute }
     ensures normal { FineIsNormal }
 {}
 
-/// What each edit makes of the list. Typing puts just the text at its place, an insertion its pieces with the brackets round them, and a split the
-/// brackets alone; a removal takes its range but for the brackets that stay; marks change in their range, and a kind and an attribute at their
-/// places. Wraps, list items, rows and columns are the list with their edits made: each of these stands in order.
+/// What each edit makes of a lawful list. Typing in a content branch puts just the text at its place, an
+/// insertion its pieces with the brackets round them, and a split the brackets alone; a removal takes its
+/// range but for the brackets that stay; marks change in their range, and a kind and an attribute at their
+/// places. Wraps, list items, rows and columns are the list with their edits made.
 pub fn edits_give()
     ensures typing { TypingPuts }
     ensures insertion { InsertionPuts }
@@ -158,16 +160,17 @@ pub fn grids_lay()
     ensures col_out { ColOutLays }
 {}
 
-/// The grid of a table after a row or a column is taken out is the old one without it: each other cell keeps its place and its spans but for that row or
-/// column, in the same order.
+/// The grid of a table after a row or a column is taken out is the old one without it: each other cell keeps
+/// its place and its spans but for that row or column, in the same order.
 #[tactic(auto, using(crate::proofs::RowOutGridLemmas::row_out_grid, crate::proofs::ColOutGridLemmas::col_out_grid))]
 pub fn outs_leave_the_others()
     ensures row { RowOutGrid }
     ensures column { ColOutGrid }
 {}
 
-/// The one transaction of edits inserts their pieces, one after the other. Where these have names apart, so has what it inserts; and edits in order
-/// leave names of the list apart, as each transaction does that is fine and inserts names apart.
+/// The one transaction of edits inserts their pieces, one after the other. Where these have names apart, so
+/// has what it inserts; and edits in order leave names of the list apart, as each transaction does that is
+/// fine and inserts names apart.
 pub fn edits_stay_apart()
     ensures pieces { EditsInsertPieces }
     ensures inserted { EditsAreApart }
@@ -195,8 +198,9 @@ pub fn inserted_names_are_apart()
     ensures col_out { ColOutIsApart }
 {}
 
-/// After a transaction an offset stands in the new list, offsets keep their order, beside an item that is retained one stays beside it, and outside
-/// the active range each stays or moves by the difference of the lengths.
+/// After a transaction an offset stands in the new list, offsets keep their order, beside an item that is
+/// retained one stays beside it, and outside the active range each stays or moves by the difference of the
+/// lengths.
 pub fn offsets_lead_on()
     ensures within { OffsetsStayWithin }
     ensures order { OffsetsKeepOrder }

@@ -1,5 +1,5 @@
-//! What edits of a list keep, for every list. It defines no edit: those are `model_edit`'s. There are definitions in specs/, of laws and of what they speak
-//! of:
+//! What edits of a list keep, for every list. It defines no edit: those are `model_edit`'s. There are
+//! definitions in specs/, of laws and of what they speak of:
 //!
 //! - `Fine`: every edit is one transaction that cannot be written shorter, applies, and can put back what it removes;
 //! - `ResultLaws`: what each edit makes of the list;

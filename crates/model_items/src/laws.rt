@@ -73,8 +73,8 @@ pub fn node_at_is_innermost()
     ensures class { ClassIsOfTop }
 {}
 
-/// The content offset nearest to an offset is one, no other lies nearer, and of two at one distance it is the lower; there is none exactly where a list
-/// has no content offset.
+/// The content offset nearest to an offset is one, no other lies nearer, and of two at one distance it is the
+/// lower; there is none exactly where a list has no content offset.
 pub fn nearest_content_is_nearest()
     ensures found { NearestIsFound }
     ensures only { NearestIsOnly }

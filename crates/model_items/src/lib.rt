@@ -1,5 +1,6 @@
-//! What the items of a page's flat list mean: their values, which lists are lawful, and the tree that a lawful list spells. It knows no page text, no change
-//! and no store. There are definitions in specs/, and the types that they speak of:
+//! What the items of a page's flat list mean: their values, which lists are lawful, and the tree that a
+//! lawful list spells. It knows no page text, no change and no store. There are definitions in specs/, and
+//! the types that they speak of:
 //!
 //! - `Same`: when values, heads, marks and items are equal, as tests;
 //! - `Plain`: items read by value, over the list of values that they cite;

@@ -18,7 +18,8 @@ pub fn page_opens()
     ensures forest { OpensAsItsForest }
 {}
 
-/// A page is read exactly where it opens within all limits, and then as a lawful list. One that is refused for its spelling is refused with its first fault.
+/// A page is read exactly where it opens within all limits, and then as a lawful list. One that is refused
+/// for its spelling is refused with its first fault.
 #[tactic(auto, using(crate::proofs::OpenPageLemmas::read_is_within, crate::proofs::OpenPageLemmas::read_is_lawful, crate::proofs::OpenPageLemmas::within_is_read, crate::proofs::OpenPageLemmas::bad_page_has_fault, crate::proofs::LawfulLemmas::limited_is_lawful))]
 pub fn page_is_read()
     ensures within { ReadIsWithin }
@@ -40,7 +41,8 @@ pub fn spans_are_parts()
     ensures spans { SpansAreParts }
 {}
 
-/// The node of each origin stands in the list of the opened page, from its opening to the closing of that; and what stands there is what a node of that origin is compared with, where it may be kept.
+/// The node of each origin stands in the list of the opened page, from its opening to the closing of that;
+/// and what stands there is what a node of that origin is compared with, where it may be kept.
 pub fn origins_stand()
     ensures stands { OriginsStand }
     ensures compared { RangesAreCompared }
@@ -53,7 +55,9 @@ pub fn references_are_editable()
     ensures spelled { SpelledRefers }
 {}
 
-/// Edits keep this: a transaction that inserts only such items keeps it of every list, whatever attributes it sets, and where it is undone, joined with others or taken back under later ones, only such items are inserted. Fragments are such items.
+/// Edits keep this: a transaction that inserts only such items keeps it of every list, whatever attributes it
+/// sets, and where it is undone, joined with others or taken back under later ones, only such items are
+/// inserted. Fragments are such items.
 pub fn edits_keep_references()
     ensures edited { EditsRefer }
     ensures undone { InversesRefer }
@@ -65,7 +69,8 @@ pub fn edits_keep_references()
     ensures fragments { FragmentsRefer }
 {}
 
-/// A `data-mw` that is composed with another body is read as what it was with that body; so it is editable, of the same group and name, and has that body, where a forest spells the body's text.
+/// A `data-mw` that is composed with another body is read as what it was with that body; so it is editable,
+/// of the same group and name, and has that body, where a forest spells the body's text.
 pub fn composed_reads_back()
     ensures value { ComposedIsRead }
     ensures members { ComposedKeepsMembers }
@@ -77,7 +82,8 @@ pub fn composed_reads_back()
     ensures reuses { ComposedReuses }
 {}
 
-/// A reference is written as an element of its tag and its source, with the attributes of its head but for the composed `data-mw`; so the element is editable, of the same group and name, and has the body that the reference carries.
+/// A reference is written as an element of its tag and its source, with the attributes of its head but for the composed `data-mw`. So the
+/// element is editable, of the same group and name, and has the body that the reference carries, where a forest spells that body's text.
 pub fn reference_is_written()
     ensures written { ReferenceIsWritten }
     ensures body { ReferenceHasBody }
@@ -103,7 +109,9 @@ pub fn writes_fresh()
     ensures { WritesFresh }
 {}
 
-/// A page with another body that a forest spells opens with that body: its prefix and its suffix are found again. So does the page that is written of any list; and where the list is of the form above, and no node of it is kept, the whole page is read back as the list.
+/// A page with another body that a forest spells opens with that body: its prefix and its suffix are found
+/// again. So does the page that is written of any list; and where the list is of the form above, and no node
+/// of it is kept, the whole page is read back as the list.
 pub fn written_page_opens()
     ensures replaced { BodyIsReplaced }
     ensures opens { WrittenOpens }

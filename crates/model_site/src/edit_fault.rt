@@ -1,7 +1,8 @@
 // Why a transaction is not performed.
 use thiserror::Error;
 
-/// Why a transaction is not performed on a site's list. The causes come in this order; places count the items before them. Nothing has changed then.
+/// Why a transaction is not performed on a site's list. The causes come in this order; places count the items
+/// before them. Nothing has changed then.
 #[derive(Clone, Copy, Debug, PartialEq, Eq, Error)]
 pub enum EditFault {
     /// The retained and removed lengths add up to `needs`, and the list has `has` items.

@@ -1,5 +1,6 @@
-//! Sites that edit one page apart, and the server that orders what they send: what each event makes of a site, of the committed entries and of the
-//! queues between them. It knows no page text and no script. There are definitions in specs/, and the types that they answer:
+//! Sites that edit one page apart, and the server that orders what they send: what each event makes of a
+//! site, of the committed entries and of the queues between them. It knows no page text and no script. There
+//! are definitions in specs/, and the types that they answer:
 //!
 //! - `Replica`: a site's list with its store and selection, and what performing a transaction and taking one back makes of them;
 //! - `Causes`, `Refused`: why a transaction is not performed, and why a site does not undo, redo or send;

@@ -5,18 +5,21 @@ ghost use Rattle.model_site_law.specs.MayHappen.{EditMayRun};
 ghost use Rattle.model_site_law.specs.ItemLaws.{ItemsKeep};
 ghost use Rattle.model_site_law.specs.KeptLaws.{EventsKeep, HoldsAtFirst};
 
-/// Entries are joined over committed transactions up to the first conflict: the transactions of those kept join as one list, and with the next entry's
-/// they have that conflict. So an entry is refused or dropped exactly where it or an earlier one conflicts. Those kept run after a foreign entry, it
-/// runs, joined, after those kept, and either way gives one list. "Runs" is said of transactions that are reduced, apply one after the other, each
-/// leave a lawful list, and can be undone. Joined, none is longer than the list with all that both sides insert.
+/// Entries are joined over committed transactions up to the first conflict: the transactions of those kept
+/// join as one list, and with the next entry's they have that conflict. So an entry is refused or dropped
+/// exactly where it or an earlier one conflicts. Those kept run after a foreign entry, it runs, joined, after
+/// those kept, and either way gives one list. "Runs" is said of transactions that are reduced, apply one
+/// after the other, each leave a lawful list, and can be undone. Joined, none is longer than the list with
+/// all that both sides insert.
 pub fn entries_join()
     ensures first { JoinedUntilConflict }
     ensures agree { EntriesJoin }
     ensures within { EntriesWithin }
 {}
 
-/// A site's list is the replay of the committed entries that it has seen, of those it has sent and of those unsent, in this order. All of these run
-/// from the base, and so do all committed entries, although neither the server nor a take asks for it. So the list is lawful.
+/// A site's list is the replay of the committed entries that it has seen, of those it has sent and of those
+/// unsent, in this order. All of these run from the base, and so do all committed entries, although neither
+/// the server nor a take asks for it. So the list is lawful.
 pub fn lists_are_replays()
     ensures list { ListIsReplay }
     ensures runs { EntriesRun }
@@ -41,8 +44,8 @@ pub fn sites_meet()
     ensures { OneList }
 {}
 
-/// A site's store has every value that its list cites, also after an undo that follows a take, and has each once. The store that a list is opened with
-/// has them.
+/// A site's store has every value that its list cites, also after an undo that follows a take, and has each
+/// once. The store that a list is opened with has them.
 pub fn stores_hold()
     ensures first { FirstReplicaOpens }
     ensures always { StoreHolds }
@@ -50,7 +53,8 @@ pub fn stores_hold()
     ensures once { StoreIsDistinct }
 {}
 
-/// A selection that has moved through a transaction stands in the new list, with no end inside a leaf; so a site's selection always stands in its list.
+/// A selection that has moved through a transaction stands in the new list, with no end inside a leaf; so a
+/// site's selection always stands in its list.
 pub fn selections_stand()
     ensures first { FirstSelectionStands }
     ensures moved { MovedStands }
@@ -62,25 +66,28 @@ pub fn revokes_leave_out()
     ensures { RevokeLeavesOut }
 {}
 
-/// What is undone at once leaves list and store as they were, whatever happened before.
-/// A site that has taken nothing and has nothing pending has its first list and its first store. One that has taken nothing and has nothing undone
-/// may undo and redo, in any order; once nothing is undone again, its list and its store are as before.
+/// What is undone at once leaves list and store as they were, whatever happened before. A site that has taken
+/// nothing and has nothing pending has its first list and its first store. One that has taken nothing and has
+/// nothing undone may undo and redo, in any order; once nothing is undone again, its list and its store are
+/// as before.
 pub fn undo_gives_back()
     ensures once { UndoneAtOnce }
     ensures undone { UndoneIsFirst }
     ensures redone { RedoneIsAsBefore }
 {}
 
-/// What always holds of sites, queues and server together, in the terms that the code keeps: it holds at first, and each event that may happen keeps
-/// it. A transaction that a site does not refuse may be performed, if it is reduced and inserts names apart, as all transactions of that type are.
+/// What always holds of sites, queues and server together, in the terms that the code keeps: it holds at
+/// first, and each event that may happen keeps it. A transaction that a site does not refuse may be
+/// performed, if it is reduced and inserts names apart, as all transactions of that type are.
 pub fn events_keep()
     ensures first { HoldsAtFirst }
     ensures then { EventsKeep }
     ensures edits { EditMayRun }
 {}
 
-/// What holds of each item that is opened and of each that is inserted, and is kept where an attribute is set, holds of each item of every site's
-/// list: what is undone, redone, joined and taken back inserts no other items.
+/// What holds of each item that is opened and of each that is inserted, and is kept where an attribute is
+/// set, holds of each item of every site's list: what is undone, redone, joined and taken back inserts no
+/// other items.
 pub fn items_keep()
     ensures { ItemsKeep }
 {}

@@ -1,8 +1,10 @@
-//! What always holds of sites and server, over every list of events. It defines no event: those are `model_site`'s. There are definitions in specs/:
+//! What always holds of sites and server, over every list of events. It defines no event: those are
+//! `model_site`'s. There are definitions in specs/:
 //!
 //! - `Sound`: the lists and changes of which the laws speak;
-//! - `MayHappen`: which events they are of. What is performed is to be reduced, to apply, to leave a lawful list, and to insert no opening with two
-//!   attributes of one name; what is taken back is to be seen; all else may happen at any time. No limit on items or values is among the premises;
+//! - `MayHappen`: which events they are of. What is performed is to be reduced, to apply, to leave a lawful
+//!   list, and to insert no opening with two attributes of one name; what is taken back is to be seen; all
+//!   else may happen at any time. No limit on items or values is among the premises;
 //! - `Laws`: that each list is a replay, that sites meet, that stores hold what lists cite, what an undo and a revoke give back;
 //! - `Chain`, `Holds`, `Protocol`: what always holds of a store, of a site, and of sites, queues and server together;
 //! - `SelectionLaws`: where the ends of selections stand;

@@ -7,11 +7,11 @@ use Rattle.model_spelling.specs.Grammar.{is_tag_name, is_text, is_verbatim, are_
 use Rattle.ve_kinds.specs.Tags.{is_void, is_raw}
 use Rattle.model_spelling.specs.Reading.{token_at, between_at, Mode, Between, After, mode_after}
 use Rattle.model_spelling.specs.Tokens.{Placed, Tokens, with_placed, tokens_by, tokens_from, tokens_of, BeginsTag, ReadsTokens}
-use Rattle.model_spelling.specs.Forest.{Forest, Nothing, Text, Remark, Void, RawElement, Element, starts_with_text, spelling, is_forest}
+use Rattle.model_spelling.specs.Forest.{Forest, Nothing, Text, Remark, Void, RawElement, Element, starts_with_text, spelling, is_forest, then_forest}
 use Rattle.model_spelling.specs.Faults.{fault_in, fault_of}
 use Rattle.model_spelling.specs.Parsed.{Ending, first_forest, with_token, ending, forest_of}
 use Rattle.model_spelling.proofs.AttrReading.{and_left, and_right}
-use Rattle.model_spelling.proofs.ForestLaws.{then_forest, placed, tokens_in, fault_free, raw_not_void, not_true}
+use Rattle.model_spelling.proofs.ForestLaws.{placed, tokens_in, fault_free, raw_not_void, not_true}
 use Rattle.model_spelling.proofs.Only.{token_only, raw_only, raw_none, and_both}
 
 -- ---- a run as a function

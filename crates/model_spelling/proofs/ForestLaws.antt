@@ -8,19 +8,10 @@ use Rattle.model_spelling.specs.declared.scan_fault.ScanFault.{ScanFault}
 use Rattle.model_spelling.specs.Grammar.{Attr, Token, Start, End, Chars, Raw, Comment, token_text, start_text, end_text, name_same, is_text, is_verbatim, is_start, comment_close}
 use Rattle.ve_kinds.specs.Tags.{raw_tags, is_void, is_raw}
 use Rattle.model_spelling.specs.Tokens.{Placed}
-use Rattle.model_spelling.specs.Forest.{Forest, Nothing, Text, Remark, Void, RawElement, Element, starts_with_text, spelling, is_forest}
+use Rattle.model_spelling.specs.Forest.{Forest, Nothing, Text, Remark, Void, RawElement, Element, starts_with_text, spelling, is_forest, then_forest}
 use Rattle.model_spelling.specs.ForestNodes.{forest_size, forest_nodes}
 use Rattle.model_spelling.specs.Faults.{OpenElement, fault_in}
 use Rattle.model_spelling.proofs.AttrReading.{and_left, and_right}
-
--- one forest and then another
-abbrev pub then_forest : Forest → Forest → Forest
-then_forest Nothing g = g
-then_forest (Text text rest) g = Text text (then_forest rest g)
-then_forest (Remark text rest) g = Remark text (then_forest rest g)
-then_forest (Void name attrs slash rest) g = Void name attrs slash (then_forest rest g)
-then_forest (RawElement name attrs text rest) g = RawElement name attrs text (then_forest rest g)
-then_forest (Element name attrs children rest) g = Element name attrs children (then_forest rest g)
 
 after_part : (part : List ℕ) (rest g : Forest) → spelling (then_forest rest g) ≡ spelling rest ++ spelling g → part ++ spelling (then_forest rest g) ≡ (part ++ spelling rest) ++ spelling g
 after_part part rest g e = ap (λ (l : List ℕ). part ++ l) e ∙ sym (append_assoc part (spelling rest) (spelling g))

@@ -22,6 +22,15 @@ spelling (Void name attrs slash rest) = start_text name attrs slash ++ spelling 
 spelling (RawElement name attrs text rest) = start_text name attrs false ++ text ++ end_text name ++ spelling rest
 spelling (Element name attrs children rest) = start_text name attrs false ++ spelling children ++ end_text name ++ spelling rest
 
+-- one forest and then another
+abbrev pub then_forest : Forest → Forest → Forest
+then_forest Nothing g = g
+then_forest (Text text rest) g = Text text (then_forest rest g)
+then_forest (Remark text rest) g = Remark text (then_forest rest g)
+then_forest (Void name attrs slash rest) g = Void name attrs slash (then_forest rest g)
+then_forest (RawElement name attrs text rest) g = RawElement name attrs text (then_forest rest g)
+then_forest (Element name attrs children rest) g = Element name attrs children (then_forest rest g)
+
 abbrev pub starts_with_text : Forest → Bool
 starts_with_text (Text text rest) = true
 starts_with_text Nothing = false

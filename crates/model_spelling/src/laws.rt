@@ -24,7 +24,8 @@ pub fn forest_laws()
     ensures reads_right { ReadForestSpells }
 {}
 
-/// Each fault stands however the text goes on, or it is one of the text's end, and some text after it makes it go: U+0000 where something is unclosed, the rest of a reference or a doctype where the end cuts it.
+/// Each fault stands however the text goes on, or it is one of the text's end, and some text after it makes
+/// it go: U+0000 where something is unclosed, the rest of a reference or a doctype where the end cuts it.
 #[tactic(auto, using(crate::proofs::Proved::law_fault_stands, crate::proofs::Proved::law_unclosed_goes, crate::proofs::Proved::law_stands_or_goes, crate::proofs::Proved::law_cut_reference_goes, crate::proofs::Proved::law_cut_doctype_goes))]
 pub fn prefix_laws()
     ensures stands { FaultStands }
@@ -41,7 +42,8 @@ pub fn canonical_laws()
     ensures can_write { CanWrite }
 {}
 
-/// The body of a page lies in it, the three parts are the page, and in a whole page the body is what stands between its first body start tag and the last `</body>` after that, and nothing else.
+/// The body of a page lies in it, the three parts are the page, and in a whole page the body is what stands
+/// between its first body start tag and the last `</body>` after that, and nothing else.
 #[tactic(auto, using(crate::proofs::Proved::law_body_inside, crate::proofs::Proved::law_parts_are_the_page, crate::proofs::Proved::law_body_is_found))]
 pub fn page_laws()
     ensures inside { BodyInside }

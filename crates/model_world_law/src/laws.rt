@@ -43,9 +43,10 @@ pub fn every_world_is_reached()
     ensures { EveryWorldIsReached }
 {}
 
-/// So each site of every world has a sound list, the replay of what it has seen and made; it has seen no more than is
-/// committed; its store has what the list cites, and each value once; its selection stands in the list; the server's answers count what it still holds as sent; and with everything
-/// undone, and nothing taken, it has the page's items and the first store.
+/// So each site of every world has a sound list, the replay of what it has seen and made; it has seen no more
+/// than is committed; its store has what the list cites, and each value once; its selection stands in the
+/// list; the server's answers count what it still holds as sent; and with everything undone, and nothing
+/// taken, it has the page's items and the first store.
 pub fn every_site_holds()
     ensures { EverySiteHolds }
 {}

@@ -4,10 +4,10 @@ use Rattle.std.specs.Prelude.{slice_get, codes, bytes_eq}
 use Rattle.std.proofs.lemmas.Slice.Eq.{bytes_eq-Decides}
 use Rattle.model_spelling.specs.Grammar as g
 use Rattle.model_spelling.specs.Grammar.{Attr, name_same}
-use Rattle.model_spelling.specs.Forest.{Forest, Nothing, Text, Remark, Void, RawElement, Element, is_forest}
+use Rattle.model_spelling.specs.Forest.{Forest, Nothing, Text, Remark, Void, RawElement, Element, is_forest, then_forest}
 use Rattle.model_spelling.specs.ForestNodes.{ForestNode, forest_size}
 use Rattle.model_spelling.specs.Written.{decoded}
-use Rattle.model_spelling.proofs.ForestLaws.{then_forest, not_true}
+use Rattle.model_spelling.proofs.ForestLaws.{not_true}
 use Rattle.model_spelling.proofs.AttrReading.{and_left, and_right}
 use Rattle.model_spelling.proofs.Back.{raw_parts}
 use Rattle.ve_kinds.specs.declared.kind.Kind.{Kind}

@@ -1,11 +1,10 @@
 -- How groups are formed, from their first element on.
 use Rattle.std.proofs.Common.{◌≡◌, ℕ, ◌+◌, Bool, true, false, ◌&&◌, List, [], ◌∷◌, Option, Some, None, refl, sym, ap, ◌∙◌, arith, if◌then◌else◌}
 use Rattle.model_spelling.specs.Grammar.{Attr}
-use Rattle.model_spelling.specs.Forest.{Forest, Nothing, Text, Remark, Void, RawElement, Element}
+use Rattle.model_spelling.specs.Forest.{Forest, Nothing, Text, Remark, Void, RawElement, Element, then_forest}
 use Rattle.model_spelling.specs.ForestNodes.{forest_size}
 use Rattle.model_page.specs.Elements.{is_white, about_of, is_held}
 use Rattle.model_page.specs.Parts.{Parts, Ended, Words, Note, Group, Single, Parent, about_in, is_shared, with_held, parts_of}
-use Rattle.model_spelling.proofs.ForestLaws.{then_forest}
 use Rattle.ve_classify.specs.Standing.{rest_of, first_count}
 
 -- how many nodes of the parts go into a group of this `about` that stands before them

@@ -5,10 +5,10 @@ use Rattle.std.proofs.lemmas.List.{length-append, drop-drop}
 use Rattle.model_spelling.specs.Grammar as g
 use Rattle.model_spelling.specs.Grammar.{Attr, Comment, token_text, start_text, end_text, is_text, is_start, is_verbatim, comment_close}
 use Rattle.ve_kinds.specs.Tags.{is_void, is_raw}
-use Rattle.model_spelling.specs.Forest.{Forest, Nothing, Text, Remark, Void, RawElement, Element, starts_with_text, spelling, is_forest}
+use Rattle.model_spelling.specs.Forest.{Forest, Nothing, Text, Remark, Void, RawElement, Element, starts_with_text, spelling, is_forest, then_forest}
 use Rattle.model_spelling.specs.ForestNodes.{ForestNode, forest_size, single_node, forest_nodes}
 use Rattle.model_spelling.proofs.AttrReading.{and_right}
-use Rattle.model_spelling.proofs.ForestLaws.{then_forest, spelling_then, length_forest_nodes}
+use Rattle.model_spelling.proofs.ForestLaws.{spelling_then, length_forest_nodes}
 use Rattle.model_spelling.proofs.Back.{element_parts, raw_parts}
 use Rattle.ve_html_scan.specs.Shown.{ShowsToken}
 use Rattle.ve_html_tree.specs.Nodes.{ShowsNode, ShowNodes}

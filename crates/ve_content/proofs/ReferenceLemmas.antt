@@ -3,10 +3,10 @@ use Rattle.std.proofs.Common.{◌≡◌, ℕ, ◌+◌, Bool, true, false, ◌&&�
 use Rattle.std.specs.Prelude.{is_some, IfSome, chars}
 use Rattle.std.proofs.lemmas.Str.{encodes-chars}
 use Rattle.model_spelling.specs.Grammar.{Attr}
-use Rattle.model_spelling.specs.Forest.{Forest, Nothing, Text, Remark, Void, RawElement, Element, spelling}
+use Rattle.model_spelling.specs.Forest.{Forest, Nothing, Text, Remark, Void, RawElement, Element, spelling, then_forest}
 use Rattle.model_spelling.specs.ForestNodes.{ForestNode, forest_size}
 use Rattle.model_spelling.specs.Written.{decoded}
-use Rattle.model_spelling.proofs.ForestLaws.{then_forest, count_then}
+use Rattle.model_spelling.proofs.ForestLaws.{count_then}
 use Rattle.ve_base.specs.declared.head.RefKey.{RefKey}
 use Rattle.ve_base.specs.declared.marks.Mark.{Mark}
 use Rattle.ve_kinds.specs.declared.kind.Kind.TheVariants.{P}

@@ -29,8 +29,8 @@ use ve_store::Store;
 use ve_tree::Tree;
 use ve_tx::{Draft, Entry, Parcel, Transaction, TxList};
 
-/// A page's list, the values that its items cite, the tree of the list, and what is selected. It is seen as a site's replica: the list by value, the
-/// store as its values, and the selection.
+/// A page's list, the values that its items cite, the tree of the list, and what is selected. It is seen as a
+/// site's replica: the list by value, the store as its values, and the selection.
 #[derive(Drop)]
 pub struct Editor {
     list: Linear,
@@ -57,8 +57,8 @@ impl Editor {
     ghost use Rattle.ve_tx.specs.ByValue.{parcel_by_value, ParcelCites};
     ghost use Rattle.ve_editor.specs.Refusal.{IsEditRefusal};
 
-    /// An editor of a lawful list whose items cite values of the store, with the selection at the start. Its tree is built, in at most eight steps for
-    /// each node and sixteen more.
+    /// An editor of a lawful list whose items cite values of the store, with the selection at the start. Its
+    /// tree is built, in at most eight steps for each node and sixteen more.
     pub fn new<L: Ledger>(
         alloc: Global,
         list: Linear,
@@ -122,12 +122,14 @@ impl Editor {
         self.selection = selection;
     }
 
-    /// Performs a draft, and gives what it did as an entry. The store takes the draft's values and the heads that it changes; the selection moves with
-    /// the items; and the entry keeps where the attributes stood that it removes, so that it can be taken back.
+    /// Performs a draft, and gives what it did as an entry. The store takes the draft's values and the heads
+    /// that it changes; the selection moves with the items; and the entry keeps where the attributes stood
+    /// that it removes, so that it can be taken back.
     ///
-    /// It is refused by the first of these causes: the draft doesn't apply to the list, as `Transaction::change` says; the new list isn't lawful, at the
-    /// first place that fails; it would have over `MAX_ITEMS` items; the store would have over `MAX_VALUES` values. All memory is taken before anything
-    /// changes, and an `Err` changes nothing. A new tree is built only where no cause refuses it.
+    /// It is refused by the first of these causes: the draft doesn't apply to the list, as
+    /// `Transaction::change` says; the new list isn't lawful, at the first place that fails; it would have
+    /// over `MAX_ITEMS` items; the store would have over `MAX_VALUES` values. All memory is taken before
+    /// anything changes, and an `Err` changes nothing. A new tree is built only where no cause refuses it.
     pub fn perform<L: Ledger>(
         &mut self,
         draft: &Draft,
@@ -225,8 +227,8 @@ impl Editor {
         Ok(())
     }
 
-    /// Makes the reversal of transactions. That of one is made in place, and that of more on a copy, so that want of memory in the second leaves nothing
-    /// of the first.
+    /// Makes the reversal of transactions. That of one is made in place, and that of more on a copy, so that
+    /// want of memory in the second leaves nothing of the first.
     fn put_entry_back<L: Ledger>(
         &mut self,
         txs: &[Transaction],
@@ -247,7 +249,8 @@ impl Editor {
         Ok(())
     }
 
-    /// Performs a transaction that cites a list of values, applies and leaves a lawful list, and gives it as an entry keeps it. An `Err` changes nothing.
+    /// Performs a transaction that cites a list of values, applies and leaves a lawful list, and gives it as
+    /// an entry keeps it. An `Err` changes nothing.
     fn perform_other<L: Ledger>(
         &mut self,
         tx: &Transaction,
@@ -289,8 +292,8 @@ impl Editor {
         }
     }
 
-    /// Performs transactions that cite a list of values, one after the other, and gives them as an entry keeps them. An `Err` may leave some of them
-    /// performed.
+    /// Performs transactions that cite a list of values, one after the other, and gives them as an entry
+    /// keeps them. An `Err` may leave some of them performed.
     fn perform_others<L: Ledger>(
         &mut self,
         txs: &[Transaction],
@@ -311,8 +314,8 @@ impl Editor {
         Ok(kept)
     }
 
-    /// The same, and an `Err` changes nothing. One transaction is performed in place, and more on a copy, so that want of memory in the second leaves
-    /// nothing of the first.
+    /// The same, and an `Err` changes nothing. One transaction is performed in place, and more on a copy, so
+    /// that want of memory in the second leaves nothing of the first.
     fn admit_all<L: Ledger>(
         &mut self,
         txs: &[Transaction],
@@ -335,9 +338,10 @@ impl Editor {
         Ok(kept)
     }
 
-    /// Performs another's parcel, and gives it as an entry: the same transactions over this store, with the positions of the attributes that they remove,
-    /// and the lengths of the store before and after. It is asked that each transaction applies to what those before it leave, and leaves a lawful list;
-    /// the limits of items and of values don't bind it. An `Err` changes nothing.
+    /// Performs another's parcel, and gives it as an entry: the same transactions over this store, with the
+    /// positions of the attributes that they remove, and the lengths of the store before and after. It is
+    /// asked that each transaction applies to what those before it leave, and leaves a lawful list; the
+    /// limits of items and of values don't bind it. An `Err` changes nothing.
     pub fn admit<L: Ledger>(
         &mut self,
         parcel: &Parcel,
@@ -359,9 +363,10 @@ impl Editor {
         })
     }
 
-    /// Takes an entry back: its reversals are made, the last transaction's first, and the store takes the heads that they change. Where the entry's
-    /// values were the last of the store, they are cut off it. It is asked that the reversals apply one after the other and leave lawful lists, and that
-    /// where values are cut the list that is left cites none of them. An `Err` changes nothing.
+    /// Takes an entry back: its reversals are made, the last transaction's first, and the store takes the
+    /// heads that they change. Where the entry's values were the last of the store, they are cut off it. It
+    /// is asked that the reversals apply one after the other and leave lawful lists, and that where values
+    /// are cut the list that is left cites none of them. An `Err` changes nothing.
     pub fn revert<L: Ledger>(&mut self, entry: &Entry, steps: &mut Steps<L>) -> Result<(), Memory>
         requires cites { EntryCites self.old.store entry.now }
         requires stands { CanBeReverted (entry_by_value self.old.store entry.now) self.old }

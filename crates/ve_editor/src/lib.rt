@@ -1,13 +1,16 @@
-//! A page under edit: its list, the values that the items cite, the tree of the list and what is selected, which change together or not at all. It
-//! doesn't choose edits, and keeps no history: what is performed is given as an entry, which its owner can have taken back.
+//! A page under edit: its list, the values that the items cite, the tree of the list and what is selected,
+//! which change together or not at all. It doesn't choose edits, and keeps no history: what is performed is
+//! given as an entry, which its owner can have taken back.
 //!
-//! An `Editor` is seen as the model's `Replica` (model_site), by value. `perform` is the model's `performed`, with the entry `entry_of` and the refusal
-//! of `edit_cause`; `admit` is `all_performed` of another's parcel, with its `entry_of`; `revert` is `reverted`. Its type keeps that the list is lawful,
-//! that the tree is the list's, and that each value that is cited is in the store and of the sort that is asked for (`IsPage`).
+//! An `Editor` is seen as the model's `Replica` (model_site), by value. `perform` is the model's `performed`,
+//! with the entry `entry_of` and the refusal of `edit_cause`; `admit` is `all_performed` of another's parcel,
+//! with its `entry_of`; `revert` is `reverted`. Its type keeps that the list is lawful, that the tree is the
+//! list's, and that each value that is cited is in the store and of the sort that is asked for (`IsPage`).
 //!
-//! Definitions, in reading order: `Page` (what the type keeps), `Edited` (drafts and entries by value; what may be performed or taken back), `Refusal`
-//! (how a refusal names its cause). `Prepared` and `Rest` serve private functions: a change that needs no more memory, the law over a list's end. There
-//! is no law of its own: those of model_site_law hold by the clauses.
+//! Definitions, in reading order: `Page` (what the type keeps), `Edited` (drafts and entries by value; what
+//! may be performed or taken back), `Refusal` (how a refusal names its cause). `Prepared` and `Rest` serve
+//! private functions: a change that needs no more memory, the law over a list's end. There is no law of its
+//! own: those of model_site_law hold by the clauses.
 #![tactic(auto)]
 
 mod editor;

@@ -117,8 +117,8 @@ fn with_entry<L: Ledger>(
     Ok(Performing { entry, prepared })
 }
 
-/// Makes a draft ready to be performed on a page, or says why it is not performed. The store takes its values, and the list room; an `Err` may leave
-/// values after those that were there.
+/// Makes a draft ready to be performed on a page, or says why it is not performed. The store takes its
+/// values, and the list room; an `Err` may leave values after those that were there.
 pub fn ready<L: Ledger>(
     alloc: Global,
     list: &mut Linear,
@@ -159,8 +159,8 @@ pub fn ready<L: Ledger>(
     }
 }
 
-/// Makes a transaction ready that applies to a page and leaves it lawful. The store takes the heads that it changes, and the list room; an `Err` may
-/// leave values after those that were there.
+/// Makes a transaction ready that applies to a page and leaves it lawful. The store takes the heads that it
+/// changes, and the list room; an `Err` may leave values after those that were there.
 pub fn ready_back<L: Ledger>(
     alloc: Global,
     list: &mut Linear,
@@ -183,8 +183,8 @@ pub fn ready_back<L: Ledger>(
     }
 }
 
-/// Makes a transaction ready that cites a list of values, applies to a page and leaves it lawful. The store takes what it brings, and the list room; an
-/// `Err` may leave values after those that were there.
+/// Makes a transaction ready that cites a list of values, applies to a page and leaves it lawful. The store
+/// takes what it brings, and the list room; an `Err` may leave values after those that were there.
 pub fn ready_other<L: Ledger>(
     alloc: Global,
     list: &mut Linear,

@@ -68,8 +68,8 @@ fn may_end(list: &Linear, from: usize, before: State, at: usize) -> Result<(), L
     }
 }
 
-/// The law's verdict over what a page becomes by a change. The new items alone are gone through where they lead to the state in which those that they
-/// replace end; else all that follows them is, too.
+/// The law's verdict over what a page becomes by a change. The new items alone are gone through where they
+/// lead to the state in which those that they replace end; else all that follows them is, too.
 fn check_change(doc: Doc<'_>, change: &Change) -> Result<(), LawFault>
     requires doc { IsDoc doc }
     requires within { change.now.at + change.now.removed ≤ length doc.list.now.items }
@@ -90,8 +90,8 @@ fn check_change(doc: Doc<'_>, change: &Change) -> Result<(), LawFault>
     may_end(doc.list, end, state, change.at + items.len())
 }
 
-/// Whether a page may become what a change makes of it: the first cause why not, by the law, by the number of items and by the number of values. A
-/// length that no `usize` names is a want of memory like any other.
+/// Whether a page may become what a change makes of it: the first cause why not, by the law, by the number of
+/// items and by the number of values. A length that no `usize` names is a want of memory like any other.
 pub fn may_become(doc: Doc<'_>, change: &Change) -> Result<(), EditFault>
     requires doc { IsDoc doc }
     requires within { change.now.at + change.now.removed ≤ length doc.list.now.items }

@@ -41,7 +41,7 @@ fn attrs_at<'v>(store: &'v Store, new: &'v NewValues, id: ValueId) -> &'v [Attr]
 }
 
 /// The head that has these attributes and nothing else; none where it would be empty.
-fn cite_attrs(
+pub fn cite_attrs(
     alloc: Global,
     store: &Store,
     new: &mut NewValues,

@@ -24,7 +24,7 @@ mod tests;
 
 pub use attributes::present_value;
 pub use brackets::{is_unmatched, opening_round, partner, range_round, same_kind};
-pub use copies::copy_of;
+pub use copies::{cite_attrs, copy_of};
 pub use edits::Edits;
 pub use laws::values_may_grow;
 pub use openings::openings_round;

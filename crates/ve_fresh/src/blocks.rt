@@ -21,7 +21,8 @@ use ve_kinds::{Kind, is_content_branch, is_leaf};
 use ve_node_text::put_letter;
 use ve_nodes::{after_siblings, ends_at, siblings_end};
 
-/// Whether nodes of the kind hold blocks that are written. The internal list isn't written, since bodies are written where references carry them.
+/// Whether nodes of the kind hold blocks that are written. The internal list isn't written, since bodies are
+/// written where references carry them.
 fn holds_blocks(kind: Kind) -> bool
     ensures { result ≡ holds_blocks kind }
 {
@@ -158,8 +159,9 @@ fn put_block(
     }
 }
 
-/// Appends the blocks that begin at a place of the list, and says where they end: where their parent closes, or the list ends. A reference carries the body
-/// whose text is lent for its place, and is written without one where none is.
+/// Appends the blocks that begin at a place of the list, and says where they end: where their parent closes,
+/// or the list ends. A reference carries the body whose text is lent for its place, and is written without
+/// one where none is.
 pub fn put_blocks(
     alloc: Global,
     out: &mut Bytes,

@@ -116,7 +116,8 @@ fn begins_reference(text: &[u8]) -> bool
         || begins(text, b"&apos;")
 }
 
-/// The fault of the `&` at that place, which starts no reference. `unclosed` is the fault of a text that ends inside of one, where it isn't the `&`'s own.
+/// The fault of the `&` at that place, which starts no reference. `unclosed` is the fault of a text that ends
+/// inside of one, where it isn't the `&`'s own.
 #[tactic(auto, using(crate::proofs::Steps::reference_steps))]
 fn reference_refusal(bytes: &[u8], at: usize, unclosed: Option<ScanFault>) -> ScanFault
     requires { at ≤ length bytes.now }

@@ -1,4 +1,5 @@
-// What no clause says: that each call succeeds where there is memory. The texts are those of WHATWG HTML's serializing, and of a `data-mw` without a body.
+// What no clause says: that each call succeeds where there is memory. The texts are those of WHATWG HTML's
+// serializing, and of a `data-mw` without a body.
 use super::*;
 use std::alloc::Global;
 use std::test::*;

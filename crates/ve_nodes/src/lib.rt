@@ -3,12 +3,13 @@
 //! how that changes from one place to another, whatever values are cited and whatever bodies references carry.
 //!
 //! Definitions, in reading order:
-//! - `Siblings` in specs/: `ending_at`, the siblings that begin at a place and what follows each node that they stand in; `Ends`, the place where
-//!   siblings end; `SameOuter`, two places among the same siblings;
+//! - `Siblings` in specs/: `ending_at`, the siblings that begin at a place and what follows each node that
+//!   they stand in; `Ends`, the place where siblings end; `SameOuter`, two places among the same siblings;
 //! - `After`: what follows a node.
 //!
-//! No list has to be lawful: a closing that is missing is one without whitespace at the list's end. It knows no pages and writes nothing. There are
-//! no laws here. proofs/SiblingLemmas has what the item at a place says of the siblings there, for the crates above.
+//! No list has to be lawful: a closing that is missing is one without whitespace at the list's end. It knows
+//! no pages and writes nothing. There are no laws here. proofs/SiblingLemmas has what the item at a place
+//! says of the siblings there, for the crates above.
 #![tactic(auto)]
 
 mod ends;

@@ -7,8 +7,8 @@ pub fn items_decide_classes()
     ensures { ItemDecidesClass }
 {}
 
-/// The unmatched closings of a range close the innermost of the nodes that are open at its start, and its unmatched openings are those of the nodes
-/// that begin in it and are open at its end.
+/// The unmatched closings of a range close the innermost of the nodes that are open at its start, and its
+/// unmatched openings are those of the nodes that begin in it and are open at its end.
 #[tactic(auto, using(crate::proofs::OpenLemmas::unmatched_are_open))]
 pub fn unmatched_are_open()
     ensures { UnmatchedAreOpen }

@@ -79,8 +79,8 @@ fn state_within(doc: Doc<'_>, o: usize) -> State
     state
 }
 
-/// The open kinds at an offset, and whether the internal list was opened before it: the law's state after the items before the offset. It goes up
-/// from the innermost node round the offset, and reads no item.
+/// The open kinds at an offset, and whether the internal list was opened before it: the law's state after the
+/// items before the offset. It goes up from the innermost node round the offset, and reads no item.
 pub fn state_at(doc: Doc<'_>, o: usize) -> State
     requires doc { IsDoc doc }
     requires within { o ≤ length doc.list.now.items }

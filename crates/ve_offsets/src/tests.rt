@@ -103,7 +103,8 @@ fn every_kind_has_its_class(rt: HostRuntime) -> Result<(), Fail> {
     Ok(())
 }
 
-/// Whether each offset of a page lies in so many nodes and has this nearest content offset, and no other brackets than those of these nodes are unmatched before and after it.
+/// Whether each offset of a page lies in so many nodes and has this nearest content offset, and no other
+/// brackets than those of these nodes are unmatched before and after it.
 fn lie_in<L: Ledger>(
     rt: &HostRuntime,
     blank: Blank,

@@ -96,8 +96,9 @@ impl<'a> Origins<'a> {
         &self.page[span.from..span.to]
     }
 
-    /// Whether the node that begins at a place of a list has the items that were first read for the origin, the whitespace before it aside, and each
-    /// reference in it carries the body that it carried. `refs` is the table of the list. It stops at the first difference, and walks over lent pieces.
+    /// Whether the node that begins at a place of a list has the items that were first read for the origin,
+    /// the whitespace before it aside, and each reference in it carries the body that it carried. `refs` is
+    /// the table of the list. It stops at the first difference, and walks over lent pieces.
     pub fn kept(&self, k: u32, now: &Linear, from: usize, refs: &RefTable) -> bool
         requires number { k < length self.now.rows }
         requires within { from ≤ length now.now.items }

@@ -9,10 +9,10 @@ use Rattle.std.proofs.lemmas.Bool.{cases_lt}
 use Rattle.std.proofs.Common.{inl, inr, ◌⊎◌}
 use Rattle.model_spelling.specs.Grammar as g
 use Rattle.model_spelling.specs.Grammar.{Attr, Comment, token_text, start_text, end_text, is_text, is_start, is_verbatim, comment_close}
-use Rattle.model_spelling.specs.Forest.{Forest, Nothing, Text, Remark, Void, RawElement, Element, starts_with_text, spelling, is_forest}
+use Rattle.model_spelling.specs.Forest.{Forest, Nothing, Text, Remark, Void, RawElement, Element, starts_with_text, spelling, is_forest, then_forest}
 use Rattle.model_spelling.specs.ForestNodes.{ForestNode, forest_size}
 use Rattle.model_spelling.proofs.AttrReading.{and_right}
-use Rattle.model_spelling.proofs.ForestLaws.{then_forest, spelling_then, count_then}
+use Rattle.model_spelling.proofs.ForestLaws.{spelling_then, count_then}
 use Rattle.model_spelling.proofs.Back.{element_parts, raw_parts}
 use Rattle.model_page.specs.Elements.{is_held}
 use Rattle.model_page.specs.Parts.{Parts, Ended, Words, Note, Group, Single, Parent, parts_of}

@@ -6,10 +6,10 @@ use Rattle.std.proofs.lemmas.Str.{IsUtf8-nil, IsUtf8-drop, IsCharBoundary-before
 use Rattle.model_spelling.specs.Grammar.{Attr, Comment, token_text, start_text, end_text, attr_text, is_text, is_start, is_verbatim, comment_close, comment_open}
 use Rattle.std.specs.List.{flat_map}
 use Rattle.ve_kinds.specs.Tags.{is_void, is_raw}
-use Rattle.model_spelling.specs.Forest.{Forest, Nothing, Text, Remark, Void, RawElement, Element, Spells, starts_with_text, spelling, is_forest}
+use Rattle.model_spelling.specs.Forest.{Forest, Nothing, Text, Remark, Void, RawElement, Element, Spells, starts_with_text, spelling, is_forest, then_forest}
 use Rattle.model_spelling.specs.ForestNodes.{ForestNode, forest_nodes, forest_size}
 use Rattle.model_spelling.proofs.AttrReading.{and_left, and_right}
-use Rattle.model_spelling.proofs.ForestLaws.{then_forest, spelling_then, not_true}
+use Rattle.model_spelling.proofs.ForestLaws.{spelling_then, not_true}
 use Rattle.model_spelling.proofs.Back.{element_parts, raw_parts}
 use Rattle.ve_html_tree.specs.Nodes.{ShowNodes}
 use Rattle.ve_html_tree.specs.declared.node.Node.{Node}

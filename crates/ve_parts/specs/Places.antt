@@ -1,7 +1,6 @@
 -- Where siblings stand in a page's text, and where their first parts end.
-use Rattle.model_spelling.proofs.ForestLaws.{then_forest}
 use Rattle.std.specs.Prelude.{◌≡◌, ℕ, zero, suc, ◌+◌, ◌≤◌, Bool, true, List, [], ◌∷◌, ◌++◌, length, drop, IsUtf8}
-use Rattle.model_spelling.specs.Forest.{Forest, spelling}
+use Rattle.model_spelling.specs.Forest.{Forest, spelling, then_forest}
 use Rattle.model_spelling.specs.ForestNodes.{ForestNode, forest_size}
 use Rattle.model_page.specs.Parts.{parts_of}
 use Rattle.ve_html_tree.specs.declared.node.Node.{Node}

@@ -8,8 +8,8 @@ pub fn pieces_are_even()
     ensures insides { InsidesAreEven }
 {}
 
-/// Joined pieces are read one after the other, a node as its opening, what is in it, and its closing, and what stands inside of a mark before the mark
-/// is left.
+/// Joined pieces are read one after the other, a node as its opening, what is in it, and its closing, and
+/// what stands inside of a mark before the mark is left.
 #[tactic(auto, using(crate::proofs::JoinLemmas::pieces_join, crate::proofs::JoinLemmas::nodes_join, crate::proofs::JoinLemmas::marks_are_left))]
 pub fn pieces_join()
     ensures pieces { PiecesJoin }

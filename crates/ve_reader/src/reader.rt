@@ -253,7 +253,8 @@ impl Reader {
         replace(&mut self.owners, Owners::new(self.alloc))
     }
 
-    /// All that was read: the items over the values that they cite, each once and in the order in which the items cite them, and a row for each origin.
+    /// All that was read: the items over the values that they cite, each once and in the order in which the
+    /// items cite them, and a row for each origin.
     pub fn into_parts(self) -> Result<ReadParts, Memory>
         ensures items { IfOk result (λ parts. plain_list parts.values parts.list.items ≡ self.items) }
         ensures values { IfOk result (λ parts. parts.values ≡ fill [] (cited self.items)) }

@@ -26,8 +26,9 @@ fn is_run(words: &[Text]) -> bool
 
 /// Reads lines, steps the machine with each, and writes each reply before the next step.
 ///
-/// The words are those after the program's name. With the one word `run` at most [`MAX_SCRIPT`](ve_base::MAX_SCRIPT) bytes and one more are taken from the
-/// source, and each reply is written as one piece with its newline. With other words the usage line is written.
+/// The words are those after the program's name. With the one word `run` at most
+/// [`MAX_SCRIPT`](ve_base::MAX_SCRIPT) bytes and one more are taken from the source, and each reply is
+/// written as one piece with its newline. With other words the usage line is written.
 pub fn run<S: Source, K: Sink, M: Machine, L: Ledger>(
     alloc: Global,
     words: &[Text],

@@ -1,10 +1,12 @@
 //! The server, which puts the entries of all sites into one order, and what goes between sites and server.
 //!
-//! - `Parcels` are entries as they travel, seen by value; each cites its own values, by the type. `Submit` is what a site sends, `Feed` what the server
-//!   sends (specs/Fed.antt).
-//! - `Server` is seen as the committed entries and the queue to each site (specs/Serving.antt). `serve` commits the entries of a submission before its
-//!   first conflict and feeds each site; `feed` takes the next feed of a site.
-//! - A queue can hold staged feeds, which no view of the server shows (specs/Waiting.antt): so what `serve` has begun is undone by nothing at all.
+//! - `Parcels` are entries as they travel, seen by value; each cites its own values, by the type. `Submit` is
+//!   what a site sends, `Feed` what the server sends (specs/Fed.antt).
+//! - `Server` is seen as the committed entries and the queue to each site (specs/Serving.antt). `serve`
+//!   commits the entries of a submission before its first conflict and feeds each site; `feed` takes the next
+//!   feed of a site.
+//! - A queue can hold staged feeds, which no view of the server shows (specs/Waiting.antt): so what `serve`
+//!   has begun is undone by nothing at all.
 //!
 //! It knows neither lists nor stores, and reads no value.
 //!

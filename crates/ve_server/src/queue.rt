@@ -10,8 +10,8 @@ use std::collections::VecDeque;
 use std::marker::Model;
 use ve_base::Memory;
 
-/// What a site is to be fed, first in and first out. Behind it there may be feeds that are staged: these can be dropped, or released without memory, so
-/// that several queues are fed together or not at all.
+/// What a site is to be fed, first in and first out. Behind it there may be feeds that are staged: these can
+/// be dropped, or released without memory, so that several queues are fed together or not at all.
 #[derive(Drop)]
 pub struct Queue {
     feeds: VecDeque<Feed>,

@@ -47,7 +47,8 @@ fn accepted(
     Ok((Parcels::from_list(kept), clash))
 }
 
-/// What the site at a place is fed when entries of the sender are accepted: the sender their number, any other site the entries, if there is one.
+/// What the site at a place is fed when entries of the sender are accepted: the sender their number, any
+/// other site the entries, if there is one.
 fn feed_for(
     alloc: Global,
     sender: usize,
@@ -113,9 +114,10 @@ impl Server {
         &self.committed
     }
 
-    /// Joins a submission's entries, one after the other, over those committed since its base. At the first conflict that entry and the rest are
-    /// refused. The accepted ones are committed; the sender is told their number, and each other site gets them, if there is one. The answer says how
-    /// many were accepted of how many, and which ranges are in conflict.
+    /// Joins a submission's entries, one after the other, over those committed since its base. At the first
+    /// conflict that entry and the rest are refused. The accepted ones are committed; the sender is told
+    /// their number, and each other site gets them, if there is one. The answer says how many were accepted
+    /// of how many, and which ranges are in conflict.
     ///
     /// Only memory can be short, and then nothing changes.
     pub fn serve(&mut self, submit: &Submit) -> Result<Served, Memory>

@@ -6,9 +6,9 @@ use Rattle.std.proofs.lemmas.List.{length-append}
 use Rattle.std.proofs.lemmas.List.Folds.{list_all-append}
 use Rattle.model_spelling.specs.Grammar as g
 use Rattle.model_spelling.specs.Grammar.{Attr, Comment, token_text, start_text, end_text}
-use Rattle.model_spelling.specs.Forest.{Forest, Nothing, Text, Remark, Void, RawElement, Element, starts_with_text, spelling}
+use Rattle.model_spelling.specs.Forest.{Forest, Nothing, Text, Remark, Void, RawElement, Element, starts_with_text, spelling, then_forest}
 use Rattle.model_spelling.specs.ForestNodes.{ForestNode, forest_size}
-use Rattle.model_spelling.proofs.ForestLaws.{then_forest, spelling_then}
+use Rattle.model_spelling.proofs.ForestLaws.{spelling_then}
 use Rattle.model_page.specs.Elements.{is_white, is_white_char}
 use Rattle.model_page.specs.Parts.{Parts, Ended, Words, Note, Group, Single, Parent, parts_of, source_of, with_held}
 use Rattle.model_page.specs.Fit.{Flow, has_inline_tags}

@@ -19,8 +19,8 @@ use ve_history::History;
 use ve_server::Submit;
 use ve_tx::{Draft, Entry, EntryList, Parcel};
 
-/// A site: its editor, the entries that it sent and has no answer for, those that it has not sent, and what it undid. It is seen as its number beside
-/// the model's site.
+/// A site: its editor, the entries that it sent and has no answer for, those that it has not sent, and what
+/// it undid. It is seen as its number beside the model's site.
 #[derive(Drop)]
 pub struct Site {
     number: u32,
@@ -114,7 +114,8 @@ impl Site {
         self.editor.select(selection);
     }
 
-    /// Performs a draft as a new entry; what was undone can't be redone then. It is refused as `Editor::perform` refuses, and an `Err` changes nothing.
+    /// Performs a draft as a new entry; what was undone can't be redone then. It is refused as
+    /// `Editor::perform` refuses, and an `Err` changes nothing.
     pub fn edit<L: Ledger>(&mut self, draft: &Draft, steps: &mut Steps<L>) -> Result<(), EditFault>
         requires draft { IsDraftOf self.old.site.replica.store draft.now }
         requires apart { InsertedApart (drafted self.old.site.replica.store draft.now) }
@@ -134,8 +135,9 @@ impl Site {
         Ok(())
     }
 
-    /// Takes a changed copy of its editor in the place of its own, and the entry that the changes are: edits that were performed one after the other
-    /// and are one, as a batch is. What was undone can't be redone then. An `Err` changes nothing.
+    /// Takes a changed copy of its editor in the place of its own, and the entry that the changes are: edits
+    /// that were performed one after the other and are one, as a batch is. What was undone can't be redone
+    /// then. An `Err` changes nothing.
     pub fn settle(&mut self, editor: Editor, entry: Entry) -> Result<(), Memory>
         ghost ts: { List Transaction }
         requires may { AllMayRun ts self.old.site.replica.items }
@@ -152,8 +154,9 @@ impl Site {
         Ok(())
     }
 
-    /// Takes back the last entry that is not sent. It can be redone until something else is done or taken. Where nothing is unsent, `NothingToUndo`
-    /// comes exactly if the site sent no entry since the page was opened, and `AlreadyShared` exactly if it did. An `Err` changes nothing.
+    /// Takes back the last entry that is not sent. It can be redone until something else is done or taken.
+    /// Where nothing is unsent, `NothingToUndo` comes exactly if the site sent no entry since the page was
+    /// opened, and `AlreadyShared` exactly if it did. An `Err` changes nothing.
     pub fn undo<L: Ledger>(&mut self, steps: &mut Steps<L>) -> Result<(), UndoFault>
         ensures site { OnOk result (undo self.old.site ≡ Ok self.new.site) }
         ensures number { self.new.number ≡ self.old.number }
@@ -177,8 +180,8 @@ impl Site {
         Ok(())
     }
 
-    /// Performs again what was undone last, as a new entry. `NothingToRedo` comes exactly where nothing was undone since the last edit or take that was
-    /// not redone. An `Err` changes nothing.
+    /// Performs again what was undone last, as a new entry. `NothingToRedo` comes exactly where nothing was
+    /// undone since the last edit or take that was not redone. An `Err` changes nothing.
     pub fn redo<L: Ledger>(&mut self, steps: &mut Steps<L>) -> Result<(), RedoFault>
         ensures site { OnOk result (redo self.old.site ≡ Ok self.new.site) }
         ensures number { self.new.number ≡ self.old.number }
@@ -199,8 +202,9 @@ impl Site {
         Ok(())
     }
 
-    /// Sends all entries that are not sent, as one submission made on the committed entries that it has seen. `InFlight` comes exactly where a submission
-    /// is not acknowledged yet, and else `NothingToSend` exactly where nothing is unsent. An `Err` changes nothing.
+    /// Sends all entries that are not sent, as one submission made on the committed entries that it has seen.
+    /// `InFlight` comes exactly where a submission is not acknowledged yet, and else `NothingToSend` exactly
+    /// where nothing is unsent. An `Err` changes nothing.
     pub fn send(&mut self) -> Result<Submit, SendFault>
         ensures sent { IfOk result (λ sent. send self.old.site ≡ Ok (self.new.site, submission_of sent)) }
         ensures from { IfOk result (λ sent. sent.site ≡ self.old.number) }

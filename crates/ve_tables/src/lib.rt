@@ -6,11 +6,12 @@
 //! ve_grid. A change goes once over the cells, in the order of the table, which is the order of their places; new cells
 //! cite no value. Nothing is written, and no other builder is known.
 //!
-//! Definitions, in reading order: `Refused` (how a table is refused), and for private functions `Rows` (nodes just inside
-//! another by their places, the rows of a table, and the cells of one placed after those before), `Asked` (what is asked of
-//! cells, and the causes that refuse each call), `Covered` (which places the cells of rows cover), `Fresh` (the new cells of a row) and `PartWay` (how far the edits of a
-//! change are collected). What a grid is, and a change of it, stands in `model_edit`'s `Grid` and `Tables`. It has no law
-//! of its own: those of `model_edit_law` hold of the results by the clauses.
+//! Definitions, in reading order: `Refused` (how a table is refused), and for private functions `Rows` (nodes
+//! just inside another by their places, the rows of a table, and the cells of one placed after those before),
+//! `Asked` (what is asked of cells, and the causes that refuse each call), `Covered` (which places the cells
+//! of rows cover), `Fresh` (the new cells of a row) and `PartWay` (how far the edits of a change are
+//! collected). What a grid is, and a change of it, stands in `model_edit`'s `Grid` and `Tables`. It has no
+//! law of its own: those of `model_edit_law` hold of the results by the clauses.
 #![tactic(auto)]
 
 mod asked;

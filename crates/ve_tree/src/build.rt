@@ -54,8 +54,8 @@ fn pass_run(rest: &mut Unread<'_>) -> usize
     end - rest.left()
 }
 
-/// Reads the siblings that come next, and makes them the children of their parent, which has none yet. What is left ends with the parent's opening, or is
-/// nothing.
+/// Reads the siblings that come next, and makes them the children of their parent, which has none yet. What
+/// is left ends with the parent's opening, or is nothing.
 pub fn read_children<L: Ledger>(
     arena: &mut Arena,
     rest: &mut Unread<'_>,

@@ -41,8 +41,8 @@ fn shorten(lens: &mut Lengths, k: usize, by: usize)
     }
 }
 
-/// Some nodes of a tree in the order of their starts, each with how far its start is from that of the one before, seen as these two lists. Where they are
-/// dense, look-ups are short; no contract asks for that.
+/// Some nodes of a tree in the order of their starts, each with how far its start is from that of the one
+/// before, seen as these two lists. Where they are dense, look-ups are short; no contract asks for that.
 #[derive(Drop)]
 pub struct Landmarks {
     nodes: Vec<NodeId>,
@@ -121,8 +121,8 @@ impl Landmarks {
         Some((self.nodes[k], self.gaps.start(k + 1)))
     }
 
-    /// One more, before the one with that number, or at the end. It begins so far after the start of the one before it, and the one after it begins
-    /// where it did.
+    /// One more, before the one with that number, or at the end. It begins so far after the start of the one
+    /// before it, and the one after it begins where it did.
     pub fn insert(&mut self, k: usize, n: NodeId, gap: usize) -> Result<(), Memory>
         requires among { k ≤ length self.old.nodes }
         requires space { HasSpace self.old.gaps k gap }

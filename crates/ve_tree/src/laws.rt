@@ -3,9 +3,11 @@ ghost use Rattle.ve_tree.specs.Fits.{TreeFits, FitsAreTree};
 ghost use Rattle.ve_tree.specs.Nodes.{LinksLeadToNodes, NodesAreInTree};
 ghost use Rattle.ve_tree.specs.Reads.{TreeIsRead, ReadIsTree, OneIsRead, OneNumbering};
 
-/// Linked nodes are the tree of a list exactly where the list's tree is read under the root, by first child and next sibling, with parent, sibling before,
-/// last child and length agreeing, and no node stands besides. From one node on one forest is read. So the links decide which node is which of the
-/// tree's, and the list but for its characters, heads and marks.
+/// Linked nodes are the tree of a list exactly where the list's tree is read under the root, by first child
+/// and next sibling, with parent, sibling before, last child and length agreeing, and no node stands besides.
+/// From one node on one forest is read. So the links decide which node is which of the tree's, and which
+/// items are characters, openings and closings of which kinds; characters, heads, marks, whitespace, origins
+/// and the flag generated stand in no link.
 pub fn links_are_read()
     ensures tree { TreeIsRead }
     ensures read { ReadIsTree }
@@ -13,15 +15,15 @@ pub fn links_are_read()
     ensures numbering { OneNumbering }
 {}
 
-/// Linked nodes are the tree of a list exactly where the links of each node fit a list of its children: from such lists, however they are kept, the tree
-/// is known, and of each tree there are such lists.
+/// Linked nodes are the tree of a list exactly where the links of each node fit a list of its children: from
+/// such lists, however they are kept, the tree is known, and of each tree there are such lists.
 pub fn children_lists_fit()
     ensures tree { TreeFits }
     ensures lists { FitsAreTree }
 {}
 
-/// In a tree every link of a node leads to a node, and every node of the arena is one of the tree's. So who asks for the range of a node has to know only
-/// that it is there.
+/// In a tree every link of a node leads to a node, and every node of the arena is one of the tree's. So who
+/// asks for the range of a node has to know only that it is there.
 pub fn nodes_are_linked()
     ensures links { LinksLeadToNodes }
     ensures nodes { NodesAreInTree }

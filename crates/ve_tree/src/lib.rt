@@ -1,16 +1,19 @@
-//! The tree of a page's flat list, kept as linked nodes: a node for each opening with its closing, one for each longest run of characters, and the
-//! root over all. After the document tree of VisualEditor's `ve.dm`.
+//! The tree of a page's flat list, kept as linked nodes: a node for each opening with its closing, one for
+//! each longest run of characters, and the root over all. After the document tree of VisualEditor's `ve.dm`.
 //!
-//! It knows a node's kind, length and links, and of some nodes, the landmarks, where they begin. It doesn't know the items: no call but `build` and `build_spliced` reads one.
-//! A look-up begins at the landmark before the offset and goes along siblings, up at the end of a row, and down; a node's range is found by going left and
-//! up to the next landmark. Landmarks are hints: what is proved of them is that they are true. That they are near is how `build` puts them; one walk
-//! fills the gap after any of them, so a change can fill the places that it made thin.
+//! It knows a node's kind, length and links, and of some nodes, the landmarks, where they begin. It doesn't
+//! know the items: no call but `build` and `build_spliced` reads one. A look-up begins at the landmark before
+//! the offset and goes along siblings, up at the end of a row, and down; a node's range is found by going
+//! left and up to the next landmark. Landmarks are hints: what is proved of them is that they are true. That
+//! they are near is how `build` puts them; one walk fills the gap after any of them, so a change can fill the
+//! places that it made thin.
 //!
-//! Definitions, in reading order: `Links` and `Named` (links, forests with numbers), `IsTree` (linked nodes are the tree of a list), `Places` (where nodes
-//! begin and end), `Landmarks`, `TreeOf` (what each call asks of a tree), `Spots`
-//! (the innermost node round an offset with its child there). `Grown`, `Lent`, `Way` and `Gaps` serve private functions: how a tree is built, how a
-//! list is read from its end, how far nodes lie before an offset, what lies between two landmarks. Laws: `links_are_read` (`Reads`), `children_lists_fit` (`Fits`), `nodes_are_linked`
-//! (`Nodes`).
+//! Definitions, in reading order: `Links` and `Named` (links, forests with numbers), `IsTree` (linked nodes
+//! are the tree of a list), `Places` (where nodes begin and end), `Landmarks`, `TreeOf` (what each call asks
+//! of a tree), `Spots` (the innermost node round an offset with its child there). `Grown`, `Lent`, `Way` and
+//! `Gaps` serve private functions: how a tree is built, how a list is read from its end, how far nodes lie
+//! before an offset, what lies between two landmarks. Laws: `links_are_read` (`Reads`), `children_lists_fit`
+//! (`Fits`), `nodes_are_linked` (`Nodes`).
 #![tactic(auto)]
 
 mod build;

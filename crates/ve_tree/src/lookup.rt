@@ -106,8 +106,9 @@ pub fn spot_near(tree: &Tree, near: NodeId, left: usize, o: usize) -> Spot
     }
 }
 
-/// The node that begins next after the end of a node, which ends so many items before the list's end: the next sibling of the innermost node round it
-/// that has one. And how many items lie from its start to the list's end.
+/// The node that begins next after the end of a node, which ends so many items before the list's end: the
+/// next sibling of the innermost node round it that has one. And how many items lie from its start to the
+/// list's end.
 pub fn following(arena: &Arena, root: NodeId, n: NodeId, left: usize) -> Option<(NodeId, usize)>
     requires tree { IsSomeTree arena.now root }
     requires ends { EndsBeforeEnd arena.now root n left }

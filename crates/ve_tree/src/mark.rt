@@ -23,8 +23,8 @@ fn first_ahead(arena: &Arena, root: NodeId) -> Option<(NodeId, usize)>
     Some((first, top.len))
 }
 
-/// The node to look at after one: its first child, if it is long, else the one that begins next after its end. And how many items lie from its start to the
-/// list's end.
+/// The node to look at after one: its first child, if it is long, else the one that begins next after its
+/// end. And how many items lie from its start to the list's end.
 fn next_ahead(arena: &Arena, root: NodeId, n: NodeId, left: usize) -> Option<(NodeId, usize)>
     requires tree { IsSomeTree arena.now root }
     requires begins { IsBeforeEnd arena.now root n left }
@@ -40,8 +40,8 @@ fn next_ahead(arena: &Arena, root: NodeId, n: NodeId, left: usize) -> Option<(No
     following(arena, root, n, left - node.len)
 }
 
-/// The part of a list between two landmarks: the number of the second, and how many items lie from the start of each to the list's end. After the last one
-/// it goes to the list's end.
+/// The part of a list between two landmarks: the number of the second, and how many items lie from the start
+/// of each to the list's end. After the last one it goes to the list's end.
 #[derive(Clone, Copy)]
 pub struct Gap {
     pub next: usize,
@@ -114,8 +114,9 @@ fn offer(
     })
 }
 
-/// Puts landmarks into the gap after one: each node that ends more than a stride after the landmark before it, going along siblings, and into each node
-/// that is longer than a stride. Where there is no memory for one, there are no more: they are needed for speed alone.
+/// Puts landmarks into the gap after one: each node that ends more than a stride after the landmark before
+/// it, going along siblings, and into each node that is longer than a stride. Where there is no memory for
+/// one, there are no more: they are needed for speed alone.
 pub fn thicken(marks: &mut Landmarks, arena: &Arena, root: NodeId, k: usize)
     requires tree { IsSomeTree arena.now root }
     requires are { AreLandmarks arena.now root marks.old }

@@ -25,7 +25,8 @@ struct NodeRow {
     range: (usize, usize),
 }
 
-/// The node that starts next after a node, which stands at a depth: its first child, or the next sibling of the innermost node round it that has one.
+/// The node that starts next after a node, which stands at a depth: its first child, or the next sibling of
+/// the innermost node round it that has one.
 fn next_node(tree: &Tree, n: NodeId, depth: usize) -> Option<(NodeId, usize)>
     requires tree { HasOffset tree.now 0 }
     requires live { IsLive tree.now.arena n }
@@ -197,7 +198,8 @@ struct Walked {
     misplaced: usize,
 }
 
-/// Counts the nodes, and asks for the range of some: the nodes after the root are a paragraph and its text by turns, and a paragraph takes three items.
+/// Counts the nodes, and asks for the range of some: the nodes after the root are a paragraph and its text by
+/// turns, and a paragraph takes three items.
 fn walk(tree: &Tree) -> Walked
     requires { HasOffset tree.now 0 }
 {

@@ -6,8 +6,9 @@ ghost use Rattle.ve_tree.specs.Lent.{IsEndPiece};
 use std::marker::Model;
 use ve_items::{Item, Linear};
 
-/// What is still to be read of a list that is read from its end, seen as the list's items and the number of those that are still to be read. The list
-/// is what another one becomes when items take the place of one of its ranges. It is lent in pieces, each of them once.
+/// What is still to be read of a list that is read from its end, seen as the list's items and the number of
+/// those that are still to be read. The list is what another one becomes when items take the place of one of
+/// its ranges. It is lent in pieces, each of them once.
 #[derive(Drop)]
 pub struct Unread<'a> {
     list: &'a Linear,

@@ -44,7 +44,8 @@ fn notes_at(list: &Linear) -> usize
     at
 }
 
-/// Where the internal item opens whose body a reference carries. One that stands past the opening of the internal list is in it, and carries none.
+/// Where the internal item opens whose body a reference carries. One that stands past the opening of the
+/// internal list is in it, and carries none.
 fn carried_at(row: &RefRow, notes: usize) -> Option<usize>
     ensures { result ≡ carried_outside notes row.now }
 {
