@@ -42,11 +42,11 @@ use Rattle.ve_reader.specs.declared.purpose.ReadStop.{ReadStop}
 use Rattle.ve_reader.specs.declared.reader.NewOwner.{NewOwner}
 use Rattle.ve_reader.specs.ReadSoFar.{ReadSoFar, place_in, with_piece, owned_at}
 use Rattle.ve_reader.specs.Stops.{Stops, depth_limit, deep_in}
-use Rattle.ve_content.specs.Content.{with_content, content_limit, kept_leaf}
+use Rattle.ve_content.specs.Content.{with_content, content_limit, whole_leaf}
 use Rattle.ve_content.specs.Parts.{OfPart, SomeElement}
 use Rattle.ve_content.specs.References.{IsClaimed, OfElement, ReadsClaim, claim_limit, new_owner, claimed_group, claimed_node, ref_leaf}
 use Rattle.ve_content.proofs.ElementLemmas.{element_token}
-use Rattle.ve_content.proofs.PartLemmas.{token_is, no_text, no_tag, text_part, text_adds, leaf_part, NoReference, kept_adds, not_generated, group_part, ref_adds, Adds, is_content_fit, content_fits}
+use Rattle.ve_content.proofs.PartLemmas.{token_is, no_text, no_tag, text_part, text_adds, leaf_part, NoReference, whole_adds, not_generated, group_part, ref_adds, Adds, is_content_fit, content_fits}
 use Rattle.ve_content.proofs.ReferenceLemmas.{claimed_one, unclaimed, group_end, stands_alone}
 
 pub on_ok_map : {A E P Q : Type 0} → (r : Result A E) → (P → Q) → OnOk r P → OnOk r Q
@@ -127,9 +127,9 @@ first_same (Single name attrs source rest) = refl
 first_same (Parent name attrs children rest) = refl
 
 module _ (text : List ℕ) (nodes : List Node) (n end byte : ℕ) (x : Node) (kind : Kind) (source : List ℕ) (head : Head) (old : ReadSoFar) (is : slice_get nodes n ≡ Some x) (sources : IsPartSource text nodes n end byte source) (heads : head ≡ whole_head source) where
-  kept_is : (f : Forest) (at : ℕ) (more : List ForestNode) → StandsIn text nodes n at f more → has_node f ≡ true → PartEnds text nodes n at f more end byte →
-      leaf kind head old.marks (record { from = x.span.from; to = byte }) ≡ kept_leaf kind (take_parts 1 (parts_of f)) at old
-  kept_is f at more s some part =
+  whole_leaf_is : (f : Forest) (at : ℕ) (more : List ForestNode) → StandsIn text nodes n at f more → has_node f ≡ true → PartEnds text nodes n at f more end byte →
+      leaf kind head old.marks (record { from = x.span.from; to = byte }) ≡ whole_leaf kind (take_parts 1 (parts_of f)) at old
+  whole_leaf_is f at more s some part =
       let whole = sources f at more s some part in
       let spans = span_is text nodes n at f more end byte x old s some part is in
       let first = first_same (parts_of f) in
@@ -137,22 +137,22 @@ module _ (text : List ℕ) (nodes : List Node) (n end byte : ℕ) (x : Node) (ki
       ∙ (λ j. leaf kind (whole_head (whole j)) old.marks (source_span (place_in old at) (first_source (parts_of f))))
       ∙ sym (λ j. leaf kind (whole_head (first j)) old.marks (source_span (place_in old at) (first j)))
 
-  pub kept_read : (new : ReadSoFar) → new ≡ with_piece (leaf kind head old.marks (record { from = x.span.from; to = byte })) [] old → OfPart text nodes n end byte (λ parts at. new ≡ with_piece (kept_leaf kind parts at old) [] old)
-  kept_read new reads = λ f at more s some part. reads ∙ ap (λ p. with_piece p [] old) (kept_is f at more s some part)
+  pub whole_read : (new : ReadSoFar) → new ≡ with_piece (leaf kind head old.marks (record { from = x.span.from; to = byte })) [] old → OfPart text nodes n end byte (λ parts at. new ≡ with_piece (whole_leaf kind parts at old) [] old)
+  whole_read new reads = λ f at more s some part. reads ∙ ap (λ p. with_piece p [] old) (whole_leaf_is f at more s some part)
 
-  pub kept_stops : {A : Type 0} (result : Result A ReadStop) → Stops result (deep_in old (leaf kind head old.marks (record { from = x.span.from; to = byte }))) → OfPart text nodes n end byte (λ parts at. Stops result (deep_in old (kept_leaf kind parts at old)))
-  kept_stops result stops = λ f at more s some part. subst (λ p. Stops result (deep_in old p)) (kept_is f at more s some part) stops
+  pub whole_stops : {A : Type 0} (result : Result A ReadStop) → Stops result (deep_in old (leaf kind head old.marks (record { from = x.span.from; to = byte }))) → OfPart text nodes n end byte (λ parts at. Stops result (deep_in old (whole_leaf kind parts at old)))
+  whole_stops result stops = λ f at more s some part. subst (λ p. Stops result (deep_in old p)) (whole_leaf_is f at more s some part) stops
 
 -- it is what the part is, where that is no reference
 module _ (text : List ℕ) (nodes : List Node) (n end byte : ℕ) (kind : Kind) (old : ReadSoFar) (fit : IsFit nodes n around.Content (fits.Whole kind)) where
-  whole_is : (f : Forest) (at : ℕ) (more : List ForestNode) → StandsIn text nodes n at f more → has_node f ≡ true → NoReference (parts_of f) at old → Adds (parts_of f) at old (kept_leaf kind (take_parts 1 (parts_of f)) at old) []
-  whole_is f at more s some plain = kept_adds (parts_of f) at old kind (parted f some) (fit f at more s.stands some) plain
+  whole_is : (f : Forest) (at : ℕ) (more : List ForestNode) → StandsIn text nodes n at f more → has_node f ≡ true → NoReference (parts_of f) at old → Adds (parts_of f) at old (whole_leaf kind (take_parts 1 (parts_of f)) at old) []
+  whole_is f at more s some plain = whole_adds (parts_of f) at old kind (parted f some) (fit f at more s.stands some) plain
 
-  pub whole_read : (new : ReadSoFar) → (kind ≡ TransInline → ⊥) → OfPart text nodes n end byte (λ parts at. new ≡ with_piece (kept_leaf kind parts at old) [] old) → OfPart text nodes n end byte (λ parts at. new ≡ with_content parts at old)
+  pub whole_read : (new : ReadSoFar) → (kind ≡ TransInline → ⊥) → OfPart text nodes n end byte (λ parts at. new ≡ with_piece (whole_leaf kind parts at old) [] old) → OfPart text nodes n end byte (λ parts at. new ≡ with_content parts at old)
   whole_read new other reads = λ f at more s some part.
       reads f at more s some part ∙ sym (whole_is f at more s some (not_generated (parts_of f) at old kind other (fit f at more s.stands some))).read
 
-  pub whole_stops : {A : Type 0} (result : Result A ReadStop) → (kind ≡ TransInline → ⊥) → OfPart text nodes n end byte (λ parts at. Stops result (deep_in old (kept_leaf kind parts at old))) → OfPart text nodes n end byte (λ parts at. Stops result (content_limit parts at old))
+  pub whole_stops : {A : Type 0} (result : Result A ReadStop) → (kind ≡ TransInline → ⊥) → OfPart text nodes n end byte (λ parts at. Stops result (deep_in old (whole_leaf kind parts at old))) → OfPart text nodes n end byte (λ parts at. Stops result (content_limit parts at old))
   whole_stops result other stops = λ f at more s some part.
       subst (Stops result) (sym (whole_is f at more s some (not_generated (parts_of f) at old kind other (fit f at more s.stands some))).limit) (stops f at more s some part)
 
@@ -205,11 +205,11 @@ module _ (text : List ℕ) (nodes : List Node) (n end byte : ℕ) (old : ReadSoF
       let c = claims f p.nodes p.rest at more s.stands p.is (group_end text nodes n at f more end byte p.nodes p.rest part p.is) in
       subst (λ q. NoReference q at old) (sym p.is) (c.0 ∙ unclaimed at p.nodes)
 
-  pub generated_read : (new : ReadSoFar) → IsClaimed old nodes n end None → OfPart text nodes n end byte (λ parts at. new ≡ with_piece (kept_leaf TransInline parts at old) [] old) → OfPart text nodes n end byte (λ parts at. new ≡ with_content parts at old)
+  pub generated_read : (new : ReadSoFar) → IsClaimed old nodes n end None → OfPart text nodes n end byte (λ parts at. new ≡ with_piece (whole_leaf TransInline parts at old) [] old) → OfPart text nodes n end byte (λ parts at. new ≡ with_content parts at old)
   generated_read new claims reads = λ f at more s some part.
       reads f at more s some part ∙ sym (whole_is text nodes n end byte TransInline old fit f at more s some (no_claim claims f at more s some part)).read
 
-  pub generated_stops : {A : Type 0} (result : Result A ReadStop) → IsClaimed old nodes n end None → OfPart text nodes n end byte (λ parts at. Stops result (deep_in old (kept_leaf TransInline parts at old))) → OfPart text nodes n end byte (λ parts at. Stops result (content_limit parts at old))
+  pub generated_stops : {A : Type 0} (result : Result A ReadStop) → IsClaimed old nodes n end None → OfPart text nodes n end byte (λ parts at. Stops result (deep_in old (whole_leaf TransInline parts at old))) → OfPart text nodes n end byte (λ parts at. Stops result (content_limit parts at old))
   generated_stops result claims stops = λ f at more s some part.
       subst (Stops result) (sym (whole_is text nodes n end byte TransInline old fit f at more s some (no_claim claims f at more s some part)).limit) (stops f at more s some part)
 

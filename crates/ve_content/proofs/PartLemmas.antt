@@ -41,7 +41,7 @@ use Rattle.ve_siblings.specs.Marked.{first_marked, element_marked}
 use Rattle.ve_siblings.proofs.RunLemmas.{leaf_inline, fit_inline, content_inline, single_inline}
 use Rattle.ve_reader.specs.ReadSoFar.{ReadSoFar, place_in, with_piece}
 use Rattle.ve_reader.specs.Stops.{deep_in}
-use Rattle.ve_content.specs.Content.{content_made, with_content, content_limit, kept_leaf}
+use Rattle.ve_content.specs.Content.{content_made, with_content, content_limit, whole_leaf}
 use Rattle.ve_content.proofs.TurnLemmas.{joined_none, alone_marked}
 
 -- ---- what the first token says
@@ -295,40 +295,40 @@ NoReference (Parent name attrs children rest) at r = Unit {0}
 whole_same : (j k : Kind) → fits.Whole k ≡ fits.Whole j → k ≡ j
 whole_same j k e = cc
 
-kept_before : (at : ℕ) (r : ReadSoFar) (source : List ℕ) (k : Kind) → is_inline_leaf k ≡ true
+whole_before : (at : ℕ) (r : ReadSoFar) (source : List ℕ) (k : Kind) → is_inline_leaf k ≡ true
     → leaf_before (place_in r at) k (whole_head source) r.marks source [] (made_of (Content r.marks) Ended (past (place_in r at) source []))
     ≡ in_run (leaf k (whole_head source) r.marks (source_span (place_in r at) source)) source [] (made_of (Content r.marks) Ended (past (place_in r at) source []))
-kept_before at r source k i = rw i refl
+whole_before at r source k i = rw i refl
 
 group_inline : (generated : Bool) → is_inline_leaf (whole_kind generated true) ≡ true
 group_inline true = refl
 group_inline false = refl
 
-pub kept_adds : (parts : Parts) (at : ℕ) (r : ReadSoFar) (k : Kind) → has_part parts ≡ true → fits.Whole k ≡ first_fit (Content []) parts → NoReference parts at r
-    → Adds parts at r (kept_leaf k (take_parts 1 parts) at r) []
-kept_adds Ended at r k h e plain = absurd cc
-kept_adds (Words text rest) at r k h e plain = absurd cc
-kept_adds (Note text rest) at r k h e plain =
+pub whole_adds : (parts : Parts) (at : ℕ) (r : ReadSoFar) (k : Kind) → has_part parts ≡ true → fits.Whole k ≡ first_fit (Content []) parts → NoReference parts at r
+    → Adds parts at r (whole_leaf k (take_parts 1 parts) at r) []
+whole_adds Ended at r k h e plain = absurd cc
+whole_adds (Words text rest) at r k h e plain = absurd cc
+whole_adds (Note text rest) at r k h e plain =
     let source : List ℕ = token_text (Comment text) in
     let is : k ≡ AlienInline = whole_same AlienInline k e in
     adds (Note text rest) at r (leaf k (whole_head source) r.marks (source_span (place_in r at) source)) source []
     (ap (λ j. leaf_before (place_in r at) j (whole_head source) r.marks source [] (made_of (Content r.marks) Ended (past (place_in r at) source []))) (sym is)
-    ∙ kept_before at r source k (ap is_inline_leaf is))
+    ∙ whole_before at r source k (ap is_inline_leaf is))
     refl
-kept_adds (Group nodes rest) at r k h e plain =
+whole_adds (Group nodes rest) at r k h e plain =
     let source : List ℕ = spelling nodes in
     let is : k ≡ whole_kind (is_generated nodes) true = whole_same (whole_kind (is_generated nodes) true) k e in
     adds (Group nodes rest) at r (leaf k (whole_head source) r.marks (source_span (place_in r at) source)) source []
     (ap (group_made (Content r.marks) nodes (made_of (Content r.marks) Ended) (place_in r at)) plain
     ∙ ap (λ j. leaf_before (place_in r at) j (whole_head source) r.marks source [] (made_of (Content r.marks) Ended (past (place_in r at) source []))) (sym is)
-    ∙ kept_before at r source k (ap is_inline_leaf is ∙ group_inline (is_generated nodes)))
+    ∙ whole_before at r source k (ap is_inline_leaf is ∙ group_inline (is_generated nodes)))
     refl
-kept_adds (Single name attrs source rest) at r k h e plain =
+whole_adds (Single name attrs source rest) at r k h e plain =
     let f : model.Fit = fit_in_content name Ended (kind_of_tag name) in
     let is = whole_fit f k (sym e) in
     let inline : is_inline_leaf k ≡ true = ap leaf_inline (sym is) ∙ single_inline name (kind_of_tag name) in
     adds (Single name attrs source rest) at r (leaf k (whole_head source) r.marks (source_span (place_in r at) source)) source [] (whole_alone attrs source at r f k is inline) refl
-kept_adds (Parent name attrs children rest) at r k h e plain =
+whole_adds (Parent name attrs children rest) at r k h e plain =
     let source : List ℕ = element_source name attrs children in
     let f : model.Fit = fit_in_content name children (kind_of_tag name) in
     let is = whole_fit f k (sym e) in

@@ -25,11 +25,11 @@ content_limit parts at r =
     earlier (deep_in r (content_made parts at r).run) (option_map (λ n. TooManyMarks n) (marked_at (Content r.marks) parts at))
 
 -- the leaf that the first part is where it keeps its source
-abbrev pub kept_leaf : Kind → Parts → ℕ → ReadSoFar → Piece
-kept_leaf kind parts at r = let source = first_source parts in leaf kind (whole_head source) r.marks (source_span (place_in r at) source)
+abbrev pub whole_leaf : Kind → Parts → ℕ → ReadSoFar → Piece
+whole_leaf kind parts at r = let source = first_source parts in leaf kind (whole_head source) r.marks (source_span (place_in r at) source)
 
-abbrev pub with_kept : Kind → Parts → ℕ → ReadSoFar → ReadSoFar
-with_kept kind parts at r = with_piece (kept_leaf kind parts at r) [] r
+abbrev pub with_whole : Kind → Parts → ℕ → ReadSoFar → ReadSoFar
+with_whole kind parts at r = with_piece (whole_leaf kind parts at r) [] r
 
-abbrev pub kept_limit : Kind → Parts → ℕ → ReadSoFar → Option Limit
-kept_limit kind parts at r = deep_in r (kept_leaf kind parts at r)
+abbrev pub whole_limit : Kind → Parts → ℕ → ReadSoFar → Option Limit
+whole_limit kind parts at r = deep_in r (whole_leaf kind parts at r)

@@ -4,7 +4,7 @@ ghost use Rattle.ve_classify.specs.Fits.{IsFit};
 ghost use Rattle.ve_classify.specs.Standing.{LeadsOn};
 ghost use Rattle.ve_classify.specs.declared.around.Around.TheVariants as around;
 ghost use Rattle.ve_classify.specs.declared.around.Fit.TheVariants as fits;
-ghost use Rattle.ve_content.specs.Content.{content_limit, kept_limit, with_content, with_kept};
+ghost use Rattle.ve_content.specs.Content.{content_limit, whole_limit, with_content, with_whole};
 ghost use Rattle.ve_content.specs.Parts.{OfPart};
 ghost use Rattle.ve_leaves.specs.TagAttrs.{TagsFit};
 ghost use Rattle.ve_parts.specs.Places.{SomePart};
@@ -16,12 +16,12 @@ use ve_classify::Fit;
 use ve_html_scan::{Span, Token};
 use ve_html_tree::Forest;
 use ve_kinds::Kind;
-use ve_leaves::{element_head, kept_head};
+use ve_leaves::{element_head, whole_head};
 use ve_parts::{Part, part_source};
 use ve_reader::{ReadStop, Reader};
 
 /// A leaf that keeps the source of its part, and is no reference.
-pub fn push_kept(
+pub fn push_whole_leaf(
     alloc: Global,
     text: &str,
     forest: &Forest<'_>,
@@ -32,17 +32,17 @@ pub fn push_kept(
 ) -> Result<(), ReadStop>
     requires within { n < length forest.now }
     requires part { SomePart text.now forest.now n part.end part.byte }
-    ensures ok { OnOk result (OfPart text.now forest.now n part.end part.byte (λ parts at. reader.new ≡ with_kept kind parts at reader.old)) }
-    ensures limit { OfPart text.now forest.now n part.end part.byte (λ parts at. Stops result (kept_limit kind parts at reader.old)) }
+    ensures ok { OnOk result (OfPart text.now forest.now n part.end part.byte (λ parts at. reader.new ≡ with_whole kind parts at reader.old)) }
+    ensures limit { OfPart text.now forest.now n part.end part.byte (λ parts at. Stops result (whole_limit kind parts at reader.old)) }
 {
     let source = part_source(text, forest, n, part);
-    let head = kept_head(alloc, source)?;
+    let head = whole_head(alloc, source)?;
     let from = forest.node(n).span.from;
     let to = part.byte;
     reader.push_leaf(kind, head, Span { from, to })
 }
 
-/// A part that is kept whole: what is generated may be a reference, and nothing else.
+/// A part that is one leaf with its source: what is generated may be a reference, and nothing else.
 fn push_whole(
     alloc: Global,
     text: &str,
@@ -62,7 +62,7 @@ fn push_whole(
 {
     match kind {
         Kind::TransInline => push_generated(alloc, text, forest, reader, n, part),
-        _ => push_kept(alloc, text, forest, reader, n, part, kind),
+        _ => push_whole_leaf(alloc, text, forest, reader, n, part, kind),
     }
 }
 

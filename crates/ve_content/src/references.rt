@@ -1,4 +1,4 @@
-// Groups that are generated: references, and what is kept whole.
+// Groups that are generated: references, and other leaves with their source.
 ghost use Rattle.std.specs.Prelude.{◌≡◌, ◌<◌, false, length, option_map, IfOk, IfSome, OnOk};
 ghost use Rattle.model_page.specs.ReferenceNodes.{is_owned};
 ghost use Rattle.model_spelling.specs.Forest.{spelling};
@@ -14,7 +14,7 @@ ghost use Rattle.ve_leaves.specs.TagAttrs.{TagsFit};
 ghost use Rattle.ve_parts.specs.Places.{SomePart};
 ghost use Rattle.ve_reader.specs.Stops.{Stops};
 
-use crate::leaves::push_kept;
+use crate::leaves::push_whole_leaf;
 use std::alloc::Global;
 use ve_base::{Memory, RefKey, Text, TryCopy};
 use ve_citations::cited_mw;
@@ -128,6 +128,6 @@ pub fn push_generated(
 {
     match claim_at(alloc, forest, reader, n, part.end)? {
         Some(claim) => push_claimed(alloc, text, forest, reader, n, part.byte, claim),
-        None => push_kept(alloc, text, forest, reader, n, part, Kind::TransInline),
+        None => push_whole_leaf(alloc, text, forest, reader, n, part, Kind::TransInline),
     }
 }

@@ -48,7 +48,7 @@ pub fn element_head(alloc: Global, tokens: AttrTokens<'_>) -> Result<Head, Memor
 }
 
 /// The head of a leaf that is kept whole: its source alone.
-pub fn kept_head(alloc: Global, source: &str) -> Result<Head, Memory>
+pub fn whole_head(alloc: Global, source: &str) -> Result<Head, Memory>
     ensures { IfOk result (λ head. head ≡ page.whole_head source.now) }
 {
     let raw = Text::from_str(alloc, source)?;

@@ -13,7 +13,7 @@ mod heads;
 mod laws;
 mod leaves;
 
-pub use heads::{attrs_of, element_head, kept_head, mark_of, reference_head};
+pub use heads::{attrs_of, element_head, mark_of, reference_head, whole_head};
 pub use laws::{leaves_are_pieces, tags_are_read};
 pub use leaves::{push_block_leaf, push_leaf, push_text};
 

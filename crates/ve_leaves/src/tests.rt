@@ -109,7 +109,7 @@ fn counts(alloc: Global) -> Result<(usize, usize), Memory> {
     let mut draft = Draft::new(alloc);
     push_text(alloc, &mut draft, "a&lt;b")?;
     push_leaf(&mut draft, Kind::Br, Head::empty(alloc), Some(0))?;
-    let source = kept_head(alloc, "<!--x-->")?;
+    let source = whole_head(alloc, "<!--x-->")?;
     push_block_leaf(&mut draft, Kind::AlienBlock, source, None, "\n")?;
     let (list, values) = draft.into_parts()?;
     Ok((list.len(), values.len()))

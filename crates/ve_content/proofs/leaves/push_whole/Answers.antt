@@ -10,11 +10,11 @@ push_generated-requires-clause-fit c = subst (λ k. IsFit c.args.forest.now c.ar
 
 pub returns-in_default-clause-ok : goal.returns-in_default-clause-ok
 returns-in_default-clause-ok c =
-    on_ok_map c.push_kept.result
-    (whole_read c.args.text.now c.args.forest.now c.args.n c.args.part.end c.args.part.byte c.args.kind c.args.reader.now c.requires.fit c.push_kept.new.reader c.in_default.not-TransInline)
-    c.push_kept.ensures.ok
+    on_ok_map c.push_whole_leaf.result
+    (whole_read c.args.text.now c.args.forest.now c.args.n c.args.part.end c.args.part.byte c.args.kind c.args.reader.now c.requires.fit c.push_whole_leaf.new.reader c.in_default.not-TransInline)
+    c.push_whole_leaf.ensures.ok
 
 pub returns-in_default-clause-limit : goal.returns-in_default-clause-limit
 returns-in_default-clause-limit c =
-    whole_stops c.args.text.now c.args.forest.now c.args.n c.args.part.end c.args.part.byte c.args.kind c.args.reader.now c.requires.fit c.push_kept.result c.in_default.not-TransInline
-    c.push_kept.ensures.limit
+    whole_stops c.args.text.now c.args.forest.now c.args.n c.args.part.end c.args.part.byte c.args.kind c.args.reader.now c.requires.fit c.push_whole_leaf.result c.in_default.not-TransInline
+    c.push_whole_leaf.ensures.limit

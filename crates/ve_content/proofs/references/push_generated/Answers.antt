@@ -23,13 +23,13 @@ returns-in-Some-clause-limit c =
 
 pub returns-in-None-clause-ok : goal.returns-in-None-clause-ok
 returns-in-None-clause-ok c =
-    on_ok_map c.push_kept.result
-    (generated_read c.args.text.now c.args.forest.now c.args.n c.args.part.end c.args.part.byte c.args.reader.now c.requires.fit c.push_kept.new.reader
+    on_ok_map c.push_whole_leaf.result
+    (generated_read c.args.text.now c.args.forest.now c.args.n c.args.part.end c.args.part.byte c.args.reader.now c.requires.fit c.push_whole_leaf.new.reader
     (subst (IsClaimed c.args.reader.now c.args.forest.now c.args.n c.args.part.end) c.in-None.is c.in_ok-claim.ensures.claim))
-    c.push_kept.ensures.ok
+    c.push_whole_leaf.ensures.ok
 
 pub returns-in-None-clause-limit : goal.returns-in-None-clause-limit
 returns-in-None-clause-limit c =
-    generated_stops c.args.text.now c.args.forest.now c.args.n c.args.part.end c.args.part.byte c.args.reader.now c.requires.fit c.push_kept.result
+    generated_stops c.args.text.now c.args.forest.now c.args.n c.args.part.end c.args.part.byte c.args.reader.now c.requires.fit c.push_whole_leaf.result
     (subst (IsClaimed c.args.reader.now c.args.forest.now c.args.n c.args.part.end) c.in-None.is c.in_ok-claim.ensures.claim)
-    c.push_kept.ensures.limit
+    c.push_whole_leaf.ensures.limit
