@@ -23,54 +23,17 @@ use crate::values::{
     member, number_in, sites_in, some_source_in, some_text_in, text_in, text_or_null_in,
 };
 use model_edit::{By, Dir, Kinds, Shapes};
-use model_world::{Field, OpWordList, TextMarks};
+use model_world::{Field, OpWordList, TextMarks, field_name};
 use serde_json::{Map, Value};
 use std::alloc::Global;
 use ve_base::{Attrs, Text};
 use ve_kinds::Kind;
 
-/// A member's name in a line.
-fn name_of(field: Field) -> &'static str
-    ensures { result.now ≡ field_name field }
-{
-    match field {
-        Field::Do => "do",
-        Field::Page => "page",
-        Field::Sites => "sites",
-        Field::Site => "site",
-        Field::From => "from",
-        Field::To => "to",
-        Field::At => "at",
-        Field::Text => "text",
-        Field::Marks => "marks",
-        Field::Html => "html",
-        Field::Depth => "depth",
-        Field::Tag => "tag",
-        Field::Attrs => "attrs",
-        Field::UnwrapOuter => "unwrap_outer",
-        Field::WrapOuter => "wrap_outer",
-        Field::UnwrapEach => "unwrap_each",
-        Field::WrapEach => "wrap_each",
-        Field::Kind => "kind",
-        Field::Name => "name",
-        Field::Ops => "ops",
-        Field::Cmds => "cmds",
-        Field::Anchor => "anchor",
-        Field::Focus => "focus",
-        Field::Dir => "dir",
-        Field::By => "by",
-        Field::Keep => "keep",
-        Field::Row => "row",
-        Field::Column => "column",
-        Field::Entry => "entry",
-    }
-}
-
 /// The member of this field.
 fn of_field(members: &Map<String, Value>, field: Field) -> Option<&Value>
     ensures { option_map (λ v. view v.now) result ≡ get_member (field_name field) (members_view members.now.entries) }
 {
-    member(members, name_of(field))
+    member(members, field_name(field))
 }
 
 /// A member that has to be there.
