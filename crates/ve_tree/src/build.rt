@@ -24,6 +24,7 @@ fn make_first<L: Ledger>(
     requires next_apart { IfSome (first_in (slot_at arena.old parent.0)) (λ next. next.0 ≢ parent.0) }
     ensures vacant { IfOk result (λ n. slot_at arena.old n.0 ≡ None) }
     ensures made { IfOk result (λ n. MadeFirst (first_in (slot_at arena.old parent.0)) arena.old arena.new n.0 parent.0 what) }
+    ensures counted { steps.old ≤ steps.new }
     ensures steps { steps.new ≤ steps.old + 5 }
 {
     let first = arena.node(parent).first;
@@ -69,6 +70,7 @@ pub fn read_children<L: Ledger>(
     ensures items { OnOk result (rest.new.items ≡ rest.old.items) }
     ensures read { OnOk result (ReadChildren arena.old arena.new parent.0 rest.old.items rest.new.left rest.old.left) }
     ensures steps_ok { OnOk result (TookSteps rest.old.items rest.new.left rest.old.left steps.old steps.new) }
+    ensures counted { steps.old ≤ steps.new }
     ensures steps { TookSteps rest.old.items 0 rest.old.left steps.old steps.new }
 {
     'sibling: while rest.left() > 0 {

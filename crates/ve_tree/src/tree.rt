@@ -40,6 +40,7 @@ impl Tree {
     ) -> Result<Tree, Memory>
         requires { Lawful (unvalued list.now.items) }
         ensures tree { IfOk result (λ tree. IsTreeOf tree (unvalued list.now.items)) }
+        ensures counted { steps.old ≤ steps.new }
         ensures steps { steps.new ≤ steps.old + most_steps (unvalued list.now.items) }
     {
         Tree::build_spliced(alloc, list, 0, 0, &[], steps)
@@ -59,6 +60,7 @@ impl Tree {
         requires range { at + removed ≤ length list.now.items }
         requires lawful { Lawful (unvalued (spliced list.now.items at removed items.now)) }
         ensures tree { IfOk result (λ tree. IsTreeOf tree (unvalued (spliced list.now.items at removed items.now))) }
+        ensures counted { steps.old ≤ steps.new }
         ensures steps { steps.new ≤ steps.old + most_steps (unvalued (spliced list.now.items at removed items.now)) }
     {
         let kept = list.len() - removed;

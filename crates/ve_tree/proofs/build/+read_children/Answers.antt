@@ -15,6 +15,7 @@ item_of items same left m x y e n found is = ap (slice_get items) n ∙ ap (λ l
 pub sibling-init : goal.sibling-init
 sibling-init g t c = record {
   same = refl;
+  counted = omega arith;
   reached = reached_start c.args.arena.now c.args.parent.0 c.args.rest.now.items c.args.rest.now.left c.args.steps.now c.requires.childless c.requires.begun;
 }
 
@@ -38,6 +39,7 @@ sibling-preserved-in-Char g t c =
     let write = subst (λ len. Changes c.make_first.new.arena c.set_len.new.self (id_of c.in_ok-run-in-Char.run'.0) (with_len len)) c.pass_run-count.ensures.count c.set_len.ensures.write in
     record {
       same = c.pass_run-count.ensures.items ∙ same;
+      counted = omega (arith, c.sibling.invariant.counted, c.in_ok-run-in-Char.ensures.counted, c.set_len.ensures.step);
       reached = subst (λ s. Reached c.args.arena.now c.set_len.new.self c.args.parent.0 c.args.rest.now.items c.args.rest.now.left c.pass_run-count.new.rest.left c.args.steps.now s)
           (sym c.set_len.ensures.step)
           (reached_run _ _ c.make_first.new.arena c.set_len.new.self _ c.in_ok-run-in-Char.run'.0 _ _ _ _ _ c.make_first.new.steps c.pass_run-count.new.rest.left
@@ -115,6 +117,7 @@ sibling-preserved g t c =
     c.in_ok-node-in-Closing.ensures.vacant c.in_ok-node-in-Closing.ensures.made read write c.in_ok-node-in-Closing.ensures.steps steps in
     record {
       same = c.pass-in-Closing.ensures.items ∙ c.in_ok-read_children-in-Closing.ensures.items ∙ same;
+      counted = omega (arith, c.sibling.invariant.counted, c.in_ok-node-in-Closing.ensures.counted, c.in_ok-read_children-in-Closing.ensures.counted, c.set_len-in-Closing.ensures.step);
       reached = subst (λ at. Reached c.args.arena.now c.set_len-in-Closing.new.self c.args.parent.0 c.args.rest.now.items c.args.rest.now.left at c.args.steps.now c.set_len-in-Closing.new.steps)
           (sym c.pass-in-Closing.ensures.left)
           (subst (λ s. Reached c.args.arena.now c.set_len-in-Closing.new.self c.args.parent.0 c.args.rest.now.items c.args.rest.now.left (from - 1) c.args.steps.now s)

@@ -1,4 +1,4 @@
-use Rattle.std.proofs.Common.{◌≡◌}
+use Rattle.std.proofs.Common.{◌≡◌, ◌≤◌}
 use Rattle.ve_tree.proofs.ReachedLemmas.{Reached}
 use Rattle.ve_tree.proofs.build.+read_children.Given as goal
 
@@ -8,6 +8,7 @@ decreases-read_children g l = l.rest.now.left
 abbrev pub invariant-sibling : goal.invariant-sibling
 invariant-sibling g l = record {
   same : l.rest.items ≡ l.fn.rest.items;
+  counted : l.fn.steps ≤ l.steps;
   reached : Reached l.fn.arena l.arena l.parent.0 l.fn.rest.items l.fn.rest.left l.rest.left l.fn.steps l.steps;
 }
 
