@@ -11,3 +11,4 @@ pub mod WrittenLemmas
 pub mod NormalLemmas
 pub mod EntryLemmas
 pub mod UntilLemmas
+mod UnderLemmas

@@ -164,6 +164,16 @@ module _ (committed mine : List Parcel) (over : List Shifted) (kept : List Parce
         cite = λ g. subst (All ParcelCites) (sym k) (so_far.cite g);
       }
 
+  pub committed_clash : (clash : RangeConflict) → join_list (all_by_value values over) (parcel_by_value one) ≡ Err clash → (joined_until committed mine).committed ≡ all_by_value values over
+  committed_clash clash e =
+      ap (λ j. j.committed) (joined_here ∙ ap (λ r. after_kept kept (joined_first (all_by_value values over) r (λ o. join_entries o (map parcel_by_value rest)))) e)
+
+pub committed_done : (committed mine : List Parcel) (over : List Shifted) (kept : List Parcel) (i : ℕ) → JoinedSoFar committed mine over kept i → length mine ≤ i →
+    (joined_until committed mine).committed ≡ all_by_value (values_of committed) over
+committed_done committed mine over kept i so_far end =
+    let none : drop i mine ≡ [] = drop_all i mine end in
+    ap (λ j. j.committed) (so_far.joined ∙ ap (λ ps. after_kept kept (join_entries (all_by_value (values_of committed) over) (map parcel_by_value ps))) none)
+
 pub joined_done : (committed mine : List Parcel) (over : List Shifted) (kept : List Parcel) (i : ℕ) (made : JoinedEntries) → JoinedSoFar committed mine over kept i → length mine ≤ i →
     made.kept ≡ kept → made.clash ≡ None → AreJoined committed mine made
 joined_done committed mine over kept i made so_far end k f =

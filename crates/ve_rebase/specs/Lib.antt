@@ -14,3 +14,4 @@ pub mod Lists
 pub mod Shifted
 pub mod Entries
 pub mod Until
+pub mod Under

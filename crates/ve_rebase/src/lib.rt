@@ -4,7 +4,8 @@
 //! conflict. `lists` is the model's `join_list`, or the ranges of the first two that conflict: it keeps a
 //! span for each transaction and writes each result once. `entry_over_list` is the same of entries, each of
 //! which cites its own values. `entries_over_list` joins entries one after the other up to the first conflict
-//! (the model's `join_entries`), as a server accepts them.
+//! (the model's `join_entries`), as a server accepts them; `entries_under` joins a site's entries so over an
+//! entry of another site, as a site keeps them.
 //!
 //! It knows transactions by their operations and reads no value that these cite, so its clauses hold over every list of values; it knows neither
 //! lists of items nor stores.
@@ -13,7 +14,8 @@
 //! the lengths between), `Totals` and `Places` (what one pass over operations finds), `Pair` (both results by
 //! value, and when they are refused), `Lists` (when lists may be joined, and what a refusal names), `Entries`
 //! (entries by value, and what stays of them), `Shifted` (transactions as joining has moved them so far, and
-//! rows of them joined), `Until` (entries joined up to the first conflict), `Laws`.
+//! rows of them joined), `Until` (entries joined up to the first conflict), `Under` (a site's entries joined
+//! so over another's, with what that becomes), `Laws`.
 //!
 //! Laws: `spans_decide` says that the spans of two joined transactions, their lengths and whether their
 //! ranges overlap are found from the two spans alone; `joined_stay_normal` that joined transactions keep the
@@ -36,6 +38,7 @@ mod span;
 #[cfg(test)]
 mod tests;
 mod totals;
+mod under;
 mod until;
 
 pub use entries::entry_over_list;
@@ -43,4 +46,5 @@ pub use fault::RebaseFault;
 pub use join::{conflict, pair};
 pub use join_lists::lists;
 pub use laws::{joined_stay_normal, spans_decide};
+pub use under::{EntriesUnder, entries_under, entry_in};
 pub use until::{JoinedEntries, entries_over_list};
