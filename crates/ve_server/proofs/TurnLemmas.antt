@@ -4,7 +4,8 @@ use Rattle.model_site.specs.Entries.{Parcel}
 use Rattle.model_site.specs.Session.{Member, SiteFeed, all_fed, feed_for, put_member, accepted_of, take_first, site_after}
 use Rattle.model_site.specs.Events.{after_turn}
 use Rattle.ve_server.specs.Serving.{Serving, serving_of, all_queued, first_of, fed}
-use Rattle.ve_server.specs.Laws.{TurnsServe, TurnsFeed}
+use Rattle.model_site.specs.Site.{Site}
+use Rattle.ve_server.specs.Laws.{TurnsServe, TurnsFeed, TurnsTake, site_with, sites_of}
 
 abbrev queues_of : List Member → List (List SiteFeed)
 queues_of = map (λ m. m.feeds)
@@ -49,3 +50,24 @@ turns_feed k m w at = along m.feeds (got k m w.members at) (put_back k m w.membe
     along [] e same = ap (λ qs. record { committed = w.committed; queues = qs }) (sym same) ∙ ap left (sym e)
     along (f ∷ later) e same =
         ap (λ qs. record { committed = w.committed; queues = qs }) (put_is_set k (record m { site = site_after f m.site; feeds = later }) w.members) ∙ ap left (sym e)
+
+site_is_set : (k : ℕ) (n : Member) (ms : List Member) → sites_of (put_member k n ms) ≡ slice_set (sites_of ms) k n.site
+site_is_set k n [] = refl
+site_is_set zero n (m ∷ ms) = refl
+site_is_set (suc k) n (m ∷ ms) = ap (λ ss. m.site ∷ ss) (site_is_set k n ms)
+
+site_stays : (k : ℕ) (m : Member) (ms : List Member) → slice_get ms k ≡ Some m → sites_of ms ≡ slice_set (sites_of ms) k m.site
+site_stays k m [] e = refl
+site_stays zero m (n ∷ ms) e = let same : n ≡ m = cc in ap (λ x. x.site ∷ sites_of ms) same
+site_stays (suc k) m (n ∷ ms) e = ap (λ ss. n.site ∷ ss) (site_stays k m ms e)
+
+pub turns_take : TurnsTake
+turns_take k m w at = along m.feeds (got k m w.members at)
+  where
+    with_first : List SiteFeed → List Site
+    with_first feeds = slice_set (sites_of w.members) k (site_with (first_of feeds).0 m.site)
+
+    along : (feeds : List SiteFeed) → feeds_at k w.members ≡ feeds →
+        sites_of (after_turn w (take_first k m feeds w)).members ≡ slice_set (sites_of w.members) k (site_with (fed k (serving_of w)).0 m.site)
+    along [] e = site_stays k m w.members at ∙ ap with_first (sym e)
+    along (f ∷ later) e = site_is_set k (record m { site = site_after f m.site; feeds = later }) w.members ∙ ap with_first (sym e)

@@ -2,7 +2,8 @@
 use Rattle.std.specs.Prelude.{ℕ, suc, List, [], ◌∷◌, ◌++◌, map, slice_index_or, slice_set, Option, Some, None}
 use Rattle.model_site.specs.Entries.{Parcel}
 use Rattle.model_site.specs.Site.{Submission}
-use Rattle.model_site.specs.Session.{Session, SiteFeed, feed_for, accepted_of}
+use Rattle.model_site.specs.declared.served.Served.{Served}
+use Rattle.model_site.specs.Session.{Session, SiteFeed, feed_for, accepted_of, served_as}
 
 pub record Serving : Type 0 where
   pub committed : List Parcel
@@ -22,6 +23,10 @@ all_queued sender k entries (feeds ∷ queues) = (feeds ++ feed_for sender k ent
 abbrev pub served : (sender : ℕ) → Submission → Serving → Serving
 served sender s v = let j = accepted_of v.committed s in
     record { committed = v.committed ++ j.kept; queues = all_queued sender 0 j.kept v.queues }
+
+-- what the sender is told of it
+abbrev pub answer_to : Submission → Serving → Served
+answer_to s v = served_as (accepted_of v.committed s) s
 
 -- the first of a queue, if there is one, and the others
 abbrev pub first_of : List SiteFeed → Option SiteFeed × List SiteFeed

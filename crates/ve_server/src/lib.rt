@@ -5,8 +5,8 @@
 //! - `Server` is seen as the committed entries and the queue to each site (specs/Serving.antt). `serve`
 //!   commits the entries of a submission before its first conflict and feeds each site; `feed` takes the next
 //!   feed of a site.
-//! - A queue can hold staged feeds, which no view of the server shows (specs/Waiting.antt): so what `serve`
-//!   has begun is undone by nothing at all.
+//! - A queue can hold staged feeds, which no view of the server shows (specs/Waiting.antt): so where `serve`
+//!   stops for want of memory, there is nothing to undo.
 //!
 //! It knows neither lists nor stores, and reads no value.
 //!

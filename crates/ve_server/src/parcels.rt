@@ -28,7 +28,7 @@ impl Parcels {
     ghost use Rattle.std.specs.Prelude.{All};
     ghost use Rattle.ve_tx.specs.ByValue.{parcel_by_value, ParcelCites};
 
-    /// None. It takes no memory.
+    /// No parcels. It takes no memory.
     pub fn new(alloc: Global) -> Parcels
         ensures { result ≡ [] }
     {

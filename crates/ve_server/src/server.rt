@@ -1,10 +1,10 @@
 // The server.
 ghost use Rattle.std.specs.Prelude.{◌≡◌, ◌<◌, ◌≤◌, [], drop, length, map, option_map, replicate, IfOk, OnOk, OnErr};
 ghost use Rattle.model_change.specs.Replay.{flattened};
-ghost use Rattle.model_site.specs.Session.{accepted_of, clash_of, feed_for as model_feed_for, served_as};
+ghost use Rattle.model_site.specs.Session.{accepted_of, clash_of, feed_for as model_feed_for};
 ghost use Rattle.ve_rebase.specs.Lists.{RunFromOneLength};
 ghost use Rattle.ve_server.specs.Fed.{feed_of, feeds_of, submission_of};
-ghost use Rattle.ve_server.specs.Serving.{fed, served};
+ghost use Rattle.ve_server.specs.Serving.{answer_to, fed, served};
 ghost use Rattle.ve_server.specs.Waiting.{all_staged, feeds_in, released};
 
 use crate::queue::Queue;
@@ -124,7 +124,7 @@ impl Server {
         requires base { submit.now.base ≤ length self.old.committed }
         requires run { RunFromOneLength (flattened (drop submit.now.base self.old.committed)) (flattened submit.now.parcels) }
         ensures server { OnOk result (self.new ≡ served submit.now.site (submission_of submit.now) self.old) }
-        ensures answer { IfOk result (λ answer. answer ≡ served_as (accepted_of self.old.committed (submission_of submit.now)) (submission_of submit.now)) }
+        ensures answer { IfOk result (λ answer. answer ≡ answer_to (submission_of submit.now) self.old) }
         ensures kept { OnErr result (self.new ≡ self.old) }
     {
         let alloc = *self.queues.allocator();

@@ -1,5 +1,6 @@
 -- What is asked of a table's cells, and the causes that refuse a change of it.
-use Rattle.std.specs.Prelude.{ℕ, Bool, ◌&&◌, ◌||◌, ◌==◌, nat_le, nat_lt, List, [], ◌∷◌, ◌++◌, map, Option, option_map}
+use Rattle.std.specs.Option.{option_or}
+use Rattle.std.specs.Prelude.{◌≡◌, ℕ, Bool, ◌&&◌, ◌||◌, ◌==◌, nat_le, nat_lt, List, [], ◌∷◌, ◌++◌, map, Option, option_map}
 use Rattle.std.specs.List.{range_with_len}
 use Rattle.ve_base.specs.Limits.{max_row_span, max_column_span}
 use Rattle.model_edit.specs.declared.grid_cell.GridCell.{GridCell}
@@ -31,6 +32,11 @@ row_out_causes row g = (nat_le g.rows row, BadRow row g.rows) ∷ at_first (aske
 
 abbrev pub ragged_causes : ℕ → Grid → (row count : ℕ) → List (Bool × TableCause)
 ragged_causes column g row count = map (λ row. (has_gap_before g.cells row column, Ragged row)) (range_with_len row count)
+
+-- The row found is the first ragged one: it is told before whatever causes come after, and these alone are told where there is none.
+abbrev pub IsFirstRagged : ℕ → Grid → Option ℕ → Type 0
+IsFirstRagged column g found =
+    (later : List (Bool × TableCause)) → first_fault (ragged_causes column g 0 g.rows ++ later) ≡ option_or (option_map Ragged found) (first_fault later)
 
 abbrev pub col_in_causes : ℕ → Grid → List (Bool × TableCause)
 col_in_causes column g =

@@ -5,10 +5,13 @@ use Rattle.ve_base.specs.declared.value.Value.{Value}
 use Rattle.model_items.specs.declared.item.Item.{Item}
 use Rattle.model_items.specs.declared.plain_item.PlainItem.{PlainItem}
 use Rattle.model_edit.specs.declared.grid_cell.GridCell.{GridCell}
-use Rattle.model_edit.specs.Edits.{Edit, Change, InOrder}
+use Rattle.model_edit.specs.Edits.{Edit, Change, InOrder, transaction_of}
 use Rattle.model_edit.specs.Grid as model
 use Rattle.model_edit.specs.Grid.{Grid, covers_column}
-use Rattle.model_edit.specs.Tables.{set_rows, set_columns, spans_row, spans_column, row_removed, cell_removed, cell_place, column_edits, new_cell}
+use Rattle.model_edit.specs.Tables.{set_rows, set_columns, spans_row, spans_column, row_in_edits, row_removed, cell_removed, cell_place, column_edits, new_cell}
+use Rattle.ve_offsets.specs.declared.doc.Doc.{Doc}
+use Rattle.ve_offsets.specs.Docs.{page_items}
+use Rattle.ve_tx.specs.Operation.{Operation, by_value}
 use Rattle.ve_edits.specs.Collected.{Collected, Makes}
 use Rattle.ve_tables.specs.declared.table.LaidTable.{LaidTable}
 use Rattle.ve_tables.specs.Rows.{row_of}
@@ -23,6 +26,9 @@ pub record IsLaid (items : List PlainItem) (table : LaidTable) : Type 0 where
 pub record Collects (store : List Value) (items : List Item) (edits : List Edit) (old new : Collected) : Type 0 where
   pub makes : (done : List Edit) → Makes store items done old → Makes store items (done ++ edits) new
   pub order : (later : List Edit) → InOrder old.at (length items) (edits ++ later) → InOrder new.at (length items) later
+
+abbrev pub CollectsIn : Doc → List Edit → Collected → Collected → Type 0
+CollectsIn doc = Collects doc.store.now doc.list.now.items
 
 -- Of these edits some are collected, and others are left.
 pub record IsPartWay (store : List Value) (items : List Item) (all left : List Edit) (old new : Collected) : Type 0 where
@@ -60,3 +66,23 @@ col_in_edits items rows column g = flat_map (column_edits items column g) (enume
 
 abbrev pub columns_removed : List PlainItem → ℕ → List GridCell → List Edit
 columns_removed items column cells = map (cell_removed items) (filter (λ (c : GridCell). covers_column c column) cells)
+
+-- ---- what the calls that make a change are asked and give, where its edits are these of the page's items
+
+abbrev pub MayMake : Doc → (List PlainItem → List Edit) → Type 0
+MayMake doc edits = InOrder 0 (length doc.list.now.items) (edits (page_items doc))
+
+abbrev pub MakesEdits : Doc → (List PlainItem → List Edit) → List Operation → Type 0
+MakesEdits doc edits tx = by_value doc.store.now tx ≡ transaction_of (page_items doc) (edits (page_items doc))
+
+abbrev pub row_put : LaidTable → ℕ → List PlainItem → List Edit
+row_put table row items = row_in_edits items (map row_of table.rows) row table.grid
+
+abbrev pub row_taken : LaidTable → ℕ → List PlainItem → List Edit
+row_taken table row items = row_out_edits items (map row_of table.rows) row table.grid
+
+abbrev pub column_put : LaidTable → ℕ → List PlainItem → List Edit
+column_put table column items = col_in_edits items (map row_of table.rows) column table.grid
+
+abbrev pub column_taken : LaidTable → ℕ → List PlainItem → List Edit
+column_taken table column items = columns_removed items column table.grid.cells

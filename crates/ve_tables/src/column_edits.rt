@@ -1,8 +1,8 @@
 // Columns put in and taken out.
-ghost use Rattle.std.specs.Prelude.{◌≡◌, ◌<◌, ◌≤◌, ◌+◌, ◌^◌, ◌∷◌, [], length, map, drop, Ok, All, IfOk, OnOk, IfErr};
+ghost use Rattle.std.specs.Prelude.{◌≡◌, ◌<◌, ◌≤◌, ◌+◌, ◌^◌, ◌∷◌, [], length, drop, Ok, All, IfOk, OnOk, IfErr};
 ghost use Rattle.model_items.specs.Offsets.{end_of_node};
 ghost use Rattle.model_items.specs.Plain.{CitesWell};
-ghost use Rattle.model_edit.specs.Edits.{transaction_of, InOrder};
+ghost use Rattle.model_edit.specs.Edits.{InOrder};
 ghost use Rattle.model_edit.specs.Tables as model;
 ghost use Rattle.model_edit.specs.Tables.{cell_removed};
 ghost use Rattle.ve_offsets.specs.Docs.{IsDoc, page_items};
@@ -11,7 +11,7 @@ ghost use Rattle.ve_tx.specs.Operation.{by_value};
 ghost use Rattle.ve_tables.specs.Asked.{asked};
 ghost use Rattle.ve_tables.specs.declared.asked.Question.TheVariants.{IsFullAtColumn};
 ghost use Rattle.ve_tables.specs.Covered.{AreInRows, IsRun, floor_with, floor_of};
-ghost use Rattle.ve_tables.specs.PartWay.{AreNone, Collects, grown_columns, row_widened, col_in_edits, columns_removed};
+ghost use Rattle.ve_tables.specs.PartWay.{AreNone, CollectsIn, MakesEdits, MayMake, column_put, column_taken, grown_columns, row_widened};
 ghost use Rattle.ve_tables.specs.Refused.{IsTableRefusal};
 ghost use Rattle.ve_tables.specs.Rows.{row_of};
 
@@ -76,7 +76,7 @@ fn grow_cells(
     requires cites { All (CitesWell doc.store.now) doc.list.now.items }
     requires order { InOrder edits.old.at (length doc.list.now.items) (grown_columns column cells.now) }
     requires room { AreNone (asked (IsFullAtColumn column)) cells.now }
-    ensures { OnOk result (Collects doc.entry.store.now doc.entry.list.now.items (grown_columns column cells.now) edits.old edits.new) }
+    ensures { OnOk result (CollectsIn doc.entry (grown_columns column cells.now) edits.old edits.new) }
 {
     for cell in cells {
         if !spans_column(*cell, column) {
@@ -122,7 +122,7 @@ fn widen_row(
     requires within { All (λ cell. cell.at < length doc.list.now.items) cells.now }
     requires order { InOrder edits.old.at (length doc.list.now.items) (row_widened (page_items doc) (row_of row) column cells.now grown) }
     requires room { AreNone (asked (IsFullAtColumn column)) cells.now }
-    ensures { OnOk result (Collects doc.entry.store.now doc.entry.list.now.items (row_widened (page_items doc.entry) (row_of row) column cells.now grown) edits.old edits.new) }
+    ensures { OnOk result (CollectsIn doc.entry (row_widened (page_items doc.entry) (row_of row) column cells.now grown) edits.old edits.new) }
 {
     grow_cells(alloc, doc, edits, cells, column)?;
     if grown {
@@ -145,9 +145,9 @@ fn put_column(
     requires rows { AreInRows 0 (length table.now.rows) table.now.grid.cells }
     requires places { All (λ row. row.at < length doc.list.now.items) table.now.rows }
     requires within { All (λ cell. cell.at < length doc.list.now.items) table.now.grid.cells }
-    requires order { InOrder 0 (length doc.list.now.items) (col_in_edits (page_items doc) (map row_of table.now.rows) column table.now.grid) }
+    requires order { MayMake doc (column_put table.now column) }
     requires room { AreNone (asked (IsFullAtColumn column)) table.now.grid.cells }
-    ensures means { IfOk result (λ tx. by_value doc.entry.store.now tx ≡ transaction_of (page_items doc.entry) (col_in_edits (page_items doc.entry) (map row_of table.now.rows) column table.now.grid)) }
+    ensures means { IfOk result (MakesEdits doc.entry (column_put table.now column)) }
     ensures cites { IfOk result (TxCites doc.entry.store.now) }
 {
     let cells = table.grid.cells();
@@ -174,7 +174,7 @@ fn take_cell(alloc: Global, doc: Doc<'_>, edits: &mut Edits, cell: GridCell) -> 
     requires within { cell.at < length doc.list.now.items }
     requires ahead { cell.at ≤ end_of_node (page_items doc) cell.at }
     requires some { 1 ≤ cell.columns }
-    ensures { OnOk result (Collects doc.entry.store.now doc.entry.list.now.items (cell_removed (page_items doc.entry) cell ∷ []) edits.old edits.new) }
+    ensures { OnOk result (CollectsIn doc.entry (cell_removed (page_items doc.entry) cell ∷ []) edits.old edits.new) }
 {
     if cell.columns == 1 {
         let to = node_end(doc, cell.at);
@@ -196,8 +196,8 @@ fn take_column(
     requires cites { All (CitesWell doc.store.now) doc.list.now.items }
     requires within { All (λ cell. cell.at < length doc.list.now.items) table.now.grid.cells }
     requires ahead { All (λ cell. cell.at ≤ end_of_node (page_items doc) cell.at) table.now.grid.cells }
-    requires order { InOrder 0 (length doc.list.now.items) (columns_removed (page_items doc) column table.now.grid.cells) }
-    ensures means { IfOk result (λ tx. by_value doc.entry.store.now tx ≡ transaction_of (page_items doc.entry) (columns_removed (page_items doc.entry) column table.now.grid.cells)) }
+    requires order { MayMake doc (column_taken table.now column) }
+    ensures means { IfOk result (MakesEdits doc.entry (column_taken table.now column)) }
     ensures cites { IfOk result (TxCites doc.entry.store.now) }
 {
     let mut edits = Edits::new(alloc);
@@ -247,7 +247,7 @@ pub fn col_in(
 /// The change that takes the column of a number out of the table that opens at a place. A cell of more columns that covers
 /// it loses one column.
 ///
-/// It is refused as by `grid`; then `BadColumn` comes exactly where the table hasn't so many columns.
+/// It is refused as by `grid`; then `BadColumn` comes exactly where the number isn't below that of the columns.
 pub fn col_out(
     alloc: Global,
     doc: Doc<'_>,

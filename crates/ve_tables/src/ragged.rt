@@ -1,10 +1,7 @@
 // Whether each place left of a column is covered.
-ghost use Rattle.std.specs.Prelude.{◌≡◌, ◌≤◌, ◌<◌, ◌+◌, ◌++◌, ◌^◌, nat_le, length, take, drop, option_map, IfOk};
+ghost use Rattle.std.specs.Prelude.{◌≡◌, ◌≤◌, ◌<◌, ◌+◌, ◌^◌, nat_le, length, take, drop, IfOk};
 ghost use Rattle.std.specs.List.{list_any};
-ghost use Rattle.std.specs.Option.{option_or};
-ghost use Rattle.model_edit.specs.Causes.{Ragged};
-ghost use Rattle.model_edit.specs.Tables.{first_fault};
-ghost use Rattle.ve_tables.specs.Asked.{ragged_causes};
+ghost use Rattle.ve_tables.specs.Asked.{IsFirstRagged};
 ghost use Rattle.ve_tables.specs.Covered.{AreInRows, AreLowered, AreFloors, ArePassed};
 
 use crate::asked::covers_column;
@@ -62,7 +59,7 @@ fn has_gap(floors: &[usize], row: usize) -> bool
 /// The first row of the grid in which a place left of a column is covered by no cell.
 pub fn first_ragged(alloc: Global, grid: &Grid, column: usize) -> Result<Option<usize>, Memory>
     requires rows { AreInRows 0 grid.now.rows grid.now.cells }
-    ensures { IfOk result (λ found. (more : _) → first_fault (ragged_causes column grid.now 0 grid.now.rows ++ more) ≡ option_or (option_map Ragged found) (first_fault more)) }
+    ensures { IfOk result (IsFirstRagged column grid.now) }
 {
     let mut floors = Vec::from_elem(alloc, 0, column)?;
     let cells = grid.cells();

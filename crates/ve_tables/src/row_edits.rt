@@ -1,16 +1,14 @@
 // Rows put in and taken out.
-ghost use Rattle.std.specs.Prelude.{◌≡◌, ◌<◌, ◌≤◌, ◌∷◌, [], length, map, Ok, All, IfOk, IfErr};
+ghost use Rattle.std.specs.Prelude.{◌≡◌, ◌<◌, ◌≤◌, length, map, Ok, All, IfOk, IfErr};
 ghost use Rattle.model_items.specs.Offsets.{end_of_node};
 ghost use Rattle.model_items.specs.Plain.{CitesWell};
-ghost use Rattle.model_edit.specs.Edits.{InOrder, transaction_of};
 ghost use Rattle.model_edit.specs.Tables as model;
-ghost use Rattle.model_edit.specs.Tables.{row_in_edits};
 ghost use Rattle.ve_offsets.specs.Docs.{IsDoc, page_items};
 ghost use Rattle.ve_tx.specs.Cites.{TxCites};
 ghost use Rattle.ve_tx.specs.Operation.{by_value};
 ghost use Rattle.ve_tables.specs.Asked.{asked};
 ghost use Rattle.ve_tables.specs.declared.asked.Question.TheVariants.{IsFullAtRow};
-ghost use Rattle.ve_tables.specs.PartWay.{AreNone, row_out_edits};
+ghost use Rattle.ve_tables.specs.PartWay.{AreNone, MakesEdits, MayMake, row_put, row_taken};
 ghost use Rattle.ve_tables.specs.Refused.{IsTableRefusal};
 ghost use Rattle.ve_tables.specs.Rows.{row_of};
 
@@ -51,9 +49,9 @@ fn put_row(
     requires cites { All (CitesWell doc.store.now) doc.list.now.items }
     requires some { 0 < length table.now.rows }
     requires within { All (λ row. row.at < length doc.list.now.items) table.now.rows }
-    requires order { InOrder 0 (length doc.list.now.items) (row_in_edits (page_items doc) (map row_of table.now.rows) row table.now.grid) }
+    requires order { MayMake doc (row_put table.now row) }
     requires room { AreNone (asked (IsFullAtRow row)) table.now.grid.cells }
-    ensures means { IfOk result (λ tx. by_value doc.entry.store.now tx ≡ transaction_of (page_items doc.entry) (row_in_edits (page_items doc.entry) (map row_of table.now.rows) row table.now.grid)) }
+    ensures means { IfOk result (MakesEdits doc.entry (row_put table.now row)) }
     ensures cites { IfOk result (TxCites doc.entry.store.now) }
 {
     let mut edits = Edits::new(alloc);
@@ -82,8 +80,8 @@ fn take_row(
     requires row { row < length table.now.rows }
     requires within { All (λ row. row.at < length doc.list.now.items) table.now.rows }
     requires ahead { All (λ row. row.at ≤ end_of_node (page_items doc) row.at) table.now.rows }
-    requires order { InOrder 0 (length doc.list.now.items) (row_out_edits (page_items doc) (map row_of table.now.rows) row table.now.grid) }
-    ensures means { IfOk result (λ tx. by_value doc.entry.store.now tx ≡ transaction_of (page_items doc.entry) (row_out_edits (page_items doc.entry) (map row_of table.now.rows) row table.now.grid)) }
+    requires order { MayMake doc (row_taken table.now row) }
+    ensures means { IfOk result (MakesEdits doc.entry (row_taken table.now row)) }
     ensures cites { IfOk result (TxCites doc.entry.store.now) }
 {
     let mut edits = Edits::new(alloc);
@@ -127,7 +125,7 @@ pub fn row_in(alloc: Global, doc: Doc<'_>, at: usize, row: usize) -> Result<Tran
 /// The change that takes the row of a number out of the table that opens at a place. The cells that span into it from
 /// above lose one row.
 ///
-/// It is refused as by `grid`; then `BadRow` comes exactly where the table hasn't so many rows; then `Spanned` with the
+/// It is refused as by `grid`; then `BadRow` comes exactly where the number isn't below that of the rows; then `Spanned` with the
 /// place of the first cell that begins in the row and covers more rows.
 pub fn row_out(
     alloc: Global,

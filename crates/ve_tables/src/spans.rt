@@ -4,7 +4,7 @@ ghost use Rattle.std.specs.Str.{chars};
 ghost use Rattle.model_items.specs.Plain.{CitesWell};
 ghost use Rattle.model_items.specs.Offsets.{end_of_node};
 ghost use Rattle.model_edit.specs.Edits.{Set};
-ghost use Rattle.ve_tables.specs.PartWay.{Collects};
+ghost use Rattle.ve_tables.specs.PartWay.{CollectsIn};
 ghost use Rattle.ve_offsets.specs.Docs.{IsDoc, page_items};
 
 use std::alloc::Global;
@@ -32,7 +32,7 @@ pub fn set_span(
     requires order { edits.old.at ≤ at }
     requires within { at < length doc.list.now.items }
     requires cites { All (CitesWell doc.store.now) doc.list.now.items }
-    ensures { OnOk result (Collects doc.entry.store.now doc.entry.list.now.items (Set at (chars name.now) (Some (decimal span)) ∷ []) edits.old edits.new) }
+    ensures { OnOk result (CollectsIn doc.entry (Set at (chars name.now) (Some (decimal span)) ∷ []) edits.old edits.new) }
 {
     let text = digits(alloc, span)?;
     edits.set(doc.list, doc.store, at, name, text)?;
