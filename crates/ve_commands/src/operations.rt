@@ -61,11 +61,8 @@ fn setting_may_precede(name: &Text, later: &[OpWords]) -> bool
         match op {
             OpWords::Retain(_) => return true,
             OpWords::Remove { .. } => return false,
-            OpWords::Attr { name: other, .. } => {
-                if same_text(name, other) {
-                    return false;
-                }
-            }
+            OpWords::Attr { name: other, .. } if same_text(name, other) => return false,
+            OpWords::Attr { .. } => {}
         }
     }
     false
