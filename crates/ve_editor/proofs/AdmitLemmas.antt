@@ -7,7 +7,7 @@ use Rattle.model_items.specs.Law.{Lawful}
 use Rattle.model_change.specs.Fault.{Applies}
 use Rattle.model_change.specs.Inverse.{filled}
 use Rattle.model_change.specs.Store.{brought}
-use Rattle.model_change.specs.Transaction.{Transaction, edited}
+use Rattle.model_change.specs.Transaction.{edited}
 use Rattle.model_site.specs.Replica.{Replica, all_filled, all_performed, performed}
 use Rattle.ve_tx.specs.Cites.{TxCites}
 use Rattle.ve_tx.specs.Making.{Extends}
@@ -28,7 +28,7 @@ admitted_first values old txs stands = record { page = refl; filled = refl; cite
 
 module _ (values : List Value) (old : Replica) (txs : List (List Operation)) (k : ℕ) (now : Replica) (kept : List (List Operation)) (tx : List Operation)
     (so_far : AdmittedSoFar values old txs k now kept) (below : k < length txs) (is : tx ≡ get_or txs k tx) where
-  one_left : drop k txs ≡ tx ∷ drop (k + 1) txs
+  pub one_left : drop k txs ≡ tx ∷ drop (k + 1) txs
   one_left = drop_more txs k tx below ∙ ap (λ t. t ∷ drop (k + 1) txs) (sym is)
 
   stands : AllStand (by_value values tx ∷ map (by_value values) (drop (k + 1) txs)) now.items

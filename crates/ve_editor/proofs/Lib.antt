@@ -9,3 +9,4 @@ pub mod BackLemmas
 pub mod RemovedLemmas
 pub mod OtherLemmas
 pub mod AdmitLemmas
+mod CountedLemmas

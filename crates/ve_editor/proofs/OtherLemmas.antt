@@ -1,7 +1,6 @@
 -- A transaction of another, over the values that it brings and over the store that takes them.
-use Rattle.std.proofs.Common.{◌≡◌, ◌<◌, ℕ, zero, suc, ◌+◌, true, List, [], ◌∷◌, ◌++◌, length, map, drop, All, Contains, Option, Some, None, slice_get, refl, sym, ap, ◌∙◌, subst, append-nil, append_assoc, inl, inr, arith}
-use Rattle.std.proofs.lemmas.List.{map-append}
-use Rattle.std.proofs.lemmas.List.Elements.{All-nil, All-cons, All-head, All-tail, All-append, Contains-append_cases}
+use Rattle.std.proofs.Common.{◌≡◌, ℕ, zero, suc, true, List, [], ◌∷◌, ◌++◌, map, All, Contains, Option, Some, None, slice_get, refl, sym, ap, ◌∙◌, subst, inl, inr, arith}
+use Rattle.std.proofs.lemmas.List.Elements.{All-nil, All-cons, All-head, All-tail, Contains-append_cases}
 use Rattle.std.proofs.lemmas.Option.{slice_get_within, get_or_from_slice_get}
 use Rattle.ve_base.specs.declared.value.Value.{Value}
 use Rattle.ve_base.specs.declared.value.Value.TheVariants as value
@@ -9,14 +8,12 @@ use Rattle.ve_base.specs.declared.value.ValueId.{ValueId}
 use Rattle.model_items.specs.declared.item.Item.{Item}
 use Rattle.model_items.specs.declared.item.Item.TheVariants as item
 use Rattle.model_items.specs.declared.plain_item.PlainItem.{PlainItem}
-use Rattle.model_items.specs.Law.{Lawful}
 use Rattle.model_items.specs.Plain.{plain, plain_list, value_at, head_in, marks_in, white_in, CitesHead, CitesMarks, CitesWhite, CitesWell}
 use Rattle.model_change.specs.Fault.{Applies}
 use Rattle.model_change.specs.Inverse.{filled}
-use Rattle.model_change.specs.Store.{brought, changed_heads, cited, cited_by, fill, head_cited, marks_cited, white_cited}
-use Rattle.model_change.specs.Transaction.{Transaction, all_inserted, all_removed, edited, is_reduced}
+use Rattle.model_change.specs.Store.{changed_heads, cited, cited_by, fill, head_cited, marks_cited, white_cited}
+use Rattle.model_change.specs.Transaction.{Transaction, all_inserted, edited, is_reduced}
 use Rattle.model_change.proofs.StoreLemmas.{contains_none}
-use Rattle.model_site.specs.Replica.{Replica, all_filled, all_performed, performed}
 use Rattle.ve_editor.proofs.RemovedLemmas.{removed_held}
 use Rattle.ve_items.specs.ItemList.{ItemList}
 use Rattle.ve_tx.specs.Applied.{filled_on}
@@ -28,8 +25,7 @@ use Rattle.ve_tx.specs.Taken.{HasRemoved}
 use Rattle.ve_tx.proofs.ValuesLemmas as values_lemmas
 use Rattle.ve_tx.proofs.ValuesLemmas.{extends_on, extends_by_fill, list-extended, all-extended}
 use Rattle.ve_editor.specs.declared.perform.Admitting.{Admitting}
-use Rattle.ve_editor.specs.Edited.{AllStand}
-use Rattle.ve_editor.specs.Prepared.{WillBe, IsReadyBack, IsReadyOther}
+use Rattle.ve_editor.specs.Prepared.{IsReadyBack, IsReadyOther}
 use Rattle.ve_editor.proofs.CutLemmas.{head_once, marks_once, white_once}
 use Rattle.ve_editor.proofs.GrownLemmas.{by_value-extended, cites-extended}
 

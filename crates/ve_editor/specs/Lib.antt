@@ -11,6 +11,7 @@ pub use Rattle.ve_tx.specs.ByValue
 pub use Rattle.ve_tree.specs.TreeOf
 pub mod Page
 pub mod Edited
+pub mod Counted
 pub mod Refusal
 pub mod Prepared
 pub mod Rest

@@ -56,6 +56,7 @@ impl Editor {
     ghost use Rattle.ve_editor.specs.Edited.{IsDraftOf, drafted, entry_by_value, EntryCites, AllStand, CanBeReverted, CutsUncited, IsUncited, reversal_over};
     ghost use Rattle.ve_tx.specs.ByValue.{parcel_by_value, ParcelCites};
     ghost use Rattle.ve_editor.specs.Refusal.{IsEditRefusal};
+    ghost use Rattle.ve_editor.specs.Counted.{steps_after, steps_over};
 
     /// An editor of a lawful list whose items cite values of the store, with the selection at the start. Its
     /// tree is built, in at most eight steps for each node and sixteen more.
@@ -68,6 +69,7 @@ impl Editor {
         requires lawful { Lawful (unvalued list.items) }
         requires cites { All (CitesWell store) list.items }
         ensures ok { IfOk result (λ editor. editor ≡ page_of store list.items (between 0 0)) }
+        ensures counted { steps.old ≤ steps.new }
         ensures steps { steps.new ≤ steps.old + most_steps (plain_list store list.items) }
     {
         let tree = Tree::build(alloc, &list, steps)?;
@@ -86,6 +88,7 @@ impl Editor {
     /// An editor of equal list, store and selection. Its tree is built anew, in as many steps as `new` takes.
     pub fn copy<L: Ledger>(&self, steps: &mut Steps<L>) -> Result<Editor, Memory>
         ensures ok { IfOk result (λ copy. copy ≡ self.now) }
+        ensures counted { steps.old ≤ steps.new }
         ensures steps { steps.new ≤ steps.old + most_steps self.now.items }
     {
         let list = self.list.copy(self.alloc)?;
@@ -142,6 +145,7 @@ impl Editor {
         ensures cites { IfOk result (EntryCites self.new.store) }
         ensures refused { IfErr result (IsEditRefusal (edit_cause (drafted self.old.store draft.now) self.old)) }
         ensures kept { OnErr result (self.new ≡ self.old) }
+        ensures counted { steps.old ≤ steps.new }
         ensures steps { steps.new ≤ steps.old + most_steps (performed (drafted self.old.store draft.now) self.old).items }
         ensures unstepped { IfErr result (λ why. why ≢ EditFault.Memory → steps.new ≡ steps.old) }
     {
@@ -178,6 +182,8 @@ impl Editor {
         requires lawful { Lawful (edited (by_value self.old.store tx.now) self.old.items) }
         ensures page { OnOk result (self.new ≡ put_back (by_value self.old.store tx.now) self.old) }
         ensures kept { OnErr result (self.new ≡ self.old) }
+        ensures counted { steps.old ≤ steps.new }
+        ensures steps { steps.new ≤ steps.old + most_steps (edited (by_value self.old.store tx.now) self.old.items) }
     {
         let before = self.store.len();
         match ready_back(self.alloc, &mut self.list, &mut self.store, tx, steps) {
@@ -217,7 +223,9 @@ impl Editor {
     ) -> Result<(), Memory>
         requires cites { All (TxCites self.old.store) txs.now }
         requires stands { AllStand (reversal_over self.old.store txs.now) self.old.items }
-        ensures { OnOk result (self.new ≡ all_put_back (reversal_over self.old.store txs.now) self.old) }
+        ensures page { OnOk result (self.new ≡ all_put_back (reversal_over self.old.store txs.now) self.old) }
+        ensures counted { steps.old ≤ steps.new }
+        ensures steps { steps.new ≤ steps.old + steps_after (reversal_over self.old.store txs.now) self.old.items }
     {
         for n in 0..txs.len() {
             let tx = &txs[txs.len() - 1 - n];
@@ -238,6 +246,8 @@ impl Editor {
         requires stands { AllStand (reversal_over self.old.store txs.now) self.old.items }
         ensures page { OnOk result (self.new ≡ all_put_back (reversal_over self.old.store txs.now) self.old) }
         ensures kept { OnErr result (self.new ≡ self.old) }
+        ensures counted { steps.old ≤ steps.new }
+        ensures steps { steps.new ≤ steps.old + steps_over (reversal_over self.old.store txs.now) self.old.items }
     {
         if txs.len() == 1 {
             let back = txs[0].inverse(self.alloc)?;
@@ -264,6 +274,8 @@ impl Editor {
         ensures txs { IfOk result (λ txs. map (by_value self.new.store) txs ≡ filled (by_value values.now tx.now) self.old.items ∷ []) }
         ensures cites { IfOk result (λ txs. All (TxCites self.new.store) txs) }
         ensures kept { OnErr result (self.new ≡ self.old) }
+        ensures counted { steps.old ≤ steps.new }
+        ensures steps { steps.new ≤ steps.old + most_steps (edited (by_value values.now tx.now) self.old.items) }
     {
         let stored = self.store.len();
         match ready_other(
@@ -305,6 +317,8 @@ impl Editor {
         ensures page { OnOk result (self.new ≡ all_performed (map (by_value values.now) txs.now) self.old) }
         ensures txs { IfOk result (λ kept. map (by_value self.new.store) kept ≡ all_filled (map (by_value values.now) txs.now) self.old.items) }
         ensures cites { IfOk result (λ kept. All (TxCites self.new.store) kept) }
+        ensures counted { steps.old ≤ steps.new }
+        ensures steps { steps.new ≤ steps.old + steps_after (map (by_value values.now) txs.now) self.old.items }
     {
         let mut kept = TxList::new(self.alloc);
         for tx in txs {
@@ -328,6 +342,8 @@ impl Editor {
         ensures txs { IfOk result (λ kept. map (by_value self.new.store) kept ≡ all_filled (map (by_value values.now) txs.now) self.old.items) }
         ensures cites { IfOk result (λ kept. All (TxCites self.new.store) kept) }
         ensures kept { OnErr result (self.new ≡ self.old) }
+        ensures counted { steps.old ≤ steps.new }
+        ensures steps { steps.new ≤ steps.old + steps_over (map (by_value values.now) txs.now) self.old.items }
     {
         if txs.len() == 1 {
             return self.perform_other(&txs[0], values, steps);
@@ -353,6 +369,8 @@ impl Editor {
         ensures entry { IfOk result (λ entry. entry_by_value self.new.store entry ≡ entry_of (parcel_by_value parcel.now) self.old) }
         ensures cites { IfOk result (EntryCites self.new.store) }
         ensures kept { OnErr result (self.new ≡ self.old) }
+        ensures counted { steps.old ≤ steps.new }
+        ensures steps { steps.new ≤ steps.old + steps_over (parcel_by_value parcel.now) self.old.items }
     {
         let store_before = self.store.len();
         let txs = self.admit_all(parcel.entry.txs.as_slice(), parcel.values.as_slice(), steps)?;
@@ -373,6 +391,8 @@ impl Editor {
         requires uncited { CutsUncited (entry_by_value self.old.store entry.now) self.old }
         ensures page { OnOk result (self.new ≡ reverted (entry_by_value self.old.store entry.now) self.old) }
         ensures kept { OnErr result (self.new ≡ self.old) }
+        ensures counted { steps.old ≤ steps.new }
+        ensures steps { steps.new ≤ steps.old + steps_over (reversal_over self.old.store entry.now.txs) self.old.items }
     {
         let was = self.store.len();
         self.put_entry_back(entry.txs.as_slice(), steps)?;

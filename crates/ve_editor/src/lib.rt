@@ -8,9 +8,9 @@
 //! list's, and that each value that is cited is in the store and of the sort that is asked for (`IsPage`).
 //!
 //! Definitions, in reading order: `Page` (what the type keeps), `Edited` (drafts and entries by value; what
-//! may be performed or taken back), `Refusal` (how a refusal names its cause). `Prepared` and `Rest` serve
-//! private functions: a change that needs no more memory, the law over a list's end. There is no law of its
-//! own: those of model_site_law hold by the clauses.
+//! may be performed or taken back), `Counted` (how many steps a call counts at most), `Refusal` (how a refusal
+//! names its cause). `Prepared` and `Rest` serve private functions: a change that needs no more memory, the
+//! law over a list's end. There is no law of its own: those of model_site_law hold by the clauses.
 #![tactic(auto)]
 
 mod editor;

@@ -110,6 +110,7 @@ fn with_entry<L: Ledger>(
     ensures cites { IfOk result (λ ready. All (TxCites store.now) ready.entry.txs) }
     ensures change { IfOk result (λ ready. ready.prepared.change ≡ change) }
     ensures tree { IfOk result (λ ready. HasTree list.now.items ready.prepared) }
+    ensures counted { steps.old ≤ steps.new }
     ensures steps { steps.new ≤ steps.old + most_steps (unvalued (spliced_by list.now.items change)) }
 {
     let entry = entry_of(alloc, list, store, tx, store_before)?;
@@ -133,6 +134,7 @@ pub fn ready<L: Ledger>(
     ensures refused { IfErr result (IsEditRefusal (edit_cause (drafted store.old draft.now) (page_of store.old list.old.items (between 0 0)))) }
     ensures items { list.new.items ≡ list.old.items }
     ensures extends { Extends store.old store.new }
+    ensures counted { steps.old ≤ steps.new }
     ensures steps { steps.new ≤ steps.old + most_steps (edited (drafted store.old draft.now) (plain_list store.old list.old.items)) }
     ensures unstepped { IfErr result (λ why. why ≢ EditFault.Memory → steps.new ≡ steps.old) }
 {
@@ -175,6 +177,7 @@ pub fn ready_back<L: Ledger>(
     ensures ok { IfOk result (IsReadyBack (by_value store.old tx.now) store.old store.new list.new) }
     ensures items { list.new.items ≡ list.old.items }
     ensures extends { Extends store.old store.new }
+    ensures counted { steps.old ≤ steps.new }
     ensures steps { steps.new ≤ steps.old + most_steps (edited (by_value store.old tx.now) (plain_list store.old list.old.items)) }
 {
     match tx.change(alloc, list, store) {
@@ -200,6 +203,8 @@ pub fn ready_other<L: Ledger>(
     ensures ok { IfOk result (IsReadyOther (by_value values.now tx.now) store.old store.new list.new) }
     ensures items { list.new.items ≡ list.old.items }
     ensures extends { Extends store.old store.new }
+    ensures counted { steps.old ≤ steps.new }
+    ensures steps { steps.new ≤ steps.old + most_steps (edited (by_value values.now tx.now) (plain_list store.old list.old.items)) }
 {
     // its type keeps that it is in normal form, which `ops` tells
     let _ops = tx.ops();

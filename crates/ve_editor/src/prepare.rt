@@ -31,6 +31,7 @@ pub fn prepare<L: Ledger>(
     requires lawful { Lawful (unvalued (spliced_by list.now.items change)) }
     ensures change { IfOk result (λ prepared. prepared.change ≡ change) }
     ensures tree { IfOk result (λ prepared. HasTree list.now.items prepared) }
+    ensures counted { steps.old ≤ steps.new }
     ensures steps { steps.new ≤ steps.old + most_steps (unvalued (spliced_by list.now.items change)) }
 {
     let tree = Tree::build_spliced(

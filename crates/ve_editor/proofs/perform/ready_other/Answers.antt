@@ -1,13 +1,12 @@
-use Rattle.std.proofs.Common.{◌≡◌, true, sym, subst, ◌∙◌}
+use Rattle.std.proofs.Common.{◌≡◌, ◌≤◌, ◌+◌, true, sym, subst, ◌∙◌}
 use Rattle.model_items.specs.Law.{Lawful}
-use Rattle.model_items.specs.Plain.{plain_list}
 use Rattle.model_change.specs.Fault.{fault}
 use Rattle.model_change.specs.Transaction.{edited, is_reduced}
-use Rattle.ve_tx.specs.Making.{Extends}
 use Rattle.ve_tx.specs.Operation.{by_value}
 use Rattle.ve_tx.proofs.ChangeLemmas.{normal-reduced}
 use Rattle.ve_tx.proofs.ValuesLemmas.{extends_on}
 use Rattle.ve_editor.proofs.OtherLemmas as other
+use Rattle.ve_tree.specs.TreeOf.{most_steps}
 use Rattle.ve_editor.proofs.perform.ready_other.Goals as goal
 
 pub one_filled-requires-clause-list : goal.one_filled-requires-clause-list
@@ -60,3 +59,13 @@ returns-clause-ok g c =
     other.ready_is values store taken c.args.tx.now c.in_ok-own.own items c.requires.list c.in_ok-own.ensures.filled c.in_ok-own.ensures.same (c.in_ok-own.ensures.inserted has)
     c.ready_back.new.store c.ready_back.new.list (record { txs = c.in_ok-txs.txs; prepared = c.in_ok-prepared.prepared }) c.ready_back.ensures.items c.in_ok-prepared.ensures.ok
     c.in_ok-txs.ensures.txs c.in_ok-txs.ensures.cites
+
+pub returns-in_err-prepared-clause-steps : goal.returns-in_err-prepared-clause-steps
+returns-in_err-prepared-clause-steps g c =
+    let over = other.over_own c.args.values.now c.args.store.now c.recite.new.store c.args.tx.now c.in_ok-own.own c.args.list.now.items c.requires.list c.in_ok-own.ensures.filled c.in_ok-own.ensures.same in
+    subst (λ l. c.ready_back.new.steps ≤ c.args.steps.now + most_steps l) (over edited) c.ready_back.ensures.steps
+
+pub returns-clause-steps : goal.returns-clause-steps
+returns-clause-steps g c =
+    let over = other.over_own c.args.values.now c.args.store.now c.recite.new.store c.args.tx.now c.in_ok-own.own c.args.list.now.items c.requires.list c.in_ok-own.ensures.filled c.in_ok-own.ensures.same in
+    subst (λ l. c.ready_back.new.steps ≤ c.args.steps.now + most_steps l) (over edited) c.ready_back.ensures.steps

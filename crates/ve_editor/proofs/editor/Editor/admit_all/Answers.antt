@@ -1,12 +1,11 @@
-use Rattle.std.proofs.Common.{◌≡◌, List, All, IfOk, OnOk, map, sym, ap, ◌∙◌, subst, arith}
-use Rattle.model_items.specs.Law.{Lawful}
-use Rattle.model_change.specs.Fault.{Applies}
-use Rattle.model_change.specs.Transaction.{edited}
+use Rattle.std.proofs.Common.{◌≡◌, ◌≤◌, ◌+◌, List, All, IfOk, OnOk, map, refl, sym, ap, ◌∙◌, subst, arith}
 use Rattle.model_site.specs.Replica.{Replica, all_filled, all_performed}
 use Rattle.ve_tx.specs.Cites.{TxCites}
 use Rattle.ve_tx.specs.Operation.{Operation, by_value}
 use Rattle.ve_editor.specs.Edited.{AllStand}
 use Rattle.ve_editor.proofs.BackLemmas.{one_only}
+use Rattle.ve_editor.specs.Counted.{steps_after}
+use Rattle.ve_editor.proofs.CountedLemmas.{one_within, copied_within}
 use Rattle.ve_editor.proofs.editor.Editor.admit_all.Goals as goal
 
 pub perform_other-requires-clause-cites : goal.perform_other-requires-clause-cites
@@ -54,3 +53,22 @@ returns-clause-txs g c =
 
 pub returns-clause-cites : goal.returns-clause-cites
 returns-clause-cites g c = c.in_ok-kept.ensures.cites
+
+pub returns-then-txs-eq1-clause-steps : goal.returns-then-txs-eq1-clause-steps
+returns-then-txs-eq1-clause-steps g c =
+    let t = by_value c.args.values.now c.index-txs-0.result in
+    let is = one_only c.args.txs.now c.index-txs-0.result c.if-txs-eq1.true c.index-txs-0.is in
+    one_within t t (map (by_value c.args.values.now) c.args.txs.now) c.args.self.now.items c.args.steps.now c.perform_other.new.steps refl
+    (ap (λ l. map (by_value c.args.values.now) l) is) c.perform_other.ensures.steps
+
+pub returns-in_err-kept-clause-steps : goal.returns-in_err-kept-clause-steps
+returns-in_err-kept-clause-steps g c =
+    let ts = map (by_value c.args.values.now) c.args.txs.now in
+    copied_within ts c.args.self.now.items c.args.steps.now c.copy.new.steps c.perform_others.new.steps c.copy.ensures.steps
+    (subst (λ (q : Replica). c.perform_others.new.steps ≤ c.copy.new.steps + steps_after ts q.items) c.in_ok-grown.ensures.ok c.perform_others.ensures.steps)
+
+pub returns-clause-steps : goal.returns-clause-steps
+returns-clause-steps g c =
+    let ts = map (by_value c.args.values.now) c.args.txs.now in
+    copied_within ts c.args.self.now.items c.args.steps.now c.copy.new.steps c.perform_others.new.steps c.copy.ensures.steps
+    (subst (λ (q : Replica). c.perform_others.new.steps ≤ c.copy.new.steps + steps_after ts q.items) c.in_ok-grown.ensures.ok c.perform_others.ensures.steps)

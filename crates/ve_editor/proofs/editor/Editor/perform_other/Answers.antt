@@ -1,9 +1,11 @@
-use Rattle.std.proofs.Common.{◌≡◌, [], ◌∷◌, sym, ap, ◌∙◌, subst}
+use Rattle.std.proofs.Common.{◌≤◌, ◌+◌, [], ◌∷◌, ap, ◌∙◌, subst}
 use Rattle.model_items.specs.Plain.{plain_list}
 use Rattle.model_change.specs.Inverse.{filled}
 use Rattle.model_site.specs.Replica.{Replica, performed}
 use Rattle.ve_tx.specs.Operation.{by_value}
 use Rattle.ve_editor.proofs.PerformLemmas.{other_is}
+use Rattle.model_change.specs.Transaction.{edited}
+use Rattle.ve_tree.specs.TreeOf.{most_steps}
 use Rattle.ve_editor.proofs.editor.Editor.perform_other.Goals as goal
 
 pub returns-in-Ok-clause-page : goal.returns-in-Ok-clause-page
@@ -17,3 +19,11 @@ pub returns-in-Ok-clause-txs : goal.returns-in-Ok-clause-txs
 returns-in-Ok-clause-txs g c =
     let t = by_value c.args.values.now c.args.tx.now in
     c.in-Ok.ensures.ok.txs ∙ ap (λ l. filled t (plain_list c.self.inside.store l) ∷ []) c.in-Ok.ensures.items ∙ ap (λ (r : Replica). filled t r.items ∷ []) c.self.view_is
+
+pub returns-in-Ok-clause-steps : goal.returns-in-Ok-clause-steps
+returns-in-Ok-clause-steps g c =
+    subst (λ (r : Replica). c.ready_other.new.steps ≤ c.args.steps.now + most_steps (edited (by_value c.args.values.now c.args.tx.now) r.items)) c.self.view_is c.ready_other.ensures.steps
+
+pub returns-in-Err-clause-steps : goal.returns-in-Err-clause-steps
+returns-in-Err-clause-steps g c =
+    subst (λ (r : Replica). c.ready_other.new.steps ≤ c.args.steps.now + most_steps (edited (by_value c.args.values.now c.args.tx.now) r.items)) c.self.view_is c.ready_other.ensures.steps

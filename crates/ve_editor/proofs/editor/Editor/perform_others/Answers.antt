@@ -1,12 +1,19 @@
-use Rattle.std.proofs.Common.{◌≡◌, ◌≤◌, [], length, get_or, sym, subst}
+use Rattle.std.proofs.Common.{◌≤◌, ◌+◌, map, drop, refl, sym, ap, subst, arith}
+use Rattle.model_site.specs.Replica.{Replica}
 use Rattle.ve_tx.specs.Cites.{TxCites}
-use Rattle.ve_editor.proofs.AdmitLemmas.{AdmittedSoFar, admitted_first, next_applies, next_lawful, admitted_next, admitted_all}
+use Rattle.ve_tx.specs.Operation.{by_value}
+use Rattle.ve_editor.specs.Counted.{steps_after}
+use Rattle.ve_editor.proofs.AdmitLemmas.{AdmittedSoFar, admitted_first, next_applies, next_lawful, admitted_next, admitted_all, one_left}
+use Rattle.ve_editor.proofs.CountedLemmas.{within_all, left_within_all}
 use Rattle.ve_editor.proofs.editor.Editor.perform_others.Goals as goal
 
 pub loop-tx-init : goal.loop-tx-init
-loop-tx-init g c =
-    subst (AdmittedSoFar c.args.values.now c.args.self.now c.args.txs.now 0 c.args.self.now) (sym c.new-kept.ensures)
-    (admitted_first c.args.values.now c.args.self.now c.args.txs.now c.requires.stands)
+loop-tx-init g c = record {
+  so_far = subst (AdmittedSoFar c.args.values.now c.args.self.now c.args.txs.now 0 c.args.self.now) (sym c.new-kept.ensures)
+      (admitted_first c.args.values.now c.args.self.now c.args.txs.now c.requires.stands);
+  counted = omega arith;
+  spent = omega arith;
+}
 
 pub perform_other-requires-clause-cites : goal.perform_other-requires-clause-cites
 perform_other-requires-clause-cites g c =
@@ -14,24 +21,61 @@ perform_other-requires-clause-cites g c =
 
 pub perform_other-requires-clause-applies : goal.perform_other-requires-clause-applies
 perform_other-requires-clause-applies g c =
-    next_applies c.args.values.now c.args.self.now c.args.txs.now c.loop-tx.tx-index c.loop-tx.self c.loop-tx.kept c.tx-item.result c.loop-tx.invariant c.loop-tx-test.true c.tx-item.is
+    next_applies c.args.values.now c.args.self.now c.args.txs.now c.loop-tx.tx-index c.loop-tx.self c.loop-tx.kept c.tx-item.result c.loop-tx.invariant.so_far c.loop-tx-test.true c.tx-item.is
 
 pub perform_other-requires-clause-lawful : goal.perform_other-requires-clause-lawful
 perform_other-requires-clause-lawful g c =
-    next_lawful c.args.values.now c.args.self.now c.args.txs.now c.loop-tx.tx-index c.loop-tx.self c.loop-tx.kept c.tx-item.result c.loop-tx.invariant c.loop-tx-test.true c.tx-item.is
+    next_lawful c.args.values.now c.args.self.now c.args.txs.now c.loop-tx.tx-index c.loop-tx.self c.loop-tx.kept c.tx-item.result c.loop-tx.invariant.so_far c.loop-tx-test.true c.tx-item.is
 
 pub loop-tx-preserved : goal.loop-tx-preserved
 loop-tx-preserved g c =
-    admitted_next c.args.values.now c.args.self.now c.args.txs.now c.loop-tx.tx-index c.loop-tx.self c.loop-tx.kept c.tx-item.result c.loop-tx.invariant c.loop-tx-test.true c.tx-item.is
-    c.perform_other.new.self c.in_ok-own.own c.append.new.self c.in_ok-own.ensures.page c.in_ok-own.ensures.txs c.in_ok-own.ensures.cites c.in_ok-append.ensures.ok
+    let values = c.args.values.now in
+    let txs = c.args.txs.now in
+    let old = c.loop-tx.self in
+    let t = by_value values c.tx-item.result in
+    let rest = map (by_value values) (drop (c.loop-tx.tx-index + 1) txs) in
+    let all = c.args.steps.now + steps_after (map (by_value values) txs) c.args.self.now.items in
+    let left = one_left values c.args.self.now txs c.loop-tx.tx-index old c.loop-tx.kept c.tx-item.result c.loop-tx.invariant.so_far c.loop-tx-test.true c.tx-item.is in
+    let bound = subst (λ l. c.loop-tx.steps + steps_after (map (by_value values) l) old.items ≤ all) left c.loop-tx.invariant.spent in
+    record {
+      so_far = admitted_next values c.args.self.now txs c.loop-tx.tx-index old c.loop-tx.kept c.tx-item.result c.loop-tx.invariant.so_far c.loop-tx-test.true c.tx-item.is
+          c.perform_other.new.self c.in_ok-own.own c.append.new.self c.in_ok-own.ensures.page c.in_ok-own.ensures.txs c.in_ok-own.ensures.cites c.in_ok-append.ensures.ok;
+      counted = omega (arith, c.loop-tx.invariant.counted, c.perform_other.ensures.counted);
+      spent = left_within_all t t rest old.items c.loop-tx.steps c.perform_other.new.steps all refl bound c.perform_other.ensures.steps c.perform_other.new.self.items
+          (ap (λ (r : Replica). r.items) c.in_ok-own.ensures.page);
+    }
+
+pub returns-in_err-own-clause-steps : goal.returns-in_err-own-clause-steps
+returns-in_err-own-clause-steps g c =
+    let values = c.args.values.now in
+    let txs = c.args.txs.now in
+    let old = c.loop-tx.self in
+    let t = by_value values c.tx-item.result in
+    let rest = map (by_value values) (drop (c.loop-tx.tx-index + 1) txs) in
+    let all = c.args.steps.now + steps_after (map (by_value values) txs) c.args.self.now.items in
+    let left = one_left values c.args.self.now txs c.loop-tx.tx-index old c.loop-tx.kept c.tx-item.result c.loop-tx.invariant.so_far c.loop-tx-test.true c.tx-item.is in
+    let bound = subst (λ l. c.loop-tx.steps + steps_after (map (by_value values) l) old.items ≤ all) left c.loop-tx.invariant.spent in
+    within_all t t rest old.items c.loop-tx.steps c.perform_other.new.steps all refl bound c.perform_other.ensures.steps
+
+pub returns-in_err-append-clause-steps : goal.returns-in_err-append-clause-steps
+returns-in_err-append-clause-steps g c =
+    let values = c.args.values.now in
+    let txs = c.args.txs.now in
+    let old = c.loop-tx.self in
+    let t = by_value values c.tx-item.result in
+    let rest = map (by_value values) (drop (c.loop-tx.tx-index + 1) txs) in
+    let all = c.args.steps.now + steps_after (map (by_value values) txs) c.args.self.now.items in
+    let left = one_left values c.args.self.now txs c.loop-tx.tx-index old c.loop-tx.kept c.tx-item.result c.loop-tx.invariant.so_far c.loop-tx-test.true c.tx-item.is in
+    let bound = subst (λ l. c.loop-tx.steps + steps_after (map (by_value values) l) old.items ≤ all) left c.loop-tx.invariant.spent in
+    within_all t t rest old.items c.loop-tx.steps c.perform_other.new.steps all refl bound c.perform_other.ensures.steps
 
 pub returns-clause-page : goal.returns-clause-page
 returns-clause-page g c =
-    (admitted_all c.args.values.now c.args.self.now c.args.txs.now c.loop-tx.tx-index c.loop-tx.self c.loop-tx.kept c.loop-tx.invariant c.loop-tx-test.false).0
+    (admitted_all c.args.values.now c.args.self.now c.args.txs.now c.loop-tx.tx-index c.loop-tx.self c.loop-tx.kept c.loop-tx.invariant.so_far c.loop-tx-test.false).0
 
 pub returns-clause-txs : goal.returns-clause-txs
 returns-clause-txs g c =
-    (admitted_all c.args.values.now c.args.self.now c.args.txs.now c.loop-tx.tx-index c.loop-tx.self c.loop-tx.kept c.loop-tx.invariant c.loop-tx-test.false).1
+    (admitted_all c.args.values.now c.args.self.now c.args.txs.now c.loop-tx.tx-index c.loop-tx.self c.loop-tx.kept c.loop-tx.invariant.so_far c.loop-tx-test.false).1
 
 pub returns-clause-cites : goal.returns-clause-cites
-returns-clause-cites g c = c.loop-tx.invariant.cites
+returns-clause-cites g c = c.loop-tx.invariant.so_far.cites

@@ -1,8 +1,10 @@
-use Rattle.std.proofs.Common.{sym, ap, ◌∙◌, subst}
+use Rattle.std.proofs.Common.{◌≤◌, ◌+◌, sym, ap, ◌∙◌, subst}
 use Rattle.model_site.specs.Replica.{Replica, put_back}
 use Rattle.ve_tx.specs.Cites.{TxCites}
 use Rattle.ve_tx.specs.Operation.{by_value}
 use Rattle.ve_editor.proofs.PerformLemmas.{put_back_is}
+use Rattle.model_change.specs.Transaction.{edited}
+use Rattle.ve_tree.specs.TreeOf.{most_steps}
 use Rattle.ve_editor.proofs.editor.Editor.put_back.Goals as goal
 
 pub returns-in-Ok-clause-page : goal.returns-in-Ok-clause-page
@@ -13,3 +15,11 @@ returns-in-Ok-clause-page g c =
 
 pub ready_back-requires-clause-cites : goal.ready_back-requires-clause-cites
 ready_back-requires-clause-cites g c = subst (λ (r : Replica). TxCites r.store c.args.tx.now) (sym c.self.view_is) c.requires.cites
+
+pub returns-in-Ok-clause-steps : goal.returns-in-Ok-clause-steps
+returns-in-Ok-clause-steps g c =
+    subst (λ (r : Replica). c.ready_back.new.steps ≤ c.args.steps.now + most_steps (edited (by_value r.store c.args.tx.now) r.items)) c.self.view_is c.ready_back.ensures.steps
+
+pub returns-in-Err-clause-steps : goal.returns-in-Err-clause-steps
+returns-in-Err-clause-steps g c =
+    subst (λ (r : Replica). c.ready_back.new.steps ≤ c.args.steps.now + most_steps (edited (by_value r.store c.args.tx.now) r.items)) c.self.view_is c.ready_back.ensures.steps

@@ -1,12 +1,15 @@
-use Rattle.std.proofs.Common.{◌≡◌, List, All, OnOk, sym, ap, ◌∙◌, subst, arith}
+use Rattle.std.proofs.Common.{◌≡◌, ◌≤◌, ◌+◌, List, All, OnOk, sym, ap, ◌∙◌, subst, arith}
 use Rattle.model_items.specs.Law.{Lawful}
 use Rattle.model_change.specs.Fault.{Applies}
 use Rattle.model_change.specs.Transaction.{edited}
 use Rattle.model_site.specs.Replica.{Replica, put_back, all_put_back}
 use Rattle.ve_tx.specs.Cites.{TxCites}
-use Rattle.ve_tx.specs.Operation.{Operation}
+use Rattle.ve_tx.specs.Operation.{Operation, by_value}
 use Rattle.ve_editor.specs.Edited.{AllStand, reversal_over}
 use Rattle.ve_editor.proofs.BackLemmas.{one_only}
+use Rattle.model_change.specs.Inverse.{inverse}
+use Rattle.ve_editor.specs.Counted.{steps_after}
+use Rattle.ve_editor.proofs.CountedLemmas.{one_within, copied_within}
 use Rattle.ve_editor.proofs.editor.Editor.put_entry_back.Goals as goal
 
 pub put_back-requires-clause-cites : goal.put_back-requires-clause-cites
@@ -41,4 +44,23 @@ pub put_all_back-requires-clause-stands : goal.put_all_back-requires-clause-stan
 put_all_back-requires-clause-stands g c = subst (λ (r : Replica). AllStand (reversal_over r.store c.args.txs.now) r.items) (sym c.in_ok-copy.ensures.ok) c.requires.stands
 
 pub returns-clause-page : goal.returns-clause-page
-returns-clause-page g c = c.copy-2.view_is ∙ c.in_ok-put_all_back.ensures ∙ ap (λ (r : Replica). all_put_back (reversal_over r.store c.args.txs.now) r) c.in_ok-copy.ensures.ok
+returns-clause-page g c = c.copy-2.view_is ∙ c.in_ok-put_all_back.ensures.page ∙ ap (λ (r : Replica). all_put_back (reversal_over r.store c.args.txs.now) r) c.in_ok-copy.ensures.ok
+
+pub returns-then-txs-eq1-clause-steps : goal.returns-then-txs-eq1-clause-steps
+returns-then-txs-eq1-clause-steps g c =
+    let r = c.args.self.now in
+    let is = one_only c.args.txs.now c.index-txs-0.result c.if-txs-eq1.true c.index-txs-0.is in
+    one_within (inverse (by_value r.store c.index-txs-0.result)) (by_value r.store c.in_ok-back.back) (reversal_over r.store c.args.txs.now) r.items c.args.steps.now c.put_back.new.steps
+    (c.in_ok-back.ensures.inverse r.store) (ap (reversal_over r.store) is) c.put_back.ensures.steps
+
+pub returns-in_err-put_all_back-clause-steps : goal.returns-in_err-put_all_back-clause-steps
+returns-in_err-put_all_back-clause-steps g c =
+    let r = c.args.self.now in
+    copied_within (reversal_over r.store c.args.txs.now) r.items c.args.steps.now c.copy.new.steps c.put_all_back.new.steps c.copy.ensures.steps
+    (subst (λ (q : Replica). c.put_all_back.new.steps ≤ c.copy.new.steps + steps_after (reversal_over q.store c.args.txs.now) q.items) c.in_ok-copy.ensures.ok c.put_all_back.ensures.steps)
+
+pub returns-clause-steps : goal.returns-clause-steps
+returns-clause-steps g c =
+    let r = c.args.self.now in
+    copied_within (reversal_over r.store c.args.txs.now) r.items c.args.steps.now c.copy.new.steps c.put_all_back.new.steps c.copy.ensures.steps
+    (subst (λ (q : Replica). c.put_all_back.new.steps ≤ c.copy.new.steps + steps_after (reversal_over q.store c.args.txs.now) q.items) c.in_ok-copy.ensures.ok c.put_all_back.ensures.steps)
