@@ -1,6 +1,7 @@
 //! A site: its editor, the entries that it sent and has no answer for, those that it has not sent, and what
-//! it undid. Each call is the model's: `edit`, `settle`, `undo`, `redo`, `send` and `select` make of a site
-//! what model_site says, or refuse it exactly where that does. What a site takes from the server is to come.
+//! it undid. Each call is the model's, but for want of memory: `edit`, `settle`, `undo`, `redo`, `send` and
+//! `select` make of a site what model_site says, or refuse it exactly where that does. What a site takes from
+//! the server is to come.
 //!
 //! A site is seen as its number beside the model's site (specs/Numbered.antt), and its type keeps what always
 //! holds of one (specs/Ground.antt): so these calls have no condition on the site. specs/Refusal.antt says

@@ -154,7 +154,8 @@ impl Site {
         Ok(())
     }
 
-    /// Takes back the last entry that is not sent. It can be redone until something else is done or taken.
+    /// Takes back the last entry that is not sent. It can be redone until another edit is made or a feed is
+    /// taken.
     /// Where nothing is unsent, `NothingToUndo` comes exactly if the site sent no entry since the page was
     /// opened, and `AlreadyShared` exactly if it did. An `Err` changes nothing.
     pub fn undo<L: Ledger>(&mut self, steps: &mut Steps<L>) -> Result<(), UndoFault>
