@@ -1,6 +1,6 @@
 //! Edits that change what nodes and characters are, as the changes that they are: `marking` and `unmarking` set a mark on
 //! a range and take it off, `convert` gives a branch of content another kind, and `attribute` sets one attribute of an
-//! element. Wraps are still to come.
+//! element.
 //!
 //! Each gives the model's transaction, or the model's refusal, and writes nothing. New values go into the `NewValues` that
 //! are passed: after a success just those that the inserted items bring. It knows no tree but through `ve_edits`.

@@ -1,6 +1,6 @@
 -- The nodes of a range.
-use Rattle.std.proofs.Common.{◌≡◌, ◌≢◌, ◌≤◌, ◌<◌, ℕ, zero, suc, ◌+◌, ◌-◌, Bool, true, false, not, cond, ◌&&◌, ◌||◌, ◌==◌, if◌then◌else◌, nat_le, nat_lt, IsTrue, ◌↔◌, List, [], ◌∷◌, ◌++◌, length, map, filter, take, drop, slice_get, All, Option, Some, None, Ok, refl, sym, ap, ◌∙◌, subst, arith, append_assoc, append-nil, true≢false, length-drop}
-use Rattle.std.specs.Prelude.{count_by, slice_range}
+use Rattle.std.proofs.Common.{◌≡◌, ◌≢◌, ◌≤◌, ◌<◌, ℕ, zero, suc, ◌+◌, ◌-◌, Bool, true, false, not, cond, ◌&&◌, ◌||◌, ◌==◌, if◌then◌else◌, nat_le, nat_lt, IsTrue, ◌↔◌, List, [], ◌∷◌, ◌++◌, length, map, filter, take, drop, slice_get, All, Option, Some, None, refl, sym, ap, ◌∙◌, subst, arith, append_assoc, append-nil, true≢false, length-drop}
+use Rattle.std.specs.Prelude.{count_by}
 use Rattle.std.specs.List.{range_with_len, list_any}
 use Rattle.std.proofs.lemmas.Bool.{and_parts, or_parts, leb-true, eqb-true, not-true, not-false, false_from_ne_true}
 use Rattle.std.proofs.lemmas.Bool.Decides.{nat_tests}
@@ -16,7 +16,7 @@ use Rattle.model_items.specs.declared.plain_item.PlainItem.{PlainItem}
 use Rattle.model_items.specs.declared.plain_item.PlainItem.TheVariants.{Char, Opening, Closing}
 use Rattle.model_items.specs.declared.offset_class.OffsetClass.{OffsetClass}
 use Rattle.model_items.specs.declared.offset_class.OffsetClass.TheVariants.{Content, Structural, Inside}
-use Rattle.model_items.specs.Law.{State, start, finish, top, step, after, Lawful}
+use Rattle.model_items.specs.Law.{start, finish, top, step, after, Lawful}
 use Rattle.model_items.specs.Offsets.{is_closing, is_opening, passes, opens_at, stack_at, kind_at, is_content, first_from, partner, is_unmatched, places_in, siblings, unmatched}
 use Rattle.model_items.specs.Plain.{plain, plain_list}
 use Rattle.model_items.specs.Tree.{Open, opens_with, opens_after, class_at, node_at, place_with}
@@ -24,7 +24,7 @@ use Rattle.model_items.proofs.LawLemmas.{if_ok, after_parts, joined-ok, closed_b
 use Rattle.model_edit_law.proofs.BracketLemmas.{slice_get-split, stack_at-after}
 use Rattle.model_edit.specs.Wrap.{nodes_in, is_whole_nodes, is_bad_wrap}
 use Rattle.ve_tree.specs.IsTree.{unvalued}
-use Rattle.ve_edits.proofs.BracketLemmas.{opens_at-plain, slice_get-plain, partner-Char, partner-Closing, partner-Opening}
+use Rattle.ve_edits.proofs.BracketLemmas.{opens_at-plain, partner-Char, partner-Closing, partner-Opening}
 use Rattle.ve_edits.proofs.RoundLemmas.{item_there}
 use Rattle.ve_edits.proofs.SpanLemmas.{range_first}
 use Rattle.ve_build_wrap.specs.Nodes.{depth_past, begun, is_matched, node_starts}

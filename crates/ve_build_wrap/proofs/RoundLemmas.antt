@@ -1,8 +1,8 @@
 -- Brackets that come round nodes: the edits, what they bring, and where they stand.
-use Rattle.std.proofs.Common.{◌≡◌, ◌≢◌, ◌≤◌, ◌<◌, ℕ, zero, suc, ◌+◌, ◌-◌, Bool, true, false, if◌then◌else◌, nat_lt, List, [], ◌∷◌, ◌++◌, length, map, take, drop, get_or, Contains, Option, Some, None, Result, Ok, Err, inl, inr, refl, sym, ap, ◌∙◌, subst, arith, append-nil, append_assoc}
-use Rattle.std.specs.Prelude.{All, flat_map}
+use Rattle.std.proofs.Common.{◌≡◌, ◌≢◌, ◌≤◌, ◌<◌, ℕ, ◌+◌, ◌-◌, Bool, true, false, if◌then◌else◌, nat_lt, List, [], ◌∷◌, ◌++◌, length, drop, get_or, Contains, Option, Some, None, Ok, Err, refl, sym, ap, ◌∙◌, subst, arith, append-nil, append_assoc}
+use Rattle.std.specs.Prelude.{All}
 use Rattle.std.proofs.lemmas.Bool.{ltb-false}
-use Rattle.std.proofs.lemmas.List.{drop_more, length-map}
+use Rattle.std.proofs.lemmas.List.{drop_more}
 use Rattle.std.proofs.lemmas.List.Concat.{flat_map-append}
 use Rattle.std.proofs.lemmas.List.Elements.{Contains-append_left, Contains-append_right}
 use Rattle.std.proofs.lemmas.List.Folds.{flat_map-map}
@@ -11,13 +11,13 @@ use Rattle.model_items.specs.declared.item.Item.{Item}
 use Rattle.model_items.specs.declared.plain_item.PlainItem.{PlainItem}
 use Rattle.model_items.specs.Law.{Lawful}
 use Rattle.model_items.specs.Offsets.{end_of_node}
-use Rattle.model_items.specs.Plain.{plain, plain_list, CitesWell}
+use Rattle.model_items.specs.Plain.{plain_list, CitesWell}
 use Rattle.model_items.specs.Tree.{Open}
 use Rattle.model_change.specs.Store.{fill, cited, admitted}
 use Rattle.model_change.specs.Transaction.{Transaction, all_inserted}
 use Rattle.model_change.proofs.StoreLemmas.{fill_appends}
-use Rattle.model_edit.specs.Causes.{BuildCause, BadRange, NotWrapped}
-use Rattle.model_edit.specs.Edits.{Edit, Change, Set, transaction_of}
+use Rattle.model_edit.specs.Causes.{BadRange, NotWrapped}
+use Rattle.model_edit.specs.Edits.{Edit, Change, transaction_of}
 use Rattle.model_edit.specs.Wrap.{openings_of, closings_of, node_edits, nodes_in, wrap_edits, is_bad_wrap, wrong_place, wrapped_unless, wrap}
 use Rattle.model_edit.specs.declared.wrap_plan.Shape.{Shape}
 use Rattle.model_edit.specs.declared.wrap_plan.WrapPlan.{WrapPlan}

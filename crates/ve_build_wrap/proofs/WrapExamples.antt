@@ -7,7 +7,6 @@ use Rattle.model_items.specs.declared.item.Item.TheVariants as item
 use Rattle.model_items.specs.Plain.{plain, plain_list}
 use Rattle.model_edit.specs.Brackets.{opening_of, closing_of}
 use Rattle.model_edit.specs.Edits.{Change}
-use Rattle.model_edit.specs.declared.wrap_plan.Shape.{Shape}
 use Rattle.model_edit.specs.declared.wrap_plan.WrapPlan.{WrapPlan}
 use Rattle.ve_build_wrap.specs.Nodes.{depth_past, begun, is_matched, AreNodes, wrong_among}
 use Rattle.ve_build_wrap.specs.Round.{AreClosings, HaveRoom, edits_round}

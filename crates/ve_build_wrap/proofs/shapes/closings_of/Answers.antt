@@ -1,12 +1,8 @@
-use Rattle.std.proofs.Common.{◌≡◌, ◌-◌, ◌+◌, ℕ, List, [], ◌∷◌, drop, get_or, None, sym, ap, ◌∙◌, subst, arith}
+use Rattle.std.proofs.Common.{◌≡◌, [], drop, sym, ap, ◌∙◌, subst, arith}
 use Rattle.std.specs.Prelude.{All}
-use Rattle.std.proofs.lemmas.List.{drop_more}
 use Rattle.std.proofs.lemmas.List.Elements.{All-nil, All-cons, All-append}
-use Rattle.model_items.specs.declared.item.Item.{Item}
-use Rattle.model_items.specs.declared.item.Item.TheVariants as item
 use Rattle.model_items.specs.Plain.{plain_list, CitesWell}
 use Rattle.model_edit.specs.Wrap.{closings_of}
-use Rattle.model_edit.specs.declared.wrap_plan.Shape.{Shape}
 use Rattle.ve_build_wrap.proofs.ShapeLemmas.{closings_step}
 use Rattle.ve_build_wrap.proofs.shapes.closings_of.Goals as goal
 

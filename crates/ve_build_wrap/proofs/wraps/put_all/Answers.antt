@@ -25,7 +25,7 @@ returns c =
     let outer : length c.as_slice-outer_kinds.result.now ≡ length plan.unwrap_outer = ap (λ (l : List Kind). length l) c.as_slice-outer_kinds.ensures in
     let each : length c.as_slice-each_kinds.result.now ≡ length plan.unwrap_each = ap (λ (l : List Kind). length l) c.as_slice-each_kinds.ensures in
     let made : (values : List Value) → All (CitesWell values) items → AreBrackets values plan.wrap_outer c.args.outer.now → AreBrackets values plan.wrap_each c.args.each.now →
-        Makes values items (edits_round (plain_list values items) c.args.from c.args.to plan c.args.nodes.now) c.change-2.new.self = λ values listed one two.
+    Makes values items (edits_round (plain_list values items) c.args.from c.args.to plan c.args.nodes.now) c.change-2.new.self = λ values listed one two.
     all_collected values items c.args.from c.args.to (length c.as_slice-outer_kinds.result.now) (length c.as_slice-each_kinds.result.now) plan c.args.nodes.now c.args.outer.now c.args.each.now
     c.as_slice-openings.result.now c.as_slice-closings.result.now c.new-edits.result c.change.new.self c.put_round_each.new.edits c.change-2.new.self outer each
     c.as_slice-openings.ensures c.as_slice-closings.ensures listed one two (c.new-edits.ensures.makes values items) c.in_ok-change.ensures.makes

@@ -1,7 +1,6 @@
-use Rattle.std.proofs.Common.{◌≡◌, List, sym, ap, ◌∙◌, subst}
-use Rattle.std.specs.Prelude.{All}
+use Rattle.std.proofs.Common.{List, sym, ap, ◌∙◌, subst}
 use Rattle.model_items.specs.declared.plain_item.PlainItem.{PlainItem}
-use Rattle.model_items.specs.Plain.{plain_list, CitesWell}
+use Rattle.model_items.specs.Plain.{plain_list}
 use Rattle.model_change.specs.Store.{fill, cited}
 use Rattle.model_change.specs.Transaction.{Transaction, all_inserted}
 use Rattle.model_edit.specs.Edits.{transaction_of}
