@@ -9,7 +9,8 @@ use Rattle.model_items.specs.declared.plain_item.PlainItem.{PlainItem}
 use Rattle.model_items.specs.Offsets.{partner, end_of_node}
 use Rattle.model_items.specs.Tree.{Open}
 use Rattle.model_edit.specs.Wrap.{Claim, opening_claims, closing_claims, node_claims, first_wrong, nodes_in, wrong_place}
-use Rattle.ve_build_wrap.specs.Nodes.{begins_kind, node_starts, wrong_among}
+use Rattle.ve_build_wrap.specs.Nodes.{begins_kind, wrong_among}
+use Rattle.ve_build_wrap.proofs.NodeLemmas.{node_starts}
 
 pub none_first : (xs ys : List Claim) → first_wrong xs ≡ None → first_wrong (xs ++ ys) ≡ first_wrong ys
 none_first [] ys h = refl

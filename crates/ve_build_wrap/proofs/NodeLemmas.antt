@@ -27,7 +27,10 @@ use Rattle.ve_tree.specs.IsTree.{unvalued}
 use Rattle.ve_edits.proofs.BracketLemmas.{opens_at-plain, partner-Char, partner-Closing, partner-Opening}
 use Rattle.ve_edits.proofs.RoundLemmas.{item_there}
 use Rattle.ve_edits.proofs.SpanLemmas.{range_first}
-use Rattle.ve_build_wrap.specs.Nodes.{depth_past, begun, is_matched, node_starts}
+use Rattle.ve_build_wrap.specs.Nodes.{depth_past, begun, is_matched}
+
+abbrev pub node_starts : List Open → List ℕ
+node_starts nodes = map (λ (node : Open). node.from) nodes
 
 -- ---- content
 

@@ -27,11 +27,12 @@ use Rattle.ve_store.proofs.StoreLemmas.{admitted_there}
 use Rattle.ve_tx.proofs.ValuesLemmas.{filled_on}
 use Rattle.ve_edits.specs.Collected.{Collected, Makes, MakesOneMore}
 use Rattle.ve_edits.proofs.PieceLemmas.{pieces, pieces-append, inserts_pieces}
-use Rattle.ve_build_wrap.specs.Nodes.{node_starts, wrong_among}
+use Rattle.ve_build_wrap.specs.Nodes.{wrong_among}
 use Rattle.ve_build_wrap.specs.Round.{AreBrackets, Collects, PutsRound, HaveRoom, Fits, nodes_edits, edits_round}
 use Rattle.ve_build_wrap.specs.declared.shapes.Brackets.{Brackets}
 use Rattle.ve_build_wrap.proofs.ClaimLemmas.{among_nodes}
 use Rattle.ve_build_wrap.proofs.ShapeLemmas.{cited-append, closings_cite}
+use Rattle.ve_build_wrap.proofs.NodeLemmas.{node_starts}
 
 -- ---- the edits
 

@@ -24,9 +24,6 @@ abbrev pub begun : (depth at : ℕ) → PlainItem → List ℕ
 begun zero at (Opening kind head marks pre origin generated) = at ∷ []
 begun _ at _ = []
 
-abbrev pub node_starts : List Open → List ℕ
-node_starts nodes = map (λ (node : Open). node.from) nodes
-
 -- each bracket of the range has its partner there
 abbrev pub is_matched : List PlainItem → ℕ → ℕ → Bool
 is_matched items from to = not (list_any (is_unmatched items from to) (places_in from to))
@@ -37,7 +34,7 @@ begins_kind kind items at = passes (is_opening_of kind) (slice_get items at)
 
 -- The places are those where the nodes of the range begin, over every list of values.
 abbrev pub AreNodes : List Item → ℕ → ℕ → List ℕ → Type 0
-AreNodes items from to places = (values : List Value) → places ≡ node_starts (nodes_in (plain_list values items) from to)
+AreNodes items from to places = (values : List Value) → places ≡ map (λ (node : Open). node.from) (nodes_in (plain_list values items) from to)
 
 -- all of them are places of the list
 abbrev pub AreWithin : List Item → List ℕ → Type 0
