@@ -5,7 +5,7 @@
 //! reading order:
 //!
 //! - `Line`: the command that a line asks, or why it asks none;
-//! - `Spelled`: the text of a reply, and what stands for itself in a JSON string.
+//! - `Spelled`: the text of a reply.
 //!
 //! It stands in for the whole script: with whole pages it reads and spells all of `model_world`'s commands and replies,
 //! and its own three types go.
@@ -13,7 +13,6 @@
 
 mod commands;
 mod line;
-mod quoted;
 mod reply;
 #[cfg(test)]
 mod tests;

@@ -1,10 +1,11 @@
 // What a script's lines are answered.
 ghost use Rattle.std.specs.Prelude.{◌≡◌, ◌++◌, ◌∷◌, [], OnOk, OnErr, codes};
-ghost use Rattle.ve_json.specs.Spelled.{spelled, refusal_word, Keeps};
+ghost use Rattle.ve_json.specs.Spelled.{spelled, refusal_word};
 
-use crate::quoted::push_quoted;
 use std::alloc::Global;
+use std::mem::replace;
 use ve_base::{Bytes, Memory, Text};
+use ve_replies::{Spelling, push_quoted};
 
 /// The answer to a line.
 #[derive(Drop)]
@@ -43,9 +44,9 @@ impl Refusal {
 
 impl Reply {
     /// Appends its words, without a newline. After an `Err` some of them may stand after what stood there.
-    fn spell(&self, alloc: Global, out: &mut Bytes) -> Result<(), Memory>
-        ensures ok { OnOk result (out.new ≡ out.old ++ spelled self.now) }
-        ensures err { OnErr result (Keeps out.old out.new) }
+    fn spell(&self, alloc: Global, out: &mut Spelling) -> Result<(), Memory>
+        ensures ok { OnOk result (out.new.text ≡ out.old.text ++ spelled self.now) }
+        ensures before { out.new.before ≡ out.old.before }
     {
         match self {
             Reply::Length(length) => {
@@ -55,7 +56,7 @@ impl Reply {
             }
             Reply::Page(page) => {
                 out.push(b"ok ")?;
-                push_quoted(page, out)
+                push_quoted(page.as_str(), out)
             }
             Reply::No(refusal) => {
                 out.push(b"no ")?;
@@ -65,9 +66,9 @@ impl Reply {
     }
 
     /// Appends its words and a newline. After an `Err` some of them may stand after what stood there.
-    fn spell_line(&self, alloc: Global, out: &mut Bytes) -> Result<(), Memory>
-        ensures ok { OnOk result (out.new ≡ out.old ++ spelled self.now ++ 10 ∷ []) }
-        ensures err { OnErr result (Keeps out.old out.new) }
+    fn spell_line(&self, alloc: Global, out: &mut Spelling) -> Result<(), Memory>
+        ensures ok { OnOk result (out.new.text ≡ out.old.text ++ spelled self.now ++ 10 ∷ []) }
+        ensures before { out.new.before ≡ out.old.before }
     {
         self.spell(alloc, out)?;
         out.push_byte(b'\n')
@@ -79,10 +80,12 @@ pub fn reply_text(alloc: Global, reply: &Reply, out: &mut Bytes) -> Result<(), M
     ensures ok { OnOk result (out.new ≡ out.old ++ spelled reply.now ++ 10 ∷ []) }
     ensures err { OnErr result (out.new ≡ out.old) }
 {
-    let length_before = out.as_slice().len();
-    let spelled = reply.spell_line(alloc, out);
-    if spelled.is_err() {
-        out.truncate(length_before);
-    }
+    let mut spelling = Spelling::after(replace(out, Bytes::new(alloc)));
+    let spelled = reply.spell_line(alloc, &mut spelling);
+    *out = if spelled.is_ok() {
+        spelling.finish()
+    } else {
+        spelling.abandon()
+    };
     spelled
 }

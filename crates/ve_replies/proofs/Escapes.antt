@@ -1,11 +1,10 @@
--- What stands in a JSON string for bytes, and what a buffer keeps.
-use Rattle.std.proofs.Common.{◌≡◌, ℕ, ◌+◌, ◌<◌, ◌/◌, ◌%◌, List, [], ◌∷◌, ◌++◌, Bool, true, false, cond, nat_lt, length, take, get_or, sym, ap, ◌∙◌, subst, append_assoc, append-nil, arith}
-use Rattle.std.proofs.Math.Seq.{take-append_seam}
+-- What stands in a JSON string for bytes.
+use Rattle.std.proofs.Common.{◌≡◌, ℕ, ◌+◌, ◌<◌, ◌/◌, ◌%◌, List, [], ◌∷◌, ◌++◌, Bool, true, false, cond, nat_lt, length, take, get_or, sym, ap, ◌∙◌, subst, append_assoc, arith}
 use Rattle.std.proofs.lemmas.Grind.{flat_map-append}
 use Rattle.std.proofs.lemmas.List.{take_more}
 use Rattle.std.specs.Char.{digit_char}
 use Rattle.json.specs.Print.{escape_letter, escape_byte, escape}
-use Rattle.ve_json.specs.Spelled.{is_escaped, IsPlain, Keeps}
+use Rattle.ve_replies.specs.Pieces.{is_escaped, IsPlain}
 
 -- ---- one byte
 
@@ -66,17 +65,3 @@ escape-further out plain rest more byte h e =
     ∙ ap (λ s. out ++ (s ++ (escape_byte byte ++ escape more))) (sym h)
     ∙ ap (λ s. out ++ s) (sym (flat_map-append escape_byte plain (byte ∷ more)))
     ∙ ap (λ s. out ++ escape s) (sym e)
-
--- ---- what is kept
-
-pub Keeps-same : (old new : List ℕ) → new ≡ old → Keeps old new
-Keeps-same old new e = ([], e ∙ sym (append-nil old))
-
-pub Keeps-more : (old mid new piece : List ℕ) → Keeps old mid → new ≡ mid ++ piece → Keeps old new
-Keeps-more old mid new piece k e = (k.0 ++ piece, e ∙ ap (λ s. s ++ piece) k.1 ∙ append_assoc old k.0 piece)
-
-pub Keeps-trans : (old mid new : List ℕ) → Keeps old mid → Keeps mid new → Keeps old new
-Keeps-trans old mid new k l = Keeps-more old mid new l.0 k l.1
-
-pub Keeps-cut : (old new : List ℕ) → Keeps old new → take (length old) new ≡ old
-Keeps-cut old new k = ap (take (length old)) k.1 ∙ take-append_seam old k.0

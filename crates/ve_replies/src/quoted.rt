@@ -1,11 +1,11 @@
 // A text as a JSON string, spelled as `serde_json` spells it, straight into a buffer.
-ghost use Rattle.std.specs.Prelude.{◌≡◌, ◌++◌, ◌∷◌, [], ◌<◌, OnOk, OnErr, MatchOption, ℕ, length, take};
+ghost use Rattle.std.specs.Prelude.{◌≡◌, ◌++◌, ◌∷◌, [], ◌<◌, OnOk, MatchOption, ℕ, length, take};
 ghost use Rattle.std.specs.Char.{digit_char};
-ghost use Rattle.std.specs.Str.{encode_utf8_all};
 ghost use Rattle.json.specs.Print.{escape_letter, escape_byte, escape, quoted};
-ghost use Rattle.ve_json.specs.Spelled.{is_escaped, IsPlain, Keeps};
+ghost use Rattle.ve_replies.specs.Pieces.{is_escaped, IsPlain};
 
-use ve_base::{Bytes, Memory, Text};
+use crate::spelling::Spelling;
+use ve_base::Memory;
 
 /// The letter of a byte's short escape, or 0 where it has none.
 fn escape_letter(byte: u8) -> u8
@@ -37,9 +37,9 @@ fn hex_digit(value: u8) -> u8
 }
 
 /// Appends what stands in a JSON string for a byte. An `Err` changes nothing.
-fn push_escaped(byte: u8, out: &mut Bytes) -> Result<(), Memory>
-    ensures ok { OnOk result (out.new ≡ out.old ++ escape_byte byte) }
-    ensures err { OnErr result (out.new ≡ out.old) }
+fn push_escaped(byte: u8, out: &mut Spelling) -> Result<(), Memory>
+    ensures ok { OnOk result (out.new.text ≡ out.old.text ++ escape_byte byte) }
+    ensures before { out.new.before ≡ out.old.before }
 {
     let letter = escape_letter(byte);
     if 0 < letter {
@@ -79,9 +79,9 @@ fn split_escaped(bytes: &[u8]) -> Option<(&[u8], u8, &[u8])>
 }
 
 /// Appends what stands in a JSON string for the bytes: those that stand for themselves piece by piece.
-fn push_all_escaped(bytes: &[u8], out: &mut Bytes) -> Result<(), Memory>
-    ensures ok { OnOk result (out.new ≡ out.old ++ escape bytes.now) }
-    ensures err { OnErr result (Keeps out.old out.new) }
+fn push_all_escaped(bytes: &[u8], out: &mut Spelling) -> Result<(), Memory>
+    ensures ok { OnOk result (out.new.text ≡ out.old.text ++ escape bytes.now) }
+    ensures before { out.new.before ≡ out.old.before }
 {
     let mut rest = bytes;
     'escapes: while let Some((plain, byte, more)) = split_escaped(rest) {
@@ -93,11 +93,11 @@ fn push_all_escaped(bytes: &[u8], out: &mut Bytes) -> Result<(), Memory>
 }
 
 /// Appends a text as a JSON string. After an `Err` some of it may stand after what stood there.
-pub fn push_quoted(text: &Text, out: &mut Bytes) -> Result<(), Memory>
-    ensures ok { OnOk result (out.new ≡ out.old ++ quoted (encode_utf8_all text.now)) }
-    ensures err { OnErr result (Keeps out.old out.new) }
+pub fn push_quoted(text: &str, out: &mut Spelling) -> Result<(), Memory>
+    ensures ok { OnOk result (out.new.text ≡ out.old.text ++ quoted text.now) }
+    ensures before { out.new.before ≡ out.old.before }
 {
     out.push_byte(b'"')?;
-    push_all_escaped(text.as_str().as_bytes(), out)?;
+    push_all_escaped(text.as_bytes(), out)?;
     out.push_byte(b'"')
 }

@@ -1,0 +1,4 @@
+pub mod Escapes
+pub mod MemberLemmas
+pub mod RunLemmas
+pub mod ShownLemmas
