@@ -9,14 +9,15 @@ use Rattle.model_items.specs.declared.plain_item.PlainItem.{PlainItem}
 use Rattle.model_items.specs.declared.plain_item.PlainItem.TheVariants.{Char, Opening, Closing}
 use Rattle.model_items.specs.Plain.{value_at, white_in, plain_list}
 use Rattle.model_page.specs.References.{Body, body_after, inside_from}
-use Rattle.model_page_write.specs.Nodes.{Letter, Node, NodesEnding, Outer, Start, carried_from, carrying_nothing, first_outer, nodes_ending}
+use Rattle.model_page_write.specs.Nodes.{Carried, Empty, Letter, Node, Nodes, NodesEnding, Outer, Start, carried_from, carrying_nothing, first_outer, node_items, nodes_ending}
 use Rattle.model_page_write.specs.PageText.{bare_writer, html_of}
-use Rattle.model_page_write.specs.Written.{blocks}
+use Rattle.model_page_write.specs.Written.{Writer, blocks}
 use Rattle.ve_nodes.specs.Siblings.{View, ending_at, Ends}
 use Rattle.ve_nodes.specs.After.{Follows}
 use Rattle.ve_nodes.specs.declared.ends.After.{After}
 use Rattle.ve_nodes.proofs.SiblingLemmas.{node_pre}
-use Rattle.ve_fresh.specs.Told.{blocks_at, text_of, IsAppended}
+use Rattle.ve_fresh.specs.Originals.{original_in}
+use Rattle.ve_fresh.specs.Told.{blocks_at, text_of, view_of, IsAppended, Known}
 
 -- ---- no texts
 
@@ -85,19 +86,26 @@ from_is : (v : View) (items : List Item) (at : ℕ) → ending_at v items at ≡
 unfolding ending_at
 from_is v items at = refl
 
-pub body_done : (values : List Value) (texts : ℕ → Option (List ℕ)) (items : List Item) (at end : ℕ) (after : After) (old mid new : List ℕ) → ((k : ℕ) → None ≡ texts k) →
-    Ends items (at + 1) end → Follows items end after → IsAppended values texts old mid (λ w v. blocks_at w v items false (at + 1)) →
-    new ≡ mid ++ encode_utf8_all (white_in (value_at values after.pre)) → new ≡ old ++ html_of (body_after at (plain_list values (drop (at + 1) items)))
-body_done values texts items at end after old mid new none ends follows so last =
-    let v : View = record { values = values; bodies = nothing } in
-    let inside = plain_list values (drop (at + 1) items) in
+-- a writer that has no original bytes
+pub none_in : (w : Writer) → ((start : Start) (items : List Carried) → w.original start items ≡ None) → (n : Nodes) → original_in w n ≡ None
+none_in w none Empty = refl
+none_in w none (Letter c marks later) = refl
+none_in w none (Node start inside pre later) = none start (node_items start inside pre)
+
+pub body_done : (k : Known) (at end : ℕ) (after : After) (old mid new : List ℕ) → ((n : ℕ) → None ≡ k.originals n) → ((n : ℕ) → None ≡ k.texts n) →
+    Ends k.items (at + 1) end → Follows k.items end after → IsAppended k old mid (λ w v. blocks_at w v k.items false (at + 1)) →
+    new ≡ mid ++ encode_utf8_all (white_in (value_at k.values after.pre)) → new ≡ old ++ html_of (body_after at (plain_list k.values (drop (at + 1) k.items)))
+body_done k at end after old mid new fresh none ends follows so last =
+    let v : View = view_of k nothing in
+    let inside = plain_list k.values (drop (at + 1) k.items) in
     let cut = inside_cut (at + 1) 0 inside in
     let pre = (inside_from 0 inside).1 in
-    let first : (first_outer (ending_at v items (at + 1)).outer).pre ≡ pre = ap (λ (e : NodesEnding). (first_outer e.outer).pre) (from_is v items (at + 1)) ∙ cut.closing in
-    let here = ap (λ (e : NodesEnding). e.here) (from_is v items (at + 1)) ∙ cut.here in
-    let text : blocks_at bare_writer v items false (at + 1) ≡ blocks bare_writer false pre (nodes_ending (carrying_nothing (inside_from 0 inside).0)).here = (λ i. blocks bare_writer false (first i) (here i)) in
-    let written : mid ≡ old ++ blocks_at bare_writer v items false (at + 1) = so bare_writer nothing (record { fresh = λ start items. refl; known = none }) in
+    let first : (first_outer (ending_at v k.items (at + 1)).outer).pre ≡ pre = ap (λ (e : NodesEnding). (first_outer e.outer).pre) (from_is v k.items (at + 1)) ∙ cut.closing in
+    let here = ap (λ (e : NodesEnding). e.here) (from_is v k.items (at + 1)) ∙ cut.here in
+    let text : blocks_at bare_writer v k.items false (at + 1) ≡ blocks bare_writer false pre (nodes_ending (carrying_nothing (inside_from 0 inside).0)).here = (λ i. blocks bare_writer false (first i) (here i)) in
+    let written : mid ≡ old ++ blocks_at bare_writer v k.items false (at + 1) =
+    so bare_writer nothing (record { original = λ n. none_in bare_writer (λ start items. refl) (ending_at v k.items n).here ∙ fresh n; known = none }) in
     last
-    ∙ ap (λ (l : List ℕ). l ++ encode_utf8_all (white_in (value_at values after.pre))) (written ∙ ap (λ l. old ++ l) text)
+    ∙ ap (λ (l : List ℕ). l ++ encode_utf8_all (white_in (value_at k.values after.pre))) (written ∙ ap (λ l. old ++ l) text)
     ∙ append_assoc old _ _
-    ∙ ap (λ l. old ++ (blocks bare_writer false pre (nodes_ending (carrying_nothing (inside_from 0 inside).0)).here ++ encode_utf8_all l)) (sym (node_pre items (at + 1) end after ends follows v) ∙ first)
+    ∙ ap (λ l. old ++ (blocks bare_writer false pre (nodes_ending (carrying_nothing (inside_from 0 inside).0)).here ++ encode_utf8_all l)) (sym (node_pre k.items (at + 1) end after ends follows v) ∙ first)

@@ -19,7 +19,8 @@ use Rattle.ve_nodes.specs.declared.ends.After.{After}
 use Rattle.ve_nodes.proofs.SiblingLemmas.{found_at, char_here, opening_here, start_of, node_later, none_here}
 use Rattle.ve_node_text.specs.Leaves.{leaf_of}
 use Rattle.ve_node_text.proofs.LeafLemmas.{leaf_is}
-use Rattle.ve_fresh.specs.Told.{content_at, GoesOn, IsAppended}
+use Rattle.ve_fresh.specs.Originals.{original_in}
+use Rattle.ve_fresh.specs.Told.{content_at, view_of, GoesOn, IsAppended, Known}
 
 -- ---- what items cite
 
@@ -40,46 +41,52 @@ refers_at values items at kind generated head marks pre origin all found = item_
 pub three : (old mid new more a b : List ℕ) → mid ≡ old ++ a → new ≡ mid ++ b → new ++ more ≡ old ++ ((a ++ b) ++ more)
 three old mid new more a b e f = ap (λ l. l ++ more) (f ∙ ap (λ l. l ++ b) e ∙ append_assoc old a b) ∙ append_assoc old (a ++ b) more
 
-pub goes_on : (values : List Value) (texts : ℕ → Option (List ℕ)) (old mid new : List ℕ) (f g h : Writer → View → List ℕ) → GoesOn values texts old mid f g → GoesOn values texts mid new g h → GoesOn values texts old new f h
-goes_on values texts old mid new f g h p q w bodies told = q w bodies told ∙ p w bodies told
+pub goes_on : (k : Known) (old mid new : List ℕ) (f g h : Writer → View → List ℕ) → GoesOn k old mid f g → GoesOn k mid new g h → GoesOn k old new f h
+goes_on k old mid new f g h p q w bodies told = q w bodies told ∙ p w bodies told
 
 pub changed_is : (old mid : List ℕ) (a b a' b' : List Mark) → mid ≡ old ++ marks_changed a b → a ≡ a' → b ≡ b' → mid ≡ old ++ marks_changed a' b'
 changed_is old mid a b a' b' e f g = e ∙ ap (λ m. old ++ marks_changed m b) f ∙ ap (λ m. old ++ marks_changed a' m) g
 
 -- ---- a character
 
-pub char_put : (values : List Value) (texts : ℕ → Option (List ℕ)) (items : List Item) (at : ℕ) (ch : ℕ) (opened marks : Option ValueId) (old mid new : List ℕ) →
-    slice_get items at ≡ Some (Char ch marks) → mid ≡ old ++ marks_changed (marks_in (value_at values opened)) (marks_in (value_at values marks)) → new ≡ mid ++ letter ch →
-    GoesOn values texts old new (λ w v. content_at w v items (marks_in (value_at values opened)) at) (λ w v. content_at w v items (marks_in (value_at values marks)) (at + 1))
-char_put values texts items at ch opened marks old mid new found e f w bodies told =
-    let v : View = record { values = values; bodies = bodies } in
+pub char_put : (k : Known) (at : ℕ) (ch : ℕ) (opened marks : Option ValueId) (old mid new : List ℕ) →
+    slice_get k.items at ≡ Some (Char ch marks) → mid ≡ old ++ marks_changed (marks_in (value_at k.values opened)) (marks_in (value_at k.values marks)) → new ≡ mid ++ letter ch →
+    GoesOn k old new (λ w v. content_at w v k.items (marks_in (value_at k.values opened)) at) (λ w v. content_at w v k.items (marks_in (value_at k.values marks)) (at + 1))
+char_put k at ch opened marks old mid new found e f w bodies told =
+    let values = k.values in
+    let items = k.items in
+    let v : View = view_of k bodies in
     three old mid new (content_at w v items (marks_in (value_at values marks)) (at + 1)) _ _ e f
     ∙ sym (ap (λ (x : NodesEnding). old ++ content w (marks_in (value_at values opened)) x.here) (char_here v items at ch marks (found_at items at _ found)))
 
 -- ---- a leaf
 
-pub leaf_put : (values : List Value) (texts : ℕ → Option (List ℕ)) (items : List Item) (at : ℕ) (kind : Kind) (generated : Bool) (head marks pre : Option ValueId) (origin : Option ℕ) (opened : Option ValueId)
-    (end : ℕ) (after : After) (old mid new : List ℕ) → slice_get items at ≡ Some (Opening kind generated head marks pre origin) → Ends items (at + 1) end → Follows items end after →
-    mid ≡ old ++ marks_changed (marks_in (value_at values opened)) (marks_in (value_at values marks)) → new ≡ mid ++ leaf_of (head_in (value_at values head)) (texts at) kind →
-    GoesOn values texts old new (λ w v. content_at w v items (marks_in (value_at values opened)) at) (λ w v. content_at w v items (marks_in (value_at values marks)) after.at)
-leaf_put values texts items at kind generated head marks pre origin opened end after old mid new found ends follows e f w bodies told =
-    let v : View = record { values = values; bodies = bodies } in
+pub leaf_put : (k : Known) (at : ℕ) (kind : Kind) (generated : Bool) (head marks pre : Option ValueId) (origin : Option ℕ) (opened : Option ValueId)
+    (end : ℕ) (after : After) (old mid new : List ℕ) → slice_get k.items at ≡ Some (Opening kind generated head marks pre origin) → Ends k.items (at + 1) end → Follows k.items end after →
+    mid ≡ old ++ marks_changed (marks_in (value_at k.values opened)) (marks_in (value_at k.values marks)) →
+    new ≡ mid ++ unwrap_or (k.originals at) (leaf_of (head_in (value_at k.values head)) (k.texts at) kind) →
+    GoesOn k old new (λ w v. content_at w v k.items (marks_in (value_at k.values opened)) at) (λ w v. content_at w v k.items (marks_in (value_at k.values marks)) after.at)
+leaf_put k at kind generated head marks pre origin opened end after old mid new found ends follows e f w bodies told =
+    let values = k.values in
+    let items = k.items in
+    let v : View = view_of k bodies in
     let s : Start = start_of v at kind generated head marks pre origin in
     let here = opening_here v items at kind generated head marks pre origin (found_at items at _ found) in
     let A = marks_in (value_at values opened) in
     let B = marks_in (value_at values marks) in
-    let L = leaf_of (head_in (value_at values head)) (texts at) kind in
+    let L = leaf_of (head_in (value_at values head)) (k.texts at) kind in
     let own = node_items s (ending_at v items (at + 1)).here (first_outer (ending_at v items (at + 1)).outer).pre in
-    let text : L ≡ unwrap_or (w.original s own) (leaf_text w s kind) =
-    sym (ap (λ o. unwrap_or o (leaf_text w s kind)) (told.fresh s own) ∙ leaf_is w s kind ∙ ap (λ h. leaf_of (head_in (value_at values head)) h kind) (told.known at)) in
-    three old mid new (content w B (ending_at v items after.at).here) (marks_changed A B) L e f
+    let was : w.original s own ≡ k.originals at = sym (ap (λ (x : NodesEnding). original_in w x.here) here) ∙ told.original at in
+    let fresh : L ≡ leaf_text w s kind = sym (leaf_is w s kind ∙ ap (λ h. leaf_of (head_in (value_at values head)) h kind) (told.known at)) in
+    let text : unwrap_or (k.originals at) L ≡ unwrap_or (w.original s own) (leaf_text w s kind) = ap (λ o. unwrap_or o L) (sym was) ∙ ap (unwrap_or (w.original s own)) fresh in
+    three old mid new (content w B (ending_at v items after.at).here) (marks_changed A B) (unwrap_or (k.originals at) L) e f
     ∙ ap (λ l. old ++ ((marks_changed A B ++ l) ++ content w B (ending_at v items after.at).here)) text
     ∙ ap (λ n. old ++ ((marks_changed A B ++ unwrap_or (w.original s own) (leaf_text w s kind)) ++ content w B n)) (sym (node_later items (at + 1) end after ends follows v))
     ∙ sym (ap (λ (x : NodesEnding). old ++ content w A x.here) here)
 
 -- ---- where content ends
 
-pub content_done : (values : List Value) (texts : ℕ → Option (List ℕ)) (items : List Item) (at : ℕ) (opened : List Mark) (old mid new : List ℕ) (f : Writer → View → List ℕ) → is_end (drop at items) ≡ true →
-    GoesOn values texts old mid f (λ w v. content_at w v items opened at) → new ≡ mid ++ marks_changed opened [] → IsAppended values texts old new f
-content_done values texts items at opened old mid new f h so e w bodies told =
-    e ∙ ap (λ n. mid ++ content w opened n) (sym (none_here (record { values = values; bodies = bodies }) items at h)) ∙ so w bodies told
+pub content_done : (k : Known) (at : ℕ) (opened : List Mark) (old mid new : List ℕ) (f : Writer → View → List ℕ) → is_end (drop at k.items) ≡ true →
+    GoesOn k old mid f (λ w v. content_at w v k.items opened at) → new ≡ mid ++ marks_changed opened [] → IsAppended k old new f
+content_done k at opened old mid new f h so e w bodies told =
+    e ∙ ap (λ n. mid ++ content w opened n) (sym (none_here (view_of k bodies) k.items at h)) ∙ so w bodies told

@@ -1,6 +1,10 @@
 pub mod ContentLemmas
 pub mod BlockLemmas
-pub mod WholeLemmas
+pub mod CopiedLemmas
+pub mod LawfulLemmas
+pub mod BeforeLemmas
+pub mod OriginalLemmas
 pub mod BodyLemmas
+pub mod WholeLemmas
+pub mod SampleLemmas
 mod FreshExamples
-mod SampleLemmas

@@ -1,2 +1,3 @@
+pub mod Originals
 pub mod Told
 pub mod Begun

@@ -1,5 +1,5 @@
 // Blocks.
-ghost use Rattle.std.specs.Prelude.{◌≡◌, ◌≤◌, ◌<◌, ◌++◌, true, false, Bool, ℕ, Option, Some, OnOk, IfOk, IfSome, IfNone, length, drop, slice_get};
+ghost use Rattle.std.specs.Prelude.{◌≡◌, ◌≤◌, ◌<◌, ◌++◌, ◌&&◌, not, true, false, Bool, ℕ, Option, Some, OnOk, IfOk, IfSome, IfNone, length, drop, slice_get};
 ghost use Rattle.ve_base.specs.declared.value.ValueId.{ValueId};
 ghost use Rattle.ve_kinds.specs.Table.{is_content_branch};
 ghost use Rattle.model_items.specs.declared.item.Item.TheVariants as item;
@@ -7,9 +7,10 @@ ghost use Rattle.model_items.specs.Plain.{value_at, head_in, plain_list, CitesHe
 ghost use Rattle.model_page.specs.Editable.{all_refer, head_refers};
 ghost use Rattle.ve_nodes.specs.Siblings.{is_end, AllCite, Ends, SameOuter};
 ghost use Rattle.ve_fresh.specs.Begun.{holds_blocks, nests, single};
-ghost use Rattle.ve_fresh.specs.Told.{blocks_at, text_of, GoesOn, IsAppended};
+ghost use Rattle.ve_fresh.specs.Told.{blocks_at, known_of, text_of, GoesOn, IsAfresh, IsAppended, LendsFirst, StandsBefore};
 
 use crate::content::put_content;
+use crate::kept::original_at;
 use crate::page::{Page, put_cited_leaf, put_white};
 use crate::tags::{Element, put_closing, put_opening};
 use model_items::Item;
@@ -61,11 +62,63 @@ struct Step {
     bare: bool,
 }
 
+/// Whether a paragraph that was made for its text is to have tags. It had none in the page that was read, so
+/// it is written afresh.
+fn needs_tags(generated: bool, bare: bool) -> bool
+    ensures { result ≡ (generated && not bare) }
+{
+    generated && !bare
+}
+
+/// Appends the block at a place by the bytes that it was, if it is kept, with the whitespace before it.
+fn put_kept(
+    alloc: Global,
+    out: &mut Bytes,
+    page: Page<'_, '_>,
+    at: usize,
+    before: bool,
+) -> Result<Option<Step>, Memory>
+    requires cites { AllCite page.store.now page.list.now.items }
+    requires lent { LendsFirst page }
+    requires before { StandsBefore page at }
+    requires within { at < length page.list.now.items }
+    ensures more { IfOk result (λ kept. IfSome kept (λ step. at < step.at)) }
+    ensures within { IfOk result (λ kept. IfSome kept (λ step. step.at ≤ length page.entry.list.now.items)) }
+    ensures outer { IfOk result (λ kept. IfSome kept (λ step. SameOuter page.entry.list.now.items at step.at)) }
+    ensures text { IfOk result (λ kept. IfSome kept (λ step. GoesOn (known_of page.entry) out.old out.new
+        (λ w v. blocks_at w v page.entry.list.now.items before at) (λ w v. blocks_at w v page.entry.list.now.items step.bare step.at))) }
+    ensures none { IfOk result (λ kept. IfNone kept (out.new ≡ out.old)) }
+    ensures afresh { IfOk result (λ kept. IfNone kept (IsAfresh (known_of page.entry) before at)) }
+{
+    let _len = page.list.len();
+    let Item::Opening {
+        generated,
+        pre,
+        origin,
+        ..
+    } = page.list.get(at)
+    else {
+        return Ok(None);
+    };
+    let Some(text) = original_at(page, at, origin) else {
+        return Ok(None);
+    };
+    let bare = is_bare(alloc, page.list, page.store, at, before)?;
+    if needs_tags(generated, bare) {
+        return Ok(None);
+    }
+    put_white(out, page.store, pre)?;
+    out.push(text.as_bytes())?;
+    let end = siblings_end(page.list, at + 1);
+    let at = after_siblings(page.list, end).at;
+    Ok(Some(Step { at, bare }))
+}
+
 /// Appends a block leaf that cites this head, and nothing for the internal list.
 fn put_single(
     alloc: Global,
     out: &mut Bytes,
-    page: Page<'_>,
+    page: Page<'_, '_>,
     at: usize,
     head: Option<ValueId>,
     kind: Kind,
@@ -80,17 +133,20 @@ fn put_single(
     put_cited_leaf(alloc, out, page, at, head, kind)
 }
 
-/// Appends the content branch at a place, without its tags where it is bare; `before` says whether the sibling before it is bare.
+/// Appends the content branch at a place afresh, without its tags where it is bare; `before` says whether the sibling before it is bare.
 fn put_branch(
     alloc: Global,
     out: &mut Bytes,
-    page: Page<'_>,
+    page: Page<'_, '_>,
     at: usize,
     before: bool,
     element: Element,
 ) -> Result<Step, Memory>
     requires cites { AllCite page.store.now page.list.now.items }
     requires refers { all_refer (plain_list page.store.now page.list.now.items) ≡ true }
+    requires lent { LendsFirst page }
+    requires before { StandsBefore page at }
+    requires afresh { IsAfresh (known_of page) before at }
     requires within { at < length page.list.now.items }
     requires branch { is_content_branch element.kind ≡ true }
     requires item { (generated : Bool) × (marks : Option ValueId) × (origin : Option ℕ)
@@ -98,7 +154,7 @@ fn put_branch(
     ensures more { IfOk result (λ step. at < step.at) }
     ensures within { IfOk result (λ step. step.at ≤ length page.entry.list.now.items) }
     ensures outer { IfOk result (λ step. SameOuter page.entry.list.now.items at step.at) }
-    ensures text { IfOk result (λ step. GoesOn page.entry.store.now (text_of page.entry.texts.now) out.old out.new
+    ensures text { IfOk result (λ step. GoesOn (known_of page.entry) out.old out.new
         (λ w v. blocks_at w v page.entry.list.now.items before at) (λ w v. blocks_at w v page.entry.list.now.items step.bare step.at)) }
 {
     let _len = page.list.len();
@@ -110,23 +166,26 @@ fn put_branch(
     Ok(Step { at: after.at, bare })
 }
 
-/// Appends the block at a place, one that holds no blocks; `before` says whether the sibling before it is bare.
+/// Appends the block at a place afresh, one that holds no blocks; `before` says whether the sibling before it is bare.
 fn put_block(
     alloc: Global,
     out: &mut Bytes,
-    page: Page<'_>,
+    page: Page<'_, '_>,
     at: usize,
     before: bool,
 ) -> Result<Step, Memory>
     requires cites { AllCite page.store.now page.list.now.items }
     requires refers { all_refer (plain_list page.store.now page.list.now.items) ≡ true }
+    requires lent { LendsFirst page }
+    requires before { StandsBefore page at }
+    requires afresh { IsAfresh (known_of page) before at }
     requires within { at < length page.list.now.items }
     requires open { is_end (drop at page.list.now.items) ≡ false }
     requires nests { nests (drop at page.list.now.items) ≡ false }
     ensures more { IfOk result (λ step. at < step.at) }
     ensures within { IfOk result (λ step. step.at ≤ length page.entry.list.now.items) }
     ensures outer { IfOk result (λ step. SameOuter page.entry.list.now.items at step.at) }
-    ensures text { IfOk result (λ step. GoesOn page.entry.store.now (text_of page.entry.texts.now) out.old out.new
+    ensures text { IfOk result (λ step. GoesOn (known_of page.entry) out.old out.new
         (λ w v. blocks_at w v page.entry.list.now.items before at) (λ w v. blocks_at w v page.entry.list.now.items step.bare step.at)) }
 {
     let _len = page.list.len();
@@ -165,24 +224,29 @@ fn put_block(
 pub fn put_blocks(
     alloc: Global,
     out: &mut Bytes,
-    page: Page<'_>,
+    page: Page<'_, '_>,
     from: usize,
 ) -> Result<usize, Memory>
     requires cites { AllCite page.store.now page.list.now.items }
     requires refers { all_refer (plain_list page.store.now page.list.now.items) ≡ true }
+    requires lent { LendsFirst page }
+    requires before { StandsBefore page from }
     requires within { from ≤ length page.list.now.items }
     ensures more { IfOk result (λ end. from ≤ end) }
     ensures within { IfOk result (λ end. end ≤ length page.entry.list.now.items) }
     ensures closed { IfOk result (λ end. is_end (drop end page.entry.list.now.items) ≡ true) }
     ensures ends { IfOk result (λ end. Ends page.entry.list.now.items from end) }
-    ensures text { OnOk result (IsAppended page.entry.store.now (text_of page.entry.texts.now) out.old out.new
+    ensures text { OnOk result (IsAppended (known_of page.entry) out.old out.new
         (λ w v. blocks_at w v page.entry.list.now.items false from)) }
 {
     let _len = page.list.len();
     let mut at = from;
     let mut before = false;
     'sibling: while !ends_at(page.list, at) {
-        if let Some(element) = nest_at(page.list, at) {
+        if let Some(step) = put_kept(alloc, out, page, at, before)? {
+            at = step.at;
+            before = step.bare;
+        } else if let Some(element) = nest_at(page.list, at) {
             put_opening(alloc, out, page.store, element, false)?;
             let end = put_blocks(alloc, out, page, at + 1)?;
             let after = after_siblings(page.list, end);

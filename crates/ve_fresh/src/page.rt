@@ -6,19 +6,31 @@ ghost use Rattle.ve_node_text.specs.Leaves.{leaf_of};
 ghost use Rattle.ve_fresh.specs.Told.{text_of};
 
 use indexmap::IndexMap;
+use model_page::RefTable;
 use std::alloc::Global;
 use ve_base::{Bytes, Head, Memory, Text, ValueId};
 use ve_items::Linear;
 use ve_kinds::Kind;
 use ve_node_text::{head_of, put_leaf, white_of};
+use ve_origin::Origins;
 use ve_store::Store;
 
-/// What is written: a list and its values, and the texts of the bodies that its references carry, by the places of the references.
+/// The page that was first read.
 #[derive(Clone, Copy)]
-pub struct Page<'a> {
+pub struct First<'a> {
+    pub origins: &'a Origins<'a>,
+}
+
+/// What is written: a list and its values, the texts of the bodies that its references carry, by the places of
+/// the references, and the table of its references. Where the page that was first read is lent, too, nodes that
+/// are kept are copied; else the table may be empty.
+#[derive(Clone, Copy)]
+pub struct Page<'a, 'b> {
     pub list: &'a Linear,
     pub store: &'a Store,
     pub texts: &'a IndexMap<usize, Text>,
+    pub refs: &'a RefTable,
+    pub first: Option<First<'b>>,
 }
 
 /// The text of the body that the reference at a place carries, if it carries one.
@@ -43,7 +55,7 @@ pub fn put_white(out: &mut Bytes, store: &Store, id: Option<ValueId>) -> Result<
 pub fn put_cited_leaf(
     alloc: Global,
     out: &mut Bytes,
-    page: Page<'_>,
+    page: Page<'_, '_>,
     at: usize,
     head: Option<ValueId>,
     kind: Kind,

@@ -8,6 +8,7 @@ ghost use Rattle.ve_nodes.specs.Siblings.{AllCite};
 
 use super::*;
 use indexmap::IndexMap;
+use model_page::RefTable;
 use std::alloc::Global;
 use std::test::*;
 use ve_base::{Bytes, Memory};
@@ -44,10 +45,13 @@ fn put_all(alloc: Global, out: &mut Bytes) -> Result<(), Memory> {
     let list = list_of_one(alloc)?;
     let store = Store::new(alloc);
     let texts = IndexMap::new(alloc);
+    let refs = RefTable::new(alloc);
     let page = Page {
         list: &list,
         store: &store,
         texts: &texts,
+        refs: &refs,
+        first: None,
     };
     put_list(alloc, out, page)?;
     put_body(alloc, out, &list, &store, 1)

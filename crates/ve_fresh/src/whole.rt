@@ -4,26 +4,31 @@ ghost use Rattle.model_items.specs.Law.{Lawful};
 ghost use Rattle.model_items.specs.Plain.{plain_list};
 ghost use Rattle.model_page.specs.Editable.{all_refer};
 ghost use Rattle.model_page.specs.References.{body_after};
-ghost use Rattle.model_page_write.specs.PageText.{fresh, html_of};
+ghost use Rattle.model_page_write.specs.PageText.{html_of};
 ghost use Rattle.ve_nodes.specs.Siblings.{AllCite};
-ghost use Rattle.ve_fresh.specs.Told.{text_of, AreBodyTexts};
+ghost use Rattle.ve_fresh.specs.Originals.{list_text, read_of};
+ghost use Rattle.ve_fresh.specs.Told.{text_of, AreBodyTexts, LendsFirst};
 
 use crate::blocks::put_blocks;
 use crate::page::{Page, put_white};
 use indexmap::IndexMap;
+use model_page::RefTable;
 use std::alloc::Global;
 use ve_base::{Bytes, Memory};
 use ve_items::Linear;
 use ve_nodes::after_siblings;
 use ve_store::Store;
 
-/// Appends the whole list. The texts that are lent with it have to be those of all bodies that its references carry.
-pub fn put_list(alloc: Global, out: &mut Bytes, page: Page<'_>) -> Result<(), Memory>
+/// Appends the whole list: the bytes of nodes that are kept, and the text of all others. The texts that are
+/// lent with it have to be those of all bodies that its references carry.
+pub fn put_list(alloc: Global, out: &mut Bytes, page: Page<'_, '_>) -> Result<(), Memory>
     requires cites { AllCite page.store.now page.list.now.items }
     requires refers { all_refer (plain_list page.store.now page.list.now.items) ≡ true }
     requires lawful { Lawful (plain_list page.store.now page.list.now.items) }
+    requires lent { LendsFirst page }
     requires texts { AreBodyTexts (plain_list page.store.now page.list.now.items) (text_of page.texts.now) }
-    ensures { OnOk result (out.new ≡ out.old ++ fresh (plain_list page.entry.store.now page.entry.list.now.items)) }
+    ensures { OnOk result (out.new ≡ out.old ++ list_text (read_of page.entry.first) page.entry.store.now
+        (plain_list page.entry.store.now page.entry.list.now.items)) }
 {
     put_blocks(alloc, out, page, 0)?;
     Ok(())
@@ -44,10 +49,13 @@ pub fn put_body(
 {
     let _len = list.len();
     let texts = IndexMap::new(alloc);
+    let refs = RefTable::new(alloc);
     let page = Page {
         list,
         store,
         texts: &texts,
+        refs: &refs,
+        first: None,
     };
     let end = put_blocks(alloc, out, page, at + 1)?;
     put_white(out, store, after_siblings(list, end).pre)?;

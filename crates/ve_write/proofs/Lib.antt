@@ -1,4 +1,5 @@
 pub mod NoteLemmas
 pub mod CarriedLemmas
 pub mod TextLemmas
+mod SampleLemmas
 mod BodyExamples

@@ -3,6 +3,7 @@ ghost use Rattle.std.specs.Prelude.{◌≡◌, ◌<◌, ◌+◌, true, List, len
 ghost use Rattle.ve_base.specs.declared.value.Value.{Value as Cited};
 ghost use Rattle.model_items.specs.Plain.{plain, plain_list};
 ghost use Rattle.model_page.specs.Editable.{all_refer};
+ghost use Rattle.model_page.specs.References.{table};
 ghost use Rattle.ve_nodes.specs.Siblings.{AllCite};
 ghost use Rattle.ve_fresh.specs.Told.{text_of, AreBodyTexts};
 ghost use Rattle.ve_origin.specs.Kept.{opens_notes};
@@ -10,13 +11,12 @@ ghost use Rattle.ve_write.specs.BodyTexts.{carried_outside, notes_place, text_at
 
 use indexmap::IndexMap;
 use model_items::Item;
-use model_page::RefRow;
+use model_page::{RefRow, RefTable};
 use std::alloc::Global;
 use ve_base::{Bytes, Memory, Text};
 use ve_fresh::put_body;
 use ve_items::Linear;
 use ve_kinds::Kind;
-use ve_references::table;
 use ve_store::Store;
 
 fn opens_notes(item: Item) -> bool
@@ -70,18 +70,19 @@ fn body_text(alloc: Global, list: &Linear, store: &Store, at: usize) -> Result<T
     Ok(Text::from_str(alloc, text)?)
 }
 
-/// The text of each body that a reference carries, by the place of the reference.
+/// The text of each body that a reference carries, by the place of the reference. `refs` is the table of the list.
 pub fn body_texts(
     alloc: Global,
     list: &Linear,
     store: &Store,
+    refs: &RefTable,
 ) -> Result<IndexMap<usize, Text>, Memory>
     requires cites { AllCite store.now list.now.items }
     requires refers { all_refer (plain_list store.now list.now.items) ≡ true }
+    requires refs { refs.now ≡ table (plain_list store.now list.now.items) }
     ensures { IfOk result (λ texts. AreBodyTexts (plain_list store.now list.now.items) (text_of texts)) }
 {
     let notes = notes_at(list);
-    let refs = table(alloc, list, store)?;
     let mut texts = IndexMap::new(alloc);
     for row in refs.as_slice() {
         if let Some(at) = carried_at(row, notes) {

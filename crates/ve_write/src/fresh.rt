@@ -11,6 +11,7 @@ use std::alloc::Global;
 use ve_base::{Bytes, Memory};
 use ve_fresh::{Page, put_list};
 use ve_items::Linear;
+use ve_references::table;
 use ve_store::Store;
 
 /// Appends the nodes of a list, all written afresh: no origin is looked at. Each body is written at the
@@ -27,11 +28,14 @@ pub fn write_fresh(
     ensures ok { OnOk result (out.new ≡ out.old ++ fresh (plain_list store.now list.now.items)) }
     ensures err { OnErr result (out.new ≡ out.old) }
 {
-    let texts = body_texts(alloc, list, store)?;
+    let refs = table(alloc, list, store)?;
+    let texts = body_texts(alloc, list, store, &refs)?;
     let page = Page {
         list,
         store,
         texts: &texts,
+        refs: &refs,
+        first: None,
     };
     let mut text = Bytes::new(alloc);
     put_list(alloc, &mut text, page)?;

@@ -1,6 +1,6 @@
 use Rattle.std.proofs.Common.{◌-◌, ◌≤◌, false, length}
 use Rattle.ve_nodes.specs.Siblings.{SameOuter}
-use Rattle.ve_fresh.specs.Told.{blocks_at, text_of, GoesOn}
+use Rattle.ve_fresh.specs.Told.{blocks_at, known_of, GoesOn}
 use Rattle.ve_fresh.proofs.blocks.+put_blocks.Given as goal
 
 abbrev pub decreases-put_blocks : goal.decreases-put_blocks
@@ -11,7 +11,7 @@ invariant-sibling l = record {
   more : l.from ≤ l.at;
   within : l.at ≤ length l.page.list.now.items;
   outer : SameOuter l.page.list.now.items l.from l.at;
-  text : GoesOn l.page.store.now (text_of l.page.texts.now) l.initial.out l.out (λ w v. blocks_at w v l.page.list.now.items false l.from) (λ w v. blocks_at w v l.page.list.now.items l.before l.at);
+  text : GoesOn (known_of l.page) l.initial.out l.out (λ w v. blocks_at w v l.page.list.now.items false l.from) (λ w v. blocks_at w v l.page.list.now.items l.before l.at);
 }
 
 abbrev pub decreases-sibling : goal.decreases-sibling

@@ -1,7 +1,7 @@
 use Rattle.std.proofs.Common.{◌-◌, ◌≤◌, [], length}
 use Rattle.model_items.specs.Plain.{value_at, marks_in, CitesMarks}
 use Rattle.ve_nodes.specs.Siblings.{SameOuter}
-use Rattle.ve_fresh.specs.Told.{content_at, text_of, GoesOn}
+use Rattle.ve_fresh.specs.Told.{content_at, known_of, GoesOn}
 use Rattle.ve_fresh.proofs.content.put_content.Given as goal
 
 abbrev pub invariant-loop-out : goal.invariant-loop-out
@@ -10,7 +10,7 @@ invariant-loop-out l = record {
   within : l.at ≤ length l.page.list.now.items;
   cites : CitesMarks l.page.store.now l.opened;
   outer : SameOuter l.page.list.now.items l.from l.at;
-  text : GoesOn l.page.store.now (text_of l.page.texts.now) l.initial.out l.out (λ w v. content_at w v l.page.list.now.items [] l.from)
+  text : GoesOn (known_of l.page) l.initial.out l.out (λ w v. content_at w v l.page.list.now.items [] l.from)
       (λ w v. content_at w v l.page.list.now.items (marks_in (value_at l.page.store.now l.opened)) l.at);
 }
 

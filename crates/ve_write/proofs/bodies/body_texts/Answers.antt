@@ -8,7 +8,7 @@ use Rattle.ve_write.proofs.bodies.body_texts.Goals.{in-Some+in_ok-body_text+in_o
 pub loop-row-init : goal.loop-row-init
 loop-row-init c = record {
   notes = c.notes_at-notes.ensures c.args.store.now;
-  rows = c.as_slice-row-items.ensures ∙ c.in_ok-refs.ensures;
+  rows = c.as_slice-row-items.ensures ∙ c.requires.refs;
   texts = λ p. sym (no_texts c.new-texts.result c.new-texts.ensures.empty p);
 }
 

@@ -1,0 +1,51 @@
+// Lists that are written as the page that they were read from.
+ghost use Rattle.std.specs.Prelude.{◌≡◌, ◌++◌, true, OnOk, OnErr};
+ghost use Rattle.model_items.specs.Law.{Lawful};
+ghost use Rattle.model_items.specs.Plain.{plain_list};
+ghost use Rattle.model_page.specs.Editable.{all_refer};
+ghost use Rattle.model_page_write.specs.PageText.{write};
+ghost use Rattle.ve_fresh.specs.Originals.{opened_over, IsFirst};
+ghost use Rattle.ve_nodes.specs.Siblings.{AllCite};
+
+use crate::bodies::body_texts;
+use std::alloc::Global;
+use ve_base::{Bytes, Memory};
+use ve_fresh::{First, Page, put_list};
+use ve_items::Linear;
+use ve_origin::Origins;
+use ve_references::table;
+use ve_store::Store;
+
+/// Appends the page that a list gives, after the page that was first read: what stood before its body, the
+/// nodes of the list, and what stood after its body. A node that is still as it was first read is copied, and
+/// every other is written afresh, with each body at the reference that carries it. An `Err` changes nothing.
+pub fn write<'a>(
+    alloc: Global,
+    list: &Linear,
+    store: &Store,
+    origins: &'a Origins<'a>,
+    out: &mut Bytes,
+) -> Result<(), Memory>
+    requires cites { AllCite store.now list.now.items }
+    requires refers { all_refer (plain_list store.now list.now.items) ≡ true }
+    requires lawful { Lawful (plain_list store.now list.now.items) }
+    requires first { IsFirst store.now list.now.items origins.now }
+    ensures ok { OnOk result (out.new ≡ out.old ++ write (opened_over store.now origins.now) (plain_list store.now list.now.items)) }
+    ensures err { OnErr result (out.new ≡ out.old) }
+{
+    let refs = table(alloc, list, store)?;
+    let texts = body_texts(alloc, list, store, &refs)?;
+    let first = Some(First { origins });
+    let page = Page {
+        list,
+        store,
+        texts: &texts,
+        refs: &refs,
+        first,
+    };
+    let mut text = Bytes::new(alloc);
+    text.push(origins.head().as_bytes())?;
+    put_list(alloc, &mut text, page)?;
+    text.push(origins.tail().as_bytes())?;
+    out.push(text.as_slice())
+}
