@@ -9,7 +9,7 @@ ghost use Rattle.ve_replies.specs.Answers.{reply_of, AnswerCites};
 ghost use Rattle.ve_replies.specs.Words.{number_list};
 
 use crate::items::push_items;
-use crate::json::push_list;
+use crate::json_list::push_list;
 use crate::quoted::push_quoted;
 use crate::refusals::refusal_words;
 use crate::rows::push_tree;
@@ -27,6 +27,7 @@ use ve_kinds::Kind;
 use ve_store::Store;
 
 /// The answer to a line: `model_world`'s reply, but that the items of a page are lent.
+#[derive(Drop)]
 pub enum Answer<'a> {
     /// How many items the list has now.
     Length(usize),

@@ -6,7 +6,7 @@ ghost use Rattle.model_world.specs.Shown.{json_number, json_text, key_shown};
 ghost use Rattle.ve_replies.specs.Members.{after_text, before_text, closing_text, later_text, member_text, some_attrs, some_flag, some_marks, some_string};
 ghost use Rattle.ve_replies.specs.Runs.{text_of};
 
-use crate::json::push_list;
+use crate::json_list::push_list;
 use crate::quoted::push_quoted;
 use crate::shown::push_key;
 use crate::spelling::Spelling;

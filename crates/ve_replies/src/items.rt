@@ -8,7 +8,7 @@ ghost use Rattle.model_world.specs.Shown.{items_shown, run_shown};
 ghost use Rattle.ve_replies.specs.Runs.{AddsFirst, bracket_text, char_with, IsRun};
 
 use crate::brackets::{OpeningParts, push_closing, push_opening};
-use crate::json::{push_comma, push_list};
+use crate::json_list::{push_comma, push_list};
 use crate::quoted::push_quoted;
 use crate::spelling::Spelling;
 use std::alloc::Global;

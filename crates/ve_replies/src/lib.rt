@@ -14,7 +14,7 @@
 mod answer;
 mod brackets;
 mod items;
-mod json;
+mod json_list;
 mod quoted;
 mod refusals;
 mod rows;

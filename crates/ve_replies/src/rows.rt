@@ -5,7 +5,7 @@ ghost use Rattle.serde_json.specs.Written.{compact_text};
 ghost use Rattle.model_world.specs.Shown as shown;
 ghost use Rattle.model_world.specs.Spelled.{tree_word};
 
-use crate::json::{Json, push_list};
+use crate::json_list::{Json, push_list};
 use crate::shown::push_key;
 use crate::spelling::Spelling;
 use crate::words::push_decimal;

@@ -3,7 +3,7 @@ ghost use Rattle.std.specs.Prelude.{◌≡◌, ◌++◌, codes, decimal, OnOk, I
 ghost use Rattle.model_world.specs.Shown as shown;
 ghost use Rattle.ve_replies.specs.Members.{group_and_key};
 
-use crate::json::{Json, push_list};
+use crate::json_list::{Json, push_list};
 use crate::quoted::push_quoted;
 use crate::spelling::Spelling;
 use crate::words::push_decimal;

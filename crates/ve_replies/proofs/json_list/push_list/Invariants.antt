@@ -1,7 +1,7 @@
 use Rattle.std.proofs.Common.{◌≡◌, ◌++◌, drop, map, nat_lt, false}
 use Rattle.serde_json.specs.Written.{items_text}
 use Rattle.model_world.specs.Shown.{json_items}
-use Rattle.ve_replies.proofs.json.push_list.Given as goal
+use Rattle.ve_replies.proofs.json_list.push_list.Given as goal
 
 -- what is spelled, with what is left, is the whole list
 abbrev pub invariant-loop-i : goal.invariant-loop-i

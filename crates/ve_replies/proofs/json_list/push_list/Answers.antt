@@ -2,7 +2,7 @@ use Rattle.std.proofs.Common.{◌≡◌, ◌++◌, ◌∷◌, [], OnOk, map, dro
 use Rattle.std.proofs.lemmas.List.{drop_all}
 use Rattle.serde_json.specs.Written.{items_text}
 use Rattle.model_world.specs.Shown.{json_items}
-use Rattle.ve_replies.proofs.json.push_list.Goals as goal
+use Rattle.ve_replies.proofs.json_list.push_list.Goals as goal
 
 pub returns-clause-ok : goal.returns-clause-ok
 returns-clause-ok g c =
