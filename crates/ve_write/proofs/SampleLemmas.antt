@@ -27,6 +27,10 @@ read_range items e = subst (λ l. IsNodeRange (plain_list [] l) 0 0 3) (sym e) (
 pub no_refs : (items : List Item) → items ≡ read_items → table (plain_list [] items) ≡ []
 no_refs items e = ap (λ l. table (plain_list [] l)) e
 
+drop_none : {A : Type 0} (n : ℕ) → drop n (let none : List A = [] in none) ≡ []
+drop_none zero = refl
+drop_none (suc n) = refl
+
 pub one_origin : (items : List Item) → items ≡ read_items → (at k : ℕ) → origin_of (drop at (plain_list [] items)) ≡ Some k → k < 1
 one_origin items e at k f = by at (sym (ap (λ l. origin_of (drop at (plain_list [] l))) e) ∙ f)
   where
@@ -39,7 +43,7 @@ one_origin items e at k f = by at (sym (ap (λ l. origin_of (drop at (plain_list
     by (suc (suc zero)) g = absurd (no_number g)
     by (suc (suc (suc zero))) g = absurd (no_number g)
     by (suc (suc (suc (suc zero)))) g = absurd (no_number g)
-    by (suc (suc (suc (suc (suc at))))) g = absurd (no_number g)
+    by (suc (suc (suc (suc (suc at))))) g = absurd (no_number (sym (ap origin_of (drop_none at)) ∙ g))
 
 only_row : (row : OriginRow) (k : ℕ) (r : OriginRow) → slice_get (row ∷ []) k ≡ Some r → (k ≡ 0) × (row ≡ r)
 only_row row zero r e = (refl, cc)
@@ -49,10 +53,10 @@ pub read_cites : (values : List Value) (items : List Item) → items ≡ read_it
 read_cites values items e at item found = by at (sym (ap (λ l. slice_get l at) e) ∙ found)
   where
     by : (at : ℕ) → slice_get read_items at ≡ Some item → CitesWell values item
-    by zero g = let same : Opening P false None None None (Some 0) ≡ item = cc in subst (CitesWell values) same (tt, (tt, tt))
+    by zero g = let same : Opening P false None None None (Some 0) ≡ item = cc in subst (CitesWell values) same (tt, tt, tt)
     by (suc zero) g = let same : Char 97 None ≡ item = cc in subst (CitesWell values) same tt
     by (suc (suc zero)) g = let same : Closing P None ≡ item = cc in subst (CitesWell values) same tt
-    by (suc (suc (suc zero))) g = let same : Opening InternalList false None None None None ≡ item = cc in subst (CitesWell values) same (tt, (tt, tt))
+    by (suc (suc (suc zero))) g = let same : Opening InternalList false None None None None ≡ item = cc in subst (CitesWell values) same (tt, tt, tt)
     by (suc (suc (suc (suc zero)))) g = let same : Closing InternalList None ≡ item = cc in subst (CitesWell values) same tt
     by (suc (suc (suc (suc (suc at))))) g = cc
 
