@@ -1,0 +1,5 @@
+pub mod Blocks
+pub mod Places
+pub mod Units
+pub mod Reads
+pub mod Laws
