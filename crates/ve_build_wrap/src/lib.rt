@@ -15,6 +15,8 @@
 mod claims;
 mod nodes;
 mod shapes;
+#[cfg(test)]
+mod tests;
 mod wraps;
 
 pub use wraps::wrap;
