@@ -1,5 +1,5 @@
 -- What was undone last performed again.
-use Rattle.std.proofs.Common.{◌≡◌, ℕ, List, [], ◌∷◌, ◌++◌, map, drop, slice_get, All, Option, Some, Ok, sym, ap, ◌∙◌, subst}
+use Rattle.std.proofs.Common.{◌≡◌, ◌≤◌, ◌+◌, ℕ, List, [], ◌∷◌, ◌++◌, map, drop, slice_get, All, Option, Some, Ok, sym, ap, ◌∙◌, subst}
 use Rattle.std.proofs.lemmas.List.Elements.{All-head, All-tail}
 use Rattle.model_change.specs.Replay.{AllRun, flattened}
 use Rattle.model_site.specs.Entries.{entry_of}
@@ -10,7 +10,9 @@ use Rattle.ve_tx.specs.declared.entry.Entry.{Entry}
 use Rattle.ve_tx.specs.declared.parcel.Parcel.{Parcel}
 use Rattle.ve_tx.specs.ByValue.{parcel_by_value, ParcelCites}
 use Rattle.ve_editor.specs.Edited.{AllStand, entry_by_value, EntryCites}
+use Rattle.ve_editor.specs.Counted.{steps_over}
 use Rattle.ve_history.specs.Stacks.{Stacks}
+use Rattle.ve_site.specs.Counted.{redoing}
 use Rattle.ve_site.specs.Numbered.{site_of, IsSite}
 use Rattle.ve_site.proofs.StandsLemmas.{all_stand, redone_stands}
 use Rattle.ve_site.proofs.StepLemmas.{pushed_same, pushed_is}
@@ -40,6 +42,9 @@ module _ (editor : Replica) (seen : ℕ) (sent : List Entry) (old : Stacks) (sha
   may_come =
       let runs = subst (λ ps. AllRun (flattened (map parcel_by_value ps)) editor.items) split is.stands.holds.undone in
       all_stand (parcel_by_value first) editor.items (AllRun-parts (parcel_by_value first) (flattened (map parcel_by_value rest)) editor.items runs).0
+
+  pub redo_counts : (now after : ℕ) → after ≤ now + steps_over (parcel_by_value first) editor.items → after ≤ now + steps_over (redoing site.undone) site.replica.items
+  redo_counts now after h = subst (λ ps. after ≤ now + steps_over (redoing (map parcel_by_value ps)) editor.items) (sym split) h
 
   module _ (new : Replica) (e : Entry) (now : Stacks) (page : new ≡ all_performed (parcel_by_value first) editor)
       (entry : entry_by_value new.store e ≡ entry_of (parcel_by_value first) editor) (cites : EntryCites new.store e) (done : now.done ≡ old.done ++ e ∷ []) (undone : now.undone ≡ rest) where

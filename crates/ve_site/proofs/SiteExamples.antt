@@ -13,6 +13,7 @@ use Rattle.model_site.specs.declared.site_fault.UndoFault.TheVariants as undo_wh
 use Rattle.model_site.specs.declared.site_fault.RedoFault.TheVariants as redo_why
 use Rattle.model_site.specs.declared.site_fault.SendFault.TheVariants as send_why
 use Rattle.ve_tx.specs.declared.entry.Entry.{Entry}
+use Rattle.ve_site.specs.Counted.{undoing, redoing}
 use Rattle.ve_site.specs.Ground.{ground_of, as_opened, AreOver}
 use Rattle.ve_site.specs.Numbered.{site_of, with_site}
 use Rattle.ve_site.specs.Refusal.{IsUndoRefusal, IsRedoRefusal, IsSendRefusal}
@@ -82,6 +83,20 @@ by_fields : site_of (page []) 4 (numbered 0 0 ∷ []) (record { done = numbered 
   in_flight = None;
 }
 by_fields = refl
+
+-- ---- what a call performs
+
+abbrev one_more_unsent : Site
+one_more_unsent = record in_flight { unsent = record { txs = []; store_before = 0; store_after = 0 } ∷ in_flight.unsent }
+
+the_last_is_taken_back : undoing one_more_unsent.unsent ≡ (Retain 2 ∷ Replace (letters (codes "c")) [] ∷ Retain 1 ∷ []) ∷ []
+the_last_is_taken_back = refl
+
+the_first_comes_again : redoing ((puts 1 98 1 ∷ []) ∷ (puts 2 99 1 ∷ []) ∷ []) ≡ puts 1 98 1 ∷ []
+the_first_comes_again = refl
+
+nothing_to_perform : redoing in_flight.undone ≡ []
+nothing_to_perform = refl
 
 -- ---- refusals
 

@@ -19,17 +19,17 @@ use Rattle.model_site_law.proofs.SiteLemmas.{edit_holds, undo_holds, redo_holds}
 use Rattle.ve_editor.specs.Edited.{AllStand}
 use Rattle.ve_site.specs.Ground.{ground_of, as_opened, Stands}
 
-abbrev Selects : Replica → Type 0
+abbrev pub Selects : Replica → Type 0
 Selects r = StandsIn r.items r.selection
 
-selects_kept : IsKept Selects
+pub selects_kept : IsKept Selects
 selects_kept = record {
   changes = λ t vs r applies lawful p. moved_stands t r.items r.selection applies lawful;
   cuts = λ n r p. p;
 }
 
 -- whatever is pending, with it taken back the ground is as it was
-ground_is : (floor : List PlainItem) (s : Site) → Sound floor → Holds floor [] (as_opened s) → ground_of s ≡ floor
+pub ground_is : (floor : List PlainItem) (s : Site) → Sound floor → Holds floor [] (as_opened s) → ground_of s ≡ floor
 ground_is floor s sound h =
     ap (replay (reversal (flattened (parcels (pending s))))) h.list ∙ (reversal_undoes (flattened (parcels (pending s))) floor sound.lawful sound.apart h.runs).back
 

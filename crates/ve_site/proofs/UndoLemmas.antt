@@ -1,5 +1,5 @@
 -- The last unsent entry taken back.
-use Rattle.std.proofs.Common.{◌≡◌, ◌<◌, ◌-◌, ℕ, suc, Bool, true, false, ◌&&◌, ◌==◌, nat_lt, if◌then◌else◌, List, [], ◌∷◌, ◌++◌, length, map, take, slice_get, All, Contains, Option, Some, None, Ok, Err, refl, sym, ap, ◌∙◌, subst, arith}
+use Rattle.std.proofs.Common.{◌≡◌, ◌≤◌, ◌<◌, ◌+◌, ◌-◌, ℕ, suc, Bool, true, false, ◌&&◌, ◌==◌, nat_lt, if◌then◌else◌, List, [], ◌∷◌, ◌++◌, length, map, take, slice_get, All, Contains, Option, Some, None, Ok, Err, refl, sym, ap, ◌∙◌, subst, arith}
 use Rattle.std.proofs.lemmas.List.{map-append, append_assoc}
 use Rattle.std.proofs.lemmas.List.Elements.{All-cons, All-head}
 use Rattle.model_items.specs.declared.plain_item.PlainItem.{PlainItem}
@@ -26,7 +26,9 @@ use Rattle.ve_tx.specs.ByValue.{parcel_by_value, ParcelCites}
 use Rattle.ve_tx.specs.Making.{Extends}
 use Rattle.ve_tx.proofs.ValuesLemmas.{extends_itself, extends_on}
 use Rattle.ve_editor.specs.Edited.{CanBeReverted, CutsUncited, entry_by_value, EntryCites}
+use Rattle.ve_editor.specs.Counted.{steps_over}
 use Rattle.ve_history.specs.Stacks.{Stacks, without_last}
+use Rattle.ve_site.specs.Counted.{undoing}
 use Rattle.ve_site.specs.Ground.{AreOver, Stands, ground_of}
 use Rattle.ve_site.specs.Numbered.{site_of, IsSite}
 use Rattle.ve_site.specs.Refusal.{IsUndoRefusal}
@@ -46,6 +48,10 @@ ends_with (y ∷ z ∷ xs) x e =
 parted_end : (y : ModelEntry) (ys : List ModelEntry) (x : ModelEntry) → parted y (ys ++ x ∷ []) ≡ (y ∷ ys, x)
 parted_end y [] x = refl
 parted_end y (z ∷ ys) x = ap (λ (r : List ModelEntry × ModelEntry). (y ∷ r.0, r.1)) (parted_end z ys x)
+
+undoing_end : (xs : List ModelEntry) (x : ModelEntry) → undoing (xs ++ x ∷ []) ≡ reversal x.txs
+undoing_end [] x = refl
+undoing_end (y ∷ ys) x = ap (λ (p : List ModelEntry × ModelEntry). reversal p.1.txs) (parted_end y ys x)
 
 undone_end : (xs : List ModelEntry) (x : ModelEntry) (s : Site) →
     undo_last (xs ++ x ∷ []) s ≡ Ok (record s { replica = reverted x s.replica; unsent = xs; undone = x.txs ∷ s.undone })
@@ -111,6 +117,11 @@ module _ (editor : Replica) (seen : ℕ) (sent : List Entry) (old : Stacks) (sha
   pub may_go : CanBeReverted x editor
   may_go = all_stand (reversal x.txs) editor.items gone.runs
 
+  pub undo_counts : (now after : ℕ) → after ≤ now + steps_over (reversal x.txs) editor.items → after ≤ now + steps_over (undoing site.unsent) site.replica.items
+  undo_counts now after h =
+      let same : undoing site.unsent ≡ reversal x.txs = ap undoing unsent_is ∙ undoing_end (map (entry_by_value editor.store) others) x in
+      subst (λ ts. after ≤ now + steps_over ts editor.items) (sym same) h
+
   abbrev back : Replica
   back = all_put_back (reversal x.txs) editor
 
@@ -124,7 +135,7 @@ module _ (editor : Replica) (seen : ℕ) (sent : List Entry) (old : Stacks) (sha
 
   -- what is left of the store goes on from where the last entry began
   module _ (new : Replica) (page : new ≡ reverted x editor) where
-    left_extends : Extends (take last.store_before editor.store) new.store
+    pub left_extends : Extends (take last.store_before editor.store) new.store
     left_extends = subst (λ (r : Replica). Extends (take last.store_before editor.store) r.store) (sym page) (by_cut ((length editor.store == x.store_after) && nat_lt x.store_before x.store_after))
       where
         by_cut : (b : Bool) → Extends (take last.store_before editor.store) (if b then take last.store_before back.store else back.store)

@@ -5,9 +5,11 @@ pub use Rattle.model_site_law.specs.Sound
 pub use Rattle.model_site_law.specs.Holds
 pub use Rattle.model_site_law.specs.SelectionLaws
 pub use Rattle.ve_editor.specs.Edited
+pub use Rattle.ve_editor.specs.Counted as EditorCounted
 pub use Rattle.ve_editor.specs.Refusal as EditRefusal
 pub use Rattle.ve_history.specs.Stacks
 pub use Rattle.ve_server.specs.Fed
 pub mod Ground
 pub mod Numbered
+pub mod Counted
 pub mod Refusal

@@ -5,7 +5,7 @@
 //!
 //! A site is seen as its number beside the model's site (specs/Numbered.antt), and its type keeps what always
 //! holds of one (specs/Ground.antt): so these calls have no condition on the site. specs/Refusal.antt says
-//! how a refusal is told.
+//! how a refusal is told, and specs/Counted.antt what a call performs, by which its steps are bounded.
 //!
 //! It knows neither the server nor other sites.
 #![tactic(auto)]

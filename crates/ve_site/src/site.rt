@@ -1,5 +1,5 @@
 // A site.
-ghost use Rattle.std.specs.Prelude.{◌≡◌, ◌==◌, if◌then◌else◌, List, Ok, IfOk, IfErr, OnOk, OnErr};
+ghost use Rattle.std.specs.Prelude.{◌≡◌, ◌≤◌, ◌+◌, ◌==◌, if◌then◌else◌, List, [], ◌∷◌, Ok, IfOk, IfErr, OnOk, OnErr};
 ghost use Rattle.model_change.specs.Transaction.{Transaction, InsertedApart};
 ghost use Rattle.model_site.specs.Entries.{entry_of, reverted};
 ghost use Rattle.model_site.specs.Replica.{all_performed};
@@ -60,6 +60,8 @@ fn nothing_to_undo(sent: usize) -> UndoFault
 impl Site {
     ghost use Rattle.ve_editor.specs.Edited.{IsDraftOf, drafted, entry_by_value, EntryCites};
     ghost use Rattle.ve_editor.specs.Refusal.{IsEditRefusal};
+    ghost use Rattle.ve_editor.specs.Counted.{steps_after, steps_over};
+    ghost use Rattle.ve_site.specs.Counted.{undoing, redoing};
     ghost use Rattle.ve_server.specs.Fed.{submission_of};
     ghost use Rattle.ve_site.specs.Numbered.{with_site};
     ghost use Rattle.ve_site.specs.Refusal.{IsUndoRefusal, IsRedoRefusal, IsSendRefusal};
@@ -123,6 +125,8 @@ impl Site {
         ensures number { self.new.number ≡ self.old.number }
         ensures refused { IfErr result (IsEditRefusal (edit_cause (drafted self.old.site.replica.store draft.now) self.old.site.replica)) }
         ensures kept { OnErr result (self.new ≡ self.old) }
+        ensures counted { steps.old ≤ steps.new }
+        ensures steps { steps.new ≤ steps.old + steps_after (drafted self.old.site.replica.store draft.now ∷ []) self.old.site.replica.items }
     {
         if self.history.reserve().is_err() {
             return Err(EditFault::Memory);
@@ -163,6 +167,8 @@ impl Site {
         ensures number { self.new.number ≡ self.old.number }
         ensures refused { IfErr result (IsUndoRefusal (undo self.old.site)) }
         ensures kept { OnErr result (self.new ≡ self.old) }
+        ensures counted { steps.old ≤ steps.new }
+        ensures steps { steps.new ≤ steps.old + steps_over (undoing self.old.site.unsent) self.old.site.replica.items }
     {
         if self.history.reserve().is_err() {
             return Err(UndoFault::Memory);
@@ -188,6 +194,8 @@ impl Site {
         ensures number { self.new.number ≡ self.old.number }
         ensures refused { IfErr result (IsRedoRefusal (redo self.old.site)) }
         ensures kept { OnErr result (self.new ≡ self.old) }
+        ensures counted { steps.old ≤ steps.new }
+        ensures steps { steps.new ≤ steps.old + steps_over (redoing self.old.site.undone) self.old.site.replica.items }
     {
         if self.history.reserve().is_err() {
             return Err(RedoFault::Memory);

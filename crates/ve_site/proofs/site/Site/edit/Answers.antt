@@ -1,4 +1,4 @@
-use Rattle.std.proofs.Common.{◌≡◌, [], ◌∷◌, ◌++◌, true, is_ok, sym, ap, ◌∙◌, subst}
+use Rattle.std.proofs.Common.{◌≡◌, ◌≤◌, ◌+◌, ℕ, arith, [], ◌∷◌, ◌++◌, true, is_ok, sym, ap, ◌∙◌, subst}
 use Rattle.std.proofs.lemmas.Result.{err_from_is_err_and}
 use Rattle.model_change.specs.Transaction.{InsertedApart, is_reduced}
 use Rattle.model_site.specs.Refused.{edit_cause}
@@ -8,6 +8,7 @@ use Rattle.ve_editor.specs.Edited.{drafted, drafted_values}
 use Rattle.ve_editor.specs.Refusal.{IsEditRefusal}
 use Rattle.ve_site.specs.Numbered.{Numbered}
 use Rattle.ve_site.proofs.StepLemmas.{roomy_same, roomy_is, edit_is, edited_is}
+use Rattle.ve_editor.specs.Counted.{steps_after}
 use Rattle.ve_site.proofs.site.Site.edit.Goals as goal
 
 pub returns-in_err-entry-clause-refused : goal.returns-in_err-entry-clause-refused
@@ -49,3 +50,16 @@ returns-clause-site g c =
     let same = roomy_same s.editor s.seen s.sent.items s.history s.shared s.in_flight c.self.invariant room c.reserve.ensures.done c.reserve.ensures.undone in
     ap (λ (x : Site). edit (drafted x.replica.store c.args.draft.now) x) (sym (same ∙ ap (λ (v : Numbered). v.site) c.self.view_is))
     ∙ edit_is s.editor s.seen s.sent.items room s.shared s.in_flight is t c.perform.new.self e now f.allowed f.page f.entry f.cites done undone
+
+one_more : (now after a : ℕ) → after ≤ now + a → after ≤ now + (a + 0)
+one_more now after a h = omega arith
+
+pub returns-in_err-entry-clause-steps : goal.returns-in_err-entry-clause-steps
+returns-in_err-entry-clause-steps g c =
+    subst (λ (x : Site). c.perform.new.steps ≤ c.args.steps.now + steps_after (drafted x.replica.store c.args.draft.now ∷ []) x.replica.items) (ap (λ (v : Numbered). v.site) c.self.view_is)
+    (one_more c.args.steps.now c.perform.new.steps _ c.perform.ensures.steps)
+
+pub returns-clause-steps : goal.returns-clause-steps
+returns-clause-steps g c =
+    subst (λ (x : Site). c.perform.new.steps ≤ c.args.steps.now + steps_after (drafted x.replica.store c.args.draft.now ∷ []) x.replica.items) (ap (λ (v : Numbered). v.site) c.self.view_is)
+    (one_more c.args.steps.now c.perform.new.steps _ c.perform.ensures.steps)

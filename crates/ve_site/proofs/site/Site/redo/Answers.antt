@@ -1,9 +1,11 @@
-use Rattle.std.proofs.Common.{◌≡◌, [], ◌∷◌, ◌++◌, true, is_ok, drop, sym, ap, ◌∙◌}
-use Rattle.model_site.specs.Site.{redo}
+use Rattle.std.proofs.Common.{◌≡◌, ◌≤◌, ◌+◌, [], ◌∷◌, ◌++◌, true, is_ok, drop, sym, ap, ◌∙◌, subst}
 use Rattle.ve_tx.proofs.ChangeLemmas.{ok-holds}
 use Rattle.ve_site.specs.Numbered.{Numbered}
 use Rattle.ve_site.proofs.StepLemmas.{roomy_same, roomy_is}
-use Rattle.ve_site.proofs.RedoLemmas.{may_come, redo_is, redone_is}
+use Rattle.ve_site.proofs.RedoLemmas.{may_come, redo_counts, redo_is, redone_is}
+use Rattle.model_site.specs.Site.{Site, redo}
+use Rattle.ve_editor.specs.Counted.{steps_over}
+use Rattle.ve_site.specs.Counted.{redoing}
 use Rattle.ve_site.proofs.site.Site.redo.Goals as goal
 
 pub admit-requires-clause-stands : goal.admit-requires-clause-stands
@@ -40,3 +42,21 @@ returns-clause-site g c =
     let same = roomy_same s.editor s.seen s.sent.items s.history s.shared s.in_flight c.self.invariant room c.reserve.ensures.done c.reserve.ensures.undone in
     ap redo (sym (same ∙ ap (λ (v : Numbered). v.site) c.self.view_is))
     ∙ redo_is s.editor s.seen s.sent.items room s.shared s.in_flight is c.in-Some.undone.now (sym c.in-Some.ensures) c.admit.new.self e now f.page f.entry f.cites done undone
+
+pub returns-in_default-admit-clause-steps : goal.returns-in_default-admit-clause-steps
+returns-in_default-admit-clause-steps g c =
+    let s = c.self.inside in
+    let room = c.reserve.new.self in
+    let is = roomy_is s.editor s.seen s.sent.items s.history s.shared s.in_flight c.self.invariant room c.reserve.ensures.done c.reserve.ensures.undone in
+    let same = roomy_same s.editor s.seen s.sent.items s.history s.shared s.in_flight c.self.invariant room c.reserve.ensures.done c.reserve.ensures.undone in
+    subst (λ (x : Site). c.admit.new.steps ≤ c.args.steps.now + steps_over (redoing x.undone) x.replica.items) (same ∙ ap (λ (v : Numbered). v.site) c.self.view_is)
+    (redo_counts s.editor s.seen s.sent.items room s.shared s.in_flight is c.in-Some.undone.now (sym c.in-Some.ensures) c.args.steps.now c.admit.new.steps c.admit.ensures.steps)
+
+pub returns-clause-steps : goal.returns-clause-steps
+returns-clause-steps g c =
+    let s = c.self.inside in
+    let room = c.reserve.new.self in
+    let is = roomy_is s.editor s.seen s.sent.items s.history s.shared s.in_flight c.self.invariant room c.reserve.ensures.done c.reserve.ensures.undone in
+    let same = roomy_same s.editor s.seen s.sent.items s.history s.shared s.in_flight c.self.invariant room c.reserve.ensures.done c.reserve.ensures.undone in
+    subst (λ (x : Site). c.admit.new.steps ≤ c.args.steps.now + steps_over (redoing x.undone) x.replica.items) (same ∙ ap (λ (v : Numbered). v.site) c.self.view_is)
+    (redo_counts s.editor s.seen s.sent.items room s.shared s.in_flight is c.in-Some.undone.now (sym c.in-Some.ensures) c.args.steps.now c.admit.new.steps c.admit.ensures.steps)

@@ -1,4 +1,4 @@
-use Rattle.std.proofs.Common.{◌≡◌, ◌-◌, ◌∷◌, true, is_ok, List, length, map, slice_get, All, None, refl, sym, ap, ◌∙◌, subst}
+use Rattle.std.proofs.Common.{◌≡◌, ◌≤◌, ◌+◌, ◌-◌, ◌∷◌, true, is_ok, List, length, map, slice_get, All, None, refl, sym, ap, ◌∙◌, subst}
 use Rattle.model_site.specs.Entries.{reverted}
 use Rattle.model_site.specs.Site.{Site, undo}
 use Rattle.ve_tx.specs.declared.entry.Entry.{Entry}
@@ -10,7 +10,9 @@ use Rattle.ve_history.specs.Stacks.{without_last}
 use Rattle.ve_site.specs.Numbered.{Numbered, site_of}
 use Rattle.ve_site.specs.Refusal.{IsUndoRefusal}
 use Rattle.ve_site.proofs.StepLemmas.{roomy_same, roomy_is, not_err}
-use Rattle.ve_site.proofs.UndoLemmas.{last_cites, may_go, cuts_uncited, undo_is, undone_is, nothing_undone}
+use Rattle.ve_site.proofs.UndoLemmas.{last_cites, undo_counts, may_go, cuts_uncited, undo_is, undone_is, nothing_undone}
+use Rattle.ve_editor.specs.Counted.{steps_over}
+use Rattle.ve_site.specs.Counted.{undoing}
 use Rattle.ve_site.proofs.site.Site.undo.Goals as goal
 
 pub returns-in_default-clause-refused : goal.returns-in_default-clause-refused
@@ -80,3 +82,21 @@ returns-clause-site g c =
     let same = roomy_same s.editor s.seen s.sent.items s.history s.shared s.in_flight c.self.invariant room c.reserve.ensures.done c.reserve.ensures.undone in
     ap undo (sym (same ∙ ap (λ (v : Numbered). v.site) c.self.view_is))
     ∙ undo_is s.editor s.seen s.sent.items room s.shared s.in_flight is last (sym c.in-Some.ensures) c.revert.new.self page parcel now values done undone
+
+pub returns-then-is_err-2-clause-steps : goal.returns-then-is_err-2-clause-steps
+returns-then-is_err-2-clause-steps g c =
+    let s = c.self.inside in
+    let room = c.reserve.new.self in
+    let is = roomy_is s.editor s.seen s.sent.items s.history s.shared s.in_flight c.self.invariant room c.reserve.ensures.done c.reserve.ensures.undone in
+    let same = roomy_same s.editor s.seen s.sent.items s.history s.shared s.in_flight c.self.invariant room c.reserve.ensures.done c.reserve.ensures.undone in
+    subst (λ (x : Site). c.revert.new.steps ≤ c.args.steps.now + steps_over (undoing x.unsent) x.replica.items) (same ∙ ap (λ (v : Numbered). v.site) c.self.view_is)
+    (undo_counts s.editor s.seen s.sent.items room s.shared s.in_flight is c.in-Some.last.now (sym c.in-Some.ensures) c.args.steps.now c.revert.new.steps c.revert.ensures.steps)
+
+pub returns-clause-steps : goal.returns-clause-steps
+returns-clause-steps g c =
+    let s = c.self.inside in
+    let room = c.reserve.new.self in
+    let is = roomy_is s.editor s.seen s.sent.items s.history s.shared s.in_flight c.self.invariant room c.reserve.ensures.done c.reserve.ensures.undone in
+    let same = roomy_same s.editor s.seen s.sent.items s.history s.shared s.in_flight c.self.invariant room c.reserve.ensures.done c.reserve.ensures.undone in
+    subst (λ (x : Site). c.revert.new.steps ≤ c.args.steps.now + steps_over (undoing x.unsent) x.replica.items) (same ∙ ap (λ (v : Numbered). v.site) c.self.view_is)
+    (undo_counts s.editor s.seen s.sent.items room s.shared s.in_flight is c.in-Some.last.now (sym c.in-Some.ensures) c.args.steps.now c.revert.new.steps c.revert.ensures.steps)
