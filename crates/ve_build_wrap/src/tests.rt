@@ -1,9 +1,9 @@
-// What no clause says: that the call succeeds where there is memory.
+// What no clause says: that the call succeeds where there is memory, and that its refusal is not want of memory.
 ghost use Rattle.std.specs.Prelude.{◌≡◌};
 ghost use Rattle.ve_samples.specs.CitesNothing.{CitesNothing};
 
 use crate::wrap;
-use model_edit::{Kinds, Shape, Shapes, WrapPlan};
+use model_edit::{BuildFault, Kinds, Shape, Shapes, WrapPlan};
 use std::alloc::Global;
 use std::marker::Brand;
 use std::sync::ledger::{Blank, Ledger};
@@ -101,6 +101,38 @@ fn gives<L: Ledger>(
     Ok(sizes.0 == put && sizes.1 == taken)
 }
 
+/// Whether a plan on a range of a page is refused for a bracket that doesn't stand at a place.
+fn is_refused_at<L: Ledger>(
+    rt: &HostRuntime,
+    blank: Blank,
+    page: &Linear,
+    range: (usize, usize),
+    plan: &WrapPlan,
+    place: usize,
+) -> Result<bool, Fail>
+    requires name { blank.name ≡ L.name }
+    requires parts { blank.parts ≡ L.parts }
+    requires one { blank.parts ≡ 1 }
+    requires cites { CitesNothing page.now.items }
+{
+    let alloc = rt.alloc();
+    let mut steps = Steps::<L>::start(rt, blank);
+    check(page)?;
+    let tree = Tree::build(alloc, page, &mut steps)?;
+    let store = Store::new(alloc);
+    let doc = Doc {
+        list: page,
+        tree: &tree,
+        store: &store,
+    };
+    let mut new = NewValues::new(alloc, &store);
+    match wrap(alloc, doc, range.0, range.1, plan, &mut new) {
+        Err(BuildFault::NotWrapped { at }) => Ok(at == place),
+        Err(_) => Ok(false),
+        Ok(_) => Ok(false),
+    }
+}
+
 #[test]
 fn paragraphs_become_a_list(rt: HostRuntime) -> Result<(), Fail> {
     let alloc = rt.alloc();
@@ -117,6 +149,16 @@ fn a_list_is_taken_off(rt: HostRuntime) -> Result<(), Fail> {
     let page = list(alloc, "<ul><li><p>a</p></li><li><p>b</p></li></ul>")?;
     let plan = taking_a_list_off(alloc)?;
     let found = gives::<Brand>(&rt, Blank::new(1), &page, (1, 11), &plan, 0, 6)?;
+    assert!(rt; found);
+    Ok(())
+}
+
+#[test]
+fn a_list_of_another_kind_is_not_taken_off(rt: HostRuntime) -> Result<(), Fail> {
+    let alloc = rt.alloc();
+    let page = list(alloc, "<ol><li><p>a</p></li><li><p>b</p></li></ol>")?;
+    let plan = taking_a_list_off(alloc)?;
+    let found = is_refused_at::<Brand>(&rt, Blank::new(1), &page, (1, 11), &plan, 0)?;
     assert!(rt; found);
     Ok(())
 }
