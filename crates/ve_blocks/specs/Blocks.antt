@@ -26,7 +26,7 @@ abbrev pub siblings_limit : Around → Parts → ℕ → ReadSoFar → Option Li
 siblings_limit around parts at r =
     earlier (deep_in r (siblings_made around parts at r).later) (option_map (λ n. TooManyMarks n) (marked_at around parts at))
 
--- ---- after whitespace that is pending
+-- ---- after whitespace that is waiting
 
 abbrev pub made_after : List ℕ → Around → Parts → ℕ → ReadSoFar → Made
 made_after white around parts at r = with_white white (siblings_made around parts at r)

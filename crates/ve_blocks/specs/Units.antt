@@ -19,9 +19,9 @@ use Rattle.ve_blocks.specs.declared.units.Sort.TheVariants as sort
 use Rattle.ve_blocks.specs.declared.units.Unit.{Unit}
 use Rattle.ve_blocks.specs.Blocks.{siblings_limit, with_blocks, white_after}
 
--- ---- whitespace that is pending
+-- ---- whitespace that is waiting
 
--- whitespace may be pending before these siblings: they begin with a block, or with no text
+-- whitespace may be waiting before these siblings: they begin with a block, or with no text
 abbrev pub is_ready : Around → Forest → Bool
 is_ready (Flow kind) f = starts_block (parts_of f)
 is_ready (Structural kind) f = not (starts_with_text f)
@@ -89,7 +89,7 @@ pub record SomeUnit (text : List ℕ) (nodes : List Node) (around : Around) (n :
 
 -- ---- what is left after it
 
--- what is said of whatever siblings stand at a node, of which this stands first and before which the whitespace may be pending
+-- what is said of whatever siblings stand at a node, of which this stands first and before which the whitespace may be waiting
 abbrev pub OfUnit : List ℕ → List Node → Around → ℕ → Unit → List ℕ → (Forest → ℕ → List ForestNode → Type 0) → Type 0
 OfUnit text nodes around n unit white says =
     (f : Forest) (at : ℕ) (more : List ForestNode) → StandsIn text nodes n at f more

@@ -100,7 +100,7 @@ fn push_block(
     }
 }
 
-/// What stands first, where this whitespace is pending; it gives the whitespace that is pending then.
+/// What stands first, where this whitespace is waiting; it gives the whitespace that is waiting then.
 #[cycle(blocks)]
 fn push_unit<'a>(
     alloc: Global,
@@ -169,7 +169,7 @@ fn read_blocks<'a>(
 
 /// Reads all siblings of a page that stand at a node of its forest, up to the node and the byte where they end, as what stands in a
 /// node of the kind, where no mark is around; and gives the whitespace after the last of them. An `Err` names the first of them that
-/// is over a limit, by its byte in the text, or is want of memory.
+/// is over a limit, by its byte in the text, or is want of memory; some of them may have been read then.
 #[cycle(blocks)]
 pub fn read_siblings<'a>(
     alloc: Global,

@@ -16,7 +16,8 @@ use ve_parts::Part;
 use ve_reader::{NodeStart, ReadStop, Reader};
 
 /// Reads the run of a page that begins at a node, up to the node and the byte where it ends, as the paragraph that is made for it. No
-/// mark is around. An `Err` names the first of it that is over a limit, by its byte in the text, or is want of memory.
+/// mark is around. An `Err` names the first of it that is over a limit, by its byte in the text, or is want of memory; some of it may
+/// have been read then.
 pub fn read_paragraph(
     alloc: Global,
     text: &str,

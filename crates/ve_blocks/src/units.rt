@@ -14,7 +14,7 @@ use ve_kinds::{Kind, is_content_branch, is_flow};
 use ve_parts::{Part, part_at};
 use ve_siblings::{is_in_run, run_at};
 
-/// What it is.
+/// Which of the three stands first.
 #[derive(Clone, Copy, Debug, PartialEq, Eq)]
 pub enum Sort {
     /// A text that is whitespace before what follows it.

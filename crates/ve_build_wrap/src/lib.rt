@@ -3,8 +3,8 @@
 //! doesn't stand.
 //!
 //! It writes nothing. New values go into the `NewValues` that are passed: after a success just those that the new openings
-//! bring, and after a refusal other than want of memory none. It walks no more of the list than the range, and finds a
-//! bracket's partner by the tree, through `ve_edits`.
+//! bring, and after a refusal other than want of memory none. It walks no more of the list than the range and the
+//! brackets beside it that are to go, and finds a bracket's partner by the tree, through `ve_edits`.
 //!
 //! Definitions, in reading order: `Nodes` (the nodes of a range as they are found, and the claims on them), `Round` (the
 //! brackets, and the edits that put them). They serve private functions; what a wrap is stands in `model_edit`'s `Wrap`, and

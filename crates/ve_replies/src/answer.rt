@@ -56,7 +56,7 @@ pub enum Answer<'a> {
     },
     /// How many entries were sent.
     Sent(usize),
-    /// How many of the submission's entries were accepted, of how many, and the ranges in conflict.
+    /// How many of the submission's entries were accepted, of how many, and the ranges in conflict, the committed one first.
     Served {
         accepted: usize,
         total: usize,

@@ -1,5 +1,5 @@
 // A text as a JSON string, spelled as `serde_json` spells it, straight into a buffer.
-ghost use Rattle.std.specs.Prelude.{◌≡◌, ◌++◌, ◌∷◌, [], ◌<◌, OnOk, MatchOption, ℕ, length, take};
+ghost use Rattle.std.specs.Prelude.{◌≡◌, ◌++◌, ◌∷◌, [], ◌<◌, OnErr, OnOk, MatchOption, ℕ, length, take};
 ghost use Rattle.std.specs.Char.{digit_char};
 ghost use Rattle.json.specs.Print.{escape_letter, escape_byte, escape, quoted};
 ghost use Rattle.ve_replies.specs.Pieces.{is_escaped, IsPlain};
@@ -39,6 +39,7 @@ fn hex_digit(value: u8) -> u8
 /// Appends what stands in a JSON string for a byte. An `Err` changes nothing.
 fn push_escaped(byte: u8, out: &mut Spelling) -> Result<(), Memory>
     ensures ok { OnOk result (out.new.text ≡ out.old.text ++ escape_byte byte) }
+    ensures err { OnErr result (out.new.text ≡ out.old.text) }
     ensures before { out.new.before ≡ out.old.before }
 {
     let letter = escape_letter(byte);

@@ -1,5 +1,5 @@
 // A text that is being spelled into a buffer.
-ghost use Rattle.std.specs.Prelude.{◌≡◌, ◌++◌, [], ◌∷◌, OnOk};
+ghost use Rattle.std.specs.Prelude.{◌≡◌, ◌++◌, [], ◌∷◌, OnErr, OnOk};
 
 use std::marker::Model;
 use ve_base::{Bytes, Memory};
@@ -34,17 +34,19 @@ impl Spelling {
         Spelling { buffer, start }
     }
 
-    /// Appends a piece of the text.
+    /// Appends a piece of the text. An `Err` changes nothing.
     pub fn push(&mut self, piece: &[u8]) -> Result<(), Memory>
         ensures ok { OnOk result (self.new.text ≡ self.old.text ++ piece.now) }
+        ensures err { OnErr result (self.new.text ≡ self.old.text) }
         ensures before { self.new.before ≡ self.old.before }
     {
         self.buffer.push(piece)
     }
 
-    /// Appends one byte of the text.
+    /// Appends one byte of the text. An `Err` changes nothing.
     pub fn push_byte(&mut self, byte: u8) -> Result<(), Memory>
         ensures ok { OnOk result (self.new.text ≡ self.old.text ++ byte ∷ []) }
+        ensures err { OnErr result (self.new.text ≡ self.old.text) }
         ensures before { self.new.before ≡ self.old.before }
     {
         self.push(&[byte])

@@ -10,7 +10,8 @@
 //!
 //! It knows neither lists nor stores, and reads no value.
 //!
-//! Law: `serving_is_turns` says that `serve` and `feed` are what a session's turns do to its committed entries and queues.
+//! Law: `serving_is_turns` says that `serve` and `feed` are what a session's turns do to its committed entries and queues,
+//! and that a site becomes by its turn what the feed that is handed out makes of it.
 #![tactic(auto)]
 
 mod feed;

@@ -19,6 +19,10 @@ use ve_store::Store;
 /// Appends the page that a list gives, after the page that was first read: what stood before its body, the
 /// nodes of the list, and what stood after its body. A node that is still as it was first read is copied, and
 /// every other is written afresh, with each body at the reference that carries it. An `Err` changes nothing.
+///
+/// It is asked that the list is lawful and its references are editable; that the list as it was first read cites
+/// values of this store, and its table is given; that each row is the range of a node of it, before its internal
+/// list; and that each origin in the list is the number of a row.
 pub fn write<'a>(
     alloc: Global,
     list: &Linear,
