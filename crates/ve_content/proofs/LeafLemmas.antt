@@ -137,11 +137,11 @@ module _ (text : List ℕ) (nodes : List Node) (n end byte : ℕ) (x : Node) (ki
       ∙ (λ j. leaf kind (whole_head (whole j)) old.marks (source_span (place_in old at) (first_source (parts_of f))))
       ∙ sym (λ j. leaf kind (whole_head (first j)) old.marks (source_span (place_in old at) (first j)))
 
-  pub whole_read : (new : ReadSoFar) → new ≡ with_piece (leaf kind head old.marks (record { from = x.span.from; to = byte })) [] old → OfPart text nodes n end byte (λ parts at. new ≡ with_piece (whole_leaf kind parts at old) [] old)
-  whole_read new reads = λ f at more s some part. reads ∙ ap (λ p. with_piece p [] old) (whole_leaf_is f at more s some part)
+  pub whole_leaf_read : (new : ReadSoFar) → new ≡ with_piece (leaf kind head old.marks (record { from = x.span.from; to = byte })) [] old → OfPart text nodes n end byte (λ parts at. new ≡ with_piece (whole_leaf kind parts at old) [] old)
+  whole_leaf_read new reads = λ f at more s some part. reads ∙ ap (λ p. with_piece p [] old) (whole_leaf_is f at more s some part)
 
-  pub whole_stops : {A : Type 0} (result : Result A ReadStop) → Stops result (deep_in old (leaf kind head old.marks (record { from = x.span.from; to = byte }))) → OfPart text nodes n end byte (λ parts at. Stops result (deep_in old (whole_leaf kind parts at old)))
-  whole_stops result stops = λ f at more s some part. subst (λ p. Stops result (deep_in old p)) (whole_leaf_is f at more s some part) stops
+  pub whole_leaf_stops : {A : Type 0} (result : Result A ReadStop) → Stops result (deep_in old (leaf kind head old.marks (record { from = x.span.from; to = byte }))) → OfPart text nodes n end byte (λ parts at. Stops result (deep_in old (whole_leaf kind parts at old)))
+  whole_leaf_stops result stops = λ f at more s some part. subst (λ p. Stops result (deep_in old p)) (whole_leaf_is f at more s some part) stops
 
 -- it is what the part is, where that is no reference
 module _ (text : List ℕ) (nodes : List Node) (n end byte : ℕ) (kind : Kind) (old : ReadSoFar) (fit : IsFit nodes n around.Content (fits.Whole kind)) where
