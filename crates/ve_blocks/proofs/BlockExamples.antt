@@ -1,8 +1,7 @@
 -- A worked example: a block, whitespace, a run that becomes a paragraph, and whitespace at the end.
-use Rattle.std.proofs.Common.{◌≡◌, ℕ, true, false, List, [], ◌∷◌, ◌++◌, map, Option, Some, None, refl}
-use Rattle.std.specs.Prelude.{codes, chars}
-use Rattle.std.specs.Str.{decoded_from}
-use Rattle.model_spelling.specs.Grammar.{begins_with}
+use Rattle.std.proofs.Common.{◌≡◌, ℕ, true, false, [], ◌∷◌, Some, None, refl}
+use Rattle.std.specs.Prelude.{codes}
+use Rattle.model_page.proofs.OnLiterals.{page_on_literals}
 use Rattle.ve_kinds.specs.declared.kind.Kind.TheVariants.{P, Div, Root}
 use Rattle.ve_base.specs.Empty.{empty_head}
 use Rattle.model_items.specs.declared.plain_item.PlainItem.TheVariants.{Char, Opening, Closing}
@@ -23,15 +22,15 @@ line = Words (codes "a") (Parent (codes "div") [] Ended (Words (codes " ") Ended
 
 line_read : (with_siblings (Flow Root) line 5 (opened 2)).items
     ≡ Opening P empty_head [] [] None true ∷ Char 97 [] ∷ Closing P [] ∷ Opening Div empty_head [] [] None false ∷ Closing Div [] ∷ []
-unfolding chars begins_with decoded_from
+unfolding page_on_literals
 line_read = refl
 
 -- the space stands after the last block
 line_white : white_at_end (Flow Root) line 5 (opened 2) ≡ 32 ∷ []
-unfolding chars begins_with decoded_from
+unfolding page_on_literals
 line_white = refl
 
 -- where 100 kinds are open, the paragraph for the letter is one too many
 line_too_deep : siblings_limit (Flow Root) line 5 (opened 100) ≡ Some (TooDeep 5)
-unfolding chars begins_with decoded_from
+unfolding page_on_literals
 line_too_deep = refl

@@ -1,18 +1,18 @@
 -- A block is read: a leaf, or a branch with what stands in it.
-use Rattle.std.proofs.Common.{◌≡◌, ℕ, ◌+◌, ◌≤◌, true, false, List, [], length, Option, Some, None, Result, Ok, Err, refl, sym, ap, ◌∙◌, subst, arith}
-use Rattle.std.specs.Prelude.{slice_get, chars, OnOk}
+use Rattle.std.proofs.Common.{◌≡◌, ℕ, ◌+◌, true, false, List, [], length, Some, None, Result, Ok, Err, sym, ap, ◌∙◌, subst}
+use Rattle.std.specs.Prelude.{slice_get, OnOk}
 use Rattle.std.specs.Option.{option_or}
 use Rattle.std.specs.Borrow.{Bor}
 use Rattle.model_spelling.specs.Grammar as g
 use Rattle.model_spelling.specs.Grammar.{Attr, start_text}
-use Rattle.model_spelling.specs.Forest.{Forest, Nothing, Element, spelling}
-use Rattle.model_spelling.specs.ForestNodes.{ForestNode, forest_size}
+use Rattle.model_spelling.specs.Forest.{Forest, Element}
+use Rattle.model_spelling.specs.ForestNodes.{ForestNode}
 use Rattle.ve_base.specs.declared.head.Head.{Head}
 use Rattle.ve_kinds.specs.declared.kind.Kind.{Kind}
-use Rattle.model_page.specs.Parts.{Parts, Ended, Words, Note, Group, Single, Parent, parts_of}
+use Rattle.model_page.specs.Parts.{Parts, Ended, Parent, parts_of}
 use Rattle.model_page.specs.Fit.{Around, Flow, Structural, Content, Branch, around_in, fit_of}
 use Rattle.model_page.specs.Heads.{head_with, whole_head}
-use Rattle.model_page.specs.Pieces.{SourceSpan, Piece, source_span, leaf}
+use Rattle.model_page.specs.Pieces.{Piece, source_span, leaf}
 use Rattle.model_page.specs.Convert.{element_source}
 use Rattle.model_page.specs.Limits.{earlier}
 use Rattle.ve_html_scan.specs.Shown.{ShowsToken}
@@ -22,7 +22,7 @@ use Rattle.ve_html_scan.specs.declared.token.Token.{Token}
 use Rattle.ve_html_scan.specs.declared.token.Token.TheVariants as lent
 use Rattle.ve_html_tree.specs.declared.node.Node.{Node}
 use Rattle.ve_classify.specs.Standing.{has_node}
-use Rattle.ve_classify.specs.Fits.{IsFit, parent_of, first_fit}
+use Rattle.ve_classify.specs.Fits.{IsFit, parent_of}
 use Rattle.ve_classify.specs.Values.{OfAttrs}
 use Rattle.ve_classify.specs.declared.around.Around.{Around as CodeAround}
 use Rattle.ve_classify.specs.declared.around.Fit.{Fit}
@@ -38,7 +38,7 @@ use Rattle.ve_reader.specs.declared.purpose.ReadStop.{ReadStop}
 use Rattle.ve_reader.specs.declared.reader.OpenNode.{OpenNode}
 use Rattle.ve_reader.specs.ReadSoFar.{ReadSoFar, place_in, with_piece, piece_after, opening_piece, with_opening, with_closing, node_opened}
 use Rattle.ve_reader.specs.Stops.{Stops, stop_limit, deep_in}
-use Rattle.ve_content.proofs.PartLemmas.{mark_forest, no_tag, token_is}
+use Rattle.ve_content.proofs.PartLemmas.{mark_forest, no_tag}
 use Rattle.ve_content.proofs.LoopLemmas.{stop_first}
 use Rattle.ve_blocks.specs.Blocks.{with_siblings, white_at_end, siblings_limit, with_blocks}
 use Rattle.ve_blocks.specs.Places.{OfBlock, OfSiblings, SomeBlock, SomeSiblings, holds_blocks}

@@ -1,13 +1,13 @@
 -- A branch is read as its opening, what stands in it, and its closing; and blocks in turn.
-use Rattle.std.proofs.Common.{◌≡◌, ℕ, ◌+◌, true, false, List, [], ◌∷◌, length, Option, refl, sym, ap, ◌∙◌, arith}
+use Rattle.std.proofs.Common.{◌≡◌, ℕ, ◌+◌, false, [], length, sym, ap, ◌∙◌, arith}
 use Rattle.std.specs.Option.{option_or}
-use Rattle.model_spelling.specs.Grammar.{Attr, start_text}
+use Rattle.model_spelling.specs.Grammar.{start_text}
 use Rattle.model_page.specs.Parts.{Parts, Ended, Parent, source_of}
-use Rattle.model_page.specs.Fit.{Around, Branch, around_in, fit_of}
+use Rattle.model_page.specs.Fit.{Around, around_in}
 use Rattle.model_page.specs.Heads.{head_with}
 use Rattle.model_page.specs.Pieces.{Piece, Made, Progress, source_span}
 use Rattle.model_page.specs.Convert.{element_source, inside_of}
-use Rattle.model_page.specs.Limits.{Limit, earlier, marked_at}
+use Rattle.model_page.specs.Limits.{earlier, marked_at}
 use Rattle.ve_parts.specs.FirstPart.{later_of, first_source, take_parts}
 use Rattle.ve_siblings.specs.Siblings.{siblings}
 use Rattle.ve_siblings.specs.Marked.{element_marked, first_marked}

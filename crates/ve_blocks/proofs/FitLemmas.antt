@@ -1,16 +1,14 @@
 -- What the first part is as a block, by its fit: a leaf that keeps its source, or a branch.
-use Rattle.std.proofs.Common.{◌≡◌, ◌⊎◌, inl, inr, ℕ, zero, suc, ◌+◌, Bool, true, false, not, ◌&&◌, if◌then◌else◌, List, [], ◌∷◌, ◌++◌, length, Option, Some, None, refl, sym, ap, ◌∙◌, subst}
-use Rattle.std.specs.Prelude.{chars}
+use Rattle.std.proofs.Common.{◌≡◌, ◌⊎◌, inl, inr, ℕ, zero, suc, ◌+◌, Bool, true, false, not, ◌&&◌, if◌then◌else◌, List, [], ◌∷◌, ◌++◌, Option, Some, None, refl, sym, ap, ◌∙◌, subst}
 use Rattle.std.specs.List.{list_any, list_all}
-use Rattle.model_spelling.specs.Grammar.{Attr, Comment, token_text, name_same, is_start}
+use Rattle.model_spelling.specs.Grammar.{Attr, name_same, is_start}
 use Rattle.model_spelling.specs.Forest.{Forest, Nothing, Text, Remark, Void, RawElement, Element, spelling, is_forest}
 use Rattle.model_spelling.specs.ForestNodes.{ForestNode, forest_size}
-use Rattle.model_spelling.proofs.AttrReading.{and_left, and_right}
+use Rattle.model_spelling.proofs.AttrReading.{and_left}
 use Rattle.model_spelling.proofs.Back.{raw_parts}
 use Rattle.model_spelling.proofs.ForestLaws.{any_passes, equal_names}
-use Rattle.ve_base.specs.declared.head.Head.{Head}
 use Rattle.ve_kinds.specs.declared.kind.Kind.{Kind}
-use Rattle.ve_kinds.specs.declared.kind.Kind.TheVariants.{Br, Img, Ref, AlienBlock, Root, P, H1, H2, H3, H4, H5, H6, Pre, Section, Li, Dt, Dd, Blockquote, Div, Td, Th, Caption, InternalItem, Ul, Ol, Dl, Table, Thead, Tbody, Tfoot, Tr, InternalList, TransBlock, TransInline, AlienInline}
+use Rattle.ve_kinds.specs.declared.kind.Kind.TheVariants.{AlienBlock, P}
 use Rattle.ve_kinds.specs.Table.{is_content_branch, is_inline_leaf, may_hold}
 use Rattle.ve_kinds.specs.Tags.{kind_of_tag, is_void, is_raw, void_tags}
 use Rattle.ve_kinds.proofs.LawLemmas.{inline_in_content}
@@ -22,18 +20,18 @@ use Rattle.model_page.specs.Fit as model
 use Rattle.model_page.specs.Fit.{Around, Flow, Structural, Content, Annotation, Leaf, Branch, Whole, around_in, fit_of, fit_in_block, is_convertible, whole_kind, is_generated, has_inline_tags, note_kind, group_kind}
 use Rattle.model_page.specs.Tags.{is_inline_tag}
 use Rattle.model_page.specs.Heads.{head_with, whole_head}
-use Rattle.model_page.specs.Pieces.{Piece, Owner, Made, Progress, past, source_span, no_piece, node, leaf, in_run, before_run, leaf_before}
+use Rattle.model_page.specs.Pieces.{Piece, Owner, Made, Progress, past, source_span, no_piece, node, leaf, before_run}
 use Rattle.model_page.specs.ReferenceNodes.{RefNode, ref_of}
 use Rattle.model_page.specs.Convert.{element_source, inside_of, leaf_made, group_made, element_made, made_of}
 use Rattle.ve_html_tree.specs.declared.node.Node.{Node}
-use Rattle.ve_classify.specs.Standing.{Stands, has_node}
+use Rattle.ve_classify.specs.Standing.{Stands}
 use Rattle.ve_classify.specs.Fits.{first_fit, same_fit, element_fit, group_fit}
 use Rattle.ve_classify.specs.declared.around.Fit.{Fit}
 use Rattle.ve_classify.specs.declared.around.Fit.TheVariants as fits
 use Rattle.ve_classify.proofs.FirstFits.{raw_is}
 use Rattle.ve_classify.proofs.GroupLemmas.{FirstElement, begun, void_first, raw_first, element_first}
 use Rattle.ve_parts.specs.FirstPart.{first_source}
-use Rattle.ve_siblings.specs.Siblings.{siblings, first_made, first_block, IsBlock}
+use Rattle.ve_siblings.specs.Siblings.{siblings, first_block}
 use Rattle.ve_siblings.specs.Marked.{element_marked, first_marked}
 use Rattle.ve_siblings.proofs.BlockLemmas.{blocks_split}
 use Rattle.ve_blocks.specs.Places.{holds_blocks}

@@ -7,18 +7,18 @@ use Rattle.ve_base.specs.declared.head.Head.{Head}
 use Rattle.model_page.specs.Elements.{is_white}
 use Rattle.model_page.specs.Parts.{Parts, source_of}
 use Rattle.model_page.specs.Fit.{Around, Flow, Structural, Content}
-use Rattle.model_page.specs.Pieces.{SourceSpan, Piece, Owner, Made, Progress, source_span, with_white, run_dropped, paragraph_before, run_ended, node}
+use Rattle.model_page.specs.Pieces.{SourceSpan, Piece, Made, Progress, source_span, with_white, run_dropped, paragraph_before, run_ended, node}
 use Rattle.model_page.specs.Convert.{made_of}
-use Rattle.model_page.specs.Limits.{Limit, TooDeep, TooManyMarks, limit_at, earlier, deep_at, marked_at}
+use Rattle.model_page.specs.Limits.{Limit, TooDeep, TooManyMarks, limit_at, earlier, deep_at}
 use Rattle.ve_siblings.specs.Siblings.{siblings}
 use Rattle.ve_reader.specs.declared.purpose.Purpose.{Purpose}
 use Rattle.ve_reader.specs.declared.purpose.Purpose.TheVariants as purpose
-use Rattle.ve_reader.specs.ReadSoFar.{ReadSoFar, place_in, piece_after, opening_piece, with_opening}
+use Rattle.ve_reader.specs.ReadSoFar.{ReadSoFar, opening_piece, with_opening}
 use Rattle.ve_reader.specs.Stops.{depth_limit, deep_in}
 use Rattle.ve_reader.specs.Laws.{IsEven}
 use Rattle.ve_reader.proofs.JoinLemmas.{node_depths}
 use Rattle.ve_blocks.proofs.PieceLemmas.{deep_after}
-use Rattle.ve_content.proofs.LimitLemmas.{BeginIn, Begins, LiesIn, deep_lies, marked_lies, parts_begin, earlier_joins}
+use Rattle.ve_content.proofs.LimitLemmas.{BeginIn, Begins, LiesIn, deep_lies, parts_begin, earlier_joins}
 use Rattle.ve_content.proofs.TurnLemmas.{some_map}
 
 -- ---- spans

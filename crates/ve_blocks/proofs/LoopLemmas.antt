@@ -1,24 +1,22 @@
 -- The walk over siblings: what stands first, and what is left after it.
-use Rattle.std.proofs.Common.{◌≡◌, ◌⊎◌, inl, inr, ℕ, zero, suc, ◌+◌, ◌<◌, ◌≤◌, Bool, true, false, not, List, [], ◌∷◌, ◌++◌, length, Option, Some, None, Result, Ok, Err, refl, sym, ap, ◌∙◌, subst, append-nil, length-append, arith}
-use Rattle.std.specs.Prelude.{chars, IfErr, IfOk, OnOk}
+use Rattle.std.proofs.Common.{◌≡◌, inl, inr, ℕ, ◌+◌, ◌<◌, ◌≤◌, true, false, List, [], ◌++◌, length, Option, None, refl, sym, ap, ◌∙◌, subst, append-nil, length-append, arith}
+use Rattle.std.specs.Prelude.{chars}
 use Rattle.std.specs.Option.{option_or}
 use Rattle.std.proofs.lemmas.Str.{chars-nil}
-use Rattle.model_spelling.specs.Forest.{Forest, Nothing, Text, starts_with_text, spelling}
+use Rattle.model_spelling.specs.Forest.{Forest, Nothing, spelling}
 use Rattle.model_spelling.specs.ForestNodes.{ForestNode, forest_size}
 use Rattle.ve_base.specs.declared.marks.Mark.{Mark}
 use Rattle.ve_kinds.specs.declared.kind.Kind.{Kind}
-use Rattle.model_page.specs.Elements.{is_white}
 use Rattle.model_page.specs.Parts.{Parts, Ended, Words, Note, Group, Single, Parent, parts_of, source_of}
 use Rattle.model_page.specs.Fit.{Around, Flow, Structural, Content, around_in}
-use Rattle.model_page.specs.Pieces.{Piece, Owner, Made, Progress, past, no_piece, joined_pieces, with_white}
+use Rattle.model_page.specs.Pieces.{Piece, Owner, Made, Progress, past, no_piece, with_white}
 use Rattle.model_page.specs.Convert.{made_of}
 use Rattle.model_page.specs.Limits.{Limit, earlier, marked_at}
 use Rattle.ve_html_tree.specs.declared.node.Node.{Node}
-use Rattle.ve_classify.specs.Standing.{Stands, has_node}
-use Rattle.ve_parts.specs.FirstPart.{later_of, first_source, take_parts}
+use Rattle.ve_classify.specs.Standing.{Stands}
+use Rattle.ve_parts.specs.FirstPart.{first_source, take_parts}
 use Rattle.ve_parts.specs.Places.{StandsIn, PartsTo, PartEnds}
 use Rattle.ve_parts.proofs.PartLemmas.{all_parts, some_after, none_after}
-use Rattle.ve_siblings.specs.Runs.{then_parts, is_run, starts_block}
 use Rattle.ve_siblings.specs.Siblings.{siblings, paragraph, first_block}
 use Rattle.ve_siblings.specs.Marked.{first_marked}
 use Rattle.ve_siblings.specs.Units.{Whole, WholeRun}
@@ -27,11 +25,10 @@ use Rattle.ve_reader.specs.declared.purpose.Purpose.{Purpose}
 use Rattle.ve_reader.specs.declared.purpose.Purpose.TheVariants as purpose
 use Rattle.ve_reader.specs.declared.purpose.ReadStop.{ReadStop}
 use Rattle.ve_reader.specs.ReadSoFar.{ReadSoFar, is_page, shown, shown_rows, place_in, with_piece, piece_after}
-use Rattle.ve_reader.specs.Stops.{Stops, stop_limit, depth_limit, deep_in}
+use Rattle.ve_reader.specs.Stops.{stop_limit, depth_limit, deep_in}
 use Rattle.ve_content.specs.Content.{with_content, content_limit}
 use Rattle.ve_content.specs.Parts.{OfParts, SomeParts}
 use Rattle.ve_content.proofs.LoopLemmas.{stop_first}
-use Rattle.ve_blocks.specs.declared.units.Sort.{Sort}
 use Rattle.ve_blocks.specs.declared.units.Sort.TheVariants as sort
 use Rattle.ve_blocks.specs.declared.units.Unit.{Unit}
 use Rattle.ve_blocks.specs.Blocks.{siblings_made, with_siblings, white_at_end, siblings_limit, made_after, with_blocks, white_after, run_owners, with_paragraph, paragraph_limit}

@@ -1,8 +1,7 @@
 -- A run that isn't whitespace alone is read as a paragraph.
-use Rattle.std.proofs.Common.{◌≡◌, ℕ, zero, suc, ◌+◌, ◌<◌, ◌≤◌, Bool, true, false, if◌then◌else◌, List, [], ◌∷◌, ◌++◌, length, Option, Some, None, Result, refl, sym, ap, ◌∙◌, subst, append-nil, append_assoc, length-append, arith}
+use Rattle.std.proofs.Common.{◌≡◌, ℕ, zero, suc, ◌+◌, ◌<◌, Bool, true, false, if◌then◌else◌, List, [], ◌∷◌, ◌++◌, length, Option, Some, None, refl, sym, ap, ◌∙◌, subst, append-nil, append_assoc, length-append, arith}
 use Rattle.std.specs.Prelude.{slice_get, chars}
 use Rattle.std.specs.Option.{option_or}
-use Rattle.model_spelling.specs.Grammar.{Comment, token_text}
 use Rattle.model_spelling.specs.Forest.{Forest, spelling}
 use Rattle.model_spelling.specs.ForestNodes.{ForestNode, forest_size}
 use Rattle.model_spelling.proofs.ForestLaws.{spelling_then}
@@ -13,12 +12,11 @@ use Rattle.ve_base.specs.declared.head.Head.{Head}
 use Rattle.model_items.specs.declared.plain_item.PlainItem.TheVariants.{Opening, Closing}
 use Rattle.model_page.specs.Elements.{is_white}
 use Rattle.model_page.specs.Parts.{Parts, Ended, Words, Note, Group, Single, Parent, parts_of, source_of}
-use Rattle.model_page.specs.Fit.{Around, Flow, Content}
-use Rattle.model_page.specs.Pieces.{SourceSpan, Piece, Owner, Made, Progress, source_span, node, no_piece, joined_pieces, with_white}
+use Rattle.model_page.specs.Fit.{Flow, Content}
+use Rattle.model_page.specs.Pieces.{SourceSpan, Made, source_span, node, no_piece, with_white}
 use Rattle.model_page.specs.Convert.{made_of}
-use Rattle.model_page.specs.Limits.{Limit, earlier, marked_at}
+use Rattle.model_page.specs.Limits.{earlier, marked_at}
 use Rattle.ve_html_tree.specs.declared.node.Node.{Node}
-use Rattle.ve_classify.specs.Standing.{has_node}
 use Rattle.ve_parts.specs.FirstPart.{has_part, later_of, first_source, take_parts, part_nodes}
 use Rattle.ve_parts.specs.Places.{StandsIn, PartsTo, AfterParts}
 use Rattle.ve_parts.proofs.PartSource.{parted}
@@ -30,7 +28,7 @@ use Rattle.ve_siblings.proofs.MarkedLemmas.{runs_marked}
 use Rattle.ve_reader.specs.declared.purpose.ReadStop.{ReadStop}
 use Rattle.ve_reader.specs.declared.reader.OpenNode.{OpenNode}
 use Rattle.ve_reader.specs.ReadSoFar.{ReadSoFar, is_page, place_in, with_piece, piece_after, opening_piece, with_opening, with_closing, node_opened}
-use Rattle.ve_reader.specs.Stops.{Stops, stop_limit, deep_in}
+use Rattle.ve_reader.specs.Stops.{stop_limit, deep_in}
 use Rattle.ve_reader.specs.Laws.{IsEven}
 use Rattle.ve_reader.proofs.EvenLemmas.{pieces_are_even, insides_are_even}
 use Rattle.ve_reader.proofs.JoinLemmas.{nodes_join}

@@ -1,13 +1,11 @@
 -- A block, or a run as a paragraph, is read before what follows it, and what is over a limit stands in it or else in what follows it.
-use Rattle.std.proofs.Common.{◌≡◌, ℕ, ◌+◌, ◌<◌, ◌≤◌, true, false, List, [], ◌∷◌, ◌++◌, length, Option, Some, None, refl, sym, ap, ◌∙◌, subst, append-nil, length-append, arith}
-use Rattle.std.specs.Prelude.{IfSome}
+use Rattle.std.proofs.Common.{◌≡◌, ℕ, ◌+◌, true, List, [], ◌∷◌, ◌++◌, length, Option, Some, None, refl, sym, ap, ◌∙◌, subst, append-nil, length-append, arith}
 use Rattle.std.specs.Option.{option_or}
 use Rattle.model_items.specs.declared.plain_item.PlainItem.{PlainItem}
 use Rattle.model_page.specs.Parts.{Parts, Ended, Words, Note, Group, Single, Parent, source_of}
 use Rattle.model_page.specs.Fit.{Around, Flow, Structural, Content}
 use Rattle.model_page.specs.Pieces.{Piece, Owner, Made, Progress, past, no_piece, joined_pieces, before_run, white_left}
-use Rattle.model_page.specs.Convert.{made_of}
-use Rattle.model_page.specs.Limits.{Limit, limit_at, earlier, marked_at}
+use Rattle.model_page.specs.Limits.{earlier, marked_at}
 use Rattle.ve_parts.specs.FirstPart.{later_of, first_source, take_parts}
 use Rattle.ve_siblings.specs.Siblings.{siblings, front, first_made, first_block, IsBlock}
 use Rattle.ve_siblings.specs.Marked.{first_marked}
@@ -21,8 +19,8 @@ use Rattle.ve_reader.proofs.JoinLemmas.{pieces_join, depths_join}
 use Rattle.ve_content.proofs.LimitLemmas.{BeginIn, LiesIn, earlier_joins, marked_lies}
 use Rattle.ve_content.proofs.TurnLemmas.{joined_none, some_map}
 use Rattle.ve_blocks.specs.Blocks.{siblings_made, with_siblings, siblings_limit, with_blocks, white_after}
-use Rattle.ve_blocks.proofs.PieceLemmas.{piece_alone, left_alone, after_joined, left_joined, even_after, deep_after}
-use Rattle.ve_blocks.proofs.LieLemmas.{siblings_begin, limit_lies, mark_lies, tagged, tagged_or, earlier_none}
+use Rattle.ve_blocks.proofs.PieceLemmas.{after_joined, left_joined, even_after}
+use Rattle.ve_blocks.proofs.LieLemmas.{siblings_begin, limit_lies, mark_lies, tagged, tagged_or}
 
 -- ---- a piece before what follows it
 

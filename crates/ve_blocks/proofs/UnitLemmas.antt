@@ -1,7 +1,6 @@
 -- What stands first among siblings.
-use Rattle.std.proofs.Common.{◌≡◌, ◌⊎◌, inl, inr, ℕ, zero, suc, ◌+◌, ◌<◌, ◌≤◌, Bool, true, false, not, ◌&&◌, if◌then◌else◌, List, [], ◌∷◌, ◌++◌, length, Option, Some, refl, sym, ap, ◌∙◌, subst, append-nil, length-append, arith, true≢false}
+use Rattle.std.proofs.Common.{◌≡◌, ℕ, zero, suc, ◌+◌, ◌<◌, Bool, true, false, not, ◌&&◌, if◌then◌else◌, List, [], ◌∷◌, ◌++◌, length, Option, Some, refl, sym, ap, ◌∙◌, subst, append-nil, length-append, arith, true≢false}
 use Rattle.std.specs.Prelude.{slice_get, chars}
-use Rattle.std.specs.List.{list_all}
 use Rattle.std.specs.Borrow.{Bor}
 use Rattle.std.proofs.lemmas.List.Folds.{list_all-append}
 use Rattle.model_spelling.specs.Grammar as g
@@ -10,13 +9,11 @@ use Rattle.model_spelling.specs.Forest.{Forest, Nothing, Text, Remark, Void, Raw
 use Rattle.model_spelling.specs.ForestNodes.{ForestNode, forest_size}
 use Rattle.model_spelling.proofs.AttrReading.{and_left, and_right}
 use Rattle.ve_kinds.specs.declared.kind.Kind.{Kind}
-use Rattle.ve_kinds.specs.Tags.{kind_of_tag}
 use Rattle.model_page.specs.Elements.{is_white, is_white_char, is_held, about_of}
 use Rattle.model_page.specs.Parts.{Parts, Ended, Words, Note, Group, Single, Parent, with_held, parts_of, source_of}
 use Rattle.model_page.specs.Fit as model
 use Rattle.model_page.specs.Fit.{Flow, Structural, Content, fit_of, around_in, group_kind}
-use Rattle.model_page.specs.Pieces.{Made, Progress, past, with_white, no_piece, node}
-use Rattle.model_page.specs.Convert.{made_of}
+use Rattle.model_page.specs.Pieces.{Progress, past, with_white}
 use Rattle.ve_html_scan.specs.Shown.{ShowsToken}
 use Rattle.ve_html_scan.specs.declared.token.Span.{Span}
 use Rattle.ve_html_scan.specs.declared.token.Token.{Token}
@@ -30,7 +27,6 @@ use Rattle.ve_classify.specs.declared.around.Fit.{Fit}
 use Rattle.ve_classify.specs.declared.around.Fit.TheVariants as fits
 use Rattle.ve_classify.proofs.StandLemmas.{first_of}
 use Rattle.ve_classify.proofs.GroupLemmas.{FirstElement, begun, void_first, raw_first, element_first}
-use Rattle.ve_parts.specs.declared.parts.Part.{Part}
 use Rattle.ve_parts.specs.FirstPart.{has_part, later_of, first_source, take_parts, part_nodes}
 use Rattle.ve_parts.specs.Places.{StandsIn, PartEnds, AfterParts, IsPartEnd}
 use Rattle.ve_parts.proofs.PartSource.{parted}
@@ -44,7 +40,7 @@ use Rattle.ve_content.proofs.PartLemmas.{no_text}
 use Rattle.ve_kinds.specs.Table.{is_content_branch, is_flow}
 use Rattle.ve_blocks.specs.declared.units.Sort.TheVariants as sort
 use Rattle.ve_blocks.specs.Places.{holds_blocks}
-use Rattle.ve_blocks.specs.Units.{SomeText, IsTextAt, IsWhite, IsUnitAt}
+use Rattle.ve_blocks.specs.Units.{SomeText, IsTextAt, IsUnitAt}
 use Rattle.ve_blocks.proofs.ParagraphLemmas.{taken_source}
 
 -- ---- a text

@@ -1,6 +1,6 @@
 -- All siblings of a text that was read.
-use Rattle.std.proofs.Common.{◌≡◌, ℕ, ◌+◌, List, [], length, ap, ◌∙◌, arith, IsUtf8}
-use Rattle.model_spelling.specs.Forest.{Forest, Spells, spelling}
+use Rattle.std.proofs.Common.{◌≡◌, ℕ, List, [], length, ap, ◌∙◌, arith, IsUtf8}
+use Rattle.model_spelling.specs.Forest.{Forest, Spells}
 use Rattle.model_spelling.specs.ForestNodes.{forest_nodes, forest_size}
 use Rattle.model_spelling.proofs.ForestLaws.{length_forest_nodes}
 use Rattle.ve_html_tree.specs.Nodes.{ShowNodes}

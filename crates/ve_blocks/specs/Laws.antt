@@ -1,11 +1,11 @@
 -- How siblings are read: a block, with the whitespace before it, or a run comes before what follows; and where that stops.
-use Rattle.std.specs.Prelude.{◌≡◌, ℕ, ◌+◌, ◌∷◌, [], ◌++◌, true, false, List, length, chars, Option}
+use Rattle.std.specs.Prelude.{◌≡◌, ℕ, ◌+◌, true, false, List, length}
 use Rattle.std.specs.Option.{option_or}
 use Rattle.model_spelling.specs.Grammar.{Attr, start_text}
 use Rattle.ve_kinds.specs.declared.kind.Kind.{Kind}
 use Rattle.model_page.specs.Elements.{is_white}
-use Rattle.model_page.specs.Parts.{Parts, Ended, Words, Parent, source_of}
-use Rattle.model_page.specs.Fit.{Around, Flow, Structural, Branch, around_in, fit_of}
+use Rattle.model_page.specs.Parts.{Parts, Ended, Parent, source_of}
+use Rattle.model_page.specs.Fit.{Around, Flow, Branch, around_in, fit_of}
 use Rattle.model_page.specs.Heads.{head_with}
 use Rattle.model_page.specs.Pieces.{source_span}
 use Rattle.model_page.specs.Convert.{element_source}

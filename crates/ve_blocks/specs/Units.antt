@@ -1,11 +1,10 @@
 -- What stands first among siblings: whitespace, a run, or a block; and what is left after it. These serve private functions.
 use Rattle.std.specs.Prelude.{◌≡◌, ◌⊎◌, ℕ, ◌+◌, Bool, true, false, not, List, [], length, chars}
-use Rattle.model_spelling.specs.Forest.{Forest, Nothing, Text, Remark, Void, RawElement, Element, starts_with_text, spelling}
+use Rattle.model_spelling.specs.Forest.{Forest, Text, starts_with_text, spelling}
 use Rattle.model_spelling.specs.ForestNodes.{ForestNode, forest_size}
 use Rattle.ve_kinds.specs.declared.kind.Kind.{Kind}
-use Rattle.model_page.specs.Parts.{Parts, parts_of}
+use Rattle.model_page.specs.Parts.{parts_of}
 use Rattle.model_page.specs.Fit.{Around, Flow, Structural, Content}
-use Rattle.model_page.specs.Limits.{Limit}
 use Rattle.model_page.specs.Pieces.{Progress, past, with_white}
 use Rattle.ve_html_tree.specs.declared.node.Node.{Node}
 use Rattle.ve_classify.specs.Standing.{Stands}

@@ -10,7 +10,7 @@ use std::alloc::Global;
 use ve_classify::{Around, Fit};
 use ve_html_scan::Span;
 use ve_html_tree::Forest;
-use ve_leaves::kept_head;
+use ve_leaves::whole_head;
 use ve_parts::{Part, part_source};
 use ve_reader::{ReadStop, Reader};
 
@@ -37,7 +37,7 @@ pub fn push_leaf(
         unreachable!();
     };
     let source = part_source(text, forest, n, part);
-    let head = kept_head(alloc, source)?;
+    let head = whole_head(alloc, source)?;
     let from = forest.node(n).span.from;
     let span = Span {
         from,

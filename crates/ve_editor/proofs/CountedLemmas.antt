@@ -1,9 +1,12 @@
 -- Steps that are counted, one transaction after the other.
-use Rattle.std.proofs.Common.{◌≡◌, ◌≤◌, ℕ, ◌+◌, List, [], ◌∷◌, sym, subst, arith}
+use Rattle.std.proofs.Common.{◌≡◌, ◌≤◌, ℕ, ◌+◌, List, [], ◌∷◌, ◌++◌, length, map, refl, sym, ap, subst, arith}
+use Rattle.std.proofs.lemmas.List.{length-append, length-map}
 use Rattle.model_items.specs.declared.plain_item.PlainItem.{PlainItem}
 use Rattle.model_change.specs.Transaction.{Transaction, edited}
+use Rattle.model_change.specs.Inverse.{inverse}
+use Rattle.model_change.specs.Replay.{reversal}
 use Rattle.ve_tree.specs.TreeOf.{most_steps}
-use Rattle.ve_editor.specs.Counted.{steps_after, steps_over}
+use Rattle.ve_editor.specs.Counted.{steps_after, steps_of_copy, steps_over}
 
 first_of : (now after all a b : ℕ) → now + (a + b) ≤ all → after ≤ now + a → after ≤ all
 first_of now after all a b h k = omega arith
@@ -13,6 +16,9 @@ first_and now after all a b h k = omega arith
 
 more_than : (after now a b : ℕ) → after ≤ now + a → after ≤ now + (b + (a + 0))
 more_than after now a b h = omega arith
+
+and_more : (now after a b : ℕ) → after ≤ now + a → after ≤ now + (a + b)
+and_more now after a b h = omega arith
 
 in_turn : (now copied after a b : ℕ) → copied ≤ now + a → after ≤ copied + b → after ≤ now + (a + b)
 in_turn now copied after a b h k = omega arith
@@ -35,9 +41,34 @@ pub one_within : (t same : Transaction) (ts : List Transaction) (items : List Pl
     after ≤ now + most_steps (edited same items) → after ≤ now + steps_over ts items
 one_within t same ts items now after is only took =
     subst (λ l. after ≤ now + steps_over l items) (sym only)
-    (more_than after now (most_steps (edited t items)) (most_steps items) (subst (λ u. after ≤ now + most_steps (edited u items)) is took))
+    (more_than after now (most_steps (edited t items)) 0 (subst (λ u. after ≤ now + most_steps (edited u items)) is took))
+
+-- not one alone
+abbrev pub AreSeveral : List Transaction → Type 0
+AreSeveral ts = (t : Transaction) → ts ≡ t ∷ [] → ⊥
+
+copy_counted : (ts : List Transaction) (items : List PlainItem) → AreSeveral ts → steps_of_copy ts items ≡ most_steps items
+copy_counted [] items several = refl
+copy_counted (t ∷ []) items several = absurd (several t refl)
+copy_counted (t ∷ u ∷ ts) items several = refl
 
 -- a copy, and the transactions on it
-pub copied_within : (ts : List Transaction) (items : List PlainItem) (now copied after : ℕ) → copied ≤ now + most_steps items → after ≤ copied + steps_after ts items →
+pub copied_within : (ts : List Transaction) (items : List PlainItem) (now copied after : ℕ) → AreSeveral ts → copied ≤ now + most_steps items → after ≤ copied + steps_after ts items →
     after ≤ now + steps_over ts items
-copied_within ts items now copied after h k = in_turn now copied after (most_steps items) (steps_after ts items) h k
+copied_within ts items now copied after several h k =
+    subst (λ n. after ≤ now + (n + steps_after ts items)) (sym (copy_counted ts items several)) (in_turn now copied after (most_steps items) (steps_after ts items) h k)
+
+-- a copy for which memory is short
+pub copy_within : (ts : List Transaction) (items : List PlainItem) (now after : ℕ) → AreSeveral ts → after ≤ now + most_steps items → after ≤ now + steps_over ts items
+copy_within ts items now after several h =
+    subst (λ n. after ≤ now + (n + steps_after ts items)) (sym (copy_counted ts items several)) (and_more now after (most_steps items) (steps_after ts items) h)
+
+pub mapped_several : {A : Type 0} (f : A → Transaction) (xs : List A) → (length xs ≡ 1 → ⊥) → AreSeveral (map f xs)
+mapped_several f xs several t e = several (omega (arith, ap (λ (l : List Transaction). length l) e, length-map xs f))
+
+reversed_long : (ts : List Transaction) → length (reversal ts) ≡ length ts
+reversed_long [] = refl
+reversed_long (t ∷ ts) = omega (arith, length-append (reversal ts) (inverse t ∷ []), reversed_long ts)
+
+pub reversal_several : {A : Type 0} (f : A → Transaction) (xs : List A) → (length xs ≡ 1 → ⊥) → AreSeveral (reversal (map f xs))
+reversal_several f xs several t e = several (omega (arith, ap (λ (l : List Transaction). length l) e, reversed_long (map f xs), length-map xs f))

@@ -9,6 +9,12 @@ abbrev pub steps_after : List Transaction → List PlainItem → ℕ
 steps_after [] items = 0
 steps_after (t ∷ ts) items = most_steps (edited t items) + steps_after ts (edited t items)
 
--- those of the tree of the list, which is built where the page is copied, and of all lists that transactions make of it
+-- those of a copy of the page, on which transactions are made unless there is one alone
+abbrev pub steps_of_copy : List Transaction → List PlainItem → ℕ
+steps_of_copy [] items = most_steps items
+steps_of_copy (t ∷ []) items = 0
+steps_of_copy (t ∷ u ∷ ts) items = most_steps items
+
+-- those of that copy, and of the trees of all lists that the transactions make
 abbrev pub steps_over : List Transaction → List PlainItem → ℕ
-steps_over ts items = most_steps items + steps_after ts items
+steps_over ts items = steps_of_copy ts items + steps_after ts items

@@ -85,7 +85,7 @@ impl Editor {
         })
     }
 
-    /// An editor of equal list, store and selection. Its tree is built anew, in as many steps as `new` takes.
+    /// An editor of equal list, store and selection. Its tree is built anew, in at most as many steps as `new` may take.
     pub fn copy<L: Ledger>(&self, steps: &mut Steps<L>) -> Result<Editor, Memory>
         ensures ok { IfOk result (λ copy. copy ≡ self.now) }
         ensures counted { steps.old ≤ steps.new }

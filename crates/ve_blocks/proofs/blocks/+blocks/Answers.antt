@@ -1,4 +1,4 @@
-use Rattle.std.proofs.Common.{arith, rules, None, refl, sym, ap, subst, ◌∙◌, ◌≡◌, true, length}
+use Rattle.std.proofs.Common.{arith, rules, None, refl, sym, ap, subst, ◌∙◌, ◌≡◌}
 use Rattle.std.specs.Prelude.{chars, OnOk, IfOk}
 use Rattle.std.proofs.lemmas.Result.{err_from_is_err_and}
 use Rattle.ve_classify.specs.Fits.{IsFit, parent_of}

@@ -5,7 +5,7 @@ use Rattle.ve_tx.specs.Operation.{Operation, by_value}
 use Rattle.ve_editor.specs.Edited.{AllStand}
 use Rattle.ve_editor.proofs.BackLemmas.{one_only}
 use Rattle.ve_editor.specs.Counted.{steps_after}
-use Rattle.ve_editor.proofs.CountedLemmas.{one_within, copied_within}
+use Rattle.ve_editor.proofs.CountedLemmas.{one_within, copied_within, copy_within, mapped_several}
 use Rattle.ve_editor.proofs.editor.Editor.admit_all.Goals as goal
 
 pub perform_other-requires-clause-cites : goal.perform_other-requires-clause-cites
@@ -64,11 +64,16 @@ returns-then-txs-eq1-clause-steps g c =
 pub returns-in_err-kept-clause-steps : goal.returns-in_err-kept-clause-steps
 returns-in_err-kept-clause-steps g c =
     let ts = map (by_value c.args.values.now) c.args.txs.now in
-    copied_within ts c.args.self.now.items c.args.steps.now c.copy.new.steps c.perform_others.new.steps c.copy.ensures.steps
+    copied_within ts c.args.self.now.items c.args.steps.now c.copy.new.steps c.perform_others.new.steps (mapped_several (by_value c.args.values.now) c.args.txs.now c.if-txs-eq1.false) c.copy.ensures.steps
     (subst (λ (q : Replica). c.perform_others.new.steps ≤ c.copy.new.steps + steps_after ts q.items) c.in_ok-grown.ensures.ok c.perform_others.ensures.steps)
 
 pub returns-clause-steps : goal.returns-clause-steps
 returns-clause-steps g c =
     let ts = map (by_value c.args.values.now) c.args.txs.now in
-    copied_within ts c.args.self.now.items c.args.steps.now c.copy.new.steps c.perform_others.new.steps c.copy.ensures.steps
+    copied_within ts c.args.self.now.items c.args.steps.now c.copy.new.steps c.perform_others.new.steps (mapped_several (by_value c.args.values.now) c.args.txs.now c.if-txs-eq1.false) c.copy.ensures.steps
     (subst (λ (q : Replica). c.perform_others.new.steps ≤ c.copy.new.steps + steps_after ts q.items) c.in_ok-grown.ensures.ok c.perform_others.ensures.steps)
+
+pub returns-in_err-grown-clause-steps : goal.returns-in_err-grown-clause-steps
+returns-in_err-grown-clause-steps g c =
+    copy_within (map (by_value c.args.values.now) c.args.txs.now) c.args.self.now.items c.args.steps.now c.copy.new.steps
+    (mapped_several (by_value c.args.values.now) c.args.txs.now c.if-txs-eq1.false) c.copy.ensures.steps

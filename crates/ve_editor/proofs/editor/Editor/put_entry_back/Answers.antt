@@ -9,7 +9,7 @@ use Rattle.ve_editor.specs.Edited.{AllStand, reversal_over}
 use Rattle.ve_editor.proofs.BackLemmas.{one_only}
 use Rattle.model_change.specs.Inverse.{inverse}
 use Rattle.ve_editor.specs.Counted.{steps_after}
-use Rattle.ve_editor.proofs.CountedLemmas.{one_within, copied_within}
+use Rattle.ve_editor.proofs.CountedLemmas.{one_within, copied_within, copy_within, reversal_several}
 use Rattle.ve_editor.proofs.editor.Editor.put_entry_back.Goals as goal
 
 pub put_back-requires-clause-cites : goal.put_back-requires-clause-cites
@@ -56,11 +56,16 @@ returns-then-txs-eq1-clause-steps g c =
 pub returns-in_err-put_all_back-clause-steps : goal.returns-in_err-put_all_back-clause-steps
 returns-in_err-put_all_back-clause-steps g c =
     let r = c.args.self.now in
-    copied_within (reversal_over r.store c.args.txs.now) r.items c.args.steps.now c.copy.new.steps c.put_all_back.new.steps c.copy.ensures.steps
+    copied_within (reversal_over r.store c.args.txs.now) r.items c.args.steps.now c.copy.new.steps c.put_all_back.new.steps (reversal_several (by_value r.store) c.args.txs.now c.if-txs-eq1.false) c.copy.ensures.steps
     (subst (λ (q : Replica). c.put_all_back.new.steps ≤ c.copy.new.steps + steps_after (reversal_over q.store c.args.txs.now) q.items) c.in_ok-copy.ensures.ok c.put_all_back.ensures.steps)
 
 pub returns-clause-steps : goal.returns-clause-steps
 returns-clause-steps g c =
     let r = c.args.self.now in
-    copied_within (reversal_over r.store c.args.txs.now) r.items c.args.steps.now c.copy.new.steps c.put_all_back.new.steps c.copy.ensures.steps
+    copied_within (reversal_over r.store c.args.txs.now) r.items c.args.steps.now c.copy.new.steps c.put_all_back.new.steps (reversal_several (by_value r.store) c.args.txs.now c.if-txs-eq1.false) c.copy.ensures.steps
     (subst (λ (q : Replica). c.put_all_back.new.steps ≤ c.copy.new.steps + steps_after (reversal_over q.store c.args.txs.now) q.items) c.in_ok-copy.ensures.ok c.put_all_back.ensures.steps)
+
+pub returns-in_err-copy-clause-steps : goal.returns-in_err-copy-clause-steps
+returns-in_err-copy-clause-steps g c =
+    let r = c.args.self.now in
+    copy_within (reversal_over r.store c.args.txs.now) r.items c.args.steps.now c.copy.new.steps (reversal_several (by_value r.store) c.args.txs.now c.if-txs-eq1.false) c.copy.ensures.steps
