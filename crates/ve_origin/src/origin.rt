@@ -65,6 +65,13 @@ impl<'a> Origins<'a> {
         }
     }
 
+    /// How many origins the page has.
+    pub fn len(&self) -> usize
+        ensures { result ≡ length self.now.rows }
+    {
+        self.table.as_slice().len()
+    }
+
     /// The part of the page before its body.
     pub fn head(&self) -> &'a str
         ensures { result.now ≡ take self.now.body.from self.now.page }
