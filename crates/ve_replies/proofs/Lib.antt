@@ -1,4 +1,5 @@
 pub mod Escapes
 pub mod MemberLemmas
+pub mod RangeLemmas
 pub mod RunLemmas
 pub mod ShownLemmas

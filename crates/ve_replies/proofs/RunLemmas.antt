@@ -1,21 +1,21 @@
 -- Runs of characters with one list of marks, and what is shown first of items.
-use Rattle.std.proofs.Common.{◌≡◌, ℕ, zero, suc, ◌<◌, ◌≤◌, Bool, true, false, if◌then◌else◌, List, [], ◌∷◌, ◌++◌, length, drop, Some, None, option_map, option_and_then, slice_get, refl, sym, ap, ◌∙◌, arith, append_assoc}
-use Rattle.std.proofs.lemmas.List.{length-map, map-append}
-use Rattle.std.proofs.lemmas.Option.{slice_get-map}
+use Rattle.std.proofs.Common.{◌≡◌, ℕ, zero, suc, ◌<◌, ◌≤◌, Bool, true, false, if◌then◌else◌, List, [], ◌∷◌, ◌++◌, length, drop, Some, None, option_and_then, slice_get, refl, sym, ap, ◌∙◌, arith, append_assoc}
+use Rattle.std.proofs.lemmas.List.{map-append}
 use Rattle.serde_json.specs.Data.{Data}
 use Rattle.serde_json.specs.Written.{compact_text, items_text}
 use Rattle.ve_base.specs.declared.marks.Mark.{Mark}
 use Rattle.ve_base.specs.declared.value.Value.{Value}
 use Rattle.model_items.specs.declared.item.Item.{Item}
 use Rattle.model_items.specs.declared.item.Item.TheVariants as cited
-use Rattle.model_items.specs.Plain.{plain, plain_list}
+use Rattle.model_items.specs.Plain.{plain}
 use Rattle.model_items.specs.declared.plain_item.PlainItem.{PlainItem}
 use Rattle.model_items.specs.declared.plain_item.PlainItem.TheVariants.{Char, Opening, Closing}
 use Rattle.model_items.specs.Same.{marks_same}
 use Rattle.model_items.proofs.SameLemmas.{Means-marks_same}
 use Rattle.model_world.specs.Shown.{Shown, Together, Apart, all_shown, char_shown, json_items, run_shown, shown}
 use Rattle.model_edit.specs.Insert.{text_pieces}
-use Rattle.ve_replies.specs.Runs.{AddsFirst, IsRun, bracket_text, char_with}
+use Rattle.ve_replies.specs.Runs.{AddsFirst, IsRun, bracket_text, char_with, plain_before}
+use Rattle.ve_replies.proofs.RangeLemmas.{item_before, length_before}
 
 none_some : {x : ℕ} → None ≡ Some x → ⊥
 none_some e = absurd (cc)
@@ -143,18 +143,18 @@ IsBracket (cited.Opening kind generated head marks pre origin) = Unit {0}
 IsBracket (cited.Closing kind pre) = Unit {0}
 
 -- a bracket
-pub bracket_added : (values : List Value) (items : List Item) (at : ℕ) (item : Item) (old new : List ℕ) → at < length items → slice_get items at ≡ Some item →
-    IsBracket item → new ≡ old ++ bracket_text (plain values item) → AddsFirst (plain_list values items) at (suc at) old new
-bracket_added values items at item old new lies got is adds = along item is adds (slice_get-map (plain values) items at ∙ ap (option_map (plain values)) got)
+pub bracket_added : (values : List Value) (items : List Item) (to at : ℕ) (item : Item) (old new : List ℕ) → at < to → to ≤ length items → slice_get items at ≡ Some item →
+    IsBracket item → new ≡ old ++ bracket_text (plain values item) → AddsFirst (plain_before to values items) at (suc at) old new
+bracket_added values items to at item old new lies within got is adds = along item is adds (item_before values items to at item lies got)
   where
-    long : at < length (plain_list values items)
-    long = omega (arith, lies, length-map items (plain values))
+    long : at < length (plain_before to values items)
+    long = omega (arith, lies, length_before values items to within)
 
-    along : (item : Item) → IsBracket item → new ≡ old ++ bracket_text (plain values item) → slice_get (plain_list values items) at ≡ Some (plain values item) →
-        AddsFirst (plain_list values items) at (suc at) old new
+    along : (item : Item) → IsBracket item → new ≡ old ++ bracket_text (plain values item) → slice_get (plain_before to values items) at ≡ Some (plain values item) →
+        AddsFirst (plain_before to values items) at (suc at) old new
     along (cited.Char ch marks) is adds got = absurd is
-    along (cited.Opening kind generated head marks pre origin) is adds got = bracket_first (plain_list values items) at _ _ old new long got (λ later. refl) adds
-    along (cited.Closing kind pre) is adds got = bracket_first (plain_list values items) at _ _ old new long got (λ later. refl) adds
+    along (cited.Opening kind generated head marks pre origin) is adds got = bracket_first (plain_before to values items) at _ _ old new long got (λ later. refl) adds
+    along (cited.Closing kind pre) is adds got = bracket_first (plain_before to values items) at _ _ old new long got (λ later. refl) adds
 
 -- and what comes after it
 pub added : (items : List PlainItem) (at end : ℕ) (later : Bool) (before old new : List ℕ) → AddsFirst items at end old new → old ≡ before ++ (if later then 44 ∷ [] else []) →

@@ -1,8 +1,11 @@
 -- What is shown first of items.
-use Rattle.std.specs.Prelude.{◌≡◌, ◌<◌, ◌≤◌, ℕ, ◌+◌, if◌then◌else◌, List, [], ◌∷◌, ◌++◌, length, drop, Option, Some, None, option_and_then, slice_get}
+use Rattle.std.specs.Prelude.{◌≡◌, ◌<◌, ◌≤◌, ℕ, ◌+◌, if◌then◌else◌, List, [], ◌∷◌, ◌++◌, length, take, drop, Option, Some, None, option_and_then, slice_get}
 use Rattle.serde_json.specs.Data.{Data, object}
 use Rattle.serde_json.specs.Written.{compact_text}
 use Rattle.ve_base.specs.declared.marks.Mark.{Mark}
+use Rattle.ve_base.specs.declared.value.Value.{Value}
+use Rattle.model_items.specs.declared.item.Item.{Item}
+use Rattle.model_items.specs.Plain.{plain_list}
 use Rattle.model_items.specs.declared.plain_item.PlainItem.{PlainItem}
 use Rattle.model_items.specs.declared.plain_item.PlainItem.TheVariants.{Char, Opening, Closing}
 use Rattle.model_items.specs.Same.{marks_same}
@@ -10,6 +13,10 @@ use Rattle.model_edit.specs.Insert.{text_pieces}
 use Rattle.model_world.specs.Shown.{all_shown, closing_shown, opening_shown, shown}
 use Rattle.ve_replies.specs.declared.brackets.OpeningParts.{OpeningParts}
 use Rattle.ve_replies.specs.Members.{opening_text}
+
+-- the items before a place, by value
+abbrev pub plain_before : ℕ → List Value → List Item → List PlainItem
+plain_before to values items = take to (plain_list values items)
 
 -- an opening, as it is lent
 abbrev pub text_of : OpeningParts → List ℕ

@@ -1,5 +1,5 @@
 // What a script's lines are answered.
-ghost use Rattle.std.specs.Prelude.{All, ◌≡◌, ◌++◌, ◌∷◌, [], OnErr, OnOk};
+ghost use Rattle.std.specs.Prelude.{All, ◌≡◌, ◌≤◌, ◌++◌, ◌∷◌, [], length, slice_range, OnErr, OnOk};
 ghost use Rattle.model_items.specs.Plain.{plain_list, CitesWell};
 ghost use Rattle.model_world.specs.Shown.{items_shown, json_text};
 ghost use Rattle.model_world.specs.Spelled as model;
@@ -33,10 +33,12 @@ pub enum Answer<'a> {
     Length(usize),
     /// The page, written out.
     Page(Text),
-    /// The items of a list, which cite values of the store.
+    /// The items of a list from one place up to another. They cite values of the store.
     Items {
         list: &'a Linear,
         store: &'a Store,
+        from: usize,
+        to: usize,
     },
     /// The root and all in it.
     Tree(TreeWords),
@@ -113,14 +115,22 @@ fn push_page(page: &Text, out: &mut Spelling) -> Result<(), Memory>
     push_quoted(page.as_str(), out)
 }
 
-/// Appends the items of a list.
-fn push_data(alloc: Global, list: &Linear, store: &Store, out: &mut Spelling) -> Result<(), Memory>
-    requires { All (CitesWell store.now) list.now.items }
-    ensures ok { OnOk result (out.new.text ≡ out.old.text ++ model.ok_json (items_shown (plain_list store.now list.now.items))) }
+/// Appends the items of a list from one place up to another.
+fn push_data(
+    alloc: Global,
+    list: &Linear,
+    store: &Store,
+    range: (usize, usize),
+    out: &mut Spelling,
+) -> Result<(), Memory>
+    requires cites { All (CitesWell store.now) list.now.items }
+    requires order { range.0 ≤ range.1 }
+    requires within { range.1 ≤ length list.now.items }
+    ensures ok { OnOk result (out.new.text ≡ out.old.text ++ model.ok_json (items_shown (slice_range (plain_list store.now list.now.items) range.0 range.1))) }
     ensures before { out.new.before ≡ out.old.before }
 {
     out.push(b"ok ")?;
-    push_items(alloc, list, store, out)
+    push_items(alloc, list, store, range, out)
 }
 
 /// Appends what an offset is in.
@@ -257,7 +267,12 @@ fn push_answer(alloc: Global, answer: &Answer<'_>, out: &mut Spelling) -> Result
     match answer {
         Answer::Length(count) => push_count(alloc, "ok", Numbers::One(*count), out),
         Answer::Page(page) => push_page(page, out),
-        Answer::Items { list, store } => push_data(alloc, list, store, out),
+        Answer::Items {
+            list,
+            store,
+            from,
+            to,
+        } => push_data(alloc, list, store, (*from, *to), out),
         Answer::Tree(words) => push_words_of_tree(alloc, words.as_slice(), out),
         Answer::At {
             kind,

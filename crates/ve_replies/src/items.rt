@@ -1,11 +1,11 @@
 // The items of a list as JSON: brackets, and runs of characters with equal marks.
-ghost use Rattle.std.specs.Prelude.{◌≡◌, ◌++◌, ◌<◌, ◌≤◌, length, All, IfOk, OnOk};
+ghost use Rattle.std.specs.Prelude.{◌≡◌, ◌++◌, ◌<◌, ◌≤◌, length, slice_range, All, IfOk, OnOk};
 ghost use Rattle.serde_json.specs.Written.{compact_text};
 ghost use Rattle.model_items.specs.Plain.{marks_in, plain, plain_list, value_at, CitesMarks, CitesWell};
 ghost use Rattle.model_items.specs.Same.{marks_same};
 ghost use Rattle.ve_base.specs.Empty.{empty_head};
 ghost use Rattle.model_world.specs.Shown.{items_shown, run_shown};
-ghost use Rattle.ve_replies.specs.Runs.{AddsFirst, bracket_text, char_with, IsRun};
+ghost use Rattle.ve_replies.specs.Runs.{AddsFirst, bracket_text, char_with, plain_before, IsRun};
 
 use crate::brackets::{OpeningParts, push_closing, push_opening};
 use crate::json_list::{push_comma, push_list};
@@ -71,30 +71,29 @@ fn char_of(store: &Store, item: Item, cited: Option<ValueId>) -> Option<char>
     }
 }
 
-/// The characters with the marks that are cited, from a place on.
+/// The characters with the marks that are cited, from the range's start on.
 fn run_at(
     alloc: Global,
     list: &Linear,
     store: &Store,
-    at: usize,
+    range: (usize, usize),
     cited: Option<ValueId>,
 ) -> Result<Run, Memory>
     requires cites { All (CitesWell store.now) list.now.items }
     requires marks { CitesMarks store.now cited }
-    requires within { at ≤ length list.now.items }
-    ensures { IfOk result (λ run. IsRun (plain_list store.now list.now.items) (marks_in (value_at store.now cited)) at run.end run.text) }
+    requires order { range.0 ≤ range.1 }
+    requires within { range.1 ≤ length list.now.items }
+    ensures { IfOk result (λ run. IsRun (plain_before range.1 store.now list.now.items) (marks_in (value_at store.now cited)) range.0 run.end run.text) }
 {
+    let (at, to) = range;
     let mut text = Text::new(alloc);
-    for end in at..list.len() {
+    for end in at..to {
         let Some(ch) = char_of(store, list.get(end), cited) else {
             return Ok(Run { text, end });
         };
         text.push(ch)?;
     }
-    Ok(Run {
-        text,
-        end: list.len(),
-    })
+    Ok(Run { text, end: to })
 }
 
 /// Appends a run: its text, with its marks where there are some.
@@ -149,27 +148,29 @@ fn push_bracket(
     }
 }
 
-/// Appends what is shown first of the items from a place on, and gives the place past it.
+/// Appends what is shown first of the items of a range, and gives the place past it.
 fn push_first(
     alloc: Global,
     list: &Linear,
     store: &Store,
-    at: usize,
+    range: (usize, usize),
     none: &Head,
     out: &mut Spelling,
 ) -> Result<usize, Memory>
     requires cites { All (CitesWell store.now) list.now.items }
-    requires within { at < length list.now.items }
+    requires some { range.0 < range.1 }
+    requires within { range.1 ≤ length list.now.items }
     requires none { none.now ≡ empty_head }
-    ensures ok { IfOk result (λ end. AddsFirst (plain_list store.now list.now.items) at end out.old.text out.new.text) }
+    ensures ok { IfOk result (λ end. AddsFirst (plain_before range.1 store.now list.now.items) range.0 end out.old.text out.new.text) }
     ensures before { out.new.before ≡ out.old.before }
 {
+    let at = range.0;
     let len = list.len();
     prove!(at < len);
     let item = list.get(at);
     match item {
         Item::Char { marks, .. } => {
-            let run = run_at(alloc, list, store, at, marks)?;
+            let run = run_at(alloc, list, store, range, marks)?;
             push_run(alloc, &run.text, marks_of(store, marks), out)?;
             Ok(run.end)
         }
@@ -184,23 +185,27 @@ fn push_first(
     }
 }
 
-/// Appends the items of a list.
+/// Appends the items of a list from one place up to another.
 pub fn push_items(
     alloc: Global,
     list: &Linear,
     store: &Store,
+    range: (usize, usize),
     out: &mut Spelling,
 ) -> Result<(), Memory>
     requires cites { All (CitesWell store.now) list.now.items }
-    ensures ok { OnOk result (out.new.text ≡ out.old.text ++ compact_text (items_shown (plain_list store.now list.now.items))) }
+    requires order { range.0 ≤ range.1 }
+    requires within { range.1 ≤ length list.now.items }
+    ensures ok { OnOk result (out.new.text ≡ out.old.text ++ compact_text (items_shown (slice_range (plain_list store.now list.now.items) range.0 range.1))) }
     ensures before { out.new.before ≡ out.old.before }
 {
+    let (from, to) = range;
     let none = Head::empty(alloc);
     out.push_byte(b'[')?;
-    let mut at = 0;
-    'items: while at < list.len() {
-        push_comma(0 < at, out)?;
-        at = push_first(alloc, list, store, at, &none, out)?;
+    let mut at = from;
+    'items: while at < to {
+        push_comma(from < at, out)?;
+        at = push_first(alloc, list, store, (at, to), &none, out)?;
     }
     out.push_byte(b']')
 }

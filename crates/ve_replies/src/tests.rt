@@ -30,6 +30,25 @@ fn spell_items(alloc: Global, out: &mut Bytes) -> Result<(), Memory> {
     let answer = Answer::Items {
         list: &list,
         store: &store,
+        from: 0,
+        to: list.len(),
+    };
+    reply_text(alloc, &answer, out)?;
+    spell_part(alloc, &list, &store, out)
+}
+
+/// The items from the second one up to the third, where there are so many.
+fn spell_part(alloc: Global, list: &Linear, store: &Store, out: &mut Bytes) -> Result<(), Memory>
+    requires { All (CitesWell store.now) list.now.items }
+{
+    if list.len() < 2 {
+        return Ok(());
+    }
+    let answer = Answer::Items {
+        list,
+        store,
+        from: 1,
+        to: 2,
     };
     reply_text(alloc, &answer, out)
 }
@@ -107,6 +126,7 @@ fn spelled(alloc: Global) -> Result<Bytes, Memory> {
 }
 
 const SPELLED: &str = "ok [{\"open\":\"p\"},\"a\\\"\",{\"close\":\"p\"}]
+ok [\"a\"]
 ok (root 2)
 ok [[3,\"g\",\"n:x\",1,true,null]]
 ok 1 3 [[4,0,1,1,2]]
