@@ -1,0 +1,21 @@
+//! A page's text as it is first read: its list, the values that the list cites, and a row for each origin; or its first refusal.
+//!
+//! - `Pages` in specs/: a `PageRead` is model_page's page as it was opened (`IsPage`), its rows are those of its openings
+//!   (`HasPlaces`), and a `ReadFault` is the model's refusal, in the model's order (`IsRefusal`).
+//! - `Forests`, `Faults`, `Bodies` and `Moved` serve private functions: what is read of the body by itself, where reading it
+//!   stops, how bodies are read after it, and what all of it is with bytes counted from the first of the page.
+//!
+//! One walk goes over the body, and then one over the body of each reference. Whoever wants the walk itself finds it in `ve_blocks`.
+#![tactic(auto)]
+
+mod bodies;
+mod fault;
+mod forests;
+mod pages;
+mod rows;
+
+pub use fault::ReadFault;
+pub use pages::{PageRead, page};
+
+#[cfg(test)]
+mod tests;
