@@ -1,0 +1,6 @@
+pub mod AskedLemmas
+pub mod CiteLemmas
+pub mod NodeLemmas
+pub mod PageLemmas
+pub mod WordLemmas
+mod ReplyExamples

@@ -1,0 +1,22 @@
+//! What a page and one of its sites answer to the requests that change nothing: `html`, `data`, `tree`, `at`, `refs` and `caret`.
+//!
+//! It knows a page as a `Doc`, its list, tree and values, lent together, and what is left of the page that was first read.
+//! Each call gives the answer that `ve_replies` spells; items are lent, and no list is copied. It knows nothing of lines,
+//! of sessions and of who asks. In reading order:
+//!
+//! - `Replies`: what is replied, over items by value;
+//! - `Asked`: that the replies are what `model_world`'s `asked` answers, session and all ([`replies_are_as_asked`]);
+//! - `Words` serves private functions: how the words of a tree are read off its items.
+#![tactic(auto)]
+
+mod laws;
+mod page;
+mod parts;
+mod place;
+mod words;
+
+pub use laws::replies_are_as_asked;
+pub use page::html;
+pub use parts::{caret, items, refs};
+pub use place::node;
+pub use words::tree;

@@ -1,0 +1,40 @@
+// The page, written out.
+ghost use Rattle.std.specs.Prelude.{◌≡◌, true, All, IfOk};
+ghost use Rattle.model_items.specs.Plain.{CitesWell};
+ghost use Rattle.model_page.specs.Editable.{all_refer};
+ghost use Rattle.ve_answers.specs.Replies.{html_reply};
+ghost use Rattle.ve_fresh.specs.Originals.{opened_over, IsFirst};
+ghost use Rattle.ve_offsets.specs.Docs.{page_items, IsDoc};
+ghost use Rattle.ve_replies.specs.Answers.{reply_of, AnswerCites};
+
+use std::alloc::Global;
+use ve_base::{Bytes, Memory, Text};
+use ve_offsets::Doc;
+use ve_origin::Origins;
+use ve_replies::Answer;
+use ve_write::write;
+
+/// To `html`: the page that the list gives, after the one that was first read. What is written is read as UTF-8; a text that
+/// weren't would be answered as a want of memory.
+///
+/// It is asked that the references of the list are editable, and that the page that was first read stands over the
+/// values of this one: each of its rows is the range of a node, and each origin in the list is the number of a row.
+pub fn html<'a, 'b>(
+    alloc: Global,
+    origins: &'a Origins<'a>,
+    doc: Doc<'b>,
+) -> Result<Answer<'b>, Memory>
+    requires doc { IsDoc doc }
+    requires cites { All (CitesWell doc.store.now) doc.list.now.items }
+    requires refers { all_refer (page_items doc) ≡ true }
+    requires first { IsFirst doc.store.now doc.list.now.items origins.now }
+    ensures reply { IfOk result (λ answer. reply_of answer ≡ html_reply (opened_over doc.entry.store.now origins.entry.now) (page_items doc.entry)) }
+    ensures cites { IfOk result AnswerCites }
+{
+    let mut written = Bytes::new(alloc);
+    write(alloc, doc.list, doc.store, origins, &mut written)?;
+    let Ok(page) = std::str::from_utf8(written.as_slice()) else {
+        return Err(Memory);
+    };
+    Ok(Answer::Page(Text::from_str(alloc, page)?))
+}
