@@ -4,3 +4,6 @@ pub mod RowLemmas
 pub mod BodyLemmas
 pub mod PageLemmas
 pub mod WholeLemmas
+pub mod BeginLemmas
+pub mod NodeRowLemmas
+pub mod StandLemmas

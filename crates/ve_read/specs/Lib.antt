@@ -1,4 +1,5 @@
 pub mod Pages
+pub mod RowsStand
 pub mod Faults
 pub mod Moved
 pub mod Bodies

@@ -2,6 +2,7 @@
 //!
 //! - `Pages` in specs/: a `PageRead` is model_page's page as it was opened (`IsPage`), its rows are those of its openings
 //!   (`HasPlaces`), and a `ReadFault` is the model's refusal, in the model's order (`IsRefusal`).
+//! - `RowsStand`, the law ([`rows_stand`]): each row has whole characters of the page and is the range of its node.
 //! - `Forests`, `Faults`, `Bodies` and `Moved` serve private functions: what is read of the body by itself, where reading it
 //!   stops, how bodies are read after it, and what all of it is with bytes counted from the first of the page.
 //!
@@ -13,9 +14,11 @@ mod fault;
 mod forests;
 mod pages;
 mod rows;
+mod rows_law;
 
 pub use fault::ReadFault;
 pub use pages::{PageRead, page};
+pub use rows_law::rows_stand;
 
 #[cfg(test)]
 mod tests;
