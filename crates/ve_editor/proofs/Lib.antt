@@ -10,3 +10,4 @@ pub mod RemovedLemmas
 pub mod OtherLemmas
 pub mod AdmitLemmas
 mod CountedLemmas
+pub mod CountedExamples

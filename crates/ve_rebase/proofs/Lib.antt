@@ -12,3 +12,4 @@ pub mod NormalLemmas
 pub mod EntryLemmas
 pub mod UntilLemmas
 mod UnderLemmas
+mod UnderExamples

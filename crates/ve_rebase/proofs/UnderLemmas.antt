@@ -1,5 +1,5 @@
 -- A site's entries joined one after the other over an entry of another site.
-use Rattle.std.proofs.Common.{◌≡◌, ◌≤◌, ◌<◌, ℕ, zero, suc, ◌+◌, List, [], ◌∷◌, ◌++◌, length, map, take, get_or, replicate, All, Option, Some, None, Err, refl, sym, ap, subst, ◌∙◌, arith}
+use Rattle.std.proofs.Common.{◌≡◌, ◌≤◌, ◌<◌, ℕ, zero, suc, ◌+◌, List, [], ◌∷◌, ◌++◌, length, map, take, get_or, slice_get, replicate, All, Option, Some, None, Err, refl, sym, ap, subst, ◌∙◌, arith}
 use Rattle.std.proofs.lemmas.List.{append-nil, map-append, length-map, length-append, take_more}
 use Rattle.std.proofs.lemmas.List.Elements.{All-nil, All-cons, All-append, All-head, All-tail}
 use Rattle.ve_base.specs.declared.value.Value.{Value}
@@ -21,6 +21,12 @@ use Rattle.ve_rebase.specs.Under.{over_values, all_over, joined_under, AreUnder,
 use Rattle.ve_rebase.proofs.WrittenLemmas.{written_mine}
 use Rattle.ve_rebase.proofs.EntryLemmas.{values_of, same_outline}
 use Rattle.ve_rebase.proofs.UntilLemmas.{JoinedSoFar, entry_joined, joined_begun, one_meets, joined_next, joined_clash, joined_done, committed_clash, committed_done}
+
+-- what is found at a place
+pub found : (es : List Entry) (i : ℕ) (e : Entry) → slice_get es i ≡ Some e → e ≡ get_or es i e
+found [] i e is = refl
+found (x ∷ es) zero e is = let same : x ≡ e = cc in sym same
+found (x ∷ es) (suc i) e is = found es i e is
 
 -- ---- one entry
 

@@ -1,5 +1,5 @@
 -- When two lists of transactions may be joined, and what a refusal says. Each transaction is read by value with a list of values of its own.
-use Rattle.std.specs.Prelude.{◌≡◌, ℕ, List, [], ◌∷◌, map, Result, Err}
+use Rattle.std.specs.Prelude.{◌≡◌, ℕ, List, [], ◌∷◌, map, Result, Ok, Err}
 use Rattle.ve_base.specs.declared.value.Value.{Value}
 use Rattle.model_change.specs.Transaction.{Transaction, old_length, new_length}
 use Rattle.model_change.specs.Join.{join_list, RangeConflict}
@@ -38,3 +38,11 @@ joined_lists values others committed mine = join_list (map (by_value values) com
 
 abbrev pub both_lists : (values others : List Value) → List (List Operation) × List (List Operation) → List Transaction × List Transaction
 both_lists values others two = (map (by_value values) two.0, map (by_value others) two.1)
+
+-- whatever values either side cites, the two lists are joined as the model joins them
+abbrev pub AreListsJoined : (committed mine : List (List Operation)) → List (List Operation) × List (List Operation) → Type 0
+AreListsJoined committed mine two = (values others : List Value) → joined_lists values others committed mine ≡ Ok (both_lists values others two)
+
+-- or are refused as it refuses them
+abbrev pub AreListsRefused : (committed mine : List (List Operation)) → RebaseFault → Type 0
+AreListsRefused committed mine why = (values others : List Value) → IsRefusedAs (joined_lists values others committed mine) why

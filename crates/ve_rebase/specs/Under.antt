@@ -1,14 +1,17 @@
 -- A site's entries joined over an entry of another site.
 use Rattle.std.specs.Prelude.{◌≡◌, List, length, map, take, All}
 use Rattle.ve_base.specs.declared.value.Value.{Value}
+use Rattle.model_change.specs.Join.{join_list}
 use Rattle.model_site.specs.Joined.{Joined, join_entries}
 use Rattle.ve_tx.specs.declared.entry.Entry.{Entry}
 use Rattle.ve_tx.specs.declared.parcel.Parcel.{Parcel}
 use Rattle.ve_tx.specs.ByValue.{parcel_by_value, ParcelCites}
+use Rattle.ve_rebase.specs.declared.fault.RebaseFault.{RebaseFault}
 use Rattle.ve_rebase.specs.declared.shifted.Shifted.{Shifted}
 use Rattle.ve_rebase.specs.declared.under.EntriesUnder.{EntriesUnder}
 use Rattle.ve_rebase.specs.Entries.{outline}
-use Rattle.ve_rebase.specs.Shifted.{IsShifted, operations, shifted_by_value}
+use Rattle.ve_rebase.specs.Lists.{IsRefusedAs}
+use Rattle.ve_rebase.specs.Shifted.{IsShifted, all_by_value, operations, shifted_by_value}
 use Rattle.ve_rebase.specs.Until.{IsJoinedOver, Meet}
 
 -- an entry with the values that it cites, as it would travel
@@ -42,6 +45,11 @@ MeetUnder over mine = (values : List Value) → Meet over (parcel_by_value (over
 pub record IsJoinedUnder (over : List Shifted) (mine : Entry) (after : List Shifted) (made : Entry) : Type 0 where
   pub joined : (values : List Value) → IsJoinedOver over (over_values values mine) after (over_values values made)
   pub kept : map operations after ≡ map operations over
+
+-- it isn't joined, whatever values either side cites
+abbrev pub IsRefusedUnder : List Shifted → Entry → RebaseFault → Type 0
+IsRefusedUnder over mine why =
+    (values : List (List Value)) (others : List Value) → IsRefusedAs (join_list (all_by_value values over) (parcel_by_value (over_values others mine))) why
 
 -- the entries before the first conflict are joined so, and the other's transactions are moved over them
 pub record WereJoined (foreign : Parcel) (entries : List Entry) (over : List Shifted) (kept : List Entry) : Type 0 where

@@ -6,11 +6,12 @@ use Rattle.model_change.specs.Join.{join_list}
 use Rattle.model_site.specs.Joined.{Joined, join_entries}
 use Rattle.model_site.specs.Session.{clash_of}
 use Rattle.ve_tx.specs.declared.parcel.Parcel.{Parcel}
+use Rattle.ve_rebase.specs.declared.fault.RebaseFault.{RebaseFault}
 use Rattle.ve_rebase.specs.declared.shifted.Shifted.{Shifted}
 use Rattle.ve_rebase.specs.declared.until.JoinedEntries.{JoinedEntries}
 use Rattle.ve_rebase.specs.Entries.{parcels_by_value, outline}
 use Rattle.ve_tx.specs.ByValue.{parcel_by_value, ParcelCites}
-use Rattle.ve_rebase.specs.Lists.{RunOnLength}
+use Rattle.ve_rebase.specs.Lists.{RunOnLength, IsRefusedAs}
 use Rattle.ve_rebase.specs.Shifted.{IsShifted, FollowFrom, all_by_value}
 
 -- entries joined by value, each over its own values, up to the first conflict
@@ -44,3 +45,7 @@ pub record IsJoinedOver (over : List Shifted) (mine : Parcel) (after : List Shif
       FollowFrom (length_given n (parcel_by_value mine)) after
   pub outline_kept : outline made ≡ outline mine
   pub cites : ParcelCites mine → ParcelCites made
+
+-- it isn't joined, whatever values the committed ones cite
+abbrev pub IsRefusedOver : List Shifted → Parcel → RebaseFault → Type 0
+IsRefusedOver over mine why = (values : List (List Value)) → IsRefusedAs (join_list (all_by_value values over) (parcel_by_value mine)) why

@@ -1,8 +1,8 @@
 // Two lists of transactions joined, row by row.
-ghost use Rattle.std.specs.Prelude.{◌≡◌, All, Ok, map, IfOk, IfErr, OnOk};
+ghost use Rattle.std.specs.Prelude.{All, map, IfOk, IfErr, OnOk};
 ghost use Rattle.ve_tx.specs.Cites.{TxCites};
 ghost use Rattle.ve_tx.specs.Operation.{by_value};
-ghost use Rattle.ve_rebase.specs.Lists.{RunFromOneLength, IsRefusedAs, joined_lists, both_lists};
+ghost use Rattle.ve_rebase.specs.Lists.{RunFromOneLength, AreListsJoined, AreListsRefused, IsRefusedAs};
 ghost use Rattle.ve_rebase.specs.Shifted.{IsShifted, FollowFrom, StartTogether, joined_row, joined_rows, IsRow, AreRows};
 ghost use Rattle.ve_rebase.specs.Span.{old_size};
 
@@ -67,10 +67,10 @@ pub fn lists(
     mine: &TxList,
 ) -> Result<(TxList, TxList), RebaseFault>
     requires { (values : _) → RunFromOneLength (map (by_value values) committed.now) (map (by_value values) mine.now) }
-    ensures joined { IfOk result (λ two. (values others : _) → joined_lists values others committed.now mine.now ≡ Ok (both_lists values others two)) }
+    ensures joined { IfOk result (AreListsJoined committed.now mine.now) }
     ensures committed_cite { IfOk result (λ two. (values : _) → All (TxCites values) committed.now → All (TxCites values) two.0) }
     ensures mine_cite { IfOk result (λ two. (values : _) → All (TxCites values) mine.now → All (TxCites values) two.1) }
-    ensures refused { IfErr result (λ why. (values others : _) → IsRefusedAs (joined_lists values others committed.now mine.now) why) }
+    ensures refused { IfErr result (AreListsRefused committed.now mine.now) }
 {
     let mut over = begun(alloc, committed.as_slice())?;
     let mut mine_over = begun(alloc, mine.as_slice())?;

@@ -1,12 +1,10 @@
 // A site's entries joined over an entry of another site, until two transactions conflict.
-ghost use Rattle.std.specs.Prelude.{◌≡◌, ◌<◌, ◌+◌, ◌++◌, All, length, map, get_or, IfOk, IfErr, OnOk, OnErr};
-ghost use Rattle.model_change.specs.Join.{join_list};
+ghost use Rattle.std.specs.Prelude.{◌≡◌, ◌<◌, ◌+◌, ◌++◌, All, length, slice_get, Some, IfOk, IfErr, OnErr};
 ghost use Rattle.ve_tx.specs.ByValue.{parcel_by_value};
-ghost use Rattle.ve_tx.specs.Operation.{by_value};
 ghost use Rattle.ve_rebase.specs.Entries.{parcels_by_value};
-ghost use Rattle.ve_rebase.specs.Lists.{RunFromOneLength, IsRefusedAs};
-ghost use Rattle.ve_rebase.specs.Shifted.{IsShifted, all_by_value};
-ghost use Rattle.ve_rebase.specs.Under.{all_over, AreUnder, IsJoinedUnder, MeetUnder, WereJoined};
+ghost use Rattle.ve_rebase.specs.Lists.{RunFromOneLength};
+ghost use Rattle.ve_rebase.specs.Shifted.{IsShifted};
+ghost use Rattle.ve_rebase.specs.Under.{all_over, AreUnder, IsJoinedUnder, IsRefusedUnder, MeetUnder, WereJoined};
 
 use crate::RebaseFault;
 use crate::entries::parcel_with;
@@ -28,7 +26,7 @@ pub struct EntriesUnder {
 /// The entry at a place of two lists, the one after the other.
 pub fn entry_in<'a>(first: &'a [Entry], second: &'a [Entry], at: usize) -> &'a Entry
     requires { at < length first.now + length second.now }
-    ensures { result.now ≡ get_or (first.now ++ second.now) at result.now }
+    ensures { slice_get (first.now ++ second.now) at ≡ Some result.now }
 {
     if at < first.len() {
         return &first[at];
@@ -55,7 +53,7 @@ fn joined_under(
     requires meet { MeetUnder over.old.items mine.now }
     ensures joined { IfOk result (λ made. IsJoinedUnder over.old.items mine.now over.new.items made) }
     ensures kept { OnErr result (over.new.items ≡ over.old.items) }
-    ensures refused { IfErr result (λ why. (values others : _) → IsRefusedAs (join_list (all_by_value values over.old.items) (map (by_value others) mine.now.txs)) why) }
+    ensures refused { IfErr result (IsRefusedUnder over.old.items mine.now) }
 {
     let mut moved = copied(alloc, over.as_slice())?;
     let mut entry = begun(alloc, mine.txs.as_slice())?;

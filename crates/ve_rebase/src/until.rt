@@ -1,11 +1,10 @@
 // Entries joined over committed ones, until two transactions conflict.
-ghost use Rattle.std.specs.Prelude.{◌≡◌, All, length, map, IfOk, IfErr, OnOk};
-ghost use Rattle.model_change.specs.Join.{join_list};
+ghost use Rattle.std.specs.Prelude.{All, IfOk, IfErr};
 ghost use Rattle.ve_rebase.specs.Entries.{parcels_by_value};
 ghost use Rattle.ve_tx.specs.ByValue.{parcel_by_value};
-ghost use Rattle.ve_rebase.specs.Lists.{RunFromOneLength, IsRefusedAs};
-ghost use Rattle.ve_rebase.specs.Shifted.{IsShifted, all_by_value};
-ghost use Rattle.ve_rebase.specs.Until.{AreJoined, IsJoinedOver, Meet};
+ghost use Rattle.ve_rebase.specs.Lists.{RunFromOneLength};
+ghost use Rattle.ve_rebase.specs.Shifted.{IsShifted};
+ghost use Rattle.ve_rebase.specs.Until.{AreJoined, IsJoinedOver, IsRefusedOver, Meet};
 
 use crate::RebaseFault;
 use crate::entries::{all_begun, parcel_with};
@@ -34,7 +33,7 @@ fn joined_over(
     requires shifted { All IsShifted over.old.items }
     requires meet { Meet over.old.items (parcel_by_value mine.now) }
     ensures joined { IfOk result (λ made. IsJoinedOver over.old.items mine.now over.new.items made) }
-    ensures refused { IfErr result (λ why. (values : _) → IsRefusedAs (join_list (all_by_value values over.old.items) (parcel_by_value mine.now)) why) }
+    ensures refused { IfErr result (IsRefusedOver over.old.items mine.now) }
 {
     let mut entry = begun(alloc, mine.entry.txs.as_slice())?;
     rows(over, &mut entry)?;

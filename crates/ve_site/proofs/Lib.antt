@@ -4,4 +4,8 @@ mod StepLemmas
 mod UndoLemmas
 mod RedoLemmas
 mod SendLemmas
+mod TakenLemmas
+mod DropLemmas
+mod TakeLemmas
+mod FeedLemmas
 mod SiteExamples

@@ -1,5 +1,5 @@
 -- Sites with lists of letters.
-use Rattle.std.proofs.Common.{◌≡◌, ℕ, List, [], ◌∷◌, None, Some, codes, map, refl, arith}
+use Rattle.std.proofs.Common.{◌≡◌, ◌+◌, ℕ, List, [], ◌∷◌, None, Some, codes, map, refl, arith}
 use Rattle.std.proofs.lemmas.List.Elements.{All-nil}
 use Rattle.ve_base.specs.declared.value.Value.{Value}
 use Rattle.ve_base.specs.declared.value.Value.TheVariants.{White}
@@ -8,14 +8,18 @@ use Rattle.model_items.specs.declared.plain_item.PlainItem.TheVariants.{Char}
 use Rattle.model_change.specs.Transaction.{Retain, Replace, Transaction}
 use Rattle.model_edit.specs.Translate.{between}
 use Rattle.model_site.specs.Replica.{Replica}
+use Rattle.model_site.specs.Session.{Ack, Foreign}
 use Rattle.model_site.specs.Site.{Site, starting, undo, redo, send}
 use Rattle.model_site.specs.declared.site_fault.UndoFault.TheVariants as undo_why
 use Rattle.model_site.specs.declared.site_fault.RedoFault.TheVariants as redo_why
 use Rattle.model_site.specs.declared.site_fault.SendFault.TheVariants as send_why
 use Rattle.ve_tx.specs.declared.entry.Entry.{Entry}
+use Rattle.ve_tree.specs.TreeOf.{most_steps}
 use Rattle.ve_site.specs.Counted.{undoing, redoing}
+use Rattle.ve_site.specs.Dropped.{numbered_alike}
 use Rattle.ve_site.specs.Ground.{ground_of, as_opened, AreOver}
 use Rattle.ve_site.specs.Numbered.{site_of, with_site}
+use Rattle.ve_site.specs.Taking.{MayTake, steps_of_feed, steps_of_take, steps_to_take}
 use Rattle.ve_site.specs.Refusal.{IsUndoRefusal, IsRedoRefusal, IsSendRefusal}
 
 abbrev letters : List ℕ → List PlainItem
@@ -114,3 +118,36 @@ nothing_to_redo = refl
 
 on_its_way : IsSendRefusal (send in_flight) (send_why.InFlight 1)
 on_its_way = refl
+
+-- ---- takes
+
+answers_are_always_taken : MayTake (Ack 7) in_flight
+answers_are_always_taken = tt
+
+answers_count_nothing : steps_of_take (Ack 7) in_flight ≡ 0
+answers_count_nothing = refl
+
+-- a and d of the ground go
+abbrev all_gone : Transaction
+all_gone = Replace (letters (codes "ad")) [] ∷ []
+
+-- so b and c can't stay between them: both are taken back on a copy, the last one first
+both_are_dropped : steps_to_take (all_gone ∷ []) in_flight
+    ≡ (most_steps (letters (codes "abcd")) + (most_steps (letters (codes "abd")) + most_steps (letters (codes "ad")))) + most_steps []
+both_are_dropped = refl
+
+-- x before a is in nobody's way
+abbrev puts_first : Transaction
+puts_first = Replace [] (letters (codes "x")) ∷ Retain 2 ∷ []
+
+none_is_dropped : steps_to_take (puts_first ∷ []) in_flight ≡ most_steps (letters (codes "xabcd")) + 0
+none_is_dropped = refl
+
+alone_in_place : steps_of_take (Foreign ((puts_first ∷ []) ∷ [])) in_flight ≡ most_steps (letters (codes "xabcd")) + 0
+alone_in_place = refl
+
+two_on_a_copy : steps_of_feed ((puts_first ∷ []) ∷ [] ∷ []) (letters (codes "abcd")) ≡ most_steps (letters (codes "abcd"))
+two_on_a_copy = refl
+
+cuts_nothing_off : numbered_alike 5 (numbered 0 2) ≡ numbered 5 5
+cuts_nothing_off = refl

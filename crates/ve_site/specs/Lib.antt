@@ -1,6 +1,9 @@
 pub use Rattle.model_site.specs.Site
 pub use Rattle.model_site.specs.Replica
 pub use Rattle.model_site.specs.Entries
+pub use Rattle.model_site.specs.Joined
+pub use Rattle.model_site.specs.Take
+pub use Rattle.model_site.specs.Session
 pub use Rattle.model_site_law.specs.Sound
 pub use Rattle.model_site_law.specs.Holds
 pub use Rattle.model_site_law.specs.SelectionLaws
@@ -13,3 +16,5 @@ pub mod Ground
 pub mod Numbered
 pub mod Counted
 pub mod Refusal
+pub mod Taking
+pub mod Dropped

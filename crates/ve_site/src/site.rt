@@ -1,22 +1,27 @@
 // A site.
-ghost use Rattle.std.specs.Prelude.{◌≡◌, ◌≤◌, ◌+◌, ◌==◌, if◌then◌else◌, List, [], ◌∷◌, Ok, IfOk, IfErr, OnOk, OnErr};
+ghost use Rattle.std.specs.Prelude.{◌≡◌, ◌≤◌, ◌+◌, ◌==◌, if◌then◌else◌, List, [], ◌∷◌, Ok, length, IfOk, IfErr, OnOk, OnErr};
 ghost use Rattle.model_change.specs.Transaction.{Transaction, InsertedApart};
 ghost use Rattle.model_site.specs.Entries.{entry_of, reverted};
 ghost use Rattle.model_site.specs.Replica.{all_performed};
-ghost use Rattle.model_site.specs.Site.{edit, redo, send, starting, undo, with_entry, with_selection};
+ghost use Rattle.model_change.specs.Replay.{AllRun, flattened};
+ghost use Rattle.model_site.specs.Session.{site_after, taken_as};
+ghost use Rattle.model_site.specs.Site.{Site as ModelSite, edit, pending, redo, send, starting, undo, with_entry, with_selection};
+ghost use Rattle.model_site.specs.Take.{take_ack, take_entry, take_foreign};
 ghost use Rattle.model_site_law.specs.Sound.{AllMayRun, Sound};
 ghost use Rattle.model_site_law.specs.SelectionLaws.{StandsIn};
 
+use crate::pending::{admit_under, parted, renumbered};
 use crate::sent::parcels_of;
 use model_edit::Selection;
-use model_site::{EditFault, RedoFault, SendFault, UndoFault};
+use model_site::{EditFault, RedoFault, SendFault, Taken, UndoFault};
 use std::alloc::Global;
 use std::marker::Model;
 use std::sync::ledger::Ledger;
 use ve_base::{Memory, Steps};
 use ve_editor::Editor;
 use ve_history::History;
-use ve_server::Submit;
+use ve_rebase::{EntriesUnder, entries_under};
+use ve_server::{Feed, Parcels, Submit};
 use ve_tx::{Draft, Entry, EntryList, Parcel};
 
 /// A site: its editor, the entries that it sent and has no answer for, those that it has not sent, and what
@@ -62,7 +67,11 @@ impl Site {
     ghost use Rattle.ve_editor.specs.Refusal.{IsEditRefusal};
     ghost use Rattle.ve_editor.specs.Counted.{steps_after, steps_over};
     ghost use Rattle.ve_site.specs.Counted.{undoing, redoing};
-    ghost use Rattle.ve_server.specs.Fed.{submission_of};
+    ghost use Rattle.ve_server.specs.Fed.{feed_of, submission_of};
+    ghost use Rattle.ve_tree.specs.TreeOf.{most_steps};
+    ghost use Rattle.ve_tx.specs.ByValue.{parcel_by_value, ParcelCites};
+    ghost use Rattle.ve_site.specs.Ground.{ground_of};
+    ghost use Rattle.ve_site.specs.Taking.{MayTake, steps_of_feed, steps_of_take, steps_to_take, steps_to_take_all};
     ghost use Rattle.ve_site.specs.Numbered.{with_site};
     ghost use Rattle.ve_site.specs.Refusal.{IsUndoRefusal, IsRedoRefusal, IsSendRefusal};
     ghost use Rattle.model_site.specs.Refused.{edit_cause};
@@ -249,5 +258,158 @@ impl Site {
             base: self.seen,
             parcels,
         })
+    }
+
+    /// How many entries it has pending.
+    fn pending_len(&self) -> Result<usize, Memory>
+        ensures { IfOk result (λ count. count ≡ length (pending self.now.site)) }
+    {
+        match self.sent.len().checked_add(self.history.done().len()) {
+            Some(count) => Ok(count),
+            None => Err(Memory),
+        }
+    }
+
+    /// The same site with nothing undone.
+    fn copy<L: Ledger>(&self, steps: &mut Steps<L>) -> Result<Site, Memory>
+        ensures ok { IfOk result (λ copy. copy ≡ with_site (record self.now.site { undone = [] }) self.now) }
+        ensures counted { steps.old ≤ steps.new }
+        ensures steps { steps.new ≤ steps.old + most_steps self.now.site.replica.items }
+    {
+        let sent = EntryList::copy_of(self.alloc, self.sent.as_slice())?;
+        let done = EntryList::copy_of(self.alloc, self.history.done())?;
+        let editor = self.editor.copy(steps)?;
+        let mut history = History::new(self.alloc);
+        let _none = history.replace_done(done);
+        Ok(Site {
+            number: self.number,
+            editor,
+            seen: self.seen,
+            sent: sent.into_vec(),
+            history,
+            shared: self.shared,
+            in_flight: self.in_flight,
+            alloc: self.alloc,
+        })
+    }
+
+    /// Takes an entry of another site, and gives how many entries are still pending. An `Err` changes
+    /// nothing.
+    fn take_entry<L: Ledger>(
+        &mut self,
+        foreign: &Parcel,
+        steps: &mut Steps<L>,
+    ) -> Result<usize, Memory>
+        requires cites { ParcelCites foreign.now }
+        requires run { AllRun (parcel_by_value foreign.now) (ground_of self.old.site) }
+        ensures site { OnOk result (self.new ≡ with_site (take_entry (parcel_by_value foreign.now) self.old.site) self.old) }
+        ensures left { IfOk result (λ left. left ≡ length (pending self.new.site)) }
+        ensures kept { OnErr result (self.new ≡ self.old) }
+        ensures counted { steps.old ≤ steps.new }
+        ensures steps { steps.new ≤ steps.old + steps_to_take (parcel_by_value foreign.now) self.old.site }
+    {
+        let Some(seen) = self.seen.checked_add(1) else {
+            return Err(Memory);
+        };
+        let own_sent = self.sent.as_slice();
+        let own_unsent = self.history.done();
+        let EntriesUnder { committed, kept } = entries_under(
+            self.alloc, foreign, own_sent, own_unsent,
+        )?;
+        let left = kept.as_slice().len();
+        let (sent, unsent) = parted(self.alloc, kept, own_sent.len())?;
+        let stored = admit_under(
+            &mut self.editor,
+            own_sent,
+            own_unsent,
+            left,
+            &committed,
+            steps,
+        )?;
+        self.seen = seen;
+        self.sent = renumbered(sent, stored);
+        let done = EntryList::from_vec(renumbered(unsent, stored));
+        let _gone = self.history.replace_done(done);
+        self.history.clear_undone();
+        Ok(left)
+    }
+
+    /// Takes entries of other sites, one after the other, and gives how many entries are still pending. One
+    /// is taken in place, and more on a copy, so that an `Err` changes nothing.
+    fn take_foreign<L: Ledger>(
+        &mut self,
+        entries: &Parcels,
+        steps: &mut Steps<L>,
+    ) -> Result<usize, Memory>
+        requires run { AllRun (flattened entries.now) (ground_of self.old.site) }
+        ensures site { OnOk result (self.new ≡ with_site (take_foreign entries.now self.old.site) self.old) }
+        ensures left { IfOk result (λ left. left ≡ length (pending self.new.site)) }
+        ensures kept { OnErr result (self.new ≡ self.old) }
+        ensures counted { steps.old ≤ steps.new }
+        ensures steps { steps.new ≤ steps.old + (steps_of_feed entries.now self.old.site.replica.items + steps_to_take_all entries.now self.old.site) }
+    {
+        let parcels = entries.as_slice();
+        if parcels.len() == 1 {
+            return self.take_entry(&parcels[0], steps);
+        }
+        let mut taken = self.copy(steps)?;
+        let mut left = taken.pending_len()?;
+        for parcel in parcels {
+            left = taken.take_entry(parcel, steps)?;
+        }
+        *self = taken;
+        Ok(left)
+    }
+
+    /// Takes the answer to what it sent: the entries that it still holds as sent are committed. An `Err`
+    /// changes nothing.
+    fn acknowledge(&mut self) -> Result<(), Memory>
+        ensures site { OnOk result (self.new ≡ with_site (take_ack self.old.site) self.old) }
+        ensures kept { OnErr result (self.new ≡ self.old) }
+    {
+        let Some(seen) = self.seen.checked_add(self.sent.as_slice().len()) else {
+            return Err(Memory);
+        };
+        self.seen = seen;
+        self.sent.clear();
+        self.history.clear_undone();
+        self.in_flight = None;
+        Ok(())
+    }
+
+    /// Takes what the server sends next: entries of other sites, or the answer to what it sent. Nothing can
+    /// be redone then.
+    ///
+    /// Each entry of another site is performed over the pending entries, and these are joined over it. At the
+    /// first conflict that entry and all later ones are taken back first, the last one first, and dropped. It
+    /// is asked that these entries run one after the other from the ground, the list with the pending entries
+    /// taken back. An answer has no condition.
+    ///
+    /// Only memory can be short, which is also the answer where a joined transaction would be longer than a
+    /// transaction may be. An `Err` changes nothing.
+    pub fn take<L: Ledger>(&mut self, feed: &Feed, steps: &mut Steps<L>) -> Result<Taken, Memory>
+        requires may { MayTake (feed_of feed.now) self.old.site }
+        ensures site { OnOk result (self.new ≡ with_site (site_after (feed_of feed.now) self.old.site) self.old) }
+        ensures taken { IfOk result (λ taken. taken ≡ taken_as (feed_of feed.now) self.old.site self.new.site) }
+        ensures kept { OnErr result (self.new ≡ self.old) }
+        ensures counted { steps.old ≤ steps.new }
+        ensures steps { steps.new ≤ steps.old + steps_of_take (feed_of feed.now) self.old.site }
+    {
+        match feed {
+            Feed::Foreign(entries) => {
+                let pending = self.pending_len()?;
+                let left = self.take_foreign(entries, steps)?;
+                Ok(Taken::Foreign {
+                    entries: entries.len(),
+                    dropped: pending.saturating_sub(left),
+                })
+            }
+            Feed::Ack(accepted) => {
+                self.acknowledge()?;
+                Ok(Taken::Acked {
+                    accepted: *accepted,
+                })
+            }
+        }
     }
 }

@@ -6,7 +6,7 @@ use Rattle.ve_tx.specs.Operation.{by_value}
 use Rattle.ve_rebase.specs.Lists.{IsRefusedAs}
 use Rattle.ve_rebase.specs.Shifted.{AreWritten, all_by_value}
 use Rattle.ve_rebase.specs.Under.{WereJoined}
-use Rattle.ve_rebase.proofs.UnderLemmas.{UnderSoFar, under_begun, under_meets, under_next, under_clash, under_done}
+use Rattle.ve_rebase.proofs.UnderLemmas.{found, UnderSoFar, under_begun, under_meets, under_next, under_clash, under_done}
 use Rattle.ve_rebase.proofs.under.joined_all.Goals as goal
 
 pub loop-i-init : goal.loop-i-init
@@ -23,7 +23,7 @@ joined_under-requires-clause-meet c =
     let both = c.args.sent.now ++ c.args.unsent.now in
     let size = length-append c.args.sent.now c.args.unsent.now in
     let within : c.loop-i.i < length both = omega (arith, size, c.in-Some.ensures.1, c.loop-i-test.true) in
-    under_meets c.args.foreign.now both c.loop-i.over.items c.loop-i.kept c.loop-i.i c.entry_in.result.now c.loop-i.invariant within c.entry_in.ensures
+    under_meets c.args.foreign.now both c.loop-i.over.items c.loop-i.kept c.loop-i.i c.entry_in.result.now c.loop-i.invariant within (found both c.loop-i.i c.entry_in.result.now c.entry_in.ensures)
 
 pub returns-in-Err-Conflict : goal.returns-in-Err-Conflict
 returns-in-Err-Conflict c =
@@ -34,7 +34,7 @@ returns-in-Err-Conflict c =
     let refused = subst (λ why. (values : List (List Value)) (others : List Value) → IsRefusedAs (join_list (all_by_value values c.loop-i.over.items) (map (by_value others) one.txs)) why)
     c.in-Err-Conflict.field-0-is c.in-Err-Conflict.ensures.refused in
     subst (λ over. WereJoined c.args.foreign.now both over c.loop-i.kept) (sym c.in-Err-Conflict.ensures.kept)
-    (under_clash c.args.foreign.now both c.loop-i.over.items c.loop-i.kept c.loop-i.i one c.loop-i.invariant within c.entry_in.ensures
+    (under_clash c.args.foreign.now both c.loop-i.over.items c.loop-i.kept c.loop-i.i one c.loop-i.invariant within (found both c.loop-i.i c.entry_in.result.now c.entry_in.ensures)
     (record { committed = c.in-Err-Conflict.field-0-0; mine = c.in-Err-Conflict.field-0-1 }) refused)
 
 pub loop-i-preserved : goal.loop-i-preserved
@@ -43,7 +43,7 @@ loop-i-preserved c =
     let size = length-append c.args.sent.now c.args.unsent.now in
     let within : c.loop-i.i < length both = omega (arith, size, c.in-Some.ensures.1, c.loop-i-test.true) in
     subst (λ kept. UnderSoFar c.args.foreign.now both c.joined_under.new.over.items kept (c.loop-i.i + 1)) (sym c.in_ok-push-in-Ok.ensures.ok)
-    (under_next c.args.foreign.now both c.loop-i.over.items c.loop-i.kept c.loop-i.i c.entry_in.result.now c.loop-i.invariant within c.entry_in.ensures
+    (under_next c.args.foreign.now both c.loop-i.over.items c.loop-i.kept c.loop-i.i c.entry_in.result.now c.loop-i.invariant within (found both c.loop-i.i c.entry_in.result.now c.entry_in.ensures)
     c.joined_under.new.over.items c.in-Ok.made c.in-Ok.ensures.joined)
 
 pub returns : goal.returns

@@ -1,0 +1,111 @@
+// Pending entries under an entry of another site.
+ghost use Rattle.std.specs.Prelude.{◌≡◌, ◌≤◌, ◌+◌, ◌++◌, length, map, take, drop, IfOk, OnOk, OnErr};
+ghost use Rattle.model_site.specs.Entries.{all_reverted};
+ghost use Rattle.ve_tx.specs.ByValue.{parcel_by_value, ParcelCites};
+ghost use Rattle.ve_editor.specs.Edited.{AllStand, entry_by_value};
+ghost use Rattle.ve_site.specs.Dropped.{AreDropped, IsAdmitted, IsStack, numbered_alike};
+ghost use Rattle.ve_site.specs.Taking.{steps_back, steps_under};
+
+use std::alloc::Global;
+use std::sync::ledger::Ledger;
+use ve_base::{Memory, Steps};
+use ve_editor::Editor;
+use ve_rebase::entry_in;
+use ve_tx::{Entry, EntryList, Parcel};
+
+/// Takes back all entries but the first so many, the last one first. An `Err` may leave some of them taken
+/// back.
+fn take_back<L: Ledger>(
+    editor: &mut Editor,
+    sent: &[Entry],
+    unsent: &[Entry],
+    count: usize,
+    left: usize,
+    steps: &mut Steps<L>,
+) -> Result<(), Memory>
+    requires stack { IsStack editor.old (sent.now ++ unsent.now) }
+    requires count { count ≡ length (sent.now ++ unsent.now) }
+    requires left { left ≤ count }
+    ensures dropped { OnOk result (AreDropped editor.old (take left (sent.now ++ unsent.now)) (drop left (sent.now ++ unsent.now)) editor.new) }
+    ensures counted { steps.old ≤ steps.new }
+    ensures steps { steps.new ≤ steps.old + steps_back (map (entry_by_value editor.old.store) (drop left (sent.now ++ unsent.now))) editor.old }
+{
+    let mut at = count;
+    while at > left {
+        at -= 1;
+        editor.revert(entry_in(sent, unsent, at), steps)?;
+    }
+    Ok(())
+}
+
+/// Takes back all entries but the first so many, and performs a parcel then. It gives how many values the
+/// store has after that. Where none is taken back it is done in place, and else on a copy, so that an `Err`
+/// changes nothing.
+pub fn admit_under<L: Ledger>(
+    editor: &mut Editor,
+    sent: &[Entry],
+    unsent: &[Entry],
+    left: usize,
+    committed: &Parcel,
+    steps: &mut Steps<L>,
+) -> Result<usize, Memory>
+    requires stack { IsStack editor.old (sent.now ++ unsent.now) }
+    requires left { left ≤ length (sent.now ++ unsent.now) }
+    requires cites { ParcelCites committed.now }
+    requires stands { AllStand (parcel_by_value committed.now) (all_reverted (map (entry_by_value editor.old.store) (drop left (sent.now ++ unsent.now))) editor.old).items }
+    ensures admitted { OnOk result (IsAdmitted editor.old (sent.now ++ unsent.now) left (parcel_by_value committed.now) editor.new) }
+    ensures stored { IfOk result (λ stored. stored ≡ length editor.new.store) }
+    ensures kept { OnErr result (editor.new ≡ editor.old) }
+    ensures counted { steps.old ≤ steps.new }
+    ensures steps { steps.new ≤ steps.old + steps_under (map (entry_by_value editor.old.store) (drop left (sent.now ++ unsent.now))) (parcel_by_value committed.now) editor.old }
+{
+    let Some(count) = sent.len().checked_add(unsent.len()) else {
+        return Err(Memory);
+    };
+    if left == count {
+        let entry = editor.admit(committed, steps)?;
+        return Ok(entry.store_after);
+    }
+    let mut other = editor.copy(steps)?;
+    take_back(&mut other, sent, unsent, count, left, steps)?;
+    let last = other.admit(committed, steps)?;
+    *editor = other;
+    Ok(last.store_after)
+}
+
+/// Entries parted at a place.
+pub fn parted(
+    alloc: Global,
+    entries: EntryList,
+    at: usize,
+) -> Result<(Vec<Entry>, Vec<Entry>), Memory>
+    ensures first { IfOk result (λ two. two.0.items ≡ take at entries) }
+    ensures second { IfOk result (λ two. two.1.items ≡ drop at entries) }
+{
+    let mut first = Vec::new(alloc);
+    let mut second = Vec::new(alloc);
+    let all = entries.into_vec();
+    // its type keeps that it counts its members, which `as_slice` tells
+    let _lent = all.as_slice();
+    for entry in all {
+        let count = first.as_slice().len();
+        if count == at {
+            second.push(entry)?;
+            continue;
+        }
+        first.push(entry)?;
+    }
+    Ok((first, second))
+}
+
+/// The same entries with one number as both of theirs: taking one of them back cuts nothing off a store of so
+/// many values.
+pub fn renumbered(mut entries: Vec<Entry>, stored: usize) -> Vec<Entry>
+    ensures { result.items ≡ map (numbered_alike stored) entries.items }
+{
+    for entry in entries.iter_mut() {
+        entry.store_before = stored;
+        entry.store_after = stored;
+    }
+    entries
+}
