@@ -13,6 +13,8 @@ mod laws;
 mod page;
 mod parts;
 mod place;
+#[cfg(test)]
+mod tests;
 mod words;
 
 pub use laws::replies_are_as_asked;

@@ -1,0 +1,106 @@
+// What no clause says: that each call answers where there is memory. The texts are those of the script's replies.
+ghost use Rattle.std.specs.Prelude.{◌≡◌, ◌∷◌, [], false, All, None, IfOk};
+ghost use Rattle.ve_kinds.specs.declared.kind.Kind.TheVariants as kinds;
+ghost use Rattle.model_items.specs.declared.item.Item.TheVariants as item;
+ghost use Rattle.model_items.specs.Plain.{CitesWell};
+ghost use Rattle.ve_offsets.specs.Docs.{IsDoc};
+
+use super::*;
+use model_edit::Selection;
+use std::alloc::Global;
+use std::marker::Brand;
+use std::sync::ledger::{Blank, Ledger};
+use std::test::Fail;
+use ve_base::{Bytes, Memory, Steps};
+use ve_items::Linear;
+use ve_kinds::Kind;
+use ve_offsets::Doc;
+use ve_replies::reply_text;
+use ve_samples::{closing, letter, opening};
+use ve_store::Store;
+use ve_tree::Tree;
+
+/// A paragraph of two letters, and the internal list.
+fn paragraph(alloc: Global) -> Result<Linear, Memory>
+    ensures { IfOk result (λ list. list.items ≡ item.Opening kinds.P false None None None None ∷ item.Char 97 None ∷ item.Char 98 None ∷ item.Closing kinds.P None
+        ∷ item.Opening kinds.InternalList false None None None None ∷ item.Closing kinds.InternalList None ∷ []) }
+{
+    let mut list = Linear::new(alloc);
+    list.extend(&[
+        opening(Kind::P),
+        letter('a'),
+        letter('b'),
+        closing(Kind::P),
+        opening(Kind::InternalList),
+        closing(Kind::InternalList),
+    ])?;
+    Ok(list)
+}
+
+fn spell_parts(alloc: Global, doc: Doc<'_>, out: &mut Bytes) -> Result<(), Memory>
+    requires doc { IsDoc doc }
+    requires cites { All (CitesWell doc.store.now) doc.list.now.items }
+{
+    for (from, to) in [
+        (0, None),
+        (1, Some(3)),
+        (2, Some(2)),
+        (3, Some(2)),
+        (0, Some(7)),
+    ] {
+        reply_text(alloc, &items(doc, from, to), out)?;
+    }
+    reply_text(alloc, &tree(alloc, doc)?, out)?;
+    for at in [0, 2, 6, 7] {
+        reply_text(alloc, &node(doc, at), out)?;
+    }
+    reply_text(alloc, &refs(alloc, doc)?, out)
+}
+
+/// The answers of the paragraph, but for the page.
+fn spelled<L: Ledger>(rt: &HostRuntime, blank: Blank) -> Result<Bytes, Fail>
+    requires name { blank.name ≡ L.name }
+    requires parts { blank.parts ≡ L.parts }
+    requires one { blank.parts ≡ 1 }
+{
+    let alloc = rt.alloc();
+    let mut steps = Steps::<L>::start(rt, blank);
+    let list = paragraph(alloc)?;
+    let store = Store::new(alloc);
+    let tree = Tree::build(alloc, &list, &mut steps)?;
+    let doc = Doc {
+        list: &list,
+        tree: &tree,
+        store: &store,
+    };
+    let mut out = Bytes::new(alloc);
+    spell_parts(alloc, doc, &mut out)?;
+    let selection = Selection {
+        anchor: 3,
+        focus: 1,
+    };
+    reply_text(alloc, &caret(selection), &mut out)?;
+    Ok(out)
+}
+
+const SPELLED: &str =
+    "ok [{\"open\":\"p\"},\"ab\",{\"close\":\"p\"},{\"open\":\"internal_list\"},{\"close\":\"internal_list\"}]
+ok [\"ab\"]
+ok []
+no bad_range 3 2
+no bad_range 0 7
+ok (root (p 2) (internal_list))
+ok root 0 6 structural
+ok p 0 4 content
+ok root 0 6 structural
+no bad_offset 7
+ok []
+ok 3 1
+";
+
+#[test]
+fn a_paragraph_is_answered(rt: HostRuntime) -> Result<(), Fail> {
+    let out = spelled::<Brand>(&rt, Blank::new(1))?;
+    assert!(rt; out.as_slice() == SPELLED.as_bytes());
+    Ok(())
+}
