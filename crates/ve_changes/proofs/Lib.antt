@@ -1,0 +1,3 @@
+pub mod DraftLemmas
+pub mod DraftExamples
+pub mod MoveLemmas

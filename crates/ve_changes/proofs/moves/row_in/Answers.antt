@@ -1,0 +1,10 @@
+use Rattle.model_edit.specs.Tables.{row_in}
+use Rattle.model_world.specs.Refusals.{table_refusal}
+use Rattle.ve_offsets.specs.Docs.{page_items}
+use Rattle.ve_changes.proofs.DraftLemmas.{of_store}
+use Rattle.ve_changes.proofs.moves.row_in.Goals as goal
+
+pub returns : goal.returns
+returns c =
+    let is = c.in_ok-tx.ensures in
+    of_store table_refusal c.args.doc.store.now (row_in (page_items c.args.doc) c.args.at c.args.row) c.new-values.result c.in_ok-tx.tx c.new-values.ensures is.means is.cites

@@ -1,0 +1,12 @@
+pub use Rattle.model_items.specs.Plain
+pub use Rattle.model_change.specs.Transaction
+pub use Rattle.model_world.specs.Edits
+pub use Rattle.model_world.specs.Refusals
+pub use Rattle.model_world.specs.Answers
+pub use Rattle.ve_tx.specs.Operation
+pub use Rattle.ve_offsets.specs.Docs
+pub use Rattle.ve_editor.specs.Page
+pub use Rattle.ve_editor.specs.Edited
+pub mod Stops
+pub mod Drafts
+pub mod Moves

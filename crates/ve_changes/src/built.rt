@@ -1,0 +1,155 @@
+// The draft of each builder's transaction, or the refusal that its fault is.
+ghost use Rattle.std.specs.Str.{chars};
+ghost use Rattle.model_edit.specs.Convert.{convert};
+ghost use Rattle.model_edit.specs.Insert.{split};
+ghost use Rattle.model_edit.specs.Marking.{marking, unmarking};
+ghost use Rattle.model_edit.specs.Remove.{removal};
+ghost use Rattle.model_edit.specs.Wrap.{wrap};
+ghost use Rattle.model_world.specs.Edits.{built};
+ghost use Rattle.ve_build_insert.specs.Typed.{text_meant, plain_text_meant};
+ghost use Rattle.ve_build_shape.specs.Setting.{attribute_spelled};
+ghost use Rattle.ve_editor.specs.Page.{IsPage};
+ghost use Rattle.ve_offsets.specs.Docs.{page_items};
+ghost use Rattle.ve_changes.specs.Drafts.{Drafts};
+
+use crate::DraftStop;
+use model_edit::WrapPlan;
+use std::alloc::Global;
+use ve_base::Mark;
+use ve_build_insert::{plain_text_insertion, split, text_insertion};
+use ve_build_remove::removal;
+use ve_build_shape::{attribute, convert, marking, unmarking};
+use ve_build_wrap::wrap;
+use ve_kinds::Kind;
+use ve_offsets::Doc;
+use ve_store::NewValues;
+use ve_tx::Draft;
+
+/// A text put in with the marks of what stands to the left.
+pub fn text_like_left(
+    alloc: Global,
+    doc: Doc<'_>,
+    at: usize,
+    text: &str,
+) -> Result<Draft, DraftStop>
+    requires page { IsPage doc.store.now doc.list.now.items doc.tree.now }
+    ensures { Drafts doc.entry.store.now (built (text_meant doc.entry at text.now)) result }
+{
+    let mut values = NewValues::new(alloc, doc.store);
+    let tx = text_insertion(alloc, doc, at, text, &mut values)?;
+    Ok(Draft { tx, values })
+}
+
+/// A text put in without marks.
+pub fn plain_text(alloc: Global, doc: Doc<'_>, at: usize, text: &str) -> Result<Draft, DraftStop>
+    requires page { IsPage doc.store.now doc.list.now.items doc.tree.now }
+    ensures { Drafts doc.entry.store.now (built (plain_text_meant doc.entry at text.now)) result }
+{
+    let mut values = NewValues::new(alloc, doc.store);
+    let tx = plain_text_insertion(alloc, doc, at, text, &mut values)?;
+    Ok(Draft { tx, values })
+}
+
+/// Open nodes split at an offset.
+pub fn split_draft(alloc: Global, doc: Doc<'_>, at: usize, depth: usize) -> Result<Draft, DraftStop>
+    requires page { IsPage doc.store.now doc.list.now.items doc.tree.now }
+    ensures { Drafts doc.entry.store.now (built (split (page_items doc.entry) at depth)) result }
+{
+    let mut values = NewValues::new(alloc, doc.store);
+    let tx = split(alloc, doc, at, depth, &mut values)?;
+    Ok(Draft { tx, values })
+}
+
+/// A range removed.
+pub fn removal_draft(
+    alloc: Global,
+    doc: Doc<'_>,
+    from: usize,
+    to: usize,
+) -> Result<Draft, DraftStop>
+    requires page { IsPage doc.store.now doc.list.now.items doc.tree.now }
+    ensures { Drafts doc.entry.store.now (built (removal (page_items doc.entry) from to)) result }
+{
+    let tx = removal(alloc, doc, from, to)?;
+    let values = NewValues::new(alloc, doc.store);
+    Ok(Draft { tx, values })
+}
+
+/// A mark set on a range.
+pub fn marking_draft(
+    alloc: Global,
+    doc: Doc<'_>,
+    from: usize,
+    to: usize,
+    mark: &Mark,
+) -> Result<Draft, DraftStop>
+    requires page { IsPage doc.store.now doc.list.now.items doc.tree.now }
+    ensures { Drafts doc.entry.store.now (built (marking (page_items doc.entry) from to mark.now)) result }
+{
+    let mut values = NewValues::new(alloc, doc.store);
+    let tx = marking(alloc, doc, from, to, mark, &mut values)?;
+    Ok(Draft { tx, values })
+}
+
+/// A mark taken off a range.
+pub fn unmarking_draft(
+    alloc: Global,
+    doc: Doc<'_>,
+    from: usize,
+    to: usize,
+    mark: &Mark,
+) -> Result<Draft, DraftStop>
+    requires page { IsPage doc.store.now doc.list.now.items doc.tree.now }
+    ensures { Drafts doc.entry.store.now (built (unmarking (page_items doc.entry) from to mark.now)) result }
+{
+    let mut values = NewValues::new(alloc, doc.store);
+    let tx = unmarking(alloc, doc, from, to, mark, &mut values)?;
+    Ok(Draft { tx, values })
+}
+
+/// Brackets put round a range of siblings, and taken off it.
+pub fn wrap_draft(
+    alloc: Global,
+    doc: Doc<'_>,
+    from: usize,
+    to: usize,
+    plan: &WrapPlan,
+) -> Result<Draft, DraftStop>
+    requires page { IsPage doc.store.now doc.list.now.items doc.tree.now }
+    ensures { Drafts doc.entry.store.now (built (wrap (page_items doc.entry) from to plan.now)) result }
+{
+    let mut values = NewValues::new(alloc, doc.store);
+    let tx = wrap(alloc, doc, from, to, plan, &mut values)?;
+    Ok(Draft { tx, values })
+}
+
+/// A branch of content with another kind.
+pub fn conversion_draft(
+    alloc: Global,
+    doc: Doc<'_>,
+    at: usize,
+    kind: Kind,
+) -> Result<Draft, DraftStop>
+    requires page { IsPage doc.store.now doc.list.now.items doc.tree.now }
+    ensures { Drafts doc.entry.store.now (built (convert (page_items doc.entry) at kind)) result }
+{
+    let tx = convert(alloc, doc, at, kind)?;
+    let values = NewValues::new(alloc, doc.store);
+    Ok(Draft { tx, values })
+}
+
+/// An attribute set, or taken off.
+pub fn attribute_draft(
+    alloc: Global,
+    doc: Doc<'_>,
+    at: usize,
+    name: &str,
+    to: Option<&str>,
+) -> Result<Draft, DraftStop>
+    requires page { IsPage doc.store.now doc.list.now.items doc.tree.now }
+    ensures { Drafts doc.entry.store.now (built (attribute_spelled (page_items doc.entry) at name.now to.entry)) result }
+{
+    let tx = attribute(alloc, doc, at, name, to)?;
+    let values = NewValues::new(alloc, doc.store);
+    Ok(Draft { tx, values })
+}

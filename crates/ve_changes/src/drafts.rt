@@ -1,0 +1,79 @@
+// Changes as drafts.
+ghost use Rattle.std.specs.Prelude.{◌≡◌, true, IfOk, IfErr};
+ghost use Rattle.std.specs.Str.{chars};
+ghost use Rattle.model_world.specs.Edits.{built, change_of, text_typed};
+ghost use Rattle.ve_build_shape.specs.Setting.{value_spelled};
+ghost use Rattle.ve_editor.specs.Page.{IsPage};
+ghost use Rattle.ve_offsets.specs.Docs.{page_items};
+ghost use Rattle.ve_changes.specs.Stops.{IsRefused};
+ghost use Rattle.ve_changes.specs.Drafts.{Drafts, IsDrafted, has_draft};
+
+use crate::DraftStop;
+use crate::built::{
+    attribute_draft, conversion_draft, marking_draft, plain_text, removal_draft, split_draft,
+    text_like_left, unmarking_draft, wrap_draft,
+};
+use model_world::{Change, TextMarks};
+use std::alloc::Global;
+use ve_base::Text;
+use ve_offsets::Doc;
+use ve_tx::Draft;
+
+/// Whether a change has a builder so far: all but `insert` and `apply`.
+pub fn is_drafted(change: &Change) -> bool
+    ensures { result ≡ has_draft change.now }
+{
+    !matches!(change, Change::Insert { .. } | Change::Apply { .. })
+}
+
+/// A text put in, with the marks that are asked for.
+fn typed(
+    alloc: Global,
+    doc: Doc<'_>,
+    at: usize,
+    text: &Text,
+    marks: TextMarks,
+) -> Result<Draft, DraftStop>
+    requires page { IsPage doc.store.now doc.list.now.items doc.tree.now }
+    ensures { Drafts doc.entry.store.now (built (text_typed marks (page_items doc.entry) at text.now)) result }
+{
+    match marks {
+        TextMarks::Left => text_like_left(alloc, doc, at, text.as_str()),
+        TextMarks::Plain => plain_text(alloc, doc, at, text.as_str()),
+    }
+}
+
+/// The value of an attribute as it is spelled, if there is one.
+fn spelled(value: &Option<Text>) -> Option<&str>
+    ensures { value_spelled result ≡ value.now }
+{
+    match value {
+        Some(text) => Some(text.as_str()),
+        None => None,
+    }
+}
+
+/// The draft that a change of a page is, over the page's store. Its values follow the store's, and are just those that the
+/// store takes. Nothing is performed.
+///
+/// It is refused as the change's builder refuses, with the place, the range or the depth that the builder names.
+pub fn change_draft(alloc: Global, doc: Doc<'_>, change: &Change) -> Result<Draft, DraftStop>
+    requires drafted { has_draft change.now ≡ true }
+    requires page { IsPage doc.store.now doc.list.now.items doc.tree.now }
+    ensures ok { IfOk result (IsDrafted doc.entry.store.now (change_of (page_items doc.entry) change.now)) }
+    ensures refused { IfErr result (λ why. IsRefused why (change_of (page_items doc.entry) change.now)) }
+{
+    match change {
+        Change::Text { at, text, marks } => typed(alloc, doc, *at, text, *marks),
+        Change::Remove { from, to } => removal_draft(alloc, doc, *from, *to),
+        Change::Split { at, depth } => split_draft(alloc, doc, *at, *depth),
+        Change::Mark { from, to, mark } => marking_draft(alloc, doc, *from, *to, mark),
+        Change::Unmark { from, to, mark } => unmarking_draft(alloc, doc, *from, *to, mark),
+        Change::Wrap { from, to, plan } => wrap_draft(alloc, doc, *from, *to, plan),
+        Change::Convert { at, kind } => conversion_draft(alloc, doc, *at, *kind),
+        Change::Attr { at, name, to } => {
+            attribute_draft(alloc, doc, *at, name.as_str(), spelled(to))
+        }
+        Change::Insert { .. } | Change::Apply { .. } => unreachable!(),
+    }
+}
