@@ -18,7 +18,7 @@ use ve_write::write;
 /// weren't would be answered as a want of memory.
 ///
 /// It is asked that the references of the list are editable, and that the page that was first read stands over the
-/// values of this one: each of its rows is the range of a node, and each origin in the list is the number of a row.
+/// values of this one: each of its rows is the range of a node, and each origin in its list is the number of a row.
 pub fn html<'a, 'b>(
     alloc: Global,
     origins: &'a Origins<'a>,
@@ -27,7 +27,7 @@ pub fn html<'a, 'b>(
     requires doc { IsDoc doc }
     requires cites { All (CitesWell doc.store.now) doc.list.now.items }
     requires refers { all_refer (page_items doc) ≡ true }
-    requires first { IsFirst doc.store.now doc.list.now.items origins.now }
+    requires first { IsFirst doc.store.now origins.now }
     ensures reply { IfOk result (λ answer. reply_of answer ≡ html_reply (opened_over doc.entry.store.now origins.entry.now) (page_items doc.entry)) }
     ensures cites { IfOk result AnswerCites }
 {

@@ -48,17 +48,17 @@ original_in w Empty = None
 original_in w (Letter c marks later) = None
 original_in w (Node start inside pre later) = w.original start (node_items start inside pre)
 
--- The page that was first read stands over these values: each origin's node is the range of its row, and the table is that of its list. The
--- origins of the list that is written are among its rows.
-pub record IsFirst (values : List Value) (items : List Item) (o : FirstRead) : Type 0 where
+-- The page that was first read stands over these values: each origin's node is the range of its row, each origin in its list has a row, and the
+-- table is that of its list.
+pub record IsFirst (values : List Value) (o : FirstRead) : Type 0 where
   pub cites : All (CitesWell values) o.items
   pub ranges : (k : ℕ) (row : OriginRow) → slice_get o.rows k ≡ Some row → IsNodeRange (plain_list values o.items) k row.from row.to
   pub refs : o.refs ≡ table (plain_list values o.items)
-  pub numbered : (at k : ℕ) → origin_of (drop at (plain_list values items)) ≡ Some k → k < length o.rows
+  pub numbered : (at k : ℕ) → origin_of (drop at (plain_list values o.items)) ≡ Some k → k < length o.rows
 
 -- The list is lawful, and the table is that of its references.
 pub record IsLent (values : List Value) (items : List Item) (refs : List RefRow) (o : FirstRead) : Type 0 where
-  pub first : IsFirst values items o
+  pub first : IsFirst values o
   pub lawful : Lawful (plain_list values items)
   pub rows : refs ≡ table (plain_list values items)
 

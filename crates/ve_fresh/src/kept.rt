@@ -24,6 +24,10 @@ pub fn original_at<'b>(page: Page<'_, 'b>, at: usize, origin: Option<u32>) -> Op
     let Some(k) = origin else {
         return None;
     };
+    // the page had no such origin, so none of its nodes has it
+    if k as usize >= first.origins.len() {
+        return None;
+    }
     if !first.origins.kept(k, page.list, at, page.refs) {
         return None;
     }

@@ -1,2 +1,4 @@
-pub mod Line
-pub mod Spelled
+pub use Rattle.model_world.specs.Commands
+pub use Rattle.model_world.specs.Spelled
+pub use Rattle.ve_replies.specs.Answers
+pub mod SoFar

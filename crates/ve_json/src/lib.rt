@@ -1,22 +1,17 @@
-//! What a script's lines ask, and how replies are spelled.
+//! The words of a script: what its lines ask, and how its replies are spelled.
 //!
-//! It knows three commands, `open`, `text` and `html`, and their replies, and nothing of pages or of the world that
-//! answers. What JSON value a line is, and which number a value is, it takes from `model_world`. Its own definitions, in
-//! reading order:
+//! It joins what reads lines (`ve_commands`) with what spells replies (`ve_replies`), and passes both on: [`command`] and
+//! [`reply_text`], with the types that they speak of. It adds the one answer that is no reply of the script, to a line
+//! that asks what isn't answered yet. It knows nothing of pages, and doesn't say when a reply is given. Its own
+//! definition:
 //!
-//! - `Line`: the command that a line asks, or why it asks none;
-//! - `Spelled`: the text of a reply.
-//!
-//! It stands in for the whole script: with whole pages it reads and spells all of `model_world`'s commands and replies,
-//! and its own three types go.
+//! - `SoFar`: what a line is answered so far, and its text.
 #![tactic(auto)]
 
-mod commands;
-mod line;
-mod reply;
+mod not_yet;
 #[cfg(test)]
 mod tests;
 
-pub use commands::Command;
-pub use line::{LineFault, command};
-pub use reply::{Refusal, Reply, reply_text};
+pub use not_yet::not_yet_text;
+pub use ve_commands::{Change, Command, CommandFault, Field, Refusal, Request, command};
+pub use ve_replies::{Answer, reply_text};

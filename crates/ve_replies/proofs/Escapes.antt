@@ -4,7 +4,7 @@ use Rattle.std.proofs.lemmas.Grind.{flat_map-append}
 use Rattle.std.proofs.lemmas.List.{take_more}
 use Rattle.std.specs.Char.{digit_char}
 use Rattle.json.specs.Print.{escape_letter, escape_byte, escape}
-use Rattle.ve_replies.specs.Pieces.{is_escaped, IsPlain}
+use Rattle.ve_replies.specs.Pieces.{is_escaped, IsUnescaped}
 
 -- ---- one byte
 
@@ -48,8 +48,8 @@ escape-plain b h = sym (no_escape b 0 (no_letter b h) (λ n. omega arith) (not_c
 
 -- ---- bytes
 
-pub IsPlain-more : (bytes : List ℕ) (at : ℕ) → at < length bytes → IsPlain (take at bytes) → is_escaped (get_or bytes at 0) ≡ false → IsPlain (take (at + 1) bytes)
-IsPlain-more bytes at l h k =
+pub IsUnescaped-more : (bytes : List ℕ) (at : ℕ) → at < length bytes → IsUnescaped (take at bytes) → is_escaped (get_or bytes at 0) ≡ false → IsUnescaped (take (at + 1) bytes)
+IsUnescaped-more bytes at l h k =
     let last = get_or bytes at 0 in
     ap escape (take_more bytes at 0 l)
     ∙ flat_map-append escape_byte (take at bytes) (last ∷ [])
@@ -58,7 +58,7 @@ IsPlain-more bytes at l h k =
     ∙ sym (take_more bytes at 0 l)
 
 -- one escape further
-pub escape-further : (out plain rest more : List ℕ) (byte : ℕ) → IsPlain plain → rest ≡ plain ++ byte ∷ more → ((out ++ plain) ++ escape_byte byte) ++ escape more ≡ out ++ escape rest
+pub escape-further : (out plain rest more : List ℕ) (byte : ℕ) → IsUnescaped plain → rest ≡ plain ++ byte ∷ more → ((out ++ plain) ++ escape_byte byte) ++ escape more ≡ out ++ escape rest
 escape-further out plain rest more byte h e =
     append_assoc (out ++ plain) (escape_byte byte) (escape more)
     ∙ append_assoc out plain (escape_byte byte ++ escape more)

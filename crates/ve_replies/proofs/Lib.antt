@@ -1,3 +1,4 @@
+pub mod BracketExamples
 pub mod Escapes
 pub mod MemberLemmas
 pub mod RangeLemmas

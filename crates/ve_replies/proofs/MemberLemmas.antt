@@ -13,7 +13,7 @@ use Rattle.ve_base.specs.declared.head.RefKey.{RefKey}
 use Rattle.ve_kinds.specs.declared.kind.Kind.{Kind}
 use Rattle.model_world.specs.Names.{kind_name}
 use Rattle.model_world.specs.Shown.{with_text, with_attrs, with_marks, with_flag, with_origin, with_reference, opening_shown, closing_shown, json_text, json_number, key_shown}
-use Rattle.ve_replies.specs.Members.{before_text, after_text, some_string, some_attrs, some_marks, some_flag, later_text, opening_text, closing_text}
+use Rattle.ve_replies.specs.Members.{member_and_comma, comma_and_member, some_string, some_attrs, some_marks, some_flag, later_text, opening_json, closing_json}
 
 -- ---- members in order
 
@@ -46,7 +46,7 @@ option_before k name (Some value) ms less b = put_before k name value ms less b
 
 -- a member that comes first after another
 after_is : (name : List ℕ) (o : Option Data) (ms : Members) → Before name ms →
-    members_text true (with_option name o ms) ≡ after_text name o ++ members_text true ms
+    members_text true (with_option name o ms) ≡ comma_and_member name o ++ members_text true ms
 after_is name None ms b = refl
 after_is name (Some value) ms b =
     ap (members_text true) (put_first name value ms b) ∙ ap (λ s. 44 ∷ s) (sym (append_assoc (quoted name) (58 ∷ compact_text value) (members_text true ms)))
@@ -63,7 +63,7 @@ option_some name (Some value) ms b some =
 
 -- a member that comes first before another
 before_is : (name : List ℕ) (o : Option Data) (ms : Members) → Before name ms → HasSome ms →
-    members_text false (with_option name o ms) ≡ before_text name o ++ members_text false ms
+    members_text false (with_option name o ms) ≡ member_and_comma name o ++ members_text false ms
 before_is name None ms b some = refl
 before_is name (Some value) ms b some =
     let text = compact_text value in
@@ -145,24 +145,24 @@ all_some (m ∷ later) ms rise some =
     option_some m.0 m.1 (members_of later ms) (all_before m.0 later ms rise.0 rise.1) (all_some later ms rise.2 some)
 
 abbrev after_all : List Optional → List ℕ
-after_all several = flat_map (λ (m : Optional). after_text m.0 m.1) several
+after_all several = flat_map (λ (m : Optional). comma_and_member m.0 m.1) several
 
 all_after : (several : List Optional) → Rise several no_members → members_text true (members_of several no_members) ≡ after_all several ++ 125 ∷ []
 all_after [] rise = refl
 all_after (m ∷ later) rise =
     after_is m.0 m.1 (members_of later no_members) (all_before m.0 later no_members rise.0 tt)
-    ∙ ap (λ s. after_text m.0 m.1 ++ s) (all_after later rise.2)
-    ∙ sym (append_assoc (after_text m.0 m.1) (after_all later) (125 ∷ []))
+    ∙ ap (λ s. comma_and_member m.0 m.1 ++ s) (all_after later rise.2)
+    ∙ sym (append_assoc (comma_and_member m.0 m.1) (after_all later) (125 ∷ []))
 
 abbrev before_each : List Optional → List ℕ
-before_each several = flat_map (λ (m : Optional). before_text m.0 m.1) several
+before_each several = flat_map (λ (m : Optional). member_and_comma m.0 m.1) several
 
 each_before : (several : List Optional) (ms : Members) → Rise several ms → HasSome ms → members_text false (members_of several ms) ≡ before_each several ++ members_text false ms
 each_before [] ms rise some = refl
 each_before (m ∷ later) ms rise some =
     before_is m.0 m.1 (members_of later ms) (all_before m.0 later ms rise.0 rise.1) (all_some later ms rise.2 some)
-    ∙ ap (λ s. before_text m.0 m.1 ++ s) (each_before later ms rise.2 some)
-    ∙ sym (append_assoc (before_text m.0 m.1) (before_each later) (members_text false ms))
+    ∙ ap (λ s. member_and_comma m.0 m.1 ++ s) (each_before later ms rise.2 some)
+    ∙ sym (append_assoc (member_and_comma m.0 m.1) (before_each later) (members_text false ms))
 
 abbrev IsAfterAll : List ℕ → List Optional → Type 0
 IsAfterAll name [] = Unit {0}
@@ -205,11 +205,11 @@ late_rises head pre origin =
 
 late_text : (head : Head) (pre : List ℕ) (origin : Option ℕ) → after_all (late head pre origin) ≡ later_text head pre origin
 late_text head pre origin = ap
-    (λ s. after_text (codes "origin") (option_map json_number origin)
-    ++ (after_text (codes "owner") (some_flag head.owner)
-    ++ (after_text (codes "pre") (some_string pre)
-    ++ (after_text (codes "raw") (some_string (encode_utf8_all head.raw)) ++ (after_text (codes "ref") (option_map key_shown head.reference) ++ s)))))
-    (append-nil (after_text (codes "tag") (some_string (encode_utf8_all head.tag))))
+    (λ s. comma_and_member (codes "origin") (option_map json_number origin)
+    ++ (comma_and_member (codes "owner") (some_flag head.owner)
+    ++ (comma_and_member (codes "pre") (some_string pre)
+    ++ (comma_and_member (codes "raw") (some_string (encode_utf8_all head.raw)) ++ (comma_and_member (codes "ref") (option_map key_shown head.reference) ++ s)))))
+    (append-nil (comma_and_member (codes "tag") (some_string (encode_utf8_all head.tag))))
 
 members_are : (kind : Kind) (head : Head) (marks : List Mark) (pre : List ℕ) (origin : Option ℕ) (generated : Bool) →
     opening_shown kind head marks pre origin generated
@@ -233,7 +233,7 @@ members_are kind head marks pre origin generated = ap (put (codes "open") (json_
     ∙ ap (with_option (codes "ref") (option_map key_shown head.reference)) (text_is (codes "tag") head.tag no_members)))))))))
 
 pub opening_is : (kind : Kind) (head : Head) (marks : List Mark) (pre : List ℕ) (origin : Option ℕ) (generated : Bool) →
-    compact_text (object (opening_shown kind head marks pre origin generated)) ≡ opening_text kind head marks (encode_utf8_all pre) origin generated
+    compact_text (object (opening_shown kind head marks pre origin generated)) ≡ opening_json kind head marks (encode_utf8_all pre) origin generated
 opening_is kind head marks pre origin generated =
     let bytes = encode_utf8_all pre in
     let value = json_text (kind_name kind) in
@@ -252,17 +252,17 @@ opening_is kind head marks pre origin generated =
     (ap (members_text false) opened
     ∙ ap (λ s. quoted (codes "open") ++ 58 ∷ (compact_text value ++ s)) (all_after later (late_rises head bytes origin) ∙ ap (λ s. s ++ 125 ∷ []) (late_text head bytes origin))
     ∙ sym (append_assoc (quoted (codes "open")) (58 ∷ compact_text value) (later_text head bytes origin ++ 125 ∷ [])))
-    ∙ ap (λ s. 123 ∷ s) (three_then (before_text (codes "attrs") (some_attrs head.attrs)) (before_text (codes "gen") (some_flag generated)) (before_text (codes "marks") (some_marks marks)) _)
+    ∙ ap (λ s. 123 ∷ s) (three_then (member_and_comma (codes "attrs") (some_attrs head.attrs)) (member_and_comma (codes "gen") (some_flag generated)) (member_and_comma (codes "marks") (some_marks marks)) _)
 
-pub closing_is : (kind : Kind) (pre : List ℕ) → compact_text (object (closing_shown kind pre)) ≡ closing_text kind (encode_utf8_all pre)
+pub closing_is : (kind : Kind) (pre : List ℕ) → compact_text (object (closing_shown kind pre)) ≡ closing_json kind (encode_utf8_all pre)
 closing_is kind pre =
     let bytes = encode_utf8_all pre in
     let value = json_text (kind_name kind) in
     let later : List Optional = (codes "pre", some_string bytes) ∷ [] in
     let rest = members_of later no_members in
     ap (λ m. 123 ∷ members_text false m) (ap (put (codes "close") value) (text_is (codes "pre") pre no_members) ∙ put_first (codes "close") value rest (all_before (codes "close") later no_members (refl, tt) tt))
-    ∙ ap (λ s. 123 ∷ quoted (codes "close") ++ 58 ∷ (compact_text value ++ s)) (all_after later (tt, tt, tt) ∙ ap (λ s. s ++ 125 ∷ []) (append-nil (after_text (codes "pre") (some_string bytes))))
-    ∙ ap (λ s. 123 ∷ s) (sym (append_assoc (quoted (codes "close")) (58 ∷ compact_text value) (after_text (codes "pre") (some_string bytes) ++ 125 ∷ [])))
+    ∙ ap (λ s. 123 ∷ quoted (codes "close") ++ 58 ∷ (compact_text value ++ s)) (all_after later (tt, tt, tt) ∙ ap (λ s. s ++ 125 ∷ []) (append-nil (comma_and_member (codes "pre") (some_string bytes))))
+    ∙ ap (λ s. 123 ∷ s) (sym (append_assoc (quoted (codes "close")) (58 ∷ compact_text value) (comma_and_member (codes "pre") (some_string bytes) ++ 125 ∷ [])))
 
 -- the pieces of an opening, one after the other
 pub five_pieces : (s a g m k l : List ℕ) → ((((((s ++ 123 ∷ []) ++ a) ++ g) ++ m) ++ k) ++ l) ++ 125 ∷ [] ≡ s ++ 123 ∷ (a ++ (g ++ (m ++ (k ++ (l ++ 125 ∷ [])))))

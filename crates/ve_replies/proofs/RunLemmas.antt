@@ -14,7 +14,7 @@ use Rattle.model_items.specs.Same.{marks_same}
 use Rattle.model_items.proofs.SameLemmas.{Means-marks_same}
 use Rattle.model_world.specs.Shown.{Shown, Together, Apart, all_shown, char_shown, json_items, run_shown, shown}
 use Rattle.model_edit.specs.Insert.{text_pieces}
-use Rattle.ve_replies.specs.Runs.{AddsFirst, IsRun, bracket_text, char_with, plain_before}
+use Rattle.ve_replies.specs.Runs.{AddsFirst, IsMarkedRun, bracket_json, char_with, plain_before}
 use Rattle.ve_replies.proofs.RangeLemmas.{item_before, length_before}
 
 none_some : {x : ℕ} → None ≡ Some x → ⊥
@@ -107,7 +107,7 @@ first_of_rest (x ∷ items) zero = refl
 first_of_rest (x ∷ items) (suc end) = first_of_rest items end
 
 -- a run that is not empty
-pub run_first : (items : List PlainItem) (marks : List Mark) (at end : ℕ) (text old new : List ℕ) (c : ℕ) → IsRun items marks at end text →
+pub run_first : (items : List PlainItem) (marks : List Mark) (at end : ℕ) (text old new : List ℕ) (c : ℕ) → IsMarkedRun items marks at end text →
     slice_get items at ≡ Some (Char c marks) → new ≡ old ++ compact_text (run_shown marks text) → AddsFirst items at end old new
 run_first items marks at end [] old new c run got adds = absurd (none_some (sym stops ∙ starts))
   where
@@ -144,13 +144,13 @@ IsBracket (cited.Closing kind pre) = Unit {0}
 
 -- a bracket
 pub bracket_added : (values : List Value) (items : List Item) (to at : ℕ) (item : Item) (old new : List ℕ) → at < to → to ≤ length items → slice_get items at ≡ Some item →
-    IsBracket item → new ≡ old ++ bracket_text (plain values item) → AddsFirst (plain_before to values items) at (suc at) old new
+    IsBracket item → new ≡ old ++ bracket_json (plain values item) → AddsFirst (plain_before to values items) at (suc at) old new
 bracket_added values items to at item old new lies within got is adds = along item is adds (item_before values items to at item lies got)
   where
     long : at < length (plain_before to values items)
     long = omega (arith, lies, length_before values items to within)
 
-    along : (item : Item) → IsBracket item → new ≡ old ++ bracket_text (plain values item) → slice_get (plain_before to values items) at ≡ Some (plain values item) →
+    along : (item : Item) → IsBracket item → new ≡ old ++ bracket_json (plain values item) → slice_get (plain_before to values items) at ≡ Some (plain values item) →
         AddsFirst (plain_before to values items) at (suc at) old new
     along (cited.Char ch marks) is adds got = absurd is
     along (cited.Opening kind generated head marks pre origin) is adds got = bracket_first (plain_before to values items) at _ _ old new long got (λ later. refl) adds

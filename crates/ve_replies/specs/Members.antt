@@ -14,13 +14,13 @@ use Rattle.model_world.specs.Shown.{json_text, json_number, attrs_shown, marks_s
 abbrev pub member_text : List ℕ → Data → List ℕ
 member_text name value = quoted name ++ 58 ∷ compact_text value
 
-abbrev pub before_text : List ℕ → Option Data → List ℕ
-before_text name None = []
-before_text name (Some value) = member_text name value ++ 44 ∷ []
+abbrev pub member_and_comma : List ℕ → Option Data → List ℕ
+member_and_comma name None = []
+member_and_comma name (Some value) = member_text name value ++ 44 ∷ []
 
-abbrev pub after_text : List ℕ → Option Data → List ℕ
-after_text name None = []
-after_text name (Some value) = 44 ∷ member_text name value
+abbrev pub comma_and_member : List ℕ → Option Data → List ℕ
+comma_and_member name None = []
+comma_and_member name (Some value) = 44 ∷ member_text name value
 
 -- what is shown where it is not empty; a string is its bytes
 abbrev pub some_string : List ℕ → Option Data
@@ -42,25 +42,25 @@ some_flag true = Some (boolean true)
 -- the members after the kind of an opening
 abbrev pub later_text : Head → (pre : List ℕ) → (origin : Option ℕ) → List ℕ
 later_text head pre origin =
-    after_text (codes "origin") (option_map json_number origin)
-    ++ (after_text (codes "owner") (some_flag head.owner)
-    ++ (after_text (codes "pre") (some_string pre)
-    ++ (after_text (codes "raw") (some_string (encode_utf8_all head.raw))
-    ++ (after_text (codes "ref") (option_map key_shown head.reference)
-    ++ after_text (codes "tag") (some_string (encode_utf8_all head.tag))))))
+    comma_and_member (codes "origin") (option_map json_number origin)
+    ++ (comma_and_member (codes "owner") (some_flag head.owner)
+    ++ (comma_and_member (codes "pre") (some_string pre)
+    ++ (comma_and_member (codes "raw") (some_string (encode_utf8_all head.raw))
+    ++ (comma_and_member (codes "ref") (option_map key_shown head.reference)
+    ++ comma_and_member (codes "tag") (some_string (encode_utf8_all head.tag))))))
 
 -- an opening whose whitespace has these bytes
-abbrev pub opening_text : Kind → Head → List Mark → (pre : List ℕ) → (origin : Option ℕ) → (generated : Bool) → List ℕ
-opening_text kind head marks pre origin generated =
+abbrev pub opening_json : Kind → Head → List Mark → (pre : List ℕ) → (origin : Option ℕ) → (generated : Bool) → List ℕ
+opening_json kind head marks pre origin generated =
     123
-    ∷ before_text (codes "attrs") (some_attrs head.attrs)
-    ++ (before_text (codes "gen") (some_flag generated)
-    ++ (before_text (codes "marks") (some_marks marks)
+    ∷ member_and_comma (codes "attrs") (some_attrs head.attrs)
+    ++ (member_and_comma (codes "gen") (some_flag generated)
+    ++ (member_and_comma (codes "marks") (some_marks marks)
     ++ (member_text (codes "open") (json_text (kind_name kind)) ++ (later_text head pre origin ++ 125 ∷ []))))
 
-abbrev pub closing_text : Kind → (pre : List ℕ) → List ℕ
-closing_text kind pre =
-    123 ∷ member_text (codes "close") (json_text (kind_name kind)) ++ (after_text (codes "pre") (some_string pre) ++ 125 ∷ [])
+abbrev pub closing_json : Kind → (pre : List ℕ) → List ℕ
+closing_json kind pre =
+    123 ∷ member_text (codes "close") (json_text (kind_name kind)) ++ (comma_and_member (codes "pre") (some_string pre) ++ 125 ∷ [])
 
 -- a group and a key, with a comma between them
 abbrev pub group_and_key : RefKey → List ℕ

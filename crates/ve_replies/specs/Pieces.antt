@@ -7,5 +7,5 @@ abbrev pub is_escaped : ℕ → Bool
 is_escaped byte = nat_lt byte 32 || byte == 34 || byte == 92
 
 -- in a JSON string the bytes stand for themselves
-abbrev pub IsPlain : List ℕ → Type 0
-IsPlain bytes = escape bytes ≡ bytes
+abbrev pub IsUnescaped : List ℕ → Type 0
+IsUnescaped bytes = escape bytes ≡ bytes

@@ -12,15 +12,15 @@ use Rattle.model_items.specs.Same.{marks_same}
 use Rattle.model_edit.specs.Insert.{text_pieces}
 use Rattle.model_world.specs.Shown.{all_shown, closing_shown, opening_shown, shown}
 use Rattle.ve_replies.specs.declared.brackets.OpeningParts.{OpeningParts}
-use Rattle.ve_replies.specs.Members.{opening_text}
+use Rattle.ve_replies.specs.Members.{opening_json}
 
 -- the items before a place, by value
 abbrev pub plain_before : ℕ → List Value → List Item → List PlainItem
 plain_before to values items = take to (plain_list values items)
 
 -- an opening, as it is lent
-abbrev pub text_of : OpeningParts → List ℕ
-text_of o = opening_text o.kind o.head.now o.marks.now o.pre.now o.origin o.generated
+abbrev pub lent_opening_json : OpeningParts → List ℕ
+lent_opening_json o = opening_json o.kind o.head.now o.marks.now o.pre.now o.origin o.generated
 
 -- the character that an item is, where it has these marks
 abbrev pub char_with : List Mark → PlainItem → Option ℕ
@@ -29,13 +29,13 @@ char_with marks (Opening kind head others pre origin generated) = None
 char_with marks (Closing kind pre) = None
 
 -- a bracket as JSON; nothing of a character
-abbrev pub bracket_text : PlainItem → List ℕ
-bracket_text (Char c marks) = []
-bracket_text (Opening kind head marks pre origin generated) = compact_text (object (opening_shown kind head marks pre origin generated))
-bracket_text (Closing kind pre) = compact_text (object (closing_shown kind pre))
+abbrev pub bracket_json : PlainItem → List ℕ
+bracket_json (Char c marks) = []
+bracket_json (Opening kind head marks pre origin generated) = compact_text (object (opening_shown kind head marks pre origin generated))
+bracket_json (Closing kind pre) = compact_text (object (closing_shown kind pre))
 
 -- From a place up to an end these characters stand with these marks, and none with them at the end.
-pub record IsRun (items : List PlainItem) (marks : List Mark) (at end : ℕ) (text : List ℕ) : Type 0 where
+pub record IsMarkedRun (items : List PlainItem) (marks : List Mark) (at end : ℕ) (text : List ℕ) : Type 0 where
   pub within : end ≤ length items
   pub run : drop at items ≡ text_pieces marks text ++ drop end items
   pub count : at + length text ≡ end

@@ -3,8 +3,8 @@ ghost use Rattle.json.specs.Print.{quoted};
 ghost use Rattle.std.specs.Prelude.{◌≡◌, ◌++◌, ◌∷◌, [], codes, option_map, OnOk};
 ghost use Rattle.model_world.specs.Names as names;
 ghost use Rattle.model_world.specs.Shown.{json_number, json_text, key_shown};
-ghost use Rattle.ve_replies.specs.Members.{after_text, before_text, closing_text, later_text, member_text, some_attrs, some_flag, some_marks, some_string};
-ghost use Rattle.ve_replies.specs.Runs.{text_of};
+ghost use Rattle.ve_replies.specs.Members.{comma_and_member, member_and_comma, closing_json, later_text, member_text, some_attrs, some_flag, some_marks, some_string};
+ghost use Rattle.ve_replies.specs.Runs.{lent_opening_json};
 
 use crate::json_list::push_list;
 use crate::quoted::push_quoted;
@@ -38,7 +38,7 @@ fn push_name(name: &str, out: &mut Spelling) -> Result<(), Memory>
 
 /// Appends the attributes and a comma, where there are some.
 fn push_attrs(alloc: Global, attrs: &[Attr], out: &mut Spelling) -> Result<(), Memory>
-    ensures ok { OnOk result (out.new.text ≡ out.old.text ++ before_text (codes "attrs") (some_attrs attrs.now)) }
+    ensures ok { OnOk result (out.new.text ≡ out.old.text ++ member_and_comma (codes "attrs") (some_attrs attrs.now)) }
     ensures before { out.new.before ≡ out.old.before }
 {
     if attrs.is_empty() {
@@ -51,7 +51,7 @@ fn push_attrs(alloc: Global, attrs: &[Attr], out: &mut Spelling) -> Result<(), M
 
 /// Appends the marks and a comma, where there are some.
 fn push_marks(alloc: Global, marks: &[Mark], out: &mut Spelling) -> Result<(), Memory>
-    ensures ok { OnOk result (out.new.text ≡ out.old.text ++ before_text (codes "marks") (some_marks marks.now)) }
+    ensures ok { OnOk result (out.new.text ≡ out.old.text ++ member_and_comma (codes "marks") (some_marks marks.now)) }
     ensures before { out.new.before ≡ out.old.before }
 {
     if marks.is_empty() {
@@ -64,7 +64,7 @@ fn push_marks(alloc: Global, marks: &[Mark], out: &mut Spelling) -> Result<(), M
 
 /// Appends that the opening was generated, and a comma, where it was.
 fn push_generated(generated: bool, out: &mut Spelling) -> Result<(), Memory>
-    ensures ok { OnOk result (out.new.text ≡ out.old.text ++ before_text (codes "gen") (some_flag generated)) }
+    ensures ok { OnOk result (out.new.text ≡ out.old.text ++ member_and_comma (codes "gen") (some_flag generated)) }
     ensures before { out.new.before ≡ out.old.before }
 {
     if !generated {
@@ -76,7 +76,7 @@ fn push_generated(generated: bool, out: &mut Spelling) -> Result<(), Memory>
 
 /// Appends a comma and a text, where that isn't empty.
 fn push_text(name: &str, text: &str, out: &mut Spelling) -> Result<(), Memory>
-    ensures ok { OnOk result (out.new.text ≡ out.old.text ++ after_text name.now (some_string text.now)) }
+    ensures ok { OnOk result (out.new.text ≡ out.old.text ++ comma_and_member name.now (some_string text.now)) }
     ensures before { out.new.before ≡ out.old.before }
 {
     if text.is_empty() {
@@ -89,7 +89,7 @@ fn push_text(name: &str, text: &str, out: &mut Spelling) -> Result<(), Memory>
 
 /// Appends a comma and the origin, where there is one.
 fn push_origin(alloc: Global, origin: Option<u32>, out: &mut Spelling) -> Result<(), Memory>
-    ensures ok { OnOk result (out.new.text ≡ out.old.text ++ after_text (codes "origin") (option_map json_number origin)) }
+    ensures ok { OnOk result (out.new.text ≡ out.old.text ++ comma_and_member (codes "origin") (option_map json_number origin)) }
     ensures before { out.new.before ≡ out.old.before }
 {
     let Some(origin) = origin else {
@@ -102,7 +102,7 @@ fn push_origin(alloc: Global, origin: Option<u32>, out: &mut Spelling) -> Result
 
 /// Appends a comma and that the reference owns its body, where it does.
 fn push_owner(owner: bool, out: &mut Spelling) -> Result<(), Memory>
-    ensures ok { OnOk result (out.new.text ≡ out.old.text ++ after_text (codes "owner") (some_flag owner)) }
+    ensures ok { OnOk result (out.new.text ≡ out.old.text ++ comma_and_member (codes "owner") (some_flag owner)) }
     ensures before { out.new.before ≡ out.old.before }
 {
     if !owner {
@@ -115,7 +115,7 @@ fn push_owner(owner: bool, out: &mut Spelling) -> Result<(), Memory>
 
 /// Appends a comma and the key of a reference, where there is one.
 fn push_reference(alloc: Global, key: &Option<RefKey>, out: &mut Spelling) -> Result<(), Memory>
-    ensures ok { OnOk result (out.new.text ≡ out.old.text ++ after_text (codes "ref") (option_map key_shown key.now)) }
+    ensures ok { OnOk result (out.new.text ≡ out.old.text ++ comma_and_member (codes "ref") (option_map key_shown key.now)) }
     ensures before { out.new.before ≡ out.old.before }
 {
     let Some(key) = key else {
@@ -156,7 +156,7 @@ pub fn push_opening(
     opening: OpeningParts<'_>,
     out: &mut Spelling,
 ) -> Result<(), Memory>
-    ensures ok { OnOk result (out.new.text ≡ out.old.text ++ text_of opening.entry) }
+    ensures ok { OnOk result (out.new.text ≡ out.old.text ++ lent_opening_json opening.entry) }
     ensures before { out.new.before ≡ out.old.before }
 {
     out.push_byte(b'{')?;
@@ -170,7 +170,7 @@ pub fn push_opening(
 
 /// Appends a closing.
 pub fn push_closing(kind: Kind, pre: &str, out: &mut Spelling) -> Result<(), Memory>
-    ensures ok { OnOk result (out.new.text ≡ out.old.text ++ closing_text kind pre.now) }
+    ensures ok { OnOk result (out.new.text ≡ out.old.text ++ closing_json kind pre.now) }
     ensures before { out.new.before ≡ out.old.before }
 {
     out.push_byte(b'{')?;

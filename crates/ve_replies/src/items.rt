@@ -5,7 +5,7 @@ ghost use Rattle.model_items.specs.Plain.{marks_in, plain, plain_list, value_at,
 ghost use Rattle.model_items.specs.Same.{marks_same};
 ghost use Rattle.ve_base.specs.Empty.{empty_head};
 ghost use Rattle.model_world.specs.Shown.{items_shown, run_shown};
-ghost use Rattle.ve_replies.specs.Runs.{AddsFirst, bracket_text, char_with, plain_before, IsRun};
+ghost use Rattle.ve_replies.specs.Runs.{AddsFirst, bracket_json, char_with, plain_before, IsMarkedRun};
 
 use crate::brackets::{OpeningParts, push_closing, push_opening};
 use crate::json_list::{push_comma, push_list};
@@ -83,7 +83,7 @@ fn run_at(
     requires marks { CitesMarks store.now cited }
     requires order { range.0 ≤ range.1 }
     requires within { range.1 ≤ length list.now.items }
-    ensures { IfOk result (λ run. IsRun (plain_before range.1 store.now list.now.items) (marks_in (value_at store.now cited)) range.0 run.end run.text) }
+    ensures { IfOk result (λ run. IsMarkedRun (plain_before range.1 store.now list.now.items) (marks_in (value_at store.now cited)) range.0 run.end run.text) }
 {
     let (at, to) = range;
     let mut text = Text::new(alloc);
@@ -121,7 +121,7 @@ fn push_bracket(
 ) -> Result<(), Memory>
     requires cites { CitesWell store.now item }
     requires none { none.now ≡ empty_head }
-    ensures ok { OnOk result (out.new.text ≡ out.old.text ++ bracket_text (plain store.now item)) }
+    ensures ok { OnOk result (out.new.text ≡ out.old.text ++ bracket_json (plain store.now item)) }
     ensures before { out.new.before ≡ out.old.before }
 {
     match item {

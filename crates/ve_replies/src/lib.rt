@@ -25,5 +25,3 @@ mod tests;
 mod words;
 
 pub use answer::{Answer, reply_text};
-pub use quoted::push_quoted;
-pub use spelling::Spelling;

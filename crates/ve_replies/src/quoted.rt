@@ -2,7 +2,7 @@
 ghost use Rattle.std.specs.Prelude.{◌≡◌, ◌++◌, ◌∷◌, [], ◌<◌, OnErr, OnOk, MatchOption, ℕ, length, take};
 ghost use Rattle.std.specs.Char.{digit_char};
 ghost use Rattle.json.specs.Print.{escape_letter, escape_byte, escape, quoted};
-ghost use Rattle.ve_replies.specs.Pieces.{is_escaped, IsPlain};
+ghost use Rattle.ve_replies.specs.Pieces.{is_escaped, IsUnescaped};
 
 use crate::spelling::Spelling;
 use ve_base::Memory;
@@ -68,8 +68,8 @@ fn is_escaped(byte: u8) -> bool
 
 /// The bytes before the first that doesn't stand for itself, that byte, and those after it.
 fn split_escaped(bytes: &[u8]) -> Option<(&[u8], u8, &[u8])>
-    ensures { MatchOption result (IsPlain bytes.now)
-        (λ parts. IsPlain parts.0.now × (bytes.now ≡ parts.0.now ++ parts.1 ∷ parts.2.now)) }
+    ensures { MatchOption result (IsUnescaped bytes.now)
+        (λ parts. IsUnescaped parts.0.now × (bytes.now ≡ parts.0.now ++ parts.1 ∷ parts.2.now)) }
 {
     for (at, byte) in bytes.iter().enumerate() {
         if is_escaped(*byte) {

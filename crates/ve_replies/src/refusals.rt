@@ -1,10 +1,11 @@
 // The words of a refusal.
 ghost use Rattle.std.specs.Prelude.{◌≡◌, ◌∷◌, []};
 ghost use Rattle.model_world.specs.Spelled.{refusal_text, with_numbers};
+ghost use Rattle.model_world.specs.declared.refusal.Refusal.TheVariants as a_refusal;
 ghost use Rattle.ve_replies.specs.Words.{words_text};
 
 use crate::words::{Numbers, Words};
-use model_world::{Refusal, field_name, html_word};
+use model_world::{Field, HtmlWord, Refusal, field_name, html_word};
 
 /// A word with no number.
 fn bare(second: &'static str) -> Words
@@ -39,26 +40,51 @@ fn two(second: &'static str, number: usize, next: usize) -> Words
     }
 }
 
-/// A refusal's word with its numbers.
+/// A word with four numbers, those of two ranges.
+fn four(second: &'static str, range: (usize, usize), next: (usize, usize)) -> Words
+    ensures { words_text result ≡ with_numbers second.now (range.0 ∷ range.1 ∷ next.0 ∷ next.1 ∷ []) }
+{
+    Words {
+        first: "",
+        second,
+        numbers: Numbers::Four(range.0, range.1, next.0, next.1),
+    }
+}
+
+/// What is told of a bad member.
+fn bad_member(field: Field) -> Words
+    ensures { words_text result ≡ refusal_text (a_refusal.BadCommand field) }
+{
+    Words {
+        first: "bad_command ",
+        second: field_name(field),
+        numbers: Numbers::NoNumber,
+    }
+}
+
+/// What is told of a page's text.
+fn bad_text(word: HtmlWord, at: usize) -> Words
+    ensures { words_text result ≡ refusal_text (a_refusal.Html word at) }
+{
+    Words {
+        first: "html ",
+        second: html_word(word),
+        numbers: Numbers::One(at),
+    }
+}
+
+/// A refusal's word with its numbers: a row for each.
 pub fn refusal_words(refusal: Refusal) -> Words
     ensures { words_text result ≡ refusal_text refusal }
 {
     match refusal {
         Refusal::LineTooLong { len } => one("line_too_long", len),
         Refusal::BadJson => bare("bad_json"),
-        Refusal::BadCommand { field } => Words {
-            first: "bad_command ",
-            second: field_name(field),
-            numbers: Numbers::NoNumber,
-        },
+        Refusal::BadCommand { field } => bad_member(field),
         Refusal::NotOpen => bare("not_open"),
         Refusal::BadSite { sites } => one("bad_site", sites),
         Refusal::PageTooLong { len } => one("page_too_long", len),
-        Refusal::Html { word, at } => Words {
-            first: "html ",
-            second: html_word(word),
-            numbers: Numbers::One(at),
-        },
+        Refusal::Html { word, at } => bad_text(word, at),
         Refusal::TooDeep { at } => one("too_deep", at),
         Refusal::TooManyMarks { at } => one("too_many_marks", at),
         Refusal::TooManyItems { count } => one("too_many_items", count),
@@ -94,10 +120,6 @@ pub fn refusal_words(refusal: Refusal) -> Words
         Refusal::NoSibling { at } => one("no_sibling", at),
         Refusal::NotNested { at } => one("not_nested", at),
         Refusal::BadEntry { entry, seen } => two("bad_entry", entry, seen),
-        Refusal::RevokeConflict { later, reversal } => Words {
-            first: "",
-            second: "revoke_conflict",
-            numbers: Numbers::Four(later.0, later.1, reversal.0, reversal.1),
-        },
+        Refusal::RevokeConflict { later, reversal } => four("revoke_conflict", later, reversal),
     }
 }

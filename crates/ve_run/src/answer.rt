@@ -6,10 +6,8 @@ ghost use Rattle.ve_run.specs.Run.{reply_line, scene, AppendsPrefix, Stepped};
 
 use crate::Machine;
 use crate::stop::Stop;
-use std::alloc::Global;
 use std::sync::ledger::Ledger;
 use ve_base::{Bytes, Failed, Sink, Steps};
-use ve_json::reply_text;
 
 /// Writes a whole piece. At an `Err` a prefix of it was written.
 pub fn write_all<K: Sink>(sink: &mut K, piece: &[u8]) -> Result<(), Failed>
@@ -25,9 +23,9 @@ pub fn write_all<K: Sink>(sink: &mut K, piece: &[u8]) -> Result<(), Failed>
     Ok(())
 }
 
-/// Steps the machine with a line, and writes its reply as one piece, which is spelled in `reply`.
+/// Steps the machine with a line, and writes its reply as one piece. It is spelled in `reply`, in place of what stood
+/// there.
 pub fn answer<K: Sink, M: Machine, L: Ledger>(
-    alloc: Global,
     line: &[u8],
     reply: &mut Bytes,
     sink: &mut K,
@@ -48,9 +46,8 @@ pub fn answer<K: Sink, M: Machine, L: Ledger>(
     ensures later { K.faults sink.old ≤ K.faults sink.new }
     ensures counted { steps.old ≤ steps.new }
 {
-    let answer = world.step(line, steps)?;
     reply.clear();
-    reply_text(alloc, &answer, reply)?;
+    world.step(line, reply, steps)?;
     write_all(sink, reply.as_slice())?;
     Ok(())
 }

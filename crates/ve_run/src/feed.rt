@@ -8,7 +8,6 @@ ghost use Rattle.ve_run.specs.Run.{reply_line, scene, AppendsPrefix, Stepped, An
 use crate::Machine;
 use crate::answer::answer;
 use crate::stop::Stop;
-use std::alloc::Global;
 use std::sync::ledger::Ledger;
 use ve_base::{Bytes, Sink, Steps};
 
@@ -30,7 +29,6 @@ fn split_line(piece: &[u8]) -> Option<(&[u8], &[u8])>
 
 /// Answers the line that was kept so far and ends with these bytes, and keeps nothing.
 fn end_line<K: Sink, M: Machine, L: Ledger>(
-    alloc: Global,
     kept: &mut Bytes,
     end: &[u8],
     reply: &mut Bytes,
@@ -54,17 +52,16 @@ fn end_line<K: Sink, M: Machine, L: Ledger>(
     ensures counted { steps.old ≤ steps.new }
 {
     if kept.as_slice().is_empty() {
-        return answer(alloc, end, reply, sink, world, steps);
+        return answer(end, reply, sink, world, steps);
     }
     kept.push(end)?;
-    answer(alloc, kept.as_slice(), reply, sink, world, steps)?;
+    answer(kept.as_slice(), reply, sink, world, steps)?;
     kept.clear();
     Ok(())
 }
 
 /// Answers each line that a newline ends, and keeps the rest.
 pub fn feed<K: Sink, M: Machine, L: Ledger>(
-    alloc: Global,
     piece: &[u8],
     kept: &mut Bytes,
     reply: &mut Bytes,
@@ -86,7 +83,7 @@ pub fn feed<K: Sink, M: Machine, L: Ledger>(
 {
     let mut left = piece;
     'lines: while let Some((end, more)) = split_line(left) {
-        end_line(alloc, kept, end, reply, sink, world, steps)?;
+        end_line(kept, end, reply, sink, world, steps)?;
         left = more;
     }
     kept.push(left)?;

@@ -32,7 +32,6 @@ fn read_at_most<S: Source>(source: &mut S, buffer: &mut [u8], most: usize) -> Re
 
 /// Reads to the end, answers each line that a newline ends, and keeps what follows the last of them.
 fn read_lines<S: Source, K: Sink, M: Machine, L: Ledger>(
-    alloc: Global,
     source: &mut S,
     kept: &mut Bytes,
     reply: &mut Bytes,
@@ -70,10 +69,10 @@ fn read_lines<S: Source, K: Sink, M: Machine, L: Ledger>(
             break;
         }
         if given > space {
-            feed(alloc, &buffer[..space], kept, reply, sink, world, steps)?;
+            feed(&buffer[..space], kept, reply, sink, world, steps)?;
             return Err(Stop::InputTooLong);
         }
-        feed(alloc, &buffer[..given], kept, reply, sink, world, steps)?;
+        feed(&buffer[..given], kept, reply, sink, world, steps)?;
         taken += given;
     }
     Ok(())
@@ -105,10 +104,10 @@ pub fn run_script<S: Source, K: Sink, M: Machine, L: Ledger>(
 {
     let mut kept = Bytes::new(alloc);
     let mut reply = Bytes::new(alloc);
-    read_lines(alloc, source, &mut kept, &mut reply, sink, world, steps)?;
+    read_lines(source, &mut kept, &mut reply, sink, world, steps)?;
     let line = kept.as_slice();
     if !line.is_empty() {
-        answer(alloc, line, &mut reply, sink, world, steps)?;
+        answer(line, &mut reply, sink, world, steps)?;
     }
     Ok(())
 }

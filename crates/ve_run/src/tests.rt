@@ -1,5 +1,5 @@
-// Scripts on a machine of the tests' own, from sources that give pieces of all sizes and fail, to sinks that take a byte
-// at a time and fail.
+// Scripts on a machine of the tests' own, from sources that give pieces of all sizes and fail once, to sinks that take
+// a byte at a time and fail once. After its fault each source and sink would go on.
 ghost use Rattle.std.specs.Prelude.{◌≡◌};
 
 use crate::{Machine, Status, run};
@@ -7,42 +7,72 @@ use std::alloc::Global;
 use std::marker::Brand;
 use std::sync::ledger::{Blank, Ledger};
 use std::test::Fail;
-use ve_base::{Bytes, Calls, Cuts, Failed, MemSink, MemSource, Memory, Sink, Steps, Text};
-use ve_json::Reply;
+use ve_base::{Bytes, Calls, Cuts, Failed, MemSink, MemSource, Memory, Sink, Source, Steps, Text};
+use ve_json::{Answer, reply_text};
 
 /// Answers `ok` with 1, 2, 3 in turn, and when it has answered the most lines it has no memory.
 #[derive(Drop)]
 struct Counter {
+    alloc: Global,
     answered: usize,
     most: usize,
 }
 
 impl Machine for Counter {
     ghost use Rattle.std.specs.Prelude.{◌+◌};
-    ghost use Rattle.ve_json.specs.declared.reply.Reply.TheVariants.{Length};
+    ghost use Rattle.model_world.specs.declared.reply.Reply.TheVariants.{Length};
+    ghost use Rattle.ve_json.specs.SoFar.{Told};
 
     ghost meaning = { record {
-      reply = λ counter _. Length (counter.answered + 1);
+      reply = λ counter _. Told (Length (counter.answered + 1));
       next = λ counter _. record counter { answered = counter.answered + 1 };
       cost = λ _ _. 0;
     } };
 
-    fn step<L: Ledger>(&mut self, _line: &[u8], _steps: &mut Steps<L>) -> Result<Reply, Memory> {
+    fn step<L: Ledger>(
+        &mut self,
+        _line: &[u8],
+        out: &mut Bytes,
+        _steps: &mut Steps<L>,
+    ) -> Result<(), Memory> {
         if self.answered >= self.most {
             return Err(Memory);
         }
+        reply_text(self.alloc, &Answer::Length(self.answered + 1), out)?;
         self.answered += 1;
-        Ok(Reply::Length(self.answered))
+        Ok(())
     }
 }
 
-/// Takes a byte at a time.
+/// Counts the reads.
 #[derive(Drop)]
-struct Drip<'a> {
-    sink: MemSink<'a>,
+struct CountedSource {
+    source: MemSource,
+    reads: usize,
 }
 
-impl<'a> Sink for Drip<'a> {
+impl Source for CountedSource {
+    ghost use Rattle.std.specs.Prelude.{Some};
+
+    ghost left = { λ s. Some s.source.left };
+
+    ghost faults = { λ s. s.source.faults };
+
+    fn read(&mut self, room: &mut [u8]) -> Result<usize, Failed> {
+        self.reads = self.reads.saturating_add(1);
+        self.source.read(room)
+    }
+}
+
+/// Counts the writes, and takes a byte at a time where it drips.
+#[derive(Drop)]
+struct CountedSink<'a> {
+    sink: MemSink<'a>,
+    drips: bool,
+    writes: usize,
+}
+
+impl<'a> Sink for CountedSink<'a> {
     ghost use Rattle.std.specs.Prelude.{Some};
 
     ghost held = { λ s. Some s.sink.held };
@@ -50,7 +80,8 @@ impl<'a> Sink for Drip<'a> {
     ghost faults = { λ s. s.sink.faults };
 
     fn write(&mut self, piece: &[u8]) -> Result<usize, Failed> {
-        if piece.len() > 1 {
+        self.writes = self.writes.saturating_add(1);
+        if self.drips && piece.len() > 1 {
             self.sink.write(&piece[..1])
         } else {
             self.sink.write(piece)
@@ -58,16 +89,16 @@ impl<'a> Sink for Drip<'a> {
     }
 }
 
-/// A script, how it comes and goes, and what is to be written.
+/// A script, how it comes and goes, and what is to be done.
 #[derive(Clone, Copy)]
 struct Case {
     words: &'static [&'static str],
     script: &'static [u8],
     /// The sizes of its first pieces.
     cuts: &'static [usize],
-    /// Which read fails, and which write.
-    read: Option<usize>,
-    write: Option<usize>,
+    /// Which read fails, and which write, counted from 0.
+    failed_read: Option<usize>,
+    failed_write: Option<usize>,
     /// How many bytes the sink has room for, at most 64.
     room: usize,
     /// How many lines the machine answers.
@@ -75,19 +106,24 @@ struct Case {
     status: Status,
     written: &'static [u8],
     answered: usize,
+    /// How many reads and writes there are, the failed ones too, where the sink doesn't drip.
+    reads: usize,
+    writes: usize,
 }
 
 const USUAL: Case = Case {
     words: &["run"],
     script: b"a\nb\nc\n",
     cuts: &[],
-    read: None,
-    write: None,
+    failed_read: None,
+    failed_write: None,
     room: 64,
     most: 9,
     status: Status::Done,
     written: b"ok 1\nok 2\nok 3\n",
     answered: 3,
+    reads: 2,
+    writes: 3,
 };
 
 fn only(alloc: Global, call: Option<usize>) -> Result<Calls, Memory> {
@@ -98,14 +134,17 @@ fn only(alloc: Global, call: Option<usize>) -> Result<Calls, Memory> {
     Ok(calls)
 }
 
-fn source_of(alloc: Global, case: &Case) -> Result<MemSource, Memory> {
+fn source_of(alloc: Global, case: &Case) -> Result<CountedSource, Memory> {
     let mut bytes = Bytes::new(alloc);
     bytes.push(case.script)?;
     let mut cuts = Cuts::new(alloc);
     for cut in case.cuts {
         cuts.push((*cut).max(1))?;
     }
-    Ok(MemSource::new(bytes, cuts, only(alloc, case.read)?))
+    Ok(CountedSource {
+        source: MemSource::new(bytes, cuts, only(alloc, case.failed_read)?),
+        reads: 0,
+    })
 }
 
 fn words_of(alloc: Global, case: &Case) -> Result<Vec<Text>, Memory> {
@@ -116,12 +155,14 @@ fn words_of(alloc: Global, case: &Case) -> Result<Vec<Text>, Memory> {
     Ok(words)
 }
 
-/// How a run ended, what it wrote, and how many lines its machine answered.
+/// How a run ended, what it wrote, how many lines its machine answered, and how many reads and writes there were.
 #[derive(Drop)]
 struct Outcome {
     status: Status,
     written: Bytes,
     answered: usize,
+    reads: usize,
+    writes: usize,
 }
 
 fn ran_with<L: Ledger>(
@@ -138,54 +179,60 @@ fn ran_with<L: Ledger>(
     let words = words_of(alloc, case)?;
     let mut source = source_of(alloc, case)?;
     let mut world = Counter {
+        alloc,
         answered: 0,
         most: case.most,
     };
     let mut steps: Steps<L> = Steps::start(rt, blank);
     let mut room = [0u8; 64];
-    let mut sink = MemSink::new(&mut room[..case.room.min(64)], only(alloc, case.write)?);
-    let mut written = Bytes::new(alloc);
-    let status = if drips {
-        let mut drip = Drip { sink };
-        let status = run(
-            alloc,
-            words.as_slice(),
-            &mut source,
-            &mut drip,
-            &mut world,
-            &mut steps,
-        );
-        written.push(drip.sink.held())?;
-        status
-    } else {
-        let status = run(
-            alloc,
-            words.as_slice(),
-            &mut source,
-            &mut sink,
-            &mut world,
-            &mut steps,
-        );
-        written.push(sink.held())?;
-        status
+    let mut sink = CountedSink {
+        sink: MemSink::new(
+            &mut room[..case.room.min(64)],
+            only(alloc, case.failed_write)?,
+        ),
+        drips,
+        writes: 0,
     };
+    let status = run(
+        alloc,
+        words.as_slice(),
+        &mut source,
+        &mut sink,
+        &mut world,
+        &mut steps,
+    );
+    let mut written = Bytes::new(alloc);
+    written.push(sink.sink.held())?;
     Ok(Outcome {
         status,
         written,
         answered: world.answered,
+        reads: source.reads,
+        writes: sink.writes,
     })
 }
 
+/// Whether a run did what its case says. A sink that drips is written to oftener.
+fn is_as_said(case: &Case, outcome: &Outcome, drips: bool) -> bool {
+    outcome.status == case.status
+        && outcome.written.as_slice() == case.written
+        && outcome.answered == case.answered
+        && outcome.reads == case.reads
+        && (drips || outcome.writes == case.writes)
+}
+
 /// Scripts of three lines and neighbours of them, whole and broken off.
-const CASES: [Case; 13] = [
+const CASES: [Case; 14] = [
     USUAL,
     // one byte a read, and pieces of odd sizes
     Case {
         cuts: &[1, 1, 1, 1, 1, 1],
+        reads: 7,
         ..USUAL
     },
     Case {
         cuts: &[3, 1, 2],
+        reads: 4,
         ..USUAL
     },
     // a last line without a newline, an empty one, and one with a carriage return
@@ -202,30 +249,42 @@ const CASES: [Case; 13] = [
         script: b"",
         written: b"",
         answered: 0,
+        reads: 1,
+        writes: 0,
         ..USUAL
     },
-    // what had ended is answered, and what hadn't isn't
+    // what had ended is answered, and what hadn't isn't; a read that failed isn't tried again
     Case {
-        read: Some(0),
+        failed_read: Some(0),
         status: Status::ReadFault,
         written: b"",
         answered: 0,
+        reads: 1,
+        writes: 0,
         ..USUAL
     },
     Case {
         cuts: &[2],
-        read: Some(1),
+        failed_read: Some(1),
         status: Status::ReadFault,
         written: b"ok 1\n",
         answered: 1,
+        writes: 1,
         ..USUAL
     },
     Case {
         cuts: &[3],
-        read: Some(1),
+        failed_read: Some(1),
         status: Status::ReadFault,
         written: b"ok 1\n",
         answered: 1,
+        writes: 1,
+        ..USUAL
+    },
+    // the last read, which would only have met the end
+    Case {
+        failed_read: Some(1),
+        status: Status::ReadFault,
         ..USUAL
     },
     Case {
@@ -233,6 +292,8 @@ const CASES: [Case; 13] = [
         status: Status::WriteFault,
         written: b"ok 1\nok",
         answered: 2,
+        reads: 1,
+        writes: 3,
         ..USUAL
     },
     Case {
@@ -240,6 +301,8 @@ const CASES: [Case; 13] = [
         status: Status::Memory,
         written: b"ok 1\n",
         answered: 1,
+        reads: 1,
+        writes: 1,
         ..USUAL
     },
     Case {
@@ -247,6 +310,8 @@ const CASES: [Case; 13] = [
         status: Status::Usage,
         written: b"usage: vemodel run | make | soak [--start N] [--edits N]\n",
         answered: 0,
+        reads: 0,
+        writes: 1,
         ..USUAL
     },
     Case {
@@ -255,6 +320,8 @@ const CASES: [Case; 13] = [
         status: Status::WriteFault,
         written: b"usage",
         answered: 0,
+        reads: 0,
+        writes: 2,
         ..USUAL
     },
 ];
@@ -264,23 +331,50 @@ fn every_line_is_answered_in_turn(rt: HostRuntime) -> Result<(), Fail> {
     for (number, case) in CASES.iter().enumerate() {
         for drips in [false, true] {
             let outcome = ran_with::<Brand>(&rt, Blank::new(1), case, drips)?;
-            assert_eq!(rt; outcome.written.as_slice(), case.written, "case {number}");
-            assert_eq!(rt; outcome.status, case.status, "case {number}");
-            assert_eq!(rt; outcome.answered, case.answered, "case {number}");
+            assert!(rt; is_as_said(case, &outcome, drips), "case {number}");
         }
     }
     Ok(())
 }
 
+/// A write that failed is not tried again, and a line whose piece has come is answered before the next piece is read.
+const FAILED_WRITES: [Case; 3] = [
+    Case {
+        failed_write: Some(1),
+        status: Status::WriteFault,
+        written: b"ok 1\n",
+        answered: 2,
+        reads: 1,
+        writes: 2,
+        ..USUAL
+    },
+    Case {
+        cuts: &[2, 2],
+        failed_write: Some(0),
+        status: Status::WriteFault,
+        written: b"",
+        answered: 1,
+        reads: 1,
+        writes: 1,
+        ..USUAL
+    },
+    Case {
+        words: &["help"],
+        failed_write: Some(0),
+        status: Status::WriteFault,
+        written: b"",
+        answered: 0,
+        reads: 0,
+        writes: 1,
+        ..USUAL
+    },
+];
+
 #[test]
 fn a_failed_write_stops_the_machine(rt: HostRuntime) -> Result<(), Fail> {
-    let case = Case {
-        write: Some(1),
-        ..USUAL
-    };
-    let outcome = ran_with::<Brand>(&rt, Blank::new(1), &case, false)?;
-    assert_eq!(rt; outcome.written.as_slice(), b"ok 1\n".as_slice());
-    assert_eq!(rt; outcome.status, Status::WriteFault);
-    assert_eq!(rt; outcome.answered, 2);
+    for (number, case) in FAILED_WRITES.iter().enumerate() {
+        let outcome = ran_with::<Brand>(&rt, Blank::new(1), case, false)?;
+        assert!(rt; is_as_said(case, &outcome, false), "case {number}");
+    }
     Ok(())
 }

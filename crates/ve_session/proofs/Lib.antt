@@ -1,7 +1,8 @@
-pub mod Literals
-pub mod Prefixes
-pub mod Refused
-pub mod Paragraphs
-pub mod PageLaws
-pub mod ScriptExamples
-pub mod ContentOffsets
+pub mod StopLemmas
+pub mod LineLemmas
+pub mod GrownLemmas
+pub mod NumberedLemmas
+pub mod OpenLemmas
+pub mod ShownLemmas
+pub mod ChangeLemmas
+pub mod AfterLemmas

@@ -1,6 +1,7 @@
-pub mod Plain
-pub mod Reader
-pub mod Written
-pub mod World
-pub mod Laws
-pub use Rattle.ve_items.specs.ItemList
+pub use Rattle.model_world.specs.World
+pub use Rattle.model_world.specs.Answers
+pub use Rattle.ve_json.specs.SoFar
+pub mod Answered
+pub mod Cost
+pub mod Opened
+pub mod Stopped

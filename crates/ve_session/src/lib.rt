@@ -1,27 +1,25 @@
-//! A world: the page that is open, and the commands on it.
+//! A world: the page that is open with the site that edits it, and the commands on it.
 //!
-//! It knows plain pages alone, paragraphs of characters that need no reference, and three commands. It stands in for the
-//! whole world: once pages are read as `model_page` defines them and written as `model_page_write` does, [`World`] answers
-//! by `model_world`'s definitions, and those here, from `Plain` to `Laws`, go. In reading order:
+//! What a line is answered is `model_world`'s reply, but that some commands are not answered yet. A page is opened for one site; requests
+//! that change nothing are answered, and those that are one transaction with a builder. It holds the page as it was first read beside the
+//! site, and its type keeps that some lines lead to its world: so what holds of every world that lines lead to holds of it, and nothing
+//! is asked of its caller. In reading order:
 //!
-//! - `Plain`: which paragraphs spell a page, and their items;
-//! - `Reader`, `Written`: a page read from the left, and items written;
-//! - `World`: what a line is answered, the world after it, and its `meaning` as a machine;
-//! - `Laws`: a page is read exactly where paragraphs spell it ([`pages_are_read_by_paragraphs`]), it is written as it was
-//!   ([`pages_are_written_as_read`]), and a text that is typed stands in its paragraph
-//!   ([`texts_stand_in_their_paragraphs`]).
+//! - `Answered`: which commands are answered so far, what a line is answered, and the world after it;
+//! - `Cost`: how many steps a line takes at most, and the `meaning` of a world as a machine;
+//! - `Opened`: what is always so of a page that is open;
+//! - `Stopped`: how a refusal is told.
 #![tactic(auto)]
 
-mod laws;
+mod faults;
 mod page;
-mod reader;
+mod stage;
+#[cfg(test)]
+mod rows;
 #[cfg(test)]
 mod tests;
 mod world;
 
-pub use laws::{
-    pages_are_read_by_paragraphs, pages_are_written_as_read, texts_stand_in_their_paragraphs,
-};
-pub use ve_json::{Refusal, Reply};
+pub use ve_json::{Answer, Refusal};
 pub use ve_run::{Machine, Status, run};
 pub use world::World;

@@ -1,116 +1,237 @@
-// Between a plain page and its list.
-ghost use Rattle.std.specs.Prelude.{◌≡◌, ◌≤◌, ◌<◌, ◌++◌, ◌∷◌, [], IfOk, OnOk, OnErr, IsOk, option_map, map, take, length, codes};
-ghost use Rattle.ve_session.specs.Plain.{internal_list, characters};
-ghost use Rattle.ve_session.specs.Reader.{items_from, page_items};
-ghost use Rattle.ve_session.specs.Written.{html_of, written};
-ghost use Rattle.ve_session.specs.declared.reader.Reading.TheVariants.{Between};
-ghost use Rattle.std.specs.Str.{chars};
+// A page that is open, with the site that edits it.
+ghost use Rattle.std.specs.Prelude.{◌≡◌, ◌≤◌, ◌+◌, ◌++◌, ◌∷◌, [], true, Ok, Err, IfOk, IfErr, OnOk, OnErr, IsUtf8, encode_utf8_all};
+ghost use Rattle.model_site.specs.Replica.{opened_with};
+ghost use Rattle.model_site.specs.Site.{starting};
+ghost use Rattle.model_world.specs.declared.command.Command.TheVariants.{Ask};
+ghost use Rattle.model_world.specs.declared.reply.Reply.TheVariants as reply;
+ghost use Rattle.model_world.specs.Answers.{asked};
+ghost use Rattle.model_world.specs.Opening.{open_page};
+ghost use Rattle.model_world.specs.Spelled.{reply_text};
+ghost use Rattle.ve_changes.specs.Drafts.{IsDrafted};
+ghost use Rattle.ve_editor.specs.Page.{IsPage as IsTreeOfPage};
+ghost use Rattle.ve_offsets.specs.Docs.{page_items};
+ghost use Rattle.ve_read.specs.Pages.{HasPlaces, IsPage};
+ghost use Rattle.ve_session.specs.Answered.{is_answered, is_change, is_shown, outcome, shown_reply, IsAsked};
+ghost use Rattle.ve_session.specs.Cost.{meant_by, steps_of, steps_to_open, steps_to_perform};
+ghost use Rattle.ve_session.specs.Opened.{alone, asking, world_on, IsLed, MayOpen};
+ghost use Rattle.ve_session.specs.Stopped.{IsRefused, IsStop};
 
-use crate::reader::{Reading, character, closing, opening};
+use crate::faults::{of_edit, of_page};
+use crate::stage::is_shown;
+use model_page::RefTable;
+use model_world_law::{every_item_stands, every_site_holds, layers_fit};
 use std::alloc::Global;
-use ve_base::{MAX_PAGE, Memory, Text};
-use ve_items::{Item, Items, Linear};
-use ve_kinds::Kind;
+use std::marker::Model;
+use std::sync::ledger::Ledger;
+use ve_answers::{caret, html, items, node, refs, replies_are_as_asked, tree};
+use ve_base::{Bytes, Memory, Steps, Text};
+use ve_changes::{DraftStop, change_draft, move_draft};
+use ve_editor::Editor;
+use ve_html_scan::Span;
+use ve_items::Linear;
+use ve_json::{Answer, Request, reply_text};
+use ve_offsets::Doc;
+use ve_origin::{OriginTable, Origins};
+use ve_read::{PageRead, page, rows_stand};
+use ve_references::table;
+use ve_site::Site;
+use ve_tx::Draft;
 
-/// The items that a page's characters end, where the page is plain.
-fn read_items(alloc: Global, page: &[char]) -> Result<Option<Items>, Memory>
-    ensures { IfOk result (λ read. read ≡ items_from Between page.now) }
+/// A page that is open: its text, what was first read of it, and the site that edits it.
+#[derive(Drop)]
+pub struct OpenPage {
+    text: Text,
+    body: Span,
+    rows: OriginTable,
+    // the list as it was first read, and the table of its references
+    first: Linear,
+    first_refs: RefTable,
+    site: Site,
+}
+
+impl Model for OpenPage {
+    ghost use Rattle.ve_fresh.specs.Originals.{opened_over};
+    ghost use Rattle.ve_session.specs.Opened.{lent_of, IsOpen, OnePage};
+
+    ghost Value = { OnePage };
+
+    ghost view = { λ p. record { page = opened_over p.site.site.replica.store (lent_of p.text p.body p.rows p.first.items p.first_refs); site = p.site.site } };
+
+    ghost invariant = { λ p. IsOpen (lent_of p.text p.body p.rows p.first.items p.first_refs) p.site.site };
+}
+
+/// The draft that a request is, over a page's store.
+fn draft_of(alloc: Global, doc: Doc<'_>, request: &Request) -> Result<Draft, DraftStop>
+    requires change { is_change request.now ≡ true }
+    requires page { IsTreeOfPage doc.store.now doc.list.now.items doc.tree.now }
+    ensures ok { IfOk result (IsDrafted doc.entry.store.now (meant_by (page_items doc.entry) request.now)) }
+    ensures refused { IfErr result (λ stop. IsStop stop (meant_by (page_items doc.entry) request.now)) }
 {
-    let mut items = Items::new(alloc);
-    let mut reading = Reading::Between;
-    for ch in page {
-        let Some((next, ended)) = reading.read_char(*ch) else {
-            return Ok(None);
-        };
-        if let Some(item) = ended {
-            items.push(item)?;
+    match request {
+        Request::Edit { change } => change_draft(alloc, doc, change),
+        _ => move_draft(alloc, doc, request),
+    }
+}
+
+impl OpenPage {
+    /// Opens a page for one site, which builds a tree of its list. It is refused as `page` refuses it.
+    pub fn open<L: Ledger>(
+        alloc: Global,
+        text: Text,
+        steps: &mut Steps<L>,
+    ) -> Result<OpenPage, DraftStop>
+        requires may { MayOpen text }
+        ensures ok { IfOk result (λ p. (open_page text ≡ Ok p.page) × (p.site ≡ starting (opened_with p.page.items))) }
+        ensures refused { IfErr result (λ stop. IsStop stop (open_page text)) }
+        ensures counted { steps.old ≤ steps.new }
+        ensures steps { steps.new ≤ steps.old + steps_to_open (open_page text) }
+    {
+        match page(alloc, text.as_str()) {
+            Ok(read) => Ok(OpenPage::begin(alloc, text, read, steps)?),
+            Err(fault) => Err(of_page(fault)),
         }
-        reading = next;
     }
-    if reading == Reading::Between {
-        Ok(Some(items))
-    } else {
-        Ok(None)
+
+    /// A page that was read, with a site that begins on it.
+    fn begin<L: Ledger>(
+        alloc: Global,
+        text: Text,
+        read: PageRead,
+        steps: &mut Steps<L>,
+    ) -> Result<OpenPage, Memory>
+        requires may { MayOpen text }
+        requires utf8 { IsUtf8 (encode_utf8_all text) }
+        requires read { IsPage (encode_utf8_all text) read }
+        requires places { HasPlaces read }
+        ensures ok { IfOk result (λ p. (open_page text ≡ Ok p.page) × (p.site ≡ starting (opened_with p.page.items))) }
+        ensures counted { steps.old ≤ steps.new }
+        ensures steps { steps.new ≤ steps.old + steps_to_open (open_page text) }
+    {
+        // a page that opens is a sound list, and its rows have their places in it
+        layers_fit();
+        rows_stand();
+        let first_refs = table(alloc, &read.list, &read.values)?;
+        let list = read.list.copy(alloc)?;
+        let editor = Editor::new(alloc, list, read.values, steps)?;
+        Ok(OpenPage {
+            text,
+            body: read.body,
+            rows: read.rows,
+            first: read.list,
+            first_refs,
+            site: Site::new(alloc, 0, editor),
+        })
     }
-}
 
-/// A list of these items.
-fn list_of(alloc: Global, items: &[Item]) -> Result<Linear, Memory>
-    ensures { IfOk result (λ list. list.items ≡ items.now) }
-{
-    let mut list = Linear::new(alloc);
-    list.splice(0, 0, items)?;
-    Ok(list)
-}
-
-/// The characters of a text.
-fn letters_of(alloc: Global, text: &Text) -> Result<Vec<char>, Memory>
-    ensures { IfOk result (λ letters. letters.items ≡ text.now) }
-{
-    Ok(text.as_str().chars().collect(alloc)?)
-}
-
-/// The list of a page, where the page is plain.
-pub fn read_page(alloc: Global, page: &Text) -> Result<Option<Linear>, Memory>
-    ensures { IfOk result (λ read. option_map (λ list. list.items) read ≡ page_items page.now) }
-{
-    if page.as_str().len() > MAX_PAGE {
-        return Ok(None);
+    /// Tells that some lines lead to its world, which its type keeps.
+    pub fn tell_lines(&self)
+        ensures { IsLed (world_on self.now) }
+    {
+        let _ = &self.text;
     }
-    let letters = letters_of(alloc, page)?;
-    let Some(mut items) = read_items(alloc, &letters)? else {
-        return Ok(None);
-    };
-    items.push(opening(Kind::InternalList))?;
-    items.push(closing(Kind::InternalList))?;
-    Ok(Some(list_of(alloc, items.as_slice())?))
-}
 
-/// The items of a text's characters, without marks.
-pub fn characters(alloc: Global, text: &Text) -> Result<Items, Memory>
-    ensures { IfOk result (λ items. items ≡ characters text.now) }
-{
-    let mut items = Items::new(alloc);
-    for ch in text.as_str().chars() {
-        items.push(character(ch))?;
+    /// Lends list, tree and store of the site.
+    fn doc(&self) -> Doc<'_>
+        ensures items { page_items result ≡ self.now.site.replica.items }
+        ensures store { result.store.now ≡ self.now.site.replica.store }
+        ensures page { IsTreeOfPage result.store.now result.list.now.items result.tree.now }
+    {
+        self.site.editor().doc()
     }
-    Ok(items)
-}
 
-/// Appends an item as it is written in a page.
-#[tactic(auto, using(crate::proofs::Literals::amp_chars, crate::proofs::Literals::lt_chars, crate::proofs::Literals::gt_chars, crate::proofs::Literals::nbsp_chars, crate::proofs::Literals::start_chars, crate::proofs::Literals::end_chars))]
-fn write_item(item: Item, out: &mut Text) -> Result<(), Memory>
-    ensures { OnOk result (out.new ≡ out.old ++ written item) }
-{
-    match item {
-        Item::Char { ch: '&', .. } => out.push_str("&amp;"),
-        Item::Char { ch: '<', .. } => out.push_str("&lt;"),
-        Item::Char { ch: '>', .. } => out.push_str("&gt;"),
-        Item::Char { ch: '\u{a0}', .. } => out.push_str("&nbsp;"),
-        Item::Char { ch, .. } => out.push(ch),
-        Item::Opening { kind: Kind::P, .. } => out.push_str("<p>"),
-        Item::Closing { kind: Kind::P, .. } => out.push_str("</p>"),
-        _ => Ok(()),
+    /// Lends the editor of the site.
+    pub fn editor(&self) -> &Editor
+        ensures { result.now ≡ self.now.site.replica }
+    {
+        self.site.editor()
     }
-}
 
-/// Appends the items of a piece of the list as they are written in a page.
-fn write_items(items: &[Item], out: &mut Text) -> Result<(), Memory>
-    ensures { OnOk result (out.new ≡ out.old ++ html_of items.now) }
-{
-    for item in items {
-        write_item(*item, out)?;
+    /// Appends the page that the list gives, as the reply to `html`.
+    fn show_html(&self, alloc: Global, out: &mut Bytes) -> Result<(), Memory>
+        ensures reply { OnOk result (out.new ≡ out.old ++ (reply_text (shown_reply self.now.page self.now.site Request.Html) ++ 10 ∷ [])) }
+        ensures err { OnErr result (out.new ≡ out.old) }
+    {
+        // in every world that lines lead to references are editable
+        every_site_holds();
+        every_item_stands();
+        let origins = Origins::new(
+            self.text.as_str(),
+            self.body,
+            &self.rows,
+            &self.first,
+            &self.first_refs,
+        );
+        let answer = html(alloc, &origins, self.doc())?;
+        reply_text(alloc, &answer, out)
     }
-    Ok(())
-}
 
-/// The page of a list, block after block.
-pub fn html_of(alloc: Global, list: &Linear) -> Result<Text, Memory>
-    ensures { IfOk result (λ page. page ≡ html_of list.now.items) }
-{
-    let mut out = Text::new(alloc);
-    for k in 0..list.blocks() {
-        write_items(list.block(k), &mut out)?;
+    /// Appends the reply to a request that changes nothing.
+    fn show(&self, alloc: Global, request: &Request, out: &mut Bytes) -> Result<(), Memory>
+        requires shown { is_shown request.now ≡ true }
+        ensures reply { OnOk result (out.new ≡ out.old ++ (reply_text (shown_reply self.now.page self.now.site request.now) ++ 10 ∷ [])) }
+        ensures err { OnErr result (out.new ≡ out.old) }
+    {
+        let answer = match request {
+            Request::Html => return self.show_html(alloc, out),
+            Request::Tree => tree(alloc, self.doc())?,
+            Request::Refs => refs(alloc, self.doc())?,
+            Request::ShowItems { from, to } => items(self.doc(), *from, *to),
+            Request::At { at } => node(self.doc(), *at),
+            _ => caret(self.site.editor().selection()),
+        };
+        reply_text(alloc, &answer, out)
     }
-    Ok(out)
+
+    /// Performs the change that a request is, and gives the length of the list then. An `Err` changes nothing.
+    fn change<L: Ledger>(
+        &mut self,
+        alloc: Global,
+        request: &Request,
+        steps: &mut Steps<L>,
+    ) -> Result<usize, DraftStop>
+        requires asked { IsAsked (Ask request.now 0) }
+        requires change { is_change request.now ≡ true }
+        ensures ok { IfOk result (λ count. asked (asking self.old) request.now ≡ Ok (reply.Length count, alone self.old.page self.new.site)) }
+        ensures page { self.new.page ≡ self.old.page }
+        ensures refused { IfErr result (λ stop. IsRefused stop (asked (asking self.old) request.now)) }
+        ensures kept { OnErr result (self.new ≡ self.old) }
+        ensures counted { steps.old ≤ steps.new }
+        ensures steps { steps.new ≤ steps.old + steps_to_perform self.old.site.replica.items (meant_by self.old.site.replica.items request.now) }
+    {
+        layers_fit();
+        every_site_holds();
+        let draft = draft_of(alloc, self.doc(), request)?;
+        match self.site.edit(&draft, steps) {
+            Ok(()) => Ok(self.site.editor().doc().list.len()),
+            Err(fault) => Err(of_edit(fault)),
+        }
+    }
+
+    /// Answers a request: appends the reply and a newline. A refusal changes nothing.
+    pub fn answer<L: Ledger>(
+        &mut self,
+        alloc: Global,
+        request: &Request,
+        out: &mut Bytes,
+        steps: &mut Steps<L>,
+    ) -> Result<(), Memory>
+        requires asked { IsAsked (Ask request.now 0) }
+        requires answered { is_answered request.now ≡ true }
+        ensures reply { OnOk result (out.new ≡ out.old ++ (reply_text (outcome (world_on self.old) (Ask request.now 0)).0 ++ 10 ∷ [])) }
+        ensures world { OnOk result (world_on self.new ≡ (outcome (world_on self.old) (Ask request.now 0)).1) }
+        ensures unsaid { OnErr result (out.new ≡ out.old) }
+        ensures counted { steps.old ≤ steps.new }
+        ensures cost { OnOk result (steps.new ≤ steps.old + steps_of (world_on self.old) (Ok (Ask request.now 0))) }
+    {
+        replies_are_as_asked();
+        if is_shown(request) {
+            return self.show(alloc, request, out);
+        }
+        let answer = match self.change(alloc, request, steps) {
+            Ok(len) => Answer::Length(len),
+            Err(DraftStop::Refused(refusal)) => Answer::No(refusal),
+            Err(DraftStop::Memory) => return Err(Memory),
+        };
+        reply_text(alloc, &answer, out)
+    }
 }

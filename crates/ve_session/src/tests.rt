@@ -1,6 +1,7 @@
 // Scripts from end to end on a world, from a source in memory to a sink in memory.
 ghost use Rattle.std.specs.Prelude.{◌≡◌};
 
+use crate::rows::SCRIPTS;
 use crate::{Status, World, run};
 use std::alloc::Global;
 use std::marker::Brand;
@@ -85,7 +86,7 @@ fn ran<L: Ledger>(rt: &HostRuntime, blank: Blank, case: &Case) -> Result<(Status
 }
 
 /// Scripts on a page of one paragraph, whole and broken off.
-const CASES: [Case; 12] = [
+const CASES: [Case; 11] = [
     USUAL,
     Case {
         cuts: &[1, 1, 1, 5, 31, 1, 1],
@@ -102,22 +103,10 @@ const CASES: [Case; 12] = [
         written: b"",
         ..USUAL
     },
-    // no JSON, no text, nothing that is asked, and no page
-    Case {
-        script: b"{\n\n\xff\n[]\n{\"do\":\"html\"}\n",
-        written: b"no bad_json\nno bad_json\nno bad_json\nno not_yet\nno not_open\n",
-        ..USUAL
-    },
     // a refused page leaves the one that is open, and a refused text changes nothing
     Case {
-        script: b"{\"do\":\"open\",\"page\":\"<p>ab</p>\"}\n{\"do\":\"open\",\"page\":\"<b>\"}\n{\"do\":\"text\",\"at\":0,\"text\":\"X\"}\n{\"do\":\"html\"}\n",
-        written: b"ok 6\nno not_yet\nno not_yet\nok \"<p>ab</p>\"\n",
-        ..USUAL
-    },
-    // the text is escaped in the page
-    Case {
-        script: b"{\"do\":\"open\",\"page\":\"<p></p>\"}\n{\"do\":\"text\",\"at\":1,\"text\":\"a<&>\\u00a0\"}\n{\"do\":\"html\"}\n",
-        written: b"ok 4\nok 9\nok \"<p>a&lt;&amp;&gt;&nbsp;</p>\"\n",
+        script: b"{\"do\":\"open\",\"page\":\"<p>ab</p>\"}\n{\"do\":\"open\",\"page\":\"<b>\"}\n{\"do\":\"text\",\"at\":6,\"text\":\"X\"}\n{\"do\":\"html\"}\n",
+        written: b"ok 6\nno html unclosed 0\nno bad_offset 6\nok \"<p>ab</p>\"\n",
         ..USUAL
     },
     // faults
@@ -152,6 +141,12 @@ const CASES: [Case; 12] = [
         written: b"ok 6\nok",
         ..USUAL
     },
+    // whitespace around a page's blocks stays, and the text is escaped
+    Case {
+        script: b"{\"do\":\"open\",\"page\":\"<p></p>\"}\n{\"do\":\"text\",\"at\":1,\"text\":\"a<&>\\u00a0\"}\n{\"do\":\"html\"}\n",
+        written: b"ok 4\nok 9\nok \"<p>a&lt;&amp;&gt;&nbsp;</p>\"\n",
+        ..USUAL
+    },
 ];
 
 #[test]
@@ -160,6 +155,41 @@ fn scripts_are_answered(rt: HostRuntime) -> Result<(), Fail> {
         let (status, written) = ran::<Brand>(&rt, Blank::new(1), case)?;
         assert_eq!(rt; written.as_slice(), case.written, "case {number}");
         assert_eq!(rt; status, case.status, "case {number}");
+    }
+    Ok(())
+}
+
+/// Gives each line to a world in turn, and says which reply is another than the one beside it.
+fn first_other<L: Ledger>(
+    rt: &HostRuntime,
+    blank: Blank,
+    script: &[(&[u8], &[u8])],
+) -> Result<Option<usize>, Memory>
+    requires name { blank.name ≡ L.name }
+    requires parts { blank.parts ≡ L.parts }
+    requires one { blank.parts ≡ 1 }
+{
+    let alloc = rt.alloc();
+    let mut world = World::new(alloc);
+    let mut steps: Steps<L> = Steps::start(rt, blank);
+    for (number, (line, reply)) in script.iter().enumerate() {
+        let mut out = Bytes::new(alloc);
+        world.step(line, &mut out, &mut steps)?;
+        let mut expected = Bytes::new(alloc);
+        expected.push(reply)?;
+        expected.push(b"\n")?;
+        if out.as_slice() != expected.as_slice() {
+            return Ok(Some(number));
+        }
+    }
+    Ok(None)
+}
+
+#[test]
+fn lines_are_answered(rt: HostRuntime) -> Result<(), Fail> {
+    for (number, script) in SCRIPTS.iter().enumerate() {
+        let other = first_other::<Brand>(&rt, Blank::new(1), script)?;
+        assert_eq!(rt; other, None, "script {number}");
     }
     Ok(())
 }

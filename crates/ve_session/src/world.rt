@@ -1,69 +1,58 @@
 // The page that is open, and the commands on it.
-ghost use Rattle.std.specs.Prelude.{◌≡◌, ◌≤◌, ◌<◌, ◌+◌, ◌++◌, ◌&&◌, if◌then◌else◌, IfOk, OnOk, OnErr, IsErr, true, false, option_map, length, take, Some, None, Ok};
-ghost use Rattle.ve_items.specs.Substitution.{spliced};
-ghost use Rattle.ve_json.specs.declared.reply.Reply.TheVariants as reply_to;
-ghost use Rattle.ve_json.specs.declared.reply.Refusal.{Refusal};
-ghost use Rattle.ve_session.specs.Plain.{characters};
-ghost use Rattle.ve_session.specs.World.{State, answered, stepped, reply, next, begun, spent, can_insert, is_content};
+ghost use Rattle.std.specs.Prelude.{◌≡◌, ◌≤◌, ◌+◌, ◌++◌, ◌∷◌, [], true, Ok, IsErr, OnOk, OnErr, option_map};
+ghost use Rattle.model_world.specs.declared.command.Command.TheVariants.{Ask, OpenPage as OpensPage};
+ghost use Rattle.model_world.specs.declared.reply.Reply.TheVariants as reply;
+ghost use Rattle.model_world.specs.Commands.{command as command_of};
+ghost use Rattle.model_world.specs.Spelled.{reply_text};
+ghost use Rattle.ve_json.specs.SoFar.{text_so_far};
+ghost use Rattle.ve_session.specs.Answered.{answered_so_far, begun, is_answered, is_built, outcome, spent, IsAsked};
+ghost use Rattle.ve_session.specs.Cost.{steps_of};
+ghost use Rattle.ve_session.specs.Opened.{replica_in, IsLed};
 
-use crate::page::{characters, html_of, read_page};
+use crate::page::OpenPage;
+use crate::stage::is_built;
 use std::alloc::Global;
 use std::marker::Model;
 use std::sync::ledger::Ledger;
-use ve_base::{MAX_ITEMS, Memory, Steps, Text};
-use ve_items::{Item, Linear};
-use ve_json::{Command, LineFault, Refusal, Reply, command};
-use ve_kinds::{is_content_branch, is_inline_leaf};
+use ve_base::{Bytes, MAX_LINE, Memory, Steps, Text};
+use ve_changes::DraftStop;
+use ve_editor::Editor;
+use ve_json::{
+    Answer, Command, CommandFault, Refusal, Request, command, not_yet_text, reply_text,
+};
 use ve_run::Machine;
 
 /// The page that is open, if one is. After it ran out of memory a world is spent.
 #[derive(Drop)]
 pub struct World {
     alloc: Global,
-    page: Option<Linear>,
+    page: Option<OpenPage>,
     is_spent: bool,
 }
 
 impl Model for World {
-    ghost use Rattle.std.specs.Prelude.{option_map};
-    ghost use Rattle.ve_session.specs.World.{State};
+    ghost use Rattle.ve_session.specs.Answered.{State};
+    ghost use Rattle.ve_session.specs.Opened.{world_of};
 
     ghost Value = { State };
 
-    ghost view = { λ w. record { page = option_map (λ list. list.items) w.page; is_spent = w.is_spent } };
+    ghost view = { λ w. record { world = world_of w.page; is_spent = w.is_spent } };
 }
 
-/// Whether characters may stand at the offset, by the item before it.
-fn is_content(list: &Linear, at: usize) -> bool
-    ensures { result ≡ is_content list.now.items at }
+/// Appends a refusal as a reply.
+fn refuse(alloc: Global, refusal: Refusal, out: &mut Bytes) -> Result<(), Memory>
+    ensures ok { OnOk result (out.new ≡ out.old ++ (reply_text (reply.No refusal) ++ 10 ∷ [])) }
+    ensures err { OnErr result (out.new ≡ out.old) }
 {
-    if at == 0 || at > list.len() {
-        return false;
-    }
-    match list.get(at - 1) {
-        Item::Char { .. } => true,
-        Item::Opening { kind, .. } => is_content_branch(kind),
-        Item::Closing { kind, .. } => is_inline_leaf(kind),
-    }
+    reply_text(alloc, &Answer::No(refusal), out)
 }
 
-/// Puts a text into a list, where it has its place there.
-fn insert(alloc: Global, list: &mut Linear, at: usize, text: &Text) -> Result<bool, Memory>
-    ensures answer { IfOk result (λ done. done ≡ can_insert list.old.items at text.now) }
-    ensures items { IfOk result (λ done.
-        list.new.items ≡ (if done then spliced list.old.items at 0 (characters text.now) else list.old.items)) }
+/// Appends the length of a list as a reply.
+fn tell_length(alloc: Global, len: usize, out: &mut Bytes) -> Result<(), Memory>
+    ensures ok { OnOk result (out.new ≡ out.old ++ (reply_text (reply.Length len) ++ 10 ∷ [])) }
+    ensures err { OnErr result (out.new ≡ out.old) }
 {
-    if !is_content(list, at) {
-        return Ok(false);
-    }
-    let items = characters(alloc, text)?;
-    let letters = items.as_slice();
-    if letters.len() > MAX_ITEMS || list.len() > MAX_ITEMS - letters.len() {
-        return Ok(false);
-    }
-    list.reserve(letters.len())?;
-    list.splice(at, 0, letters)?;
-    Ok(true)
+    reply_text(alloc, &Answer::Length(len), out)
 }
 
 impl World {
@@ -78,80 +67,164 @@ impl World {
         }
     }
 
+    /// Lends the editor of a site: None where no page is open, and where the site is none.
+    pub fn editor(&self, site: usize) -> Option<&Editor>
+        ensures { option_map (λ editor. editor.now) result ≡ replica_in self.now.world site }
+    {
+        match &self.page {
+            Some(page) if site == 0 => Some(page.editor()),
+            _ => None,
+        }
+    }
+
+    /// Tells that some lines lead to its world, which the type of an open page keeps.
+    fn tell_lines(&self)
+        ensures { IsLed self.now.world }
+    {
+        if let Some(page) = &self.page {
+            page.tell_lines();
+        }
+    }
+
+    /// Opens a page in place of the one that is open, unless it is refused.
+    fn open<L: Ledger>(
+        &mut self,
+        text: Text,
+        out: &mut Bytes,
+        steps: &mut Steps<L>,
+    ) -> Result<(), Memory>
+        requires asked { IsAsked (OpensPage text 1) }
+        ensures reply { OnOk result (out.new ≡ out.old ++ (reply_text (outcome self.old.world (OpensPage text 1)).0 ++ 10 ∷ [])) }
+        ensures world { OnOk result (self.new ≡ record self.old { world = (outcome self.old.world (OpensPage text 1)).1 }) }
+        ensures unsaid { OnErr result (out.new ≡ out.old) }
+        ensures counted { steps.old ≤ steps.new }
+        ensures cost { OnOk result (steps.new ≤ steps.old + steps_of self.old.world (Ok (OpensPage text 1))) }
+    {
+        self.tell_lines();
+        match OpenPage::open(self.alloc, text, steps) {
+            Ok(page) => {
+                let len = page.editor().doc().list.len();
+                self.page = Some(page);
+                tell_length(self.alloc, len, out)
+            }
+            Err(DraftStop::Refused(refusal)) => refuse(self.alloc, refusal, out),
+            Err(DraftStop::Memory) => Err(Memory),
+        }
+    }
+
+    /// Answers a request to a site.
+    fn ask<L: Ledger>(
+        &mut self,
+        request: &Request,
+        site: usize,
+        out: &mut Bytes,
+        steps: &mut Steps<L>,
+    ) -> Result<(), Memory>
+        requires asked { IsAsked (Ask request.now site) }
+        requires answered { is_answered request.now ≡ true }
+        ensures reply { OnOk result (out.new ≡ out.old ++ (reply_text (outcome self.old.world (Ask request.now site)).0 ++ 10 ∷ [])) }
+        ensures world { OnOk result (self.new ≡ record self.old { world = (outcome self.old.world (Ask request.now site)).1 }) }
+        ensures unsaid { OnErr result (out.new ≡ out.old) }
+        ensures counted { steps.old ≤ steps.new }
+        ensures cost { OnOk result (steps.new ≤ steps.old + steps_of self.old.world (Ok (Ask request.now site))) }
+    {
+        let Some(page) = &mut self.page else {
+            return refuse(self.alloc, Refusal::NotOpen, out);
+        };
+        if site != 0 {
+            return refuse(self.alloc, Refusal::BadSite { sites: 1 }, out);
+        }
+        page.answer(self.alloc, request, out, steps)
+    }
+
     /// Answers a command.
-    fn answer(&mut self, command: Command) -> Result<Reply, Memory>
-        ensures reply { IfOk result (λ reply. reply ≡ (answered self.old.page command).0) }
-        ensures state { OnOk result (self.new ≡ record self.old { page = (answered self.old.page command).1 }) }
+    fn obey<L: Ledger>(
+        &mut self,
+        command: Command,
+        out: &mut Bytes,
+        steps: &mut Steps<L>,
+    ) -> Result<(), Memory>
+        requires asked { IsAsked command }
+        requires built { is_built command ≡ true }
+        ensures reply { OnOk result (out.new ≡ out.old ++ (reply_text (outcome self.old.world command).0 ++ 10 ∷ [])) }
+        ensures world { OnOk result (self.new ≡ record self.old { world = (outcome self.old.world command).1 }) }
+        ensures unsaid { OnErr result (out.new ≡ out.old) }
+        ensures counted { steps.old ≤ steps.new }
+        ensures cost { OnOk result (steps.new ≤ steps.old + steps_of self.old.world (Ok command)) }
     {
         match command {
-            Command::OpenPage { page } => match read_page(self.alloc, &page)? {
-                Some(list) => {
-                    let length = list.len();
-                    self.page = Some(list);
-                    Ok(Reply::Length(length))
-                }
-                None => Ok(Reply::No(Refusal::NotYet)),
-            },
-            Command::Text { at, text } => match &mut self.page {
-                Some(list) => {
-                    if insert(self.alloc, list, at, &text)? {
-                        Ok(Reply::Length(list.len()))
-                    } else {
-                        Ok(Reply::No(Refusal::NotYet))
-                    }
-                }
-                None => Ok(Reply::No(Refusal::NotOpen)),
-            },
-            Command::Html => match &self.page {
-                Some(list) => Ok(Reply::Page(html_of(self.alloc, list)?)),
-                None => Ok(Reply::No(Refusal::NotOpen)),
-            },
+            Command::OpenPage { page, .. } => self.open(page, out, steps),
+            Command::Ask { request, site } => self.ask(&request, site, out, steps),
         }
     }
 
     /// Answers a line, where the world isn't spent.
-    fn answer_line(&mut self, line: &[u8]) -> Result<Reply, Memory>
-        ensures reply { IfOk result (λ answer. answer ≡ reply self.old line.now) }
-        ensures state { OnOk result (self.new ≡ next self.old line.now) }
+    fn answer<L: Ledger>(
+        &mut self,
+        line: &[u8],
+        out: &mut Bytes,
+        steps: &mut Steps<L>,
+    ) -> Result<(), Memory>
+        ensures reply { OnOk result (out.new ≡ out.old ++ (text_so_far (answered_so_far self.old line.now).0 ++ 10 ∷ [])) }
+        ensures state { OnOk result (self.new ≡ (answered_so_far self.old line.now).1) }
+        ensures unsaid { OnErr result (out.new ≡ out.old) }
         ensures stays_spent { self.old.is_spent ≡ true → IsErr result }
+        ensures counted { steps.old ≤ steps.new }
+        ensures cost { OnOk result (steps.new ≤ steps.old + steps_of self.old.world (command_of line.now)) }
     {
         if self.is_spent {
             return Err(Memory);
         }
+        if line.len() > MAX_LINE {
+            return refuse(self.alloc, Refusal::LineTooLong { len: line.len() }, out);
+        }
         match command(self.alloc, line) {
-            Ok(command) => self.answer(command),
-            Err(LineFault::BadJson) => Ok(Reply::No(Refusal::BadJson)),
-            Err(LineFault::NotYet) => Ok(Reply::No(Refusal::NotYet)),
-            Err(LineFault::Memory) => Err(Memory),
+            Ok(command) if is_built(&command) => self.obey(command, out, steps),
+            Ok(_) => not_yet_text(out),
+            Err(CommandFault::Refused(refusal)) => refuse(self.alloc, refusal, out),
+            Err(CommandFault::Memory) => Err(Memory),
         }
     }
 
-    /// Answers one line of a script. A refusal leaves the world as it was.
+    /// Answers one line of a script: appends the text of the reply and a newline. A refusal leaves the world as it was.
     ///
-    /// After `Memory` the world is spent: it has no page, and every later step answers `Memory`.
-    pub fn step<L: Ledger>(&mut self, line: &[u8], steps: &mut Steps<L>) -> Result<Reply, Memory>
-        ensures reply { IfOk result (λ answer. answer ≡ reply self.old line.now) }
-        ensures state { OnOk result (self.new ≡ next self.old line.now) }
-        ensures refused { (refusal : Refusal) → result ≡ Ok (reply_to.No refusal) → self.new ≡ self.old }
+    /// After `Memory` nothing is appended, and the world is spent: it has no page, and every later step answers `Memory`.
+    pub fn step<L: Ledger>(
+        &mut self,
+        line: &[u8],
+        out: &mut Bytes,
+        steps: &mut Steps<L>,
+    ) -> Result<(), Memory>
+        ensures reply { OnOk result (out.new ≡ out.old ++ (text_so_far (answered_so_far self.old line.now).0 ++ 10 ∷ [])) }
+        ensures state { OnOk result (self.new ≡ (answered_so_far self.old line.now).1) }
+        ensures unsaid { OnErr result (out.new ≡ out.old) }
         ensures spent { OnErr result (self.new ≡ spent) }
         ensures stays_spent { self.old.is_spent ≡ true → IsErr result }
-        ensures counted { steps.new ≡ steps.old }
+        ensures counted { steps.old ≤ steps.new }
+        ensures cost { OnOk result (steps.new ≤ steps.old + steps_of self.old.world (command_of line.now)) }
     {
-        let answer = self.answer_line(line);
-        if answer.is_err() {
-            self.page = None;
-            self.is_spent = true;
+        match self.answer(line, out, steps) {
+            Ok(()) => Ok(()),
+            Err(Memory) => {
+                self.page = None;
+                self.is_spent = true;
+                Err(Memory)
+            }
         }
-        answer
     }
 }
 
 impl Machine for World {
-    ghost use Rattle.ve_session.specs.World.{meaning};
+    ghost use Rattle.ve_session.specs.Cost.{meaning};
 
     ghost meaning = { meaning };
 
-    fn step<L: Ledger>(&mut self, line: &[u8], steps: &mut Steps<L>) -> Result<Reply, Memory> {
-        World::step(self, line, steps)
+    fn step<L: Ledger>(
+        &mut self,
+        line: &[u8],
+        out: &mut Bytes,
+        steps: &mut Steps<L>,
+    ) -> Result<(), Memory> {
+        World::step(self, line, out, steps)
     }
 }

@@ -67,11 +67,11 @@ pub read_lawful : (values : List Value) (items : List Item) → values ≡ [] �
 read_lawful values items none e = subst (λ v. Lawful (plain_list v items)) (sym none) (subst (λ l. Lawful (plain_list [] l)) (sym e) refl)
 
 pub read_first : (values : List Value) (items : List Item) (o : FirstRead) (page : List ℕ) (body : Span) (rows : List OriginRow) (refs : List RefRow) (row : OriginRow) → values ≡ [] → o ≡ first_read page body rows items refs →
-    rows ≡ row ∷ [] → refs ≡ [] → row.from ≡ 0 → row.to ≡ 3 → items ≡ read_items → IsFirst values items o
+    rows ≡ row ∷ [] → refs ≡ [] → row.from ≡ 0 → row.to ≡ 3 → items ≡ read_items → IsFirst values o
 read_first values items o page body rows refs row none is rows_are refs_are from to e =
     let range = read_range items e in
-    subst (λ v. IsFirst v items o) (sym none)
-    (subst (IsFirst [] items) (sym is) (record {
+    subst (λ v. IsFirst v o) (sym none)
+    (subst (IsFirst []) (sym is) (record {
       cites = all_cite [] items (read_cites [] items e);
       ranges = λ k r found.
           let p = only_row row k r (sym (ap (λ l. slice_get l k) rows_are) ∙ found) in

@@ -21,8 +21,8 @@ use ve_store::Store;
 /// every other is written afresh, with each body at the reference that carries it. An `Err` changes nothing.
 ///
 /// It is asked that the list is lawful and its references are editable; that the list as it was first read cites
-/// values of this store, and its table is given; that each row is the range of a node of it, before its internal
-/// list; and that each origin in the list is the number of a row.
+/// values of this store, and its table is given; and that each row is the range of a node of that list, before its
+/// internal list, and each origin in it is the number of a row.
 pub fn write<'a>(
     alloc: Global,
     list: &Linear,
@@ -33,7 +33,7 @@ pub fn write<'a>(
     requires cites { AllCite store.now list.now.items }
     requires refers { all_refer (plain_list store.now list.now.items) ≡ true }
     requires lawful { Lawful (plain_list store.now list.now.items) }
-    requires first { IsFirst store.now list.now.items origins.now }
+    requires first { IsFirst store.now origins.now }
     ensures ok { OnOk result (out.new ≡ out.old ++ write (opened_over store.now origins.now) (plain_list store.now list.now.items)) }
     ensures err { OnErr result (out.new ≡ out.old) }
 {

@@ -1,0 +1,19 @@
+use Rattle.std.proofs.Common.{◌≤◌, ◌+◌, Bool, ap, ◌∙◌, sym, subst}
+use Rattle.ve_session.specs.Answered.{State}
+use Rattle.ve_session.specs.Opened.{world_on}
+use Rattle.ve_session.proofs.LineLemmas.{always, may_open, opened_state, opening_steps}
+use Rattle.ve_session.proofs.world.World.open.Goals as goal
+
+pub open-requires : goal.open-requires
+open-requires g c = record { may = may_open c.args.self.now.world c.args.text c.tell_lines.ensures c.requires.asked }
+
+pub returns-in-Ok-clause-world : goal.returns-in-Ok-clause-world
+returns-in-Ok-clause-world g c =
+    let p = c.in-Ok.ensures.ok in
+    let kept = ap (λ (s : State). s.is_spent) c.self.view_is in
+    always _ c.tell_length.result
+    (ap (λ (b : Bool). record { world = world_on c.in-Ok.page; is_spent = b }) kept ∙ opened_state c.args.self.now c.args.text c.in-Ok.page p.0 p.1)
+
+pub returns-in-Ok-clause-cost : goal.returns-in-Ok-clause-cost
+returns-in-Ok-clause-cost g c =
+    always _ c.tell_length.result (subst (λ n. c.open.new.steps ≤ c.args.steps.now + n) (sym (opening_steps c.args.self.now.world c.args.text)) c.open.ensures.steps)
