@@ -6,3 +6,5 @@ pub mod OpenLemmas
 pub mod ShownLemmas
 pub mod ChangeLemmas
 pub mod AfterLemmas
+pub mod ToldLemmas
+mod SessionExamples

@@ -5,3 +5,4 @@ pub mod Answered
 pub mod Cost
 pub mod Opened
 pub mod Stopped
+pub mod Laws

@@ -8,10 +8,12 @@
 //! - `Answered`: which commands are answered so far, what a line is answered, and the world after it;
 //! - `Cost`: how many steps a line takes at most, and the `meaning` of a world as a machine;
 //! - `Opened`: what is always so of a page that is open;
-//! - `Stopped`: how a refusal is told.
+//! - `Stopped`: how a refusal is told;
+//! - `Laws`: `html` of a page that was not edited gives it back ([`unedited_page_is_told`]).
 #![tactic(auto)]
 
 mod faults;
+mod laws;
 mod page;
 mod stage;
 #[cfg(test)]
@@ -20,6 +22,7 @@ mod rows;
 mod tests;
 mod world;
 
+pub use laws::unedited_page_is_told;
 pub use ve_json::{Answer, Refusal};
 pub use ve_run::{Machine, Status, run};
 pub use world::World;
