@@ -1,5 +1,6 @@
 -- How many steps a line takes at most: those of the trees that are built for it. And the machine that a world is.
-use Rattle.std.specs.Prelude.{ℕ, if◌then◌else◌, List, [], ◌∷◌, Option, Some, None, Result, Ok, Err, slice_get}
+use Rattle.std.specs.Prelude.{ℕ, if◌then◌else◌, nat_lt, List, length, [], ◌∷◌, Option, Some, None, Result, Ok, Err, slice_get}
+use Rattle.ve_base.specs.Limits.{max_line}
 use Rattle.model_items.specs.declared.plain_item.PlainItem.{PlainItem}
 use Rattle.model_change.specs.Transaction.{Transaction}
 use Rattle.model_page.specs.PageItems.{Opened}
@@ -17,7 +18,7 @@ use Rattle.model_world.specs.World.{World, Closed, Open}
 use Rattle.ve_changes.specs.Moves.{moved_by}
 use Rattle.ve_editor.specs.Counted.{steps_after}
 use Rattle.ve_json.specs.SoFar.{SoFar}
-use Rattle.ve_session.specs.Answered.{State, answered_so_far, is_change}
+use Rattle.ve_session.specs.Answered.{State, answered_so_far, is_change, waits}
 use Rattle.ve_tree.specs.TreeOf.{most_steps}
 
 -- the transaction that a request is, on these items, or why there is none
@@ -46,10 +47,14 @@ steps_of w (Ok (OpenPage page sites)) = steps_to_open (open_page page)
 steps_of Closed (Ok (Ask asked k)) = 0
 steps_of (Open page session) (Ok (Ask asked k)) = steps_to_answer asked (slice_get session.members k)
 
+-- of a line: one that is too long, or asks what isn't answered yet, takes none
+abbrev pub steps_of_line : World → List ℕ → ℕ
+steps_of_line w line = if nat_lt max_line (length line) then 0 else (if waits line then 0 else steps_of w (command line))
+
 -- a world as a machine
 abbrev pub meaning : Meaning State SoFar
 meaning = record {
   reply = λ s line. (answered_so_far s line).0;
   next = λ s line. (answered_so_far s line).1;
-  cost = λ s line. steps_of s.world (command line);
+  cost = λ s line. steps_of_line s.world line;
 }

@@ -221,7 +221,7 @@ impl OpenPage {
         ensures world { OnOk result (world_on self.new ≡ (outcome (world_on self.old) (Ask request.now 0)).1) }
         ensures unsaid { OnErr result (out.new ≡ out.old) }
         ensures counted { steps.old ≤ steps.new }
-        ensures cost { OnOk result (steps.new ≤ steps.old + steps_of (world_on self.old) (Ok (Ask request.now 0))) }
+        ensures cost { steps.new ≤ steps.old + steps_of (world_on self.old) (Ok (Ask request.now 0)) }
     {
         replies_are_as_asked();
         if is_shown(request) {

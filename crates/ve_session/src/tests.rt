@@ -141,7 +141,7 @@ const CASES: [Case; 11] = [
         written: b"ok 6\nok",
         ..USUAL
     },
-    // whitespace around a page's blocks stays, and the text is escaped
+    // the text is escaped in the page
     Case {
         script: b"{\"do\":\"open\",\"page\":\"<p></p>\"}\n{\"do\":\"text\",\"at\":1,\"text\":\"a<&>\\u00a0\"}\n{\"do\":\"html\"}\n",
         written: b"ok 4\nok 9\nok \"<p>a&lt;&amp;&gt;&nbsp;</p>\"\n",

@@ -2,11 +2,10 @@
 ghost use Rattle.std.specs.Prelude.{◌≡◌, ◌≤◌, ◌+◌, ◌++◌, ◌∷◌, [], true, Ok, IsErr, OnOk, OnErr, option_map};
 ghost use Rattle.model_world.specs.declared.command.Command.TheVariants.{Ask, OpenPage as OpensPage};
 ghost use Rattle.model_world.specs.declared.reply.Reply.TheVariants as reply;
-ghost use Rattle.model_world.specs.Commands.{command as command_of};
 ghost use Rattle.model_world.specs.Spelled.{reply_text};
 ghost use Rattle.ve_json.specs.SoFar.{text_so_far};
 ghost use Rattle.ve_session.specs.Answered.{answered_so_far, begun, is_answered, is_built, outcome, spent, IsAsked};
-ghost use Rattle.ve_session.specs.Cost.{steps_of};
+ghost use Rattle.ve_session.specs.Cost.{steps_of, steps_of_line};
 ghost use Rattle.ve_session.specs.Opened.{replica_in, IsLed};
 
 use crate::page::OpenPage;
@@ -98,7 +97,7 @@ impl World {
         ensures world { OnOk result (self.new ≡ record self.old { world = (outcome self.old.world (OpensPage text 1)).1 }) }
         ensures unsaid { OnErr result (out.new ≡ out.old) }
         ensures counted { steps.old ≤ steps.new }
-        ensures cost { OnOk result (steps.new ≤ steps.old + steps_of self.old.world (Ok (OpensPage text 1))) }
+        ensures cost { steps.new ≤ steps.old + steps_of self.old.world (Ok (OpensPage text 1)) }
     {
         self.tell_lines();
         match OpenPage::open(self.alloc, text, steps) {
@@ -126,7 +125,7 @@ impl World {
         ensures world { OnOk result (self.new ≡ record self.old { world = (outcome self.old.world (Ask request.now site)).1 }) }
         ensures unsaid { OnErr result (out.new ≡ out.old) }
         ensures counted { steps.old ≤ steps.new }
-        ensures cost { OnOk result (steps.new ≤ steps.old + steps_of self.old.world (Ok (Ask request.now site))) }
+        ensures cost { steps.new ≤ steps.old + steps_of self.old.world (Ok (Ask request.now site)) }
     {
         let Some(page) = &mut self.page else {
             return refuse(self.alloc, Refusal::NotOpen, out);
@@ -150,7 +149,7 @@ impl World {
         ensures world { OnOk result (self.new ≡ record self.old { world = (outcome self.old.world command).1 }) }
         ensures unsaid { OnErr result (out.new ≡ out.old) }
         ensures counted { steps.old ≤ steps.new }
-        ensures cost { OnOk result (steps.new ≤ steps.old + steps_of self.old.world (Ok command)) }
+        ensures cost { steps.new ≤ steps.old + steps_of self.old.world (Ok command) }
     {
         match command {
             Command::OpenPage { page, .. } => self.open(page, out, steps),
@@ -170,7 +169,7 @@ impl World {
         ensures unsaid { OnErr result (out.new ≡ out.old) }
         ensures stays_spent { self.old.is_spent ≡ true → IsErr result }
         ensures counted { steps.old ≤ steps.new }
-        ensures cost { OnOk result (steps.new ≤ steps.old + steps_of self.old.world (command_of line.now)) }
+        ensures cost { steps.new ≤ steps.old + steps_of_line self.old.world line.now }
     {
         if self.is_spent {
             return Err(Memory);
@@ -201,7 +200,7 @@ impl World {
         ensures spent { OnErr result (self.new ≡ spent) }
         ensures stays_spent { self.old.is_spent ≡ true → IsErr result }
         ensures counted { steps.old ≤ steps.new }
-        ensures cost { OnOk result (steps.new ≤ steps.old + steps_of self.old.world (command_of line.now)) }
+        ensures cost { steps.new ≤ steps.old + steps_of_line self.old.world line.now }
     {
         match self.answer(line, out, steps) {
             Ok(()) => Ok(()),

@@ -1,7 +1,7 @@
-use Rattle.std.proofs.Common.{◌≤◌, ◌+◌, Bool, ap, ◌∙◌, sym, subst}
+use Rattle.std.proofs.Common.{Bool, ap, ◌∙◌}
 use Rattle.ve_session.specs.Answered.{State}
 use Rattle.ve_session.specs.Opened.{world_on}
-use Rattle.ve_session.proofs.LineLemmas.{always, may_open, opened_state, opening_steps}
+use Rattle.ve_session.proofs.LineLemmas.{always, may_open, opened_state}
 use Rattle.ve_session.proofs.world.World.open.Goals as goal
 
 pub open-requires : goal.open-requires
@@ -13,7 +13,3 @@ returns-in-Ok-clause-world g c =
     let kept = ap (λ (s : State). s.is_spent) c.self.view_is in
     always _ c.tell_length.result
     (ap (λ (b : Bool). record { world = world_on c.in-Ok.page; is_spent = b }) kept ∙ opened_state c.args.self.now c.args.text c.in-Ok.page p.0 p.1)
-
-pub returns-in-Ok-clause-cost : goal.returns-in-Ok-clause-cost
-returns-in-Ok-clause-cost g c =
-    always _ c.tell_length.result (subst (λ n. c.open.new.steps ≤ c.args.steps.now + n) (sym (opening_steps c.args.self.now.world c.args.text)) c.open.ensures.steps)
