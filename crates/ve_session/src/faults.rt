@@ -49,7 +49,10 @@ pub fn of_edit(fault: EditFault) -> DraftStop
     ensures { result ≡ edit_stop fault }
 {
     match fault {
-        EditFault::BadLength { has, needs } => DraftStop::Refused(Refusal::BadLength { has, needs }),
+        EditFault::BadLength { has, needs } => DraftStop::Refused(Refusal::BadLength {
+            has,
+            needs,
+        }),
         EditFault::BadAttr { at } => DraftStop::Refused(Refusal::BadAttr { at }),
         EditFault::Unlawful { at } => DraftStop::Refused(Refusal::Unlawful { at }),
         EditFault::TooDeep { at } => DraftStop::Refused(Refusal::TooDeep { at }),

@@ -12,12 +12,14 @@
 //! - `Laws`: `html` of a page that was not edited gives it back ([`unedited_page_is_told`]).
 #![tactic(auto)]
 
+#[cfg(test)]
+mod change_rows;
 mod faults;
 mod laws;
 mod page;
-mod stage;
 #[cfg(test)]
-mod rows;
+mod page_rows;
+mod stage;
 #[cfg(test)]
 mod tests;
 mod world;

@@ -1,7 +1,8 @@
 // Scripts from end to end on a world, from a source in memory to a sink in memory.
 ghost use Rattle.std.specs.Prelude.{◌≡◌};
 
-use crate::rows::SCRIPTS;
+use crate::change_rows::CHANGES;
+use crate::page_rows::PAGES;
 use crate::{Status, World, run};
 use std::alloc::Global;
 use std::marker::Brand;
@@ -186,8 +187,17 @@ fn first_other<L: Ledger>(
 }
 
 #[test]
-fn lines_are_answered(rt: HostRuntime) -> Result<(), Fail> {
-    for (number, script) in SCRIPTS.iter().enumerate() {
+fn pages_are_shown(rt: HostRuntime) -> Result<(), Fail> {
+    for (number, script) in PAGES.iter().enumerate() {
+        let other = first_other::<Brand>(&rt, Blank::new(1), script)?;
+        assert_eq!(rt; other, None, "script {number}");
+    }
+    Ok(())
+}
+
+#[test]
+fn changes_are_made(rt: HostRuntime) -> Result<(), Fail> {
+    for (number, script) in CHANGES.iter().enumerate() {
         let other = first_other::<Brand>(&rt, Blank::new(1), script)?;
         assert_eq!(rt; other, None, "script {number}");
     }

@@ -16,9 +16,7 @@ use std::sync::ledger::Ledger;
 use ve_base::{Bytes, MAX_LINE, Memory, Steps, Text};
 use ve_changes::DraftStop;
 use ve_editor::Editor;
-use ve_json::{
-    Answer, Command, CommandFault, Refusal, Request, command, not_yet_text, reply_text,
-};
+use ve_json::{Answer, Command, CommandFault, Refusal, Request, command, not_yet_text, reply_text};
 use ve_run::Machine;
 
 /// The page that is open, if one is. After it ran out of memory a world is spent.
