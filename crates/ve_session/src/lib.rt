@@ -12,16 +12,10 @@
 //! - `Laws`: `html` of a page that was not edited gives it back ([`unedited_page_is_told`]).
 #![tactic(auto)]
 
-#[cfg(test)]
-mod change_rows;
 mod faults;
 mod laws;
 mod page;
-#[cfg(test)]
-mod page_rows;
 mod stage;
-#[cfg(test)]
-mod tests;
 mod world;
 
 pub use laws::unedited_page_is_told;
