@@ -1,16 +1,22 @@
 -- The words of the laws, at work.
-use Rattle.std.proofs.Common.{◌≡◌, ℕ, Bool, true, false, List, [], ◌∷◌, codes, refl}
+use Rattle.std.proofs.Common.{◌≡◌, ◌≤◌, ℕ, Bool, true, false, List, [], ◌∷◌, codes, refl, arith}
+use Rattle.std.proofs.lemmas.List.Elements.{All-cons, All-nil}
 use Rattle.ve_base.specs.declared.marks.Mark.{Mark}
 use Rattle.ve_base.specs.declared.value.Value.TheVariants as value
 use Rattle.model_items.specs.declared.plain_item.PlainItem.{PlainItem}
 use Rattle.model_items.specs.declared.plain_item.PlainItem.TheVariants.{Char}
 use Rattle.model_change.specs.Transaction.{Retain, Replace, Transaction}
+use Rattle.model_edit.specs.Translate.{between}
+use Rattle.model_site.specs.Entries.{Entry, entry_of}
+use Rattle.model_site.specs.Replica.{Replica}
 use Rattle.model_site.specs.Session.{Foreign, Ack}
+use Rattle.model_site.specs.Site.{Site, starting, with_entry}
 use Rattle.model_site.specs.Events.{Perform, Undo, Redo}
 use Rattle.model_site_law.specs.Chain.{needed_values, stored}
 use Rattle.model_site_law.specs.Protocol.{InStep, kept_under}
 use Rattle.model_site_law.specs.ItemLaws.{Inserts}
 use Rattle.model_site_law.specs.Laws.{turns}
+use Rattle.model_site_law.specs.StoreLaws.{BeginsWith}
 
 abbrev bold : List Mark
 bold = record { tag = codes "b"; attrs = [] } ∷ []
@@ -49,3 +55,16 @@ is_char _ = false
 -- what is performed is asked for its inserted items alone: the removal passes any test, and of what is undone nothing is asked
 one_letter : Inserts is_char (Perform 0 (removal ∷ insertion 1 3 ∷ [])) × Inserts (λ item. false) (Perform 0 (removal ∷ [])) × Inserts (λ item. false) (Undo 0)
 one_letter = ((tt, ((refl, tt), tt)), (tt, tt), tt)
+
+-- what was opened, and an entry that brings one more value
+abbrev opened : Replica
+opened = record { items = []; store = value.Marks bold ∷ []; selection = between 0 0 }
+
+abbrev edited_once : Site
+edited_once = with_entry (insertion 0 0 ∷ []) (starting opened)
+
+-- the entry was made on the store that was opened, so an undo leaves that
+begins_with : BeginsWith (value.Marks bold ∷ []) edited_once
+begins_with =
+    let Since : Entry → Type 0 = λ e. 1 ≤ e.store_before in
+    record { more = value.Marks italic ∷ []; begins = refl; since = All-cons Since (entry_of (insertion 0 0 ∷ []) opened) [] (omega arith) (All-nil Since) }

@@ -22,4 +22,5 @@ pub mod KeptLemmas
 pub mod EditLemmas
 pub mod CountLemmas
 pub mod ItemLemmas
+pub mod BeginLemmas
 mod LawExamples

@@ -7,3 +7,4 @@ pub mod Protocol
 pub mod SelectionLaws
 pub mod KeptLaws
 pub mod ItemLaws
+pub mod StoreLaws

@@ -4,6 +4,7 @@ ghost use Rattle.model_site_law.specs.SelectionLaws.{FirstSelectionStands, Moved
 ghost use Rattle.model_site_law.specs.MayHappen.{EditMayRun};
 ghost use Rattle.model_site_law.specs.ItemLaws.{ItemsKeep};
 ghost use Rattle.model_site_law.specs.KeptLaws.{EventsKeep, HoldsAtFirst};
+ghost use Rattle.model_site_law.specs.StoreLaws.{StoreBegins};
 
 /// Entries are joined over committed transactions up to the first conflict: the transactions of those kept
 /// join as one list, and with the next entry's they have that conflict. So an entry is refused or dropped
@@ -51,6 +52,12 @@ pub fn stores_hold()
     ensures always { StoreHolds }
     ensures distinct { FirstStoreIsDistinct }
     ensures once { StoreIsDistinct }
+{}
+
+/// Every site's store begins with the store that was opened, whatever happened, and each pending entry was made
+/// on a store that has as many values or more: no undo cuts it shorter, and where a value stood first it stays.
+pub fn stores_begin()
+    ensures { StoreBegins }
 {}
 
 /// A selection that has moved through a transaction stands in the new list, with no end inside a leaf; so a

@@ -9,6 +9,7 @@
 //! - `Chain`, `Holds`, `Protocol`: what always holds of a store, of a site, and of sites, queues and server together;
 //! - `SelectionLaws`: where the ends of selections stand;
 //! - `ItemLaws`: what holds of each item of every list, since it holds of each that is inserted;
+//! - `StoreLaws`: what the store of every site begins with;
 //! - `KeptLaws`: all this holds at first and after each event.
 //!
 //! The laws stand in `laws`: each public function there does nothing, and its contract is a law that is proved.
@@ -18,5 +19,5 @@ mod laws;
 
 pub use laws::{
     acks_count, counts_stay_within, entries_join, events_keep, items_keep, lists_are_replays,
-    revokes_leave_out, selections_stand, sites_meet, stores_hold, undo_gives_back,
+    revokes_leave_out, selections_stand, sites_meet, stores_begin, stores_hold, undo_gives_back,
 };

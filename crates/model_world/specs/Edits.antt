@@ -4,13 +4,14 @@ use Rattle.model_spelling.specs.Forest.{Forest}
 use Rattle.model_spelling.specs.Faults.{fault_of}
 use Rattle.model_spelling.specs.Parsed.{forest_of}
 use Rattle.model_items.specs.declared.plain_item.PlainItem.{PlainItem}
+use Rattle.model_change.specs.Attributes.{AttrChange}
 use Rattle.model_change.specs.Transaction.{Retain, Replace, Attribute, Transaction}
 use Rattle.model_page.specs.PageItems.{or_nothing}
 use Rattle.model_page.specs.Fragment.{fragment_items}
 use Rattle.model_page.specs.Limits.{fragment_limit}
 use Rattle.model_edit.specs.Causes.{BuildCause}
 use Rattle.model_items.specs.Offsets.{stack_at}
-use Rattle.model_edit.specs.Edits.{setting}
+use Rattle.model_edit.specs.Edits.{present_value}
 use Rattle.model_edit.specs.Insert.{is_bad_offset, insertion, text_insertion, plain_text_insertion, split}
 use Rattle.model_edit.specs.Remove.{removal}
 use Rattle.model_edit.specs.Marking.{marking, unmarking}
@@ -61,12 +62,16 @@ needs (op.Retain count ∷ ops) = count + needs ops
 needs (op.Remove count insert ∷ ops) = count + needs ops
 needs (op.Attr name to ∷ ops) = needs ops
 
+-- an attribute of the first item, with its old value; where an attribute that is removed stood is found when it is performed
+abbrev pub set_first : List ℕ → Option (List ℕ) → List PlainItem → AttrChange
+set_first name to items = record { name = name; from = present_value name items; to = to; kept = None }
+
 -- with the items that they remove, and the attributes' old values
 abbrev pub ops_on : List OpWords → List PlainItem → Transaction
 ops_on [] items = []
 ops_on (op.Retain count ∷ ops) items = Retain count ∷ ops_on ops (drop count items)
 ops_on (op.Remove count insert ∷ ops) items = Replace (take count items) insert ∷ ops_on ops (drop count items)
-ops_on (op.Attr name to ∷ ops) items = Attribute (setting name to items) ∷ ops_on ops items
+ops_on (op.Attr name to ∷ ops) items = Attribute (set_first name to items) ∷ ops_on ops items
 
 abbrev pub applied : List PlainItem → List OpWords → Result Transaction Refusal
 applied items ops = elim (needs ops == length items) [

@@ -30,7 +30,6 @@ use Rattle.model_edit_law.proofs.IndentLemmas.{indent_fine}
 use Rattle.model_edit_law.proofs.OutdentLemmas.{outdent_fine}
 use Rattle.model_edit.specs.Causes as build
 use Rattle.model_items.specs.Offsets.{stack_at}
-use Rattle.model_edit.specs.Edits.{setting}
 use Rattle.model_edit.specs.Insert.{is_bad_offset, marks_before, text_pieces, insertion, split}
 use Rattle.model_edit.specs.Remove.{removal}
 use Rattle.model_edit.specs.Marking.{marking, unmarking}
@@ -56,7 +55,7 @@ use Rattle.model_world.specs.declared.refusal.Refusal.{Refusal}
 use Rattle.model_world.specs.declared.refusal.Refusal.TheVariants.{StoreFull, BadOffset, BadLength, TooManyMarks}
 use Rattle.model_world.specs.Operations as operations
 use Rattle.model_world.specs.Refusals.{html_refusal, build_refusal, table_refusal, list_refusal}
-use Rattle.model_world.specs.Edits.{built, forest_inserted, text_inserted, fragment_inserted, needs, ops_on, applied, text_typed, change_of, unless_faulty, allowed}
+use Rattle.model_world.specs.Edits.{built, forest_inserted, text_inserted, fragment_inserted, needs, set_first, ops_on, applied, text_typed, change_of, unless_faulty, allowed}
 use Rattle.model_world_law.specs.Fit.{IsWritten}
 use Rattle.model_world_law.specs.Causes.{FillsStore, StoreFullIsFull, IsFullFor, MovesFillStore}
 use Rattle.model_world_law.proofs.ChangeLemmas.{given}
@@ -182,7 +181,7 @@ mutual
       ∙ ops_match ops (at + length (take count items)) (drop count items) (and_parts (operations.word_may_precede (op.Remove count insert) ops) (operations.words_are_normal ops) p.1).1
   ops_match (op.Attr name to ∷ ops) at items h =
       let p = and_parts (operations.word_may_precede (op.Attr name to) ops) (operations.words_are_normal ops) h in
-      after_match name to ops at items (on_first (item_changed (setting name to items)) items) p.0 p.1 (first_changed (item_changed (setting name to items)) items)
+      after_match name to ops at items (on_first (item_changed (set_first name to items)) items) p.0 p.1 (first_changed (item_changed (set_first name to items)) items)
 
   after_match : (name : List ℕ) (to : Option (List ℕ)) (ops : List OpWords) (at : ℕ) (items other : List PlainItem) → operations.word_may_precede (op.Attr name to) ops ≡ true →
       operations.words_are_normal ops ≡ true → drop 1 other ≡ drop 1 items → mismatch_at at (ops_on ops items) other ≡ None
@@ -195,7 +194,7 @@ mutual
   after_match name to (op.Remove count insert ∷ ops) at items other m h e = cc
   after_match name to (op.Attr next value ∷ ops) at items other m h e =
       let p = and_parts (operations.word_may_precede (op.Attr next value) ops) (operations.words_are_normal ops) h in
-      after_match next value ops at items (on_first (item_changed (setting next value items)) other) p.0 p.1 (first_changed (item_changed (setting next value items)) other ∙ e)
+      after_match next value ops at items (on_first (item_changed (set_first next value items)) other) p.0 p.1 (first_changed (item_changed (set_first next value items)) other ∙ e)
 
 fault_none : (b : Bool) (o p : Option ℕ) (e : TxFault) → (if b then option_or (option_map (λ at. tx.Mismatch at) o) (option_map (λ at. tx.BadAttr at) p) else Some e) ≡ None → o ≡ None
 fault_none true None p e h = refl

@@ -20,7 +20,6 @@ use Rattle.model_page.specs.Limits.{fragment_limit}
 use Rattle.model_page.specs.OpenPage.{read_page}
 use Rattle.model_page_law.proofs.OpenPageLemmas.{read_is_lawful, read_is_within}
 use Rattle.model_items.specs.Offsets.{stack_at}
-use Rattle.model_edit.specs.Edits.{setting}
 use Rattle.model_edit.specs.Insert.{is_bad_offset, marks_before, text_pieces, insertion}
 use Rattle.model_site_law.specs.Sound.{Sound}
 use Rattle.model_world.specs.declared.change.TextMarks.{TextMarks}
@@ -32,7 +31,7 @@ use Rattle.model_world.specs.declared.refusal.Refusal.{Refusal}
 use Rattle.model_world.specs.declared.refusal.Refusal.TheVariants.{BadOffset, BadLength, TooManyMarks}
 use Rattle.model_world.specs.Operations as operations
 use Rattle.model_world.specs.Refusals.{refused_as, html_refusal, build_refusal, open_refusal}
-use Rattle.model_world.specs.Edits.{built, forest_inserted, text_inserted, fragment_inserted, needs, ops_on, applied, text_typed}
+use Rattle.model_world.specs.Edits.{built, forest_inserted, text_inserted, fragment_inserted, needs, set_first, ops_on, applied, text_typed}
 use Rattle.model_world_law.specs.Fit.{Fit, OpsApart, ChangesFit, PagesAreSound}
 use Rattle.model_world_law.proofs.BuilderLemmas.{insertion_fits, split_fits, removal_fits, marking_fits, unmarking_fits, wrap_fits, convert_fits, attribute_fits}
 use Rattle.model_world_law.proofs.MadeLemmas.{apart-chars, ForestApart, forest_apart, read_apart, fragment_apart, page_apart}
@@ -49,15 +48,11 @@ ops_apart (op.Retain count ∷ ops) items p = ops_apart ops (drop count items) p
 ops_apart (op.Remove count insert ∷ ops) items p = (p.0, ops_apart ops (drop count items) p.1)
 ops_apart (op.Attr name to ∷ ops) items p = ops_apart ops items p
 
-setting_name : (name : List ℕ) (to : Option (List ℕ)) (items : List PlainItem) → (setting name to items).name ≡ name
-setting_name name to [] = refl
-setting_name name to (item ∷ items) = refl
-
 -- the operation that the words are at these items
 abbrev op_on : OpWords → List PlainItem → Op
 op_on (op.Retain count) items = Retain count
 op_on (op.Remove count insert) items = Replace (take count items) insert
-op_on (op.Attr name to) items = Attribute (setting name to items)
+op_on (op.Attr name to) items = Attribute (set_first name to items)
 
 precedes : (o : OpWords) (ops : List OpWords) (here items : List PlainItem) → operations.word_may_precede o ops ≡ true → may_precede (op_on o here) (ops_on ops items) ≡ true
 precedes (op.Retain count) [] here items h = refl
@@ -73,8 +68,8 @@ precedes (op.Attr name to) (op.Retain other ∷ ops) here items h = refl
 precedes (op.Attr name to) (op.Remove other others ∷ ops) here items h = cc
 precedes (op.Attr name to) (op.Attr other value ∷ ops) here items h =
     let p = and_parts (not (text_same name other)) (operations.word_may_precede (op.Attr name to) ops) h in
-    and_from (not (text_same (setting name to here).name (setting other value items).name)) (may_precede (Attribute (setting name to here)) (ops_on ops items))
-    ((λ i. not (text_same (setting_name name to here i) (setting_name other value items i))) ∙ p.0)
+    and_from (not (text_same name other)) (may_precede (Attribute (set_first name to here)) (ops_on ops items))
+    p.0
     (precedes (op.Attr name to) ops here items p.1)
 
 taken : (n : ℕ) (items : List PlainItem) → n ≤ length items → length (take n items) ≡ n
@@ -106,7 +101,7 @@ ops_reduced (op.Remove count insert ∷ ops) items n h =
     (ops_reduced ops rest (omega (arith, length-drop count items)) q.1))
 ops_reduced (op.Attr name to ∷ ops) items n h =
     let q = and_parts (operations.word_may_precede (op.Attr name to) ops) (operations.words_are_normal ops) h in
-    let here = Attribute (setting name to items) in
+    let here = Attribute (set_first name to items) in
     and_from (may_precede here (ops_on ops items)) (is_reduced (ops_on ops items)) (precedes (op.Attr name to) ops items items q.0) (ops_reduced ops items n q.1)
 
 applied_fits : (items : List PlainItem) (ops : List OpWords) (t : Transaction) → operations.words_are_normal ops ≡ true → OpsApart ops → applied items ops ≡ Ok t → Fit t

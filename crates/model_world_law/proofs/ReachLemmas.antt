@@ -18,7 +18,8 @@ use Rattle.model_site.specs.Session.{Session, Member, started}
 use Rattle.model_site.specs.Events.{Event, happens, run}
 use Rattle.model_site_law.specs.MayHappen.{AllMayHappen}
 use Rattle.model_site_law.specs.SelectionLaws.{AllSelectWithin}
-use Rattle.model_site_law.proofs.LawLemmas.{list_is_replay, all_entries_run, list_is_sound, acks_count, sites_meet, store_holds, first_replica_opens}
+use Rattle.model_site_law.proofs.BeginLemmas.{store_begins}
+use Rattle.model_site_law.proofs.LawLemmas.{list_is_replay, all_entries_run, list_is_sound, acks_count, run_base, sites_meet, store_holds, first_replica_opens}
 use Rattle.model_site_law.proofs.CountLemmas.{seen_is_committed, sites_stay}
 use Rattle.model_site_law.proofs.FreshSessionLemmas.{undone_is_first}
 use Rattle.model_site_law.proofs.KeptLemmas.{first_selection_stands, first_store_is_distinct, selection_stands, store_is_distinct}
@@ -209,12 +210,14 @@ site_holds lines o w k m r e =
     let base = opened_with o.items in
     let there = ap (λ (v : Session). slice_get v.members k) (sym r.same) ∙ e in
     subst (λ v. SiteHolds base v m) (sym r.same) (record {
+      base_stays = run_base r.events (started base r.sites);
       sound = list_is_sound base r.sites r.events k m r.opens r.may there;
       list = list_is_replay base r.sites r.events k m r.opens r.may there;
       runs = all_entries_run base r.sites r.events k m r.opens r.may there;
       seen = seen_is_committed base r.sites r.events k m r.opens r.may there;
       stored = store_holds base r.sites r.events k m r.opens r.may there;
       distinct = store_is_distinct base r.sites r.events k m r.opens (first_store_is_distinct o.items) r.may there;
+      begins = store_begins base r.sites r.events k m r.opens r.may there;
       selection = selection_stands base r.sites r.events k m r.opens (first_selection_stands o.items) r.may r.within there;
       acknowledged = acks_count base r.sites r.events k m r.opens r.may there;
       undone = undone_is_first base r.sites r.events k m r.opens r.may there;

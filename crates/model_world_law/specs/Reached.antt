@@ -15,6 +15,7 @@ use Rattle.model_site_law.specs.MayHappen.{AllMayHappen}
 use Rattle.model_site_law.specs.Protocol.{Every}
 use Rattle.model_site_law.specs.ItemLaws.{AllPass, Inserts}
 use Rattle.model_site_law.specs.SelectionLaws.{StandsIn, AllSelectWithin}
+use Rattle.model_site_law.specs.StoreLaws.{BeginsWith}
 use Rattle.model_world.specs.declared.command.Command.TheVariants.{OpenPage}
 use Rattle.model_world.specs.Commands.{command}
 use Rattle.model_world.specs.Opening.{open_page}
@@ -62,6 +63,8 @@ EveryWorldIsReached = (lines : List (List ℕ)) → WorldReached lines (world_af
 -- ---- so the laws of sites and server hold of every site of every world
 
 pub record SiteHolds (base : Replica) (w : Session) (m : Member) : Type 0 where
+  -- the session's base is still the one that was opened
+  pub base_stays : w.base ≡ base
   -- its list is lawful, and no opening has two attributes of one name
   pub sound : Sound m.site.replica.items
   -- it is the replay of the committed entries that it has seen, of those sent and of those unsent, each of which can be performed and undone
@@ -72,6 +75,8 @@ pub record SiteHolds (base : Replica) (w : Session) (m : Member) : Type 0 where
   -- its store has every value that its list cites, and has each value once
   pub stored : AllIn m.site.replica.store (cited m.site.replica.items)
   pub distinct : AreDistinct m.site.replica.store
+  -- its store begins with the one that was opened, and each pending entry was made on a store with as many values or more
+  pub begins : BeginsWith base.store m.site
   -- both ends of its selection stand in the list, and not inside a leaf
   pub selection : StandsIn m.site.replica.items m.site.replica.selection
   -- the answer that it takes next counts the entries that it still holds as sent

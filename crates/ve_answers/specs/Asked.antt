@@ -5,7 +5,7 @@ use Rattle.model_world.specs.declared.command.Request.TheVariants as request
 use Rattle.model_world.specs.declared.reply.Reply.{Reply}
 use Rattle.model_world.specs.Answers.{Asked, Outcome, asked, site_items, replica_of}
 use Rattle.model_world.specs.Laws.{is_refusal}
-use Rattle.ve_answers.specs.Replies.{caret_reply, html_reply, items_reply, node_reply, refs_reply, tree_reply}
+use Rattle.ve_answers.specs.Replies.{caret_reply, grid_reply, html_reply, items_reply, node_reply, refs_reply, tree_reply}
 
 -- what comes of a reply that leaves the session as it is
 abbrev pub outcome_of : Session → Reply → Outcome
@@ -30,3 +30,6 @@ RefsAreAsked = (a : Asked) → asked a request.Refs ≡ outcome_of a.session (re
 
 abbrev pub CaretIsAsked : Type 0
 CaretIsAsked = (a : Asked) → asked a request.Caret ≡ outcome_of a.session (caret_reply (replica_of a).selection)
+
+abbrev pub GridIsAsked : Type 0
+GridIsAsked = (a : Asked) (at : ℕ) → asked a (request.Grid at) ≡ outcome_of a.session (grid_reply (site_items a) at)

@@ -1,3 +1,4 @@
 pub mod Replies
 pub mod Asked
 pub mod Words
+pub mod Faults

@@ -1,14 +1,17 @@
 -- What is replied to the requests that change nothing: by the page that was first read, the site's items, and what is selected.
-use Rattle.std.specs.Prelude.{ℕ, ◌||◌, nat_lt, if◌then◌else◌, chars, List, length, slice_range}
+use Rattle.std.specs.Prelude.{ℕ, ◌||◌, nat_lt, if◌then◌else◌, chars, List, length, slice_range, Result, Ok, Err}
 use Rattle.model_items.specs.declared.plain_item.PlainItem.{PlainItem}
 use Rattle.model_items.specs.Tree.{tree_of, node_at, class_at}
 use Rattle.model_page.specs.References.{table}
 use Rattle.model_page.specs.PageItems.{Opened}
 use Rattle.model_page_write.specs.PageText.{write}
 use Rattle.model_edit.specs.declared.selection.Selection.{Selection}
+use Rattle.model_edit.specs.Causes.{TableCause}
+use Rattle.model_edit.specs.Grid.{Grid, grid}
 use Rattle.model_world.specs.declared.refusal.Refusal.TheVariants.{BadOffset, BadRange}
 use Rattle.model_world.specs.declared.reply.Reply.{Reply}
 use Rattle.model_world.specs.declared.reply.Reply.TheVariants as reply
+use Rattle.model_world.specs.Refusals.{table_refusal}
 use Rattle.model_world.specs.Shown.{tree_words}
 
 -- the page that the items give, after the one that was first read
@@ -34,3 +37,12 @@ refs_reply items = reply.Refs (table items)
 
 abbrev pub caret_reply : Selection → Reply
 caret_reply s = reply.Caret s.anchor s.focus
+
+-- a grid, or why there is none
+abbrev pub grid_told : Result Grid TableCause → Reply
+grid_told (Err cause) = reply.No (table_refusal cause)
+grid_told (Ok grid) = reply.Grid grid.rows grid.columns grid.cells
+
+-- the grid of the table that opens at a place
+abbrev pub grid_reply : List PlainItem → ℕ → Reply
+grid_reply items at = grid_told (grid items at)

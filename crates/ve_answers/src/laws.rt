@@ -1,5 +1,5 @@
 // That the replies are the model's. The function does nothing, and its contract is the law.
-ghost use Rattle.ve_answers.specs.Asked.{CaretIsAsked, HtmlIsAsked, ItemsAreAsked, NodeIsAsked, RefsAreAsked, TreeIsAsked};
+ghost use Rattle.ve_answers.specs.Asked.{CaretIsAsked, GridIsAsked, HtmlIsAsked, ItemsAreAsked, NodeIsAsked, RefsAreAsked, TreeIsAsked};
 
 /// What is replied to each request is what the model answers: a refusal, or the reply with the session as it is.
 pub fn replies_are_as_asked()
@@ -9,4 +9,5 @@ pub fn replies_are_as_asked()
     ensures node { NodeIsAsked }
     ensures refs { RefsAreAsked }
     ensures caret { CaretIsAsked }
+    ensures grid { GridIsAsked }
 {}

@@ -1,4 +1,5 @@
-//! What a page and one of its sites answer to the requests that change nothing: `html`, `data`, `tree`, `at`, `refs` and `caret`.
+//! What a page and one of its sites answer to the requests that change nothing: `html`, `data`, `tree`, `at`, `refs`,
+//! `caret` and `grid`.
 //!
 //! It knows a page as a `Doc`, its list, tree and values, lent together, and what is left of the page that was first read.
 //! Each call gives the answer that `ve_replies` spells; items are lent, and no list is copied. It knows nothing of lines,
@@ -6,13 +7,15 @@
 //!
 //! - `Replies`: what is replied, over items by value;
 //! - `Asked`: that the replies are what `model_world`'s `asked` answers, session and all ([`replies_are_as_asked`]);
-//! - `Words` serves private functions: how the words of a tree are read off its items.
+//! - for private functions `Words` (how the words of a tree are read off its items) and `Faults` (which refusal a table's fault
+//!   is).
 #![tactic(auto)]
 
 mod laws;
 mod page;
 mod parts;
 mod place;
+mod table;
 #[cfg(test)]
 mod tests;
 mod words;
@@ -21,4 +24,5 @@ pub use laws::replies_are_as_asked;
 pub use page::html;
 pub use parts::{caret, items, refs};
 pub use place::node;
+pub use table::grid;
 pub use words::tree;

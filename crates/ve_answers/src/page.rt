@@ -14,8 +14,7 @@ use ve_origin::Origins;
 use ve_replies::Answer;
 use ve_write::write;
 
-/// To `html`: the page that the list gives, after the one that was first read. What is written is read as UTF-8; a text that
-/// weren't would be answered as a want of memory.
+/// To `html`: the page that the list gives, after the one that was first read. What is written is UTF-8.
 ///
 /// It is asked that the references of the list are editable, and that the page that was first read stands over the
 /// values of this one: each of its rows is the range of a node, and each origin in its list is the number of a row.
@@ -34,7 +33,7 @@ pub fn html<'a, 'b>(
     let mut written = Bytes::new(alloc);
     write(alloc, doc.list, doc.store, origins, &mut written)?;
     let Ok(page) = std::str::from_utf8(written.as_slice()) else {
-        return Err(Memory);
+        unreachable!()
     };
     Ok(Answer::Page(Text::from_str(alloc, page)?))
 }

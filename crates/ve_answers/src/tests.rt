@@ -83,6 +83,51 @@ fn spelled<L: Ledger>(rt: &HostRuntime, blank: Blank) -> Result<Bytes, Fail>
     Ok(out)
 }
 
+/// A table of one cell, and the internal list.
+fn one_cell(alloc: Global) -> Result<Linear, Memory>
+    ensures { IfOk result (λ list. list.items ≡ item.Opening kinds.Table false None None None None ∷ item.Opening kinds.Tbody false None None None None
+        ∷ item.Opening kinds.Tr false None None None None ∷ item.Opening kinds.Td false None None None None ∷ item.Closing kinds.Td None
+        ∷ item.Closing kinds.Tr None ∷ item.Closing kinds.Tbody None ∷ item.Closing kinds.Table None
+        ∷ item.Opening kinds.InternalList false None None None None ∷ item.Closing kinds.InternalList None ∷ []) }
+{
+    let mut list = Linear::new(alloc);
+    list.extend(&[
+        opening(Kind::Table),
+        opening(Kind::Tbody),
+        opening(Kind::Tr),
+        opening(Kind::Td),
+        closing(Kind::Td),
+        closing(Kind::Tr),
+        closing(Kind::Tbody),
+        closing(Kind::Table),
+        opening(Kind::InternalList),
+        closing(Kind::InternalList),
+    ])?;
+    Ok(list)
+}
+
+/// The answers of the table to `grid`, where it opens and where it doesn't.
+fn spelled_grids<L: Ledger>(rt: &HostRuntime, blank: Blank) -> Result<Bytes, Fail>
+    requires name { blank.name ≡ L.name }
+    requires parts { blank.parts ≡ L.parts }
+    requires one { blank.parts ≡ 1 }
+{
+    let alloc = rt.alloc();
+    let mut steps = Steps::<L>::start(rt, blank);
+    let list = one_cell(alloc)?;
+    let store = Store::new(alloc);
+    let tree = Tree::build(alloc, &list, &mut steps)?;
+    let doc = Doc {
+        list: &list,
+        tree: &tree,
+        store: &store,
+    };
+    let mut out = Bytes::new(alloc);
+    reply_text(alloc, &grid(alloc, doc, 0)?, &mut out)?;
+    reply_text(alloc, &grid(alloc, doc, 1)?, &mut out)?;
+    Ok(out)
+}
+
 const SPELLED: &str =
     "ok [{\"open\":\"p\"},\"ab\",{\"close\":\"p\"},{\"open\":\"internal_list\"},{\"close\":\"internal_list\"}]
 ok [\"ab\"]
@@ -102,5 +147,16 @@ ok 3 1
 fn a_paragraph_is_answered(rt: HostRuntime) -> Result<(), Fail> {
     let out = spelled::<Brand>(&rt, Blank::new(1))?;
     assert!(rt; out.as_slice() == SPELLED.as_bytes());
+    Ok(())
+}
+
+const GRIDS: &str = "ok 1 1 [[3,0,0,1,1]]
+no not_table 1
+";
+
+#[test]
+fn a_grid_is_answered(rt: HostRuntime) -> Result<(), Fail> {
+    let out = spelled_grids::<Brand>(&rt, Blank::new(1))?;
+    assert!(rt; out.as_slice() == GRIDS.as_bytes());
     Ok(())
 }

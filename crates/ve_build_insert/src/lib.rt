@@ -1,6 +1,7 @@
 //! What is put into a page at an offset, as the change that it is: `insertion` puts pieces there, `text_insertion` and
 //! `plain_text_insertion` a text, with the marks of what stands to the left and without marks, and `split` parts the nodes
-//! that are open there. Each gives the model's transaction, or the model's refusal, and writes nothing.
+//! that are open there. Each gives the model's transaction, or the model's refusal, and writes nothing. `open_at` tells
+//! whether anything may be put at an offset, and which kinds are open there.
 //!
 //! Pieces go into the innermost open node that may hold them: the nodes inside that one are closed before them, and after
 //! them copies of those nodes are opened. Content outside every branch of content is put into a paragraph. The heads of the
@@ -23,5 +24,6 @@ mod tests;
 mod text;
 
 pub use inserts::insertion;
+pub use place::open_at;
 pub use splits::split;
 pub use text::{plain_text_insertion, text_insertion};

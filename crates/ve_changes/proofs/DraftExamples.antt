@@ -1,24 +1,13 @@
--- Worked examples: which changes have a draft, what stops one, and what a move is.
-use Rattle.std.proofs.Common.{◌≡◌, true, false, [], Ok, Err, refl}
+-- Worked examples: what stops a draft, and what a move is.
+use Rattle.std.proofs.Common.{◌≡◌, false, [], Ok, Err, refl}
+use Rattle.model_change.specs.Transaction.{Transaction}
 use Rattle.model_edit.specs.declared.build_fault.BuildFault.TheVariants as build
 use Rattle.model_edit.specs.declared.table_fault.TableFault.TheVariants as table
-use Rattle.model_world.specs.declared.change.Change.TheVariants as change
 use Rattle.model_world.specs.declared.command.Request.TheVariants as request
 use Rattle.model_world.specs.declared.refusal.Refusal.TheVariants as refusal
-use Rattle.ve_changes.specs.declared.faults.DraftStop.TheVariants as stop
+use Rattle.ve_changes.specs.declared.faults.Stop.TheVariants as stop
 use Rattle.ve_changes.specs.Stops.{IsRefused, build_stop, table_stop}
-use Rattle.ve_changes.specs.Drafts.{has_draft}
 use Rattle.ve_changes.specs.Moves.{is_move, moved_by}
-
--- every change but a fragment and written operations
-split_has_draft : has_draft (change.Split 3 1) ≡ true
-split_has_draft = refl
-
-fragment_has_none : has_draft (change.Insert 3 []) ≡ false
-fragment_has_none = refl
-
-operations_have_none : has_draft (change.Apply []) ≡ false
-operations_have_none = refl
 
 -- a fault keeps its numbers
 range_is_kept : build_stop (build.BadRange 5 2) ≡ stop.Refused (refusal.BadRange 5 2)
@@ -34,7 +23,7 @@ memory_is_no_refusal = refl
 refused_is_meant : IsRefused (stop.Refused (refusal.NotListItem 0)) (moved_by [] (request.Indent 0))
 refused_is_meant = refl
 
-memory_may_come : IsRefused stop.Memory (Ok [])
+memory_may_come : IsRefused {A = Transaction} stop.Memory (Ok [])
 memory_may_come = tt
 
 -- a table that isn't there, and a request that moves nothing

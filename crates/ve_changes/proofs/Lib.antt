@@ -1,3 +1,10 @@
+pub mod StopLemmas
+pub mod CitedLemmas
+pub mod AppliedLemmas
+pub mod WrittenLemmas
 pub mod DraftLemmas
 pub mod DraftExamples
 pub mod MoveLemmas
+pub mod CaretLemmas
+mod CaretExamples
+pub mod PastedLemmas

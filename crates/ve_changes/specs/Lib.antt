@@ -1,8 +1,11 @@
 pub use Rattle.model_items.specs.Plain
 pub use Rattle.model_change.specs.Transaction
+pub use Rattle.model_site_law.specs.SelectionLaws
 pub use Rattle.model_world.specs.Edits
 pub use Rattle.model_world.specs.Refusals
 pub use Rattle.model_world.specs.Answers
+pub use Rattle.model_world_law.specs.Fit
+pub use Rattle.ve_store.specs.Following
 pub use Rattle.ve_tx.specs.Operation
 pub use Rattle.ve_offsets.specs.Docs
 pub use Rattle.ve_editor.specs.Page
@@ -10,3 +13,6 @@ pub use Rattle.ve_editor.specs.Edited
 pub mod Stops
 pub mod Drafts
 pub mod Moves
+pub mod Carets
+pub mod Applied
+pub mod HtmlStops

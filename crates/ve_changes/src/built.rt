@@ -1,4 +1,5 @@
 // The draft of each builder's transaction, or the refusal that its fault is.
+ghost use Rattle.std.specs.Prelude.{◌≡◌};
 ghost use Rattle.std.specs.Str.{chars};
 ghost use Rattle.model_edit.specs.Convert.{convert};
 ghost use Rattle.model_edit.specs.Insert.{split};
@@ -8,11 +9,14 @@ ghost use Rattle.model_edit.specs.Wrap.{wrap};
 ghost use Rattle.model_world.specs.Edits.{built};
 ghost use Rattle.ve_build_insert.specs.Typed.{text_meant, plain_text_meant};
 ghost use Rattle.ve_build_shape.specs.Setting.{attribute_spelled};
+ghost use Rattle.ve_tx.specs.Cites.{TxCites};
+ghost use Rattle.ve_tx.specs.Operation.{by_value};
+ghost use Rattle.ve_editor.specs.Edited.{IsDraftOf, drafted};
 ghost use Rattle.ve_editor.specs.Page.{IsPage};
 ghost use Rattle.ve_offsets.specs.Docs.{page_items};
 ghost use Rattle.ve_changes.specs.Drafts.{Drafts};
 
-use crate::DraftStop;
+use crate::Stop;
 use model_edit::WrapPlan;
 use std::alloc::Global;
 use ve_base::Mark;
@@ -23,15 +27,20 @@ use ve_build_wrap::wrap;
 use ve_kinds::Kind;
 use ve_offsets::Doc;
 use ve_store::NewValues;
-use ve_tx::Draft;
+use ve_tx::{Draft, Transaction};
+
+/// The draft of a transaction that brings no values.
+pub fn over_store(alloc: Global, doc: Doc<'_>, tx: Transaction) -> Draft
+    requires cites { TxCites doc.store.now tx }
+    ensures draft { IsDraftOf doc.entry.store.now result }
+    ensures same { drafted doc.entry.store.now result ≡ by_value doc.entry.store.now tx }
+{
+    let values = NewValues::new(alloc, doc.store);
+    Draft { tx, values }
+}
 
 /// A text put in with the marks of what stands to the left.
-pub fn text_like_left(
-    alloc: Global,
-    doc: Doc<'_>,
-    at: usize,
-    text: &str,
-) -> Result<Draft, DraftStop>
+pub fn text_like_left(alloc: Global, doc: Doc<'_>, at: usize, text: &str) -> Result<Draft, Stop>
     requires page { IsPage doc.store.now doc.list.now.items doc.tree.now }
     ensures { Drafts doc.entry.store.now (built (text_meant doc.entry at text.now)) result }
 {
@@ -41,7 +50,7 @@ pub fn text_like_left(
 }
 
 /// A text put in without marks.
-pub fn plain_text(alloc: Global, doc: Doc<'_>, at: usize, text: &str) -> Result<Draft, DraftStop>
+pub fn plain_text(alloc: Global, doc: Doc<'_>, at: usize, text: &str) -> Result<Draft, Stop>
     requires page { IsPage doc.store.now doc.list.now.items doc.tree.now }
     ensures { Drafts doc.entry.store.now (built (plain_text_meant doc.entry at text.now)) result }
 {
@@ -51,7 +60,7 @@ pub fn plain_text(alloc: Global, doc: Doc<'_>, at: usize, text: &str) -> Result<
 }
 
 /// Open nodes split at an offset.
-pub fn split_draft(alloc: Global, doc: Doc<'_>, at: usize, depth: usize) -> Result<Draft, DraftStop>
+pub fn split_draft(alloc: Global, doc: Doc<'_>, at: usize, depth: usize) -> Result<Draft, Stop>
     requires page { IsPage doc.store.now doc.list.now.items doc.tree.now }
     ensures { Drafts doc.entry.store.now (built (split (page_items doc.entry) at depth)) result }
 {
@@ -61,18 +70,12 @@ pub fn split_draft(alloc: Global, doc: Doc<'_>, at: usize, depth: usize) -> Resu
 }
 
 /// A range removed.
-pub fn removal_draft(
-    alloc: Global,
-    doc: Doc<'_>,
-    from: usize,
-    to: usize,
-) -> Result<Draft, DraftStop>
+pub fn removal_draft(alloc: Global, doc: Doc<'_>, from: usize, to: usize) -> Result<Draft, Stop>
     requires page { IsPage doc.store.now doc.list.now.items doc.tree.now }
     ensures { Drafts doc.entry.store.now (built (removal (page_items doc.entry) from to)) result }
 {
     let tx = removal(alloc, doc, from, to)?;
-    let values = NewValues::new(alloc, doc.store);
-    Ok(Draft { tx, values })
+    Ok(over_store(alloc, doc, tx))
 }
 
 /// A mark set on a range.
@@ -82,7 +85,7 @@ pub fn marking_draft(
     from: usize,
     to: usize,
     mark: &Mark,
-) -> Result<Draft, DraftStop>
+) -> Result<Draft, Stop>
     requires page { IsPage doc.store.now doc.list.now.items doc.tree.now }
     ensures { Drafts doc.entry.store.now (built (marking (page_items doc.entry) from to mark.now)) result }
 {
@@ -98,7 +101,7 @@ pub fn unmarking_draft(
     from: usize,
     to: usize,
     mark: &Mark,
-) -> Result<Draft, DraftStop>
+) -> Result<Draft, Stop>
     requires page { IsPage doc.store.now doc.list.now.items doc.tree.now }
     ensures { Drafts doc.entry.store.now (built (unmarking (page_items doc.entry) from to mark.now)) result }
 {
@@ -114,7 +117,7 @@ pub fn wrap_draft(
     from: usize,
     to: usize,
     plan: &WrapPlan,
-) -> Result<Draft, DraftStop>
+) -> Result<Draft, Stop>
     requires page { IsPage doc.store.now doc.list.now.items doc.tree.now }
     ensures { Drafts doc.entry.store.now (built (wrap (page_items doc.entry) from to plan.now)) result }
 {
@@ -124,18 +127,12 @@ pub fn wrap_draft(
 }
 
 /// A branch of content with another kind.
-pub fn conversion_draft(
-    alloc: Global,
-    doc: Doc<'_>,
-    at: usize,
-    kind: Kind,
-) -> Result<Draft, DraftStop>
+pub fn conversion_draft(alloc: Global, doc: Doc<'_>, at: usize, kind: Kind) -> Result<Draft, Stop>
     requires page { IsPage doc.store.now doc.list.now.items doc.tree.now }
     ensures { Drafts doc.entry.store.now (built (convert (page_items doc.entry) at kind)) result }
 {
     let tx = convert(alloc, doc, at, kind)?;
-    let values = NewValues::new(alloc, doc.store);
-    Ok(Draft { tx, values })
+    Ok(over_store(alloc, doc, tx))
 }
 
 /// An attribute set, or taken off.
@@ -145,11 +142,10 @@ pub fn attribute_draft(
     at: usize,
     name: &str,
     to: Option<&str>,
-) -> Result<Draft, DraftStop>
+) -> Result<Draft, Stop>
     requires page { IsPage doc.store.now doc.list.now.items doc.tree.now }
     ensures { Drafts doc.entry.store.now (built (attribute_spelled (page_items doc.entry) at name.now to.entry)) result }
 {
     let tx = attribute(alloc, doc, at, name, to)?;
-    let values = NewValues::new(alloc, doc.store);
-    Ok(Draft { tx, values })
+    Ok(over_store(alloc, doc, tx))
 }

@@ -1,30 +1,26 @@
 // Changes as drafts.
-ghost use Rattle.std.specs.Prelude.{◌≡◌, true, IfOk, IfErr};
+ghost use Rattle.std.specs.Prelude.{◌≡◌, IfOk, IfErr};
 ghost use Rattle.std.specs.Str.{chars};
 ghost use Rattle.model_world.specs.Edits.{built, change_of, text_typed};
+ghost use Rattle.model_world_law.specs.Fit.{IsWritten};
 ghost use Rattle.ve_build_shape.specs.Setting.{value_spelled};
 ghost use Rattle.ve_editor.specs.Page.{IsPage};
 ghost use Rattle.ve_offsets.specs.Docs.{page_items};
 ghost use Rattle.ve_changes.specs.Stops.{IsRefused};
-ghost use Rattle.ve_changes.specs.Drafts.{Drafts, IsDrafted, has_draft};
+ghost use Rattle.ve_changes.specs.Drafts.{Drafts, IsDrafted};
 
-use crate::DraftStop;
+use crate::Stop;
+use crate::applied::applied_draft;
 use crate::built::{
     attribute_draft, conversion_draft, marking_draft, plain_text, removal_draft, split_draft,
     text_like_left, unmarking_draft, wrap_draft,
 };
+use crate::pasted::pasted_draft;
 use model_world::{Change, TextMarks};
 use std::alloc::Global;
 use ve_base::Text;
 use ve_offsets::Doc;
 use ve_tx::Draft;
-
-/// Whether a change has a builder so far: all but `insert` and `apply`.
-pub fn is_drafted(change: &Change) -> bool
-    ensures { result ≡ has_draft change.now }
-{
-    !matches!(change, Change::Insert { .. } | Change::Apply { .. })
-}
 
 /// A text put in, with the marks that are asked for.
 fn typed(
@@ -33,7 +29,7 @@ fn typed(
     at: usize,
     text: &Text,
     marks: TextMarks,
-) -> Result<Draft, DraftStop>
+) -> Result<Draft, Stop>
     requires page { IsPage doc.store.now doc.list.now.items doc.tree.now }
     ensures { Drafts doc.entry.store.now (built (text_typed marks (page_items doc.entry) at text.now)) result }
 {
@@ -56,9 +52,11 @@ fn spelled(value: &Option<Text>) -> Option<&str>
 /// The draft that a change of a page is, over the page's store. Its values follow the store's, and are just those that the
 /// store takes. Nothing is performed.
 ///
-/// It is refused as the change's builder refuses, with the place, the range or the depth that the builder names.
-pub fn change_draft(alloc: Global, doc: Doc<'_>, change: &Change) -> Result<Draft, DraftStop>
-    requires drafted { has_draft change.now ≡ true }
+/// It is refused as the change's builder refuses, with the place, the range or the depth that the builder names; operations
+/// as they are written are refused with the lengths where these differ. It is asked that they are as a line that was read
+/// writes them, in normal form.
+pub fn change_draft(alloc: Global, doc: Doc<'_>, change: &Change) -> Result<Draft, Stop>
+    requires written { IsWritten change.now }
     requires page { IsPage doc.store.now doc.list.now.items doc.tree.now }
     ensures ok { IfOk result (IsDrafted doc.entry.store.now (change_of (page_items doc.entry) change.now)) }
     ensures refused { IfErr result (λ why. IsRefused why (change_of (page_items doc.entry) change.now)) }
@@ -74,6 +72,7 @@ pub fn change_draft(alloc: Global, doc: Doc<'_>, change: &Change) -> Result<Draf
         Change::Attr { at, name, to } => {
             attribute_draft(alloc, doc, *at, name.as_str(), spelled(to))
         }
-        Change::Insert { .. } | Change::Apply { .. } => unreachable!(),
+        Change::Insert { at, html } => pasted_draft(alloc, doc, *at, html),
+        Change::Apply { ops } => applied_draft(alloc, doc, ops.as_slice()),
     }
 }

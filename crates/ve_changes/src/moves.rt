@@ -9,7 +9,8 @@ ghost use Rattle.ve_changes.specs.Stops.{IsRefused};
 ghost use Rattle.ve_changes.specs.Drafts.{Drafts, IsDrafted};
 ghost use Rattle.ve_changes.specs.Moves as model;
 
-use crate::DraftStop;
+use crate::Stop;
+use crate::built::over_store;
 use model_world::Request;
 use std::alloc::Global;
 use ve_offsets::Doc;
@@ -31,52 +32,47 @@ pub fn is_move(request: &Request) -> bool
     )
 }
 
-fn row_in(alloc: Global, doc: Doc<'_>, at: usize, row: usize) -> Result<Draft, DraftStop>
+fn row_in(alloc: Global, doc: Doc<'_>, at: usize, row: usize) -> Result<Draft, Stop>
     requires page { IsPage doc.store.now doc.list.now.items doc.tree.now }
     ensures { Drafts doc.entry.store.now (refused_as table_refusal (model_tables.row_in (page_items doc.entry) at row)) result }
 {
     let tx = ve_tables::row_in(alloc, doc, at, row)?;
-    let values = NewValues::new(alloc, doc.store);
-    Ok(Draft { tx, values })
+    Ok(over_store(alloc, doc, tx))
 }
 
-fn row_out(alloc: Global, doc: Doc<'_>, at: usize, row: usize) -> Result<Draft, DraftStop>
+fn row_out(alloc: Global, doc: Doc<'_>, at: usize, row: usize) -> Result<Draft, Stop>
     requires page { IsPage doc.store.now doc.list.now.items doc.tree.now }
     ensures { Drafts doc.entry.store.now (refused_as table_refusal (model_tables.row_out (page_items doc.entry) at row)) result }
 {
     let tx = ve_tables::row_out(alloc, doc, at, row)?;
-    let values = NewValues::new(alloc, doc.store);
-    Ok(Draft { tx, values })
+    Ok(over_store(alloc, doc, tx))
 }
 
-fn col_in(alloc: Global, doc: Doc<'_>, at: usize, column: usize) -> Result<Draft, DraftStop>
+fn col_in(alloc: Global, doc: Doc<'_>, at: usize, column: usize) -> Result<Draft, Stop>
     requires page { IsPage doc.store.now doc.list.now.items doc.tree.now }
     ensures { Drafts doc.entry.store.now (refused_as table_refusal (model_tables.col_in (page_items doc.entry) at column)) result }
 {
     let tx = ve_tables::col_in(alloc, doc, at, column)?;
-    let values = NewValues::new(alloc, doc.store);
-    Ok(Draft { tx, values })
+    Ok(over_store(alloc, doc, tx))
 }
 
-fn col_out(alloc: Global, doc: Doc<'_>, at: usize, column: usize) -> Result<Draft, DraftStop>
+fn col_out(alloc: Global, doc: Doc<'_>, at: usize, column: usize) -> Result<Draft, Stop>
     requires page { IsPage doc.store.now doc.list.now.items doc.tree.now }
     ensures { Drafts doc.entry.store.now (refused_as table_refusal (model_tables.col_out (page_items doc.entry) at column)) result }
 {
     let tx = ve_tables::col_out(alloc, doc, at, column)?;
-    let values = NewValues::new(alloc, doc.store);
-    Ok(Draft { tx, values })
+    Ok(over_store(alloc, doc, tx))
 }
 
-fn indent(alloc: Global, doc: Doc<'_>, at: usize) -> Result<Draft, DraftStop>
+fn indent(alloc: Global, doc: Doc<'_>, at: usize) -> Result<Draft, Stop>
     requires page { IsPage doc.store.now doc.list.now.items doc.tree.now }
     ensures { Drafts doc.entry.store.now (refused_as list_refusal (model_lists.indent (page_items doc.entry) at)) result }
 {
     let tx = ve_lists::indent(alloc, doc, at)?;
-    let values = NewValues::new(alloc, doc.store);
-    Ok(Draft { tx, values })
+    Ok(over_store(alloc, doc, tx))
 }
 
-fn outdent(alloc: Global, doc: Doc<'_>, at: usize) -> Result<Draft, DraftStop>
+fn outdent(alloc: Global, doc: Doc<'_>, at: usize) -> Result<Draft, Stop>
     requires page { IsPage doc.store.now doc.list.now.items doc.tree.now }
     ensures { Drafts doc.entry.store.now (refused_as list_refusal (model_lists.outdent (page_items doc.entry) at)) result }
 {
@@ -87,7 +83,7 @@ fn outdent(alloc: Global, doc: Doc<'_>, at: usize) -> Result<Draft, DraftStop>
 
 /// The draft that moves a row, a column or a list item of a page, over the page's store; its values are as those of
 /// `change_draft`. It is refused as the move's builder refuses, with the place or the number that the builder names.
-pub fn move_draft(alloc: Global, doc: Doc<'_>, request: &Request) -> Result<Draft, DraftStop>
+pub fn move_draft(alloc: Global, doc: Doc<'_>, request: &Request) -> Result<Draft, Stop>
     requires moves { model.is_move request.now ≡ true }
     requires page { IsPage doc.store.now doc.list.now.items doc.tree.now }
     ensures ok { IfOk result (IsDrafted doc.entry.store.now (model.moved_by (page_items doc.entry) request.now)) }

@@ -1,10 +1,15 @@
 // What no clause says: that drafts are given where there is memory, and that a refusal isn't want of it.
-ghost use Rattle.std.specs.Prelude.{◌≡◌};
+ghost use Rattle.std.specs.Prelude.{◌≡◌, ◌∷◌, [], IfOk, OnOk};
+ghost use Rattle.model_world.specs.declared.change.Change.TheVariants as change;
+ghost use Rattle.model_world.specs.declared.change.OpWords.TheVariants as op;
+ghost use Rattle.model_world_law.specs.Fit.{AllWritten, IsWritten};
 ghost use Rattle.ve_samples.specs.CitesNothing.{CitesNothing};
 
-use crate::{DraftStop, change_draft, is_drafted, is_move, move_draft};
+use crate::{Stop, change_draft, is_move, move_draft};
 use model_edit::{Kinds, Shape, Shapes, WrapPlan};
-use model_world::{Change, ChangeList, Refusal, Request, TextMarks};
+use model_world::{
+    Change, ChangeList, OpWordList, OpWords, PlainList, Refusal, Request, TextMarks,
+};
 use std::alloc::Global;
 use std::marker::Brand;
 use std::sync::ledger::{Blank, Ledger};
@@ -20,11 +25,11 @@ use ve_tree::Tree;
 use ve_tx::Draft;
 
 /// Whether it is a draft, or the refusal that is expected.
-fn ends_so(made: Result<Draft, DraftStop>, expected: Option<Refusal>) -> bool {
+fn ends_so(made: Result<Draft, Stop>, expected: Option<Refusal>) -> bool {
     match made {
         Ok(_) => expected.is_none(),
-        Err(DraftStop::Refused(refusal)) => expected == Some(refusal),
-        Err(DraftStop::Memory) => false,
+        Err(Stop::Refused(refusal)) => expected == Some(refusal),
+        Err(Stop::Memory) => false,
     }
 }
 
@@ -40,6 +45,7 @@ fn changes_end_so<L: Ledger>(
     requires parts { blank.parts ≡ L.parts }
     requires one { blank.parts ≡ 1 }
     requires cites { CitesNothing page.now.items }
+    requires written { AllWritten changes.now }
 {
     let alloc = rt.alloc();
     let mut steps = Steps::<L>::start(rt, blank);
@@ -52,9 +58,6 @@ fn changes_end_so<L: Ledger>(
         store: &store,
     };
     for change in changes {
-        if !is_drafted(change) {
-            return Ok(false);
-        }
         if !ends_so(change_draft(alloc, doc, change), expected) {
             return Ok(false);
         }
@@ -102,7 +105,9 @@ fn bold(alloc: Global) -> Result<Mark, Memory> {
     })
 }
 
-fn shapes(alloc: Global, kind: Kind) -> Result<Shapes, Memory> {
+fn shapes(alloc: Global, kind: Kind) -> Result<Shapes, Memory>
+    ensures { IfOk result (λ shapes. shapes ≡ record { kind = kind; attrs = [] } ∷ []) }
+{
     let mut shapes = Shapes::new(alloc);
     let attrs = Attrs::new(alloc);
     shapes.push(Shape { kind, attrs })?;
@@ -110,7 +115,9 @@ fn shapes(alloc: Global, kind: Kind) -> Result<Shapes, Memory> {
 }
 
 /// The plan that makes nodes the items of one list.
-fn making_a_list(alloc: Global) -> Result<WrapPlan, Memory> {
+fn making_a_list(alloc: Global) -> Result<WrapPlan, Memory>
+    ensures { IfOk result (λ plan. IsWritten (change.Wrap 0 4 plan)) }
+{
     let wrap_outer = shapes(alloc, Kind::Ul)?;
     let wrap_each = shapes(alloc, Kind::Li)?;
     Ok(WrapPlan {
@@ -122,36 +129,66 @@ fn making_a_list(alloc: Global) -> Result<WrapPlan, Memory> {
 }
 
 /// A text at an offset.
-fn text_at(alloc: Global, at: usize, marks: TextMarks) -> Result<Change, Memory> {
+fn text_at(alloc: Global, at: usize, marks: TextMarks) -> Result<Change, Memory>
+    ensures { IfOk result IsWritten }
+{
     let text = Text::from_str(alloc, "xy")?;
     Ok(Change::Text { at, text, marks })
 }
 
 /// The attribute `id` set on the element at a place.
-fn id_at(alloc: Global, at: usize) -> Result<Change, Memory> {
+fn id_at(alloc: Global, at: usize) -> Result<Change, Memory>
+    ensures { IfOk result IsWritten }
+{
     let name = Text::from_str(alloc, "id")?;
     let to = Some(Text::from_str(alloc, "x")?);
     Ok(Change::Attr { at, name, to })
 }
 
+/// The operations that remove the first letter of two.
+fn removing(alloc: Global) -> Result<OpWordList, Memory>
+    ensures { IfOk result (λ ops. ops ≡ op.Retain 1 ∷ op.Remove 1 [] ∷ op.Retain 2 ∷ []) }
+{
+    let mut ops = OpWordList::new(alloc);
+    ops.push(OpWords::Retain(1))?;
+    let insert = PlainList::new(alloc);
+    ops.push(OpWords::Remove { count: 1, insert })?;
+    ops.push(OpWords::Retain(2))?;
+    Ok(ops)
+}
+
+/// One more change, as a line writes it.
+fn put(changes: &mut ChangeList, change: Change) -> Result<(), Memory>
+    requires one { IsWritten change }
+    requires others { AllWritten changes.old }
+    ensures { OnOk result (AllWritten changes.new) }
+{
+    changes.push(change)?;
+    Ok(())
+}
+
 /// Each change once that a paragraph of two letters allows.
-fn allowed(alloc: Global) -> Result<ChangeList, Memory> {
+fn allowed(alloc: Global) -> Result<ChangeList, Memory>
+    ensures { IfOk result AllWritten }
+{
     let mut changes = ChangeList::new(alloc);
-    changes.push(text_at(alloc, 2, TextMarks::Left)?)?;
-    changes.push(text_at(alloc, 2, TextMarks::Plain)?)?;
-    changes.push(Change::Remove { from: 1, to: 2 })?;
-    changes.push(Change::Split { at: 2, depth: 1 })?;
+    put(&mut changes, text_at(alloc, 2, TextMarks::Left)?)?;
+    put(&mut changes, text_at(alloc, 2, TextMarks::Plain)?)?;
+    put(&mut changes, Change::Remove { from: 1, to: 2 })?;
+    put(&mut changes, Change::Split { at: 2, depth: 1 })?;
     let (from, to) = (1, 3);
     let mark = bold(alloc)?;
-    changes.push(Change::Mark { from, to, mark })?;
+    put(&mut changes, Change::Mark { from, to, mark })?;
     let mark = bold(alloc)?;
-    changes.push(Change::Unmark { from, to, mark })?;
+    put(&mut changes, Change::Unmark { from, to, mark })?;
     let (from, to) = (0, 4);
     let plan = making_a_list(alloc)?;
-    changes.push(Change::Wrap { from, to, plan })?;
+    put(&mut changes, Change::Wrap { from, to, plan })?;
     let (at, kind) = (0, Kind::H2);
-    changes.push(Change::Convert { at, kind })?;
-    changes.push(id_at(alloc, 0)?)?;
+    put(&mut changes, Change::Convert { at, kind })?;
+    put(&mut changes, id_at(alloc, 0)?)?;
+    let ops = removing(alloc)?;
+    put(&mut changes, Change::Apply { ops })?;
     Ok(changes)
 }
 

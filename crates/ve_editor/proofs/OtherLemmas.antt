@@ -16,6 +16,7 @@ use Rattle.model_change.specs.Transaction.{Transaction, all_inserted, edited, is
 use Rattle.model_change.proofs.StoreLemmas.{contains_none}
 use Rattle.ve_editor.proofs.RemovedLemmas.{removed_held}
 use Rattle.ve_items.specs.ItemList.{ItemList}
+use Rattle.ve_tree.specs.declared.tree.Tree.{Tree}
 use Rattle.ve_tx.specs.Applied.{filled_on}
 use Rattle.ve_tx.specs.Cites.{TxCites}
 use Rattle.ve_tx.specs.Making.{Extends}
@@ -23,7 +24,7 @@ use Rattle.ve_tx.specs.Operation.{Operation, by_value}
 use Rattle.ve_tx.specs.Parcel.{transaction_cited_in}
 use Rattle.ve_tx.specs.Taken.{HasRemoved}
 use Rattle.ve_tx.proofs.ValuesLemmas as values_lemmas
-use Rattle.ve_tx.proofs.ValuesLemmas.{extends_on, extends_by_fill, list-extended, all-extended}
+use Rattle.ve_tx.proofs.ValuesLemmas.{extends_by_fill, list-extended, all-extended}
 use Rattle.ve_editor.specs.declared.perform.Admitting.{Admitting}
 use Rattle.ve_editor.specs.Prepared.{IsReadyBack, IsReadyOther}
 use Rattle.ve_editor.proofs.CutLemmas.{head_once, marks_once, white_once}
@@ -109,10 +110,10 @@ module _ (values store taken : List Value) (tx own : List Operation) (items : Li
   over_in : {A : Type 0} (l : List Item) → l ≡ items → (f : Transaction → List PlainItem → A) → f (by_value taken own) (plain_list taken l) ≡ f (by_value values tx) (plain_list store l)
   over_in l is f = ap (λ m. f (by_value taken own) (plain_list taken m)) is ∙ over_own f ∙ ap (λ m. f (by_value values tx) (plain_list store m)) (sym is)
 
-  pub ready_is : (inserts : taken ≡ fill store (cited (all_inserted (by_value values tx)))) (new : List Value) (list : ItemList) (a : Admitting) → list.items ≡ items →
-      IsReadyBack (by_value taken own) taken new list a.prepared → map (by_value taken) a.txs ≡ filled_on taken own items ∷ [] → All (TxCites taken) a.txs →
-      IsReadyOther (by_value values tx) store new list a
-  ready_is inserts new list a is ready txs cites =
+  pub ready_is : (inserts : taken ≡ fill store (cited (all_inserted (by_value values tx)))) (new : List Value) (list : ItemList) (linked : Tree) (a : Admitting) → list.items ≡ items →
+      IsReadyBack (by_value taken own) taken new list linked a.change → map (by_value taken) a.txs ≡ filled_on taken own items ∷ [] → All (TxCites taken) a.txs →
+      IsReadyOther (by_value values tx) store new list linked a
+  ready_is inserts new list linked a is ready txs cites =
       let t = by_value values tx in
       let grown = extends_by_fill taken new (changed_heads (by_value taken own) (plain_list taken list.items)) ready.store in
       record {

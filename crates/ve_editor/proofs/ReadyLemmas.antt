@@ -1,5 +1,5 @@
 -- A change that is made ready, as what the model makes of the page.
-use Rattle.std.proofs.Common.{◌≡◌, ◌≤◌, ◌+◌, ◌*◌, ℕ, List, [], ◌∷◌, length, All, Result, Ok, Err, IfOk, sym, ap, ◌∙◌, subst}
+use Rattle.std.proofs.Common.{◌≡◌, ◌≤◌, ◌+◌, ◌*◌, ℕ, List, [], ◌∷◌, length, All, sym, ap, ◌∙◌, subst}
 use Rattle.std.proofs.lemmas.List.Elements.{All-nil, All-cons}
 use Rattle.ve_base.specs.declared.value.Value.{Value}
 use Rattle.model_items.specs.declared.item.Item.{Item}
@@ -12,19 +12,15 @@ use Rattle.model_items.proofs.VerdictLemmas.{verdict_reads_no_values}
 use Rattle.model_change.specs.Transaction.{Transaction, edited}
 use Rattle.ve_items.specs.ItemList.{ItemList}
 use Rattle.ve_tree.specs.IsTree.{unvalued}
-use Rattle.ve_tree.specs.TreeOf.{most_steps}
+use Rattle.ve_tree.specs.TreeOf.{IsTreeOf, most_steps}
 use Rattle.ve_tx.specs.Applied.{plain_after, spliced_by}
 use Rattle.ve_tx.specs.Cites.{TxCites}
 use Rattle.ve_tx.specs.Making.{Extends}
 use Rattle.ve_tx.specs.Operation.{Operation}
 use Rattle.ve_tx.specs.declared.change.Change.{Change}
 use Rattle.ve_tx.proofs.ChangeLemmas.{spliced-cites}
-use Rattle.ve_editor.specs.declared.prepare.Prepared.{Prepared}
-use Rattle.ve_editor.specs.Prepared.{FitsInto, HasTree, WillBe}
-
-pub both_ok : {A E : Type 0} (P Q R : A → Type 0) (r : Result A E) → ((x : A) → P x → Q x → R x) → IfOk r P → IfOk r Q → IfOk r R
-both_ok P Q R (Ok x) f p q = f x p q
-both_ok P Q R (Err e) f p q = tt
+use Rattle.ve_tree.specs.declared.tree.Tree.{Tree}
+use Rattle.ve_editor.specs.Prepared.{WillBe}
 
 -- the law and the tree read no value
 pub lawful_unvalued : (values : List Value) (items : List Item) (made : List PlainItem) → plain_list values items ≡ made → Lawful made → Lawful (unvalued items)
@@ -38,16 +34,15 @@ pub steps_within : (values : List Value) (items : List Item) (made : List PlainI
     new ≤ old + most_steps (unvalued items) → new ≤ old + most_steps made
 steps_within values items made old new e h = subst (λ n. new ≤ old + n) (steps_unvalued values items made e) h
 
-pub will_be : (t : Transaction) (old new : List Value) (list : ItemList) (items : List Item) (change : Change) (p : Prepared) →
-    list.items ≡ items → p.change ≡ change → plain_after new items change ≡ edited t (plain_list old items) → Extends old new →
+pub will_be : (t : Transaction) (old new : List Value) (list : ItemList) (items : List Item) (linked : Tree) (change : Change) →
+    list.items ≡ items → plain_after new items change ≡ edited t (plain_list old items) → Extends old new →
     All (CitesWell old) items → All (CitesWell new) change.items → change.at + change.removed ≤ length items → length change.items ≤ list.spare →
-    HasTree items p → WillBe t old new list p
-will_be t old new list items change p same is made extends cited made_cited within room tree = record {
-  items = ap (λ (ch : Change). plain_after new list.items ch) is ∙ ap (λ l. plain_after new l change) same ∙ made ∙ ap (λ l. edited t (plain_list old l)) (sym same);
-  cites = subst (λ (ch : Change). All (CitesWell new) (spliced_by list.items ch)) (sym is)
-      (subst (λ l. All (CitesWell new) (spliced_by l change)) (sym same) (spliced-cites old new extends items change.items change.at change.removed cited made_cited));
-  fits = subst (FitsInto list) (sym is) (record { within = subst (λ l. change.at + change.removed ≤ length l) (sym same) within; room = room });
-  tree = subst (λ l. HasTree l p) (sym same) tree;
+    IsTreeOf linked (unvalued (spliced_by list.items change)) → WillBe t old new list linked change
+will_be t old new list items linked change same made extends cited made_cited within room tree = record {
+  items = ap (λ l. plain_after new l change) same ∙ made ∙ ap (λ l. edited t (plain_list old l)) (sym same);
+  cites = subst (λ l. All (CitesWell new) (spliced_by l change)) (sym same) (spliced-cites old new extends items change.items change.at change.removed cited made_cited);
+  fits = record { within = subst (λ l. change.at + change.removed ≤ length l) (sym same) within; room = room };
+  tree = tree;
 }
 
 -- a list of one transaction

@@ -1,7 +1,6 @@
 -- A change of a page that needs no more memory. For private functions.
 use Rattle.std.specs.Prelude.{◌≡◌, ◌≤◌, ◌+◌, None, List, [], ◌∷◌, All, length, map}
 use Rattle.ve_base.specs.declared.value.Value.{Value}
-use Rattle.model_items.specs.declared.item.Item.{Item}
 use Rattle.model_items.specs.Plain.{plain_list, CitesWell}
 use Rattle.model_change.specs.Fault.{Applies}
 use Rattle.model_change.specs.Inverse.{filled}
@@ -10,12 +9,12 @@ use Rattle.model_change.specs.Transaction.{Transaction, edited}
 use Rattle.ve_items.specs.ItemList.{ItemList}
 use Rattle.ve_tree.specs.IsTree.{unvalued}
 use Rattle.ve_tree.specs.TreeOf.{IsTreeOf}
+use Rattle.ve_tree.specs.declared.tree.Tree.{Tree}
 use Rattle.ve_tx.specs.Applied.{plain_after, spliced_by}
 use Rattle.ve_tx.specs.Cites.{TxCites}
 use Rattle.ve_tx.specs.Operation.{by_value}
 use Rattle.ve_tx.specs.declared.change.Change.{Change}
 use Rattle.ve_tx.specs.declared.draft.Draft.{Draft}
-use Rattle.ve_editor.specs.declared.prepare.Prepared.{Prepared}
 use Rattle.ve_editor.specs.declared.perform.Admitting.{Admitting}
 use Rattle.ve_editor.specs.declared.perform.Performing.{Performing}
 use Rattle.ve_editor.specs.Edited.{drafted, entry_by_value, EntryCites}
@@ -26,22 +25,19 @@ pub record FitsInto (list : ItemList) (change : Change) : Type 0 where
   pub within : change.at + change.removed ≤ length list.items
   pub room : length change.items ≤ list.spare
 
--- it has the tree of the list as it will be
-abbrev pub HasTree : List Item → Prepared → Type 0
-HasTree items prepared = IsTreeOf prepared.tree (unvalued (spliced_by items prepared.change))
-
--- Over the new values the list will be what the transaction makes of it over the old ones, and its items will cite them well.
-pub record WillBe (t : Transaction) (old new : List Value) (list : ItemList) (prepared : Prepared) : Type 0 where
-  pub items : plain_after new list.items prepared.change ≡ edited t (plain_list old list.items)
-  pub cites : All (CitesWell new) (spliced_by list.items prepared.change)
-  pub fits : FitsInto list prepared.change
-  pub tree : HasTree list.items prepared
+-- Over the new values the list will be what the transaction makes of it over the old ones, and its items will cite them well;
+-- and the tree is already that of the list as it will be.
+pub record WillBe (t : Transaction) (old new : List Value) (list : ItemList) (linked : Tree) (change : Change) : Type 0 where
+  pub items : plain_after new list.items change ≡ edited t (plain_list old list.items)
+  pub cites : All (CitesWell new) (spliced_by list.items change)
+  pub fits : FitsInto list change
+  pub tree : IsTreeOf linked (unvalued (spliced_by list.items change))
 
 -- the draft applies, its new list is allowed, and its change is ready, as is its entry
-pub record MayPerform (d : Draft) (old new : List Value) (list : ItemList) (performing : Performing) : Type 0 where
+pub record MayPerform (d : Draft) (old new : List Value) (list : ItemList) (linked : Tree) (performing : Performing) : Type 0 where
   pub applies : Applies (drafted old d) (plain_list old list.items)
-  pub allowed : list_cause (spliced_by list.items performing.prepared.change) (length new) ≡ None
-  pub change : WillBe (drafted old d) old new list performing.prepared
+  pub allowed : list_cause (spliced_by list.items performing.change) (length new) ≡ None
+  pub change : WillBe (drafted old d) old new list linked performing.change
   pub store : new ≡ fill old (brought (drafted old d) (plain_list old list.items))
   pub txs : (entry_by_value new performing.entry).txs ≡ filled (drafted old d) (plain_list old list.items) ∷ []
   pub store_before : performing.entry.store_before ≡ length old
@@ -49,13 +45,13 @@ pub record MayPerform (d : Draft) (old new : List Value) (list : ItemList) (perf
   pub cites : EntryCites new performing.entry
 
 -- a transaction of a reversal is ready, and the store has the heads that it changes
-pub record IsReadyBack (t : Transaction) (old new : List Value) (list : ItemList) (prepared : Prepared) : Type 0 where
-  pub change : WillBe t old new list prepared
+pub record IsReadyBack (t : Transaction) (old new : List Value) (list : ItemList) (linked : Tree) (back : Change) : Type 0 where
+  pub change : WillBe t old new list linked back
   pub store : new ≡ fill old (changed_heads t (plain_list old list.items))
 
 -- a transaction of another is ready, as an entry keeps it, and the store has what it brings
-pub record IsReadyOther (t : Transaction) (old new : List Value) (list : ItemList) (admitting : Admitting) : Type 0 where
-  pub change : WillBe t old new list admitting.prepared
+pub record IsReadyOther (t : Transaction) (old new : List Value) (list : ItemList) (linked : Tree) (admitting : Admitting) : Type 0 where
+  pub change : WillBe t old new list linked admitting.change
   pub store : new ≡ fill old (brought t (plain_list old list.items))
   pub txs : map (by_value new) admitting.txs ≡ filled t (plain_list old list.items) ∷ []
   pub cites : All (TxCites new) admitting.txs

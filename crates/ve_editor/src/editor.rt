@@ -132,7 +132,11 @@ impl Editor {
     /// It is refused by the first of these causes: the draft doesn't apply to the list, as
     /// `Transaction::change` says; the new list isn't lawful, at the first place that fails; it would have
     /// over `MAX_ITEMS` items; the store would have over `MAX_VALUES` values. All memory is taken before
-    /// anything changes, and an `Err` changes nothing. A new tree is built only where no cause refuses it.
+    /// anything changes, and an `Err` changes nothing.
+    ///
+    /// Nodes are written or made only where no cause refuses it. `Tree::splice` says which: none where characters
+    /// come for characters, and openings and closings for those of their kinds, as by a mark or an attribute; and
+    /// lengths alone where characters of one run give way to others, as by typing.
     pub fn perform<L: Ledger>(
         &mut self,
         draft: &Draft,
@@ -154,12 +158,12 @@ impl Editor {
             self.alloc,
             &mut self.list,
             &mut self.store,
-            &self.tree,
+            &mut self.tree,
             draft,
             steps,
         ) {
             Ok(performing) => {
-                commit(&mut self.list, &mut self.tree, performing.prepared);
+                commit(&mut self.list, performing.change);
                 let doc = Doc {
                     list: &self.list,
                     tree: &self.tree,
@@ -186,9 +190,16 @@ impl Editor {
         ensures steps { steps.new ≤ steps.old + most_steps (edited (by_value self.old.store tx.now) self.old.items) }
     {
         let before = self.store.len();
-        match ready_back(self.alloc, &mut self.list, &mut self.store, tx, steps) {
-            Ok(prepared) => {
-                commit(&mut self.list, &mut self.tree, prepared);
+        match ready_back(
+            self.alloc,
+            &mut self.list,
+            &mut self.store,
+            &mut self.tree,
+            tx,
+            steps,
+        ) {
+            Ok(change) => {
+                commit(&mut self.list, change);
                 let doc = Doc {
                     list: &self.list,
                     tree: &self.tree,
@@ -282,12 +293,13 @@ impl Editor {
             self.alloc,
             &mut self.list,
             &mut self.store,
+            &mut self.tree,
             tx,
             values,
             steps,
         ) {
             Ok(admitting) => {
-                commit(&mut self.list, &mut self.tree, admitting.prepared);
+                commit(&mut self.list, admitting.change);
                 let doc = Doc {
                     list: &self.list,
                     tree: &self.tree,

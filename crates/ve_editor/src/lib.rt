@@ -7,10 +7,14 @@
 //! with its `entry_of`; `revert` is `reverted`. Its type keeps that the list is lawful, that the tree is the
 //! list's, and that each value that is cited is in the store and of the sort that is asked for (`IsPage`).
 //!
+//! The tree becomes that of the new list as the last step that may fail, before the list itself changes
+//! (`Tree::splice`); after it the list takes no memory. So want of memory leaves list and tree as they were.
+//!
 //! Definitions, in reading order: `Page` (what the type keeps), `Edited` (drafts and entries by value; what
 //! may be performed or taken back), `Counted` (how many steps a call counts at most), `Refusal` (how a refusal
-//! names its cause). `Prepared` and `Rest` serve private functions: a change that needs no more memory, the
-//! law over a list's end. There is no law of its own: those of model_site_law hold by the clauses.
+//! names its cause). `Prepared` and `Rest` serve private functions: a change whose tree is there and whose list
+//! needs no more memory, and the law over a list's end. There is no law of its own: those of model_site_law
+//! hold by the clauses.
 #![tactic(auto)]
 
 mod editor;

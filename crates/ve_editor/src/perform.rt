@@ -1,5 +1,6 @@
-// A draft made ready to be performed, and a transaction to be taken back: all that may fail, before the page changes.
-ghost use Rattle.std.specs.Prelude.{◌≡◌, ◌≢◌, ◌≤◌, ◌+◌, [], ◌∷◌, All, None, length, map, IfOk, IfErr, OnOk};
+// A draft made ready to be performed, and a transaction to be taken back: all that may fail, before the list changes.
+// The tree becomes that of the new list last of all.
+ghost use Rattle.std.specs.Prelude.{◌≡◌, ◌≢◌, ◌≤◌, ◌+◌, [], ◌∷◌, All, None, length, map, IfOk, IfErr, OnOk, OnErr};
 ghost use Rattle.model_items.specs.Law.{Lawful};
 ghost use Rattle.model_items.specs.Plain.{plain_list, CitesWell};
 ghost use Rattle.model_change.specs.Fault.{Applies};
@@ -8,18 +9,18 @@ ghost use Rattle.model_change.specs.Transaction.{edited};
 ghost use Rattle.model_edit.specs.Translate.{between};
 ghost use Rattle.model_site.specs.Refused.{edit_cause};
 ghost use Rattle.ve_tree.specs.IsTree.{unvalued};
-ghost use Rattle.ve_tree.specs.TreeOf.{most_steps};
+ghost use Rattle.ve_tree.specs.TreeOf.{IsTreeOf, most_steps};
 ghost use Rattle.ve_tx.specs.Applied.{AppliesTo, filled_on, spliced_by};
 ghost use Rattle.ve_tx.specs.Cites.{TxCites};
 ghost use Rattle.ve_tx.specs.Making.{Extends};
 ghost use Rattle.ve_tx.specs.Operation.{by_value};
 ghost use Rattle.ve_editor.specs.Edited.{IsDraftOf, drafted};
 ghost use Rattle.ve_editor.specs.Page.{IsPage, page_of};
-ghost use Rattle.ve_editor.specs.Prepared.{HasTree, IsReadyBack, IsReadyOther, MayPerform};
+ghost use Rattle.ve_editor.specs.Prepared.{IsReadyBack, IsReadyOther, MayPerform};
 ghost use Rattle.ve_editor.specs.Refusal.{IsEditRefusal};
 
 use crate::faults::of_transaction;
-use crate::prepare::{Prepared, prepare};
+use crate::prepare::prepare;
 use crate::values::take_in;
 use crate::verdict::may_become;
 use model_site::EditFault;
@@ -32,18 +33,18 @@ use ve_store::Store;
 use ve_tree::Tree;
 use ve_tx::{Change, Draft, Entry, Transaction, TxList};
 
-/// A draft that may be performed: the entry that it gives, and its change with all that this needs.
+/// A draft that may be performed: the entry that it gives, and its change.
 #[derive(Drop)]
 pub struct Performing {
     pub entry: Entry,
-    pub prepared: Prepared,
+    pub change: Change,
 }
 
-/// A transaction of another that may be performed: as an entry keeps it, and its change with all that this needs.
+/// A transaction of another that may be performed: as an entry keeps it, and its change.
 #[derive(Drop)]
 pub struct Admitting {
     pub txs: TxList,
-    pub prepared: Prepared,
+    pub change: Change,
 }
 
 /// A transaction that applies to the list, as an entry keeps it.
@@ -89,17 +90,20 @@ fn entry_of(
     })
 }
 
-/// The entry of a transaction and its change with all that this needs.
+/// The entry of a transaction and its change. Then the tree is that of the list after the change; at an `Err` it
+/// is the tree of the list still.
 fn with_entry<L: Ledger>(
     alloc: Global,
     list: &Linear,
     store: &Store,
+    tree: &mut Tree,
     tx: &Transaction,
     store_before: usize,
     change: Change,
     steps: &mut Steps<L>,
 ) -> Result<Performing, Memory>
     requires list { All (CitesWell store.now) list.now.items }
+    requires tree { IsTreeOf tree.old (unvalued list.now.items) }
     requires applies { AppliesTo store.now tx.now list.now.items }
     requires cites { TxCites store.now tx.now }
     requires within { change.at + change.removed ≤ length list.now.items }
@@ -108,30 +112,33 @@ fn with_entry<L: Ledger>(
     ensures before { IfOk result (λ ready. ready.entry.store_before ≡ store_before) }
     ensures after { IfOk result (λ ready. ready.entry.store_after ≡ length store.now) }
     ensures cites { IfOk result (λ ready. All (TxCites store.now) ready.entry.txs) }
-    ensures change { IfOk result (λ ready. ready.prepared.change ≡ change) }
-    ensures tree { IfOk result (λ ready. HasTree list.now.items ready.prepared) }
+    ensures change { IfOk result (λ ready. ready.change ≡ change) }
+    ensures tree { OnOk result (IsTreeOf tree.new (unvalued (spliced_by list.now.items change))) }
+    ensures kept { OnErr result (IsTreeOf tree.new (unvalued list.now.items)) }
     ensures counted { steps.old ≤ steps.new }
     ensures steps { steps.new ≤ steps.old + most_steps (unvalued (spliced_by list.now.items change)) }
 {
     let entry = entry_of(alloc, list, store, tx, store_before)?;
-    let prepared = prepare(alloc, list, change, steps)?;
-    Ok(Performing { entry, prepared })
+    prepare(alloc, list, tree, &change, steps)?;
+    Ok(Performing { entry, change })
 }
 
-/// Makes a draft ready to be performed on a page, or says why it is not performed. The store takes its
-/// values, and the list room; an `Err` may leave values after those that were there.
+/// Makes a draft ready to be performed on a page, or says why it is not performed. The store takes its values and
+/// the list room, and then the tree becomes that of the list after the change; an `Err` leaves it the list's, and
+/// may leave values after those that were there.
 pub fn ready<L: Ledger>(
     alloc: Global,
     list: &mut Linear,
     store: &mut Store,
-    tree: &Tree,
+    tree: &mut Tree,
     draft: &Draft,
     steps: &mut Steps<L>,
 ) -> Result<Performing, EditFault>
-    requires page { IsPage store.old list.old.items tree.now }
+    requires page { IsPage store.old list.old.items tree.old }
     requires draft { IsDraftOf store.old draft.now }
-    ensures ok { IfOk result (MayPerform draft.now store.old store.new list.new) }
+    ensures ok { IfOk result (MayPerform draft.now store.old store.new list.new tree.new) }
     ensures refused { IfErr result (IsEditRefusal (edit_cause (drafted store.old draft.now) (page_of store.old list.old.items (between 0 0)))) }
+    ensures kept { OnErr result (IsTreeOf tree.new (unvalued list.old.items)) }
     ensures items { list.new.items ≡ list.old.items }
     ensures extends { Extends store.old store.new }
     ensures counted { steps.old ≤ steps.new }
@@ -150,57 +157,68 @@ pub fn ready<L: Ledger>(
     may_become(
         Doc {
             list: &*list,
-            tree,
+            tree: &*tree,
             store: &*store,
         },
         &change,
     )?;
-    match with_entry(alloc, list, store, &draft.tx, before, change, steps) {
+    match with_entry(alloc, list, store, tree, &draft.tx, before, change, steps) {
         Ok(ready) => Ok(ready),
         Err(Memory) => Err(EditFault::Memory),
     }
 }
 
 /// Makes a transaction ready that applies to a page and leaves it lawful. The store takes the heads that it
-/// changes, and the list room; an `Err` may leave values after those that were there.
+/// changes and the list room, and then the tree becomes that of the list after the change; an `Err` leaves it the
+/// list's, and may leave values after those that were there.
 pub fn ready_back<L: Ledger>(
     alloc: Global,
     list: &mut Linear,
     store: &mut Store,
+    tree: &mut Tree,
     tx: &Transaction,
     steps: &mut Steps<L>,
-) -> Result<Prepared, Memory>
+) -> Result<Change, Memory>
+    requires tree { IsTreeOf tree.old (unvalued list.old.items) }
     requires list { All (CitesWell store.old) list.old.items }
     requires cites { TxCites store.old tx.now }
     requires applies { AppliesTo store.old tx.now list.old.items }
     requires lawful { Lawful (edited (by_value store.old tx.now) (plain_list store.old list.old.items)) }
-    ensures ok { IfOk result (IsReadyBack (by_value store.old tx.now) store.old store.new list.new) }
+    ensures ok { IfOk result (IsReadyBack (by_value store.old tx.now) store.old store.new list.new tree.new) }
+    ensures kept { OnErr result (IsTreeOf tree.new (unvalued list.old.items)) }
     ensures items { list.new.items ≡ list.old.items }
     ensures extends { Extends store.old store.new }
     ensures counted { steps.old ≤ steps.new }
     ensures steps { steps.new ≤ steps.old + most_steps (edited (by_value store.old tx.now) (plain_list store.old list.old.items)) }
 {
     match tx.change(alloc, list, store) {
-        Ok(change) => prepare(alloc, list, change, steps),
+        Ok(change) => {
+            prepare(alloc, list, tree, &change, steps)?;
+            Ok(change)
+        }
         Err(_) => Err(Memory),
     }
 }
 
 /// Makes a transaction ready that cites a list of values, applies to a page and leaves it lawful. The store
-/// takes what it brings, and the list room; an `Err` may leave values after those that were there.
+/// takes what it brings and the list room, and then the tree becomes that of the list after the change; an `Err`
+/// leaves it the list's, and may leave values after those that were there.
 pub fn ready_other<L: Ledger>(
     alloc: Global,
     list: &mut Linear,
     store: &mut Store,
+    tree: &mut Tree,
     tx: &Transaction,
     values: &[Value],
     steps: &mut Steps<L>,
 ) -> Result<Admitting, Memory>
+    requires tree { IsTreeOf tree.old (unvalued list.old.items) }
     requires list { All (CitesWell store.old) list.old.items }
     requires cites { TxCites values.now tx.now }
     requires applies { Applies (by_value values.now tx.now) (plain_list store.old list.old.items) }
     requires lawful { Lawful (edited (by_value values.now tx.now) (plain_list store.old list.old.items)) }
-    ensures ok { IfOk result (IsReadyOther (by_value values.now tx.now) store.old store.new list.new) }
+    ensures ok { IfOk result (IsReadyOther (by_value values.now tx.now) store.old store.new list.new tree.new) }
+    ensures kept { OnErr result (IsTreeOf tree.new (unvalued list.old.items)) }
     ensures items { list.new.items ≡ list.old.items }
     ensures extends { Extends store.old store.new }
     ensures counted { steps.old ≤ steps.new }
@@ -210,6 +228,6 @@ pub fn ready_other<L: Ledger>(
     let _ops = tx.ops();
     let own = tx.recite(alloc, values, store)?;
     let txs = one_filled(alloc, list, store, &own)?;
-    let prepared = ready_back(alloc, list, store, &own, steps)?;
-    Ok(Admitting { txs, prepared })
+    let change = ready_back(alloc, list, store, tree, &own, steps)?;
+    Ok(Admitting { txs, change })
 }

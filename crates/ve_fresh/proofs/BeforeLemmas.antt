@@ -1,5 +1,5 @@
 -- Places before the internal list, among the items that values are cited by.
-use Rattle.std.proofs.Common.{◌≡◌, ◌≢◌, ℕ, ◌+◌, ◌≤◌, Bool, true, false, List, [], ◌∷◌, ◌++◌, length, take, drop, refl, sym, ap, ◌∙◌, arith, Option, Some, None}
+use Rattle.std.proofs.Common.{◌≡◌, ◌≢◌, ℕ, ◌+◌, ◌≤◌, Bool, false, List, [], ◌∷◌, ◌++◌, length, take, drop, sym, ap, ◌∙◌, arith, Option, Some, None}
 use Rattle.std.specs.Prelude.{◌||◌}
 use Rattle.std.specs.List.{list_any, slice_get, drop-map, take-map}
 use Rattle.std.proofs.lemmas.List.{length-map, map-append, take_more}
@@ -12,7 +12,6 @@ use Rattle.ve_kinds.specs.declared.kind.Kind.TheVariants.{InternalList}
 use Rattle.ve_kinds.specs.Table.{kind_same}
 use Rattle.model_items.specs.declared.item.Item.{Item}
 use Rattle.model_items.specs.declared.item.Item.TheVariants.{Opening}
-use Rattle.model_items.specs.declared.plain_item.PlainItem.{PlainItem}
 use Rattle.model_items.specs.Plain.{plain, plain_list}
 use Rattle.model_page.specs.declared.ref_table.RefRow.{RefRow}
 use Rattle.model_page.specs.References.{Body}

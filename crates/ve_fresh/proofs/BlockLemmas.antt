@@ -4,7 +4,6 @@ use Rattle.std.specs.Prelude.{IfNone, not, ◌&&◌, option_map, unwrap_or, enco
 use Rattle.std.specs.List.{slice_get}
 use Rattle.std.proofs.lemmas.Bool.{and_parts}
 use Rattle.std.proofs.lemmas.List.{append-nil}
-use Rattle.ve_base.specs.declared.value.Value.{Value}
 use Rattle.ve_base.specs.declared.value.ValueId.{ValueId}
 use Rattle.ve_kinds.specs.declared.kind.Kind.{Kind}
 use Rattle.ve_kinds.specs.declared.kind.Kind.TheVariants.{P, H1, H2, H3, H4, H5, H6, Pre, InternalList}
@@ -25,7 +24,6 @@ use Rattle.ve_node_text.specs.Leaves.{leaf_of}
 use Rattle.ve_node_text.proofs.LeafLemmas.{leaf_is}
 use Rattle.ve_bare.specs.Bare.{bare_in, IsBareAt}
 use Rattle.ve_fresh.specs.Begun.{holds_blocks, nests, single}
-use Rattle.ve_fresh.specs.Originals.{original_in}
 use Rattle.ve_fresh.specs.Told.{blocks_at, content_at, copied_first, view_of, GoesOn, IsAfresh, IsAppended, Known}
 use Rattle.ve_fresh.proofs.ContentLemmas.{three}
 

@@ -8,7 +8,7 @@ use Rattle.ve_kinds.specs.Table.{is_content_branch}
 use Rattle.model_items.specs.declared.item.Item.{Item}
 use Rattle.model_items.specs.declared.item.Item.TheVariants.{Char, Opening, Closing}
 use Rattle.model_items.specs.Plain.{value_at, white_in}
-use Rattle.model_page_write.specs.Nodes.{Carried, Nodes, NodesEnding, Start, first_outer, node_items}
+use Rattle.model_page_write.specs.Nodes.{Nodes, NodesEnding, Start, first_outer, node_items}
 use Rattle.model_page_write.specs.Written.{blocks, content, fresh_text, is_bare, original_of, white_after}
 use Rattle.ve_nodes.specs.Siblings.{View, ending_at, Ends}
 use Rattle.ve_nodes.specs.After.{Follows}
@@ -16,7 +16,7 @@ use Rattle.ve_nodes.specs.declared.ends.After.{After}
 use Rattle.ve_nodes.proofs.SiblingLemmas.{found_at, char_here, closing_here, opening_here, start_of, node_later, node_outer}
 use Rattle.ve_bare.specs.Bare.{bare_in, IsBareAt}
 use Rattle.ve_fresh.specs.Originals.{original_in}
-use Rattle.ve_fresh.specs.Told.{blocks_at, copied_first, view_of, GoesOn, IsAfresh, Known, Told}
+use Rattle.ve_fresh.specs.Told.{blocks_at, copied_first, view_of, GoesOn, IsAfresh, Known}
 use Rattle.ve_fresh.proofs.BlockLemmas.{no_original}
 use Rattle.ve_fresh.proofs.ContentLemmas.{three}
 

@@ -1,5 +1,5 @@
 -- Nodes of lawful lists: their items stand in the list, and the internal list stands in no node.
-use Rattle.std.proofs.Common.{◌≡◌, ◌≢◌, ℕ, zero, suc, ◌+◌, ◌≤◌, nat_lt, Bool, true, false, not, ◌&&◌, ◌||◌, if◌then◌else◌, List, [], ◌∷◌, ◌++◌, length, length-drop, take-take, take-append-drop, take-add, take, drop, map, refl, sym, ap, ◌∙◌, subst, arith, append_assoc, Option, Some, None, Ok}
+use Rattle.std.proofs.Common.{◌≡◌, ◌≢◌, ℕ, zero, suc, ◌+◌, ◌≤◌, nat_lt, Bool, true, false, not, ◌&&◌, ◌||◌, if◌then◌else◌, List, [], ◌∷◌, ◌++◌, length, length-drop, take-append-drop, take-add, take, drop, map, refl, sym, ap, ◌∙◌, arith, append_assoc, Option, None, Ok}
 use Rattle.std.specs.List.{list_any}
 use Rattle.ve_kinds.specs.declared.kind.Kind.{Kind}
 use Rattle.ve_kinds.specs.declared.kind.Kind.TheVariants.{InternalList}

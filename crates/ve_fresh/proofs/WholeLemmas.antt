@@ -1,5 +1,5 @@
 -- Whole lists: what is written of them is the model's text.
-use Rattle.std.proofs.Common.{◌≡◌, ℕ, suc, ◌+◌, ◌≤◌, Bool, false, List, [], ◌∷◌, ◌++◌, length, take, drop, drop-drop, take-append-drop, refl, sym, ap, ◌∙◌, arith, Option, Some, None, Ok}
+use Rattle.std.proofs.Common.{◌≡◌, ℕ, suc, ◌+◌, Bool, false, List, [], ◌∷◌, ◌++◌, length, take, drop, drop-drop, take-append-drop, refl, sym, ap, ◌∙◌, arith, Option, Some, None}
 use Rattle.ve_base.specs.declared.value.Value.{Value}
 use Rattle.ve_base.specs.declared.value.ValueId.{ValueId}
 use Rattle.ve_kinds.specs.declared.kind.Kind.{Kind}

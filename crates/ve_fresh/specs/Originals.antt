@@ -6,7 +6,7 @@ use Rattle.model_items.specs.declared.item.Item.{Item}
 use Rattle.model_items.specs.declared.plain_item.PlainItem.{PlainItem}
 use Rattle.model_items.specs.declared.plain_item.PlainItem.TheVariants.{Char, Opening, Closing}
 use Rattle.model_items.specs.Law.{Lawful}
-use Rattle.model_items.specs.Plain.{plain_list, AreDistinct, CitesWell}
+use Rattle.model_items.specs.Plain.{plain_list, CitesWell}
 use Rattle.model_page.specs.declared.ref_table.RefRow.{RefRow}
 use Rattle.model_page.specs.PageItems.{Opened}
 use Rattle.model_page.specs.References.{table}

@@ -1,5 +1,5 @@
 // Blocks.
-ghost use Rattle.std.specs.Prelude.{◌≡◌, ◌≤◌, ◌<◌, ◌++◌, ◌&&◌, not, true, false, Bool, ℕ, Option, Some, OnOk, IfOk, IfSome, IfNone, length, drop, slice_get};
+ghost use Rattle.std.specs.Prelude.{◌≡◌, ◌≤◌, ◌<◌, ◌++◌, ◌&&◌, not, true, false, Bool, ℕ, Option, Some, OnOk, IfOk, IfSome, IfNone, length, drop, slice_get, IsUtf8};
 ghost use Rattle.ve_base.specs.declared.value.ValueId.{ValueId};
 ghost use Rattle.ve_kinds.specs.Table.{is_content_branch};
 ghost use Rattle.model_items.specs.declared.item.Item.TheVariants as item;
@@ -87,6 +87,7 @@ fn put_kept(
     ensures outer { IfOk result (λ kept. IfSome kept (λ step. SameOuter page.entry.list.now.items at step.at)) }
     ensures text { IfOk result (λ kept. IfSome kept (λ step. GoesOn (known_of page.entry) out.old out.new
         (λ w v. blocks_at w v page.entry.list.now.items before at) (λ w v. blocks_at w v page.entry.list.now.items step.bare step.at))) }
+    ensures utf8 { OnOk result (IsUtf8 out.old → IsUtf8 out.new) }
     ensures none { IfOk result (λ kept. IfNone kept (out.new ≡ out.old)) }
     ensures afresh { IfOk result (λ kept. IfNone kept (IsAfresh (known_of page.entry) before at)) }
 {
@@ -125,7 +126,8 @@ fn put_single(
 ) -> Result<(), Memory>
     requires cites { CitesHead page.store.now head }
     requires refers { head_refers kind (head_in (value_at page.store.now head)) ≡ true }
-    ensures { OnOk result (out.new ≡ out.old ++ single (head_in (value_at page.entry.store.now head)) (text_of page.entry.texts.now at) kind) }
+    ensures text { OnOk result (out.new ≡ out.old ++ single (head_in (value_at page.entry.store.now head)) (text_of page.entry.texts.now at) kind) }
+    ensures utf8 { OnOk result (IsUtf8 out.old → IsUtf8 out.new) }
 {
     if kind == Kind::InternalList {
         return Ok(());
@@ -156,6 +158,7 @@ fn put_branch(
     ensures outer { IfOk result (λ step. SameOuter page.entry.list.now.items at step.at) }
     ensures text { IfOk result (λ step. GoesOn (known_of page.entry) out.old out.new
         (λ w v. blocks_at w v page.entry.list.now.items before at) (λ w v. blocks_at w v page.entry.list.now.items step.bare step.at)) }
+    ensures utf8 { OnOk result (IsUtf8 out.old → IsUtf8 out.new) }
 {
     let _len = page.list.len();
     let bare = is_bare(alloc, page.list, page.store, at, before)?;
@@ -187,6 +190,7 @@ fn put_block(
     ensures outer { IfOk result (λ step. SameOuter page.entry.list.now.items at step.at) }
     ensures text { IfOk result (λ step. GoesOn (known_of page.entry) out.old out.new
         (λ w v. blocks_at w v page.entry.list.now.items before at) (λ w v. blocks_at w v page.entry.list.now.items step.bare step.at)) }
+    ensures utf8 { OnOk result (IsUtf8 out.old → IsUtf8 out.new) }
 {
     let _len = page.list.len();
     match page.list.get(at) {
@@ -238,6 +242,7 @@ pub fn put_blocks(
     ensures ends { IfOk result (λ end. Ends page.entry.list.now.items from end) }
     ensures text { OnOk result (IsAppended (known_of page.entry) out.old out.new
         (λ w v. blocks_at w v page.entry.list.now.items false from)) }
+    ensures utf8 { OnOk result (IsUtf8 out.old → IsUtf8 out.new) }
 {
     let _len = page.list.len();
     let mut at = from;

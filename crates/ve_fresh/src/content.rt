@@ -1,5 +1,5 @@
 // What content branches hold.
-ghost use Rattle.std.specs.Prelude.{◌≡◌, ◌≤◌, ◌<◌, ◌++◌, [], true, false, OnOk, IfOk, length, drop, unwrap_or};
+ghost use Rattle.std.specs.Prelude.{◌≡◌, ◌≤◌, ◌<◌, ◌++◌, [], true, false, OnOk, IfOk, length, drop, unwrap_or, IsUtf8};
 ghost use Rattle.model_items.specs.Plain.{value_at, head_in, marks_in, plain_list, CitesHead, CitesMarks};
 ghost use Rattle.model_page.specs.Editable.{all_refer, head_refers};
 ghost use Rattle.model_page_write.specs.Written.{marks_changed};
@@ -35,7 +35,8 @@ fn change_cited(
 ) -> Result<(), Memory>
     requires opened { CitesMarks store.now opened }
     requires marks { CitesMarks store.now marks }
-    ensures { OnOk result (out.new ≡ out.old ++ marks_changed (marks_in (value_at store.now opened)) (marks_in (value_at store.now marks))) }
+    ensures text { OnOk result (out.new ≡ out.old ++ marks_changed (marks_in (value_at store.now opened)) (marks_in (value_at store.now marks))) }
+    ensures utf8 { OnOk result (IsUtf8 out.old → IsUtf8 out.new) }
 {
     change_marks(alloc, out, marks_of(store, opened), marks_of(store, marks))
 }
@@ -63,8 +64,9 @@ fn put_inline_leaf(
     requires origin { origin_of (drop at (plain_list page.store.now page.list.now.items)) ≡ leaf.origin }
     requires head { CitesHead page.store.now leaf.head }
     requires refers { head_refers leaf.kind (head_in (value_at page.store.now leaf.head)) ≡ true }
-    ensures { OnOk result (out.new ≡ out.old ++ unwrap_or ((known_of page.entry).originals at)
+    ensures text { OnOk result (out.new ≡ out.old ++ unwrap_or ((known_of page.entry).originals at)
         (leaf_of (head_in (value_at page.entry.store.now leaf.head)) (text_of page.entry.texts.now at) leaf.kind)) }
+    ensures utf8 { OnOk result (IsUtf8 out.old → IsUtf8 out.new) }
 {
     match original_at(page, at, leaf.origin) {
         Some(text) => out.push(text.as_bytes()),
@@ -94,6 +96,7 @@ fn put_inline(
     ensures text { IfOk result (λ step. GoesOn (known_of page.entry) out.old out.new
         (λ w v. content_at w v page.entry.list.now.items (marks_in (value_at page.entry.store.now opened)) at)
         (λ w v. content_at w v page.entry.list.now.items (marks_in (value_at page.entry.store.now step.opened)) step.at)) }
+    ensures utf8 { OnOk result (IsUtf8 out.old → IsUtf8 out.new) }
 {
     let _len = page.list.len();
     match page.list.get(at) {
@@ -142,6 +145,7 @@ pub fn put_content(
     ensures ends { IfOk result (λ end. Ends page.entry.list.now.items from end) }
     ensures text { OnOk result (IsAppended (known_of page.entry) out.old out.new
         (λ w v. content_at w v page.entry.list.now.items [] from)) }
+    ensures utf8 { OnOk result (IsUtf8 out.old → IsUtf8 out.new) }
 {
     let mut at = from;
     let mut opened = None;

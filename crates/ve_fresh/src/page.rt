@@ -1,5 +1,5 @@
 // What is lent to writing, and what of it stands for itself: whitespace and leaves.
-ghost use Rattle.std.specs.Prelude.{◌≡◌, ◌++◌, true, OnOk, option_map, encode_utf8_all};
+ghost use Rattle.std.specs.Prelude.{◌≡◌, ◌++◌, true, OnOk, option_map, encode_utf8_all, IsUtf8};
 ghost use Rattle.model_items.specs.Plain.{value_at, head_in, white_in, CitesHead, CitesWhite};
 ghost use Rattle.model_page.specs.Editable.{head_refers};
 ghost use Rattle.ve_node_text.specs.Leaves.{leaf_of};
@@ -46,7 +46,8 @@ fn text_at<'a>(texts: &'a IndexMap<usize, Text>, at: usize) -> Option<&'a str>
 /// Appends the whitespace that an item cites.
 pub fn put_white(out: &mut Bytes, store: &Store, id: Option<ValueId>) -> Result<(), Memory>
     requires { CitesWhite store.now id }
-    ensures { OnOk result (out.new ≡ out.old ++ encode_utf8_all (white_in (value_at store.now id))) }
+    ensures text { OnOk result (out.new ≡ out.old ++ encode_utf8_all (white_in (value_at store.now id))) }
+    ensures utf8 { OnOk result (IsUtf8 out.old → IsUtf8 out.new) }
 {
     out.push(white_of(store, id).as_bytes())
 }
@@ -62,7 +63,8 @@ pub fn put_cited_leaf(
 ) -> Result<(), Memory>
     requires cites { CitesHead page.store.now head }
     requires refers { head_refers kind (head_in (value_at page.store.now head)) ≡ true }
-    ensures { OnOk result (out.new ≡ out.old ++ leaf_of (head_in (value_at page.entry.store.now head)) (text_of page.entry.texts.now at) kind) }
+    ensures text { OnOk result (out.new ≡ out.old ++ leaf_of (head_in (value_at page.entry.store.now head)) (text_of page.entry.texts.now at) kind) }
+    ensures utf8 { OnOk result (IsUtf8 out.old → IsUtf8 out.new) }
 {
     let none = Head::empty(alloc);
     put_leaf(

@@ -1,5 +1,5 @@
 // The tags of blocks, with the whitespace before them.
-ghost use Rattle.std.specs.Prelude.{◌≡◌, ◌++◌, [], OnOk, if◌then◌else◌, encode_utf8_all};
+ghost use Rattle.std.specs.Prelude.{◌≡◌, ◌++◌, [], OnOk, if◌then◌else◌, encode_utf8_all, IsUtf8};
 ghost use Rattle.model_items.specs.Plain.{value_at, head_in, white_in, CitesHead, CitesWhite};
 ghost use Rattle.model_page.specs.Tags.{tag_of};
 ghost use Rattle.model_page_write.specs.Written.{end_tag};
@@ -30,8 +30,9 @@ pub fn put_opening(
 ) -> Result<(), Memory>
     requires head { CitesHead store.now element.head }
     requires white { CitesWhite store.now element.pre }
-    ensures { OnOk result (out.new ≡ (out.old ++ encode_utf8_all (white_in (value_at store.now element.pre)))
+    ensures text { OnOk result (out.new ≡ (out.old ++ encode_utf8_all (white_in (value_at store.now element.pre)))
         ++ (if bare then [] else start_tag (encode_utf8_all (tag_of element.kind)) (head_in (value_at store.now element.head)).attrs)) }
+    ensures utf8 { OnOk result (IsUtf8 out.old → IsUtf8 out.new) }
 {
     put_white(out, store, element.pre)?;
     if bare {
@@ -56,7 +57,8 @@ pub fn put_closing(
     bare: bool,
 ) -> Result<(), Memory>
     requires { CitesWhite store.now pre }
-    ensures { OnOk result (out.new ≡ out.old ++ (if bare then [] else encode_utf8_all (white_in (value_at store.now pre)) ++ end_tag (tag_of kind))) }
+    ensures text { OnOk result (out.new ≡ out.old ++ (if bare then [] else encode_utf8_all (white_in (value_at store.now pre)) ++ end_tag (tag_of kind))) }
+    ensures utf8 { OnOk result (IsUtf8 out.old → IsUtf8 out.new) }
 {
     if bare {
         return Ok(());

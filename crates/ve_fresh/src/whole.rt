@@ -1,5 +1,5 @@
 // Whole lists, and bodies.
-ghost use Rattle.std.specs.Prelude.{◌≡◌, ◌<◌, ◌+◌, ◌++◌, true, OnOk, length, drop};
+ghost use Rattle.std.specs.Prelude.{◌≡◌, ◌<◌, ◌+◌, ◌++◌, true, OnOk, length, drop, IsUtf8};
 ghost use Rattle.model_items.specs.Law.{Lawful};
 ghost use Rattle.model_items.specs.Plain.{plain_list};
 ghost use Rattle.model_page.specs.Editable.{all_refer};
@@ -27,8 +27,9 @@ pub fn put_list(alloc: Global, out: &mut Bytes, page: Page<'_, '_>) -> Result<()
     requires lawful { Lawful (plain_list page.store.now page.list.now.items) }
     requires lent { LendsFirst page }
     requires texts { AreBodyTexts (plain_list page.store.now page.list.now.items) (text_of page.texts.now) }
-    ensures { OnOk result (out.new ≡ out.old ++ list_text (read_of page.entry.first) page.entry.store.now
+    ensures text { OnOk result (out.new ≡ out.old ++ list_text (read_of page.entry.first) page.entry.store.now
         (plain_list page.entry.store.now page.entry.list.now.items)) }
+    ensures utf8 { OnOk result (IsUtf8 out.old → IsUtf8 out.new) }
 {
     put_blocks(alloc, out, page, 0)?;
     Ok(())
@@ -45,7 +46,8 @@ pub fn put_body(
     requires cites { AllCite store.now list.now.items }
     requires refers { all_refer (plain_list store.now list.now.items) ≡ true }
     requires within { at < length list.now.items }
-    ensures { OnOk result (out.new ≡ out.old ++ html_of (body_after at (plain_list store.now (drop (at + 1) list.now.items)))) }
+    ensures text { OnOk result (out.new ≡ out.old ++ html_of (body_after at (plain_list store.now (drop (at + 1) list.now.items)))) }
+    ensures utf8 { OnOk result (IsUtf8 out.old → IsUtf8 out.new) }
 {
     let _len = list.len();
     let texts = IndexMap::new(alloc);

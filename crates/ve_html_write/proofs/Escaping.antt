@@ -13,7 +13,7 @@ use Rattle.ve_html_write.specs.Tags.{IsPartlyAppended}
 
 -- ---- lists
 
-and_false : (v : Bool) → (v && false) ≡ false
+pub and_false : (v : Bool) → (v && false) ≡ false
 and_false true = refl
 and_false false = refl
 
@@ -35,7 +35,7 @@ range_first t at to less lt =
 -- ---- one character
 
 -- a byte that begins no U+00A0
-prefix_byte : (v : Bool) (b : ℕ) (bs : List ℕ) → (b == 194 && get_or bs 0 0 == 160) ≡ false → escaped v (b ∷ bs) ≡ escaped_byte v b ++ escaped v bs
+pub prefix_byte : (v : Bool) (b : ℕ) (bs : List ℕ) → (b == 194 && get_or bs 0 0 == 160) ≡ false → escaped v (b ∷ bs) ≡ escaped_byte v b ++ escaped v bs
 unfolding escaped
 prefix_byte v b [] e = sym (append-nil (escaped_byte v b))
 prefix_byte v b (c ∷ bs) e = pick_false (b == 194 && c == 160) _ _ e
@@ -59,7 +59,7 @@ gt_written v t at lt e = byte_step v t at lt (rw e refl) ∙ rw e refl
 pub quot_written : (v : Bool) (t : List ℕ) (at : ℕ) → at < length t → v ≡ true → get_or t at 0 ≡ 34 → escaped v (drop at t) ≡ (38 ∷ 113 ∷ 117 ∷ 111 ∷ 116 ∷ 59 ∷ []) ++ escaped v (drop (at + 1) t)
 quot_written v t at lt is e = byte_step v t at lt (rw e refl) ∙ rw (e, is) refl
 
-prefix_nbsp : (v : Bool) (b c : ℕ) (bs : List ℕ) → b ≡ 194 → c ≡ 160 → escaped v (b ∷ c ∷ bs) ≡ (38 ∷ 110 ∷ 98 ∷ 115 ∷ 112 ∷ 59 ∷ []) ++ escaped v bs
+pub prefix_nbsp : (v : Bool) (b c : ℕ) (bs : List ℕ) → b ≡ 194 → c ≡ 160 → escaped v (b ∷ c ∷ bs) ≡ (38 ∷ 110 ∷ 98 ∷ 115 ∷ 112 ∷ 59 ∷ []) ++ escaped v bs
 unfolding escaped
 prefix_nbsp v b c bs e f = rw (e, f) refl
 

@@ -1,7 +1,7 @@
 -- The attributes of a start tag, one after the other.
 use Rattle.std.proofs.Common.{◌≡◌, ℕ, ◌≤◌, List, [], ◌∷◌, ◌++◌, length, take, map, sym, ap, ◌∙◌}
 use Rattle.std.specs.List.{flat_map}
-use Rattle.std.proofs.lemmas.List.{take_all}
+use Rattle.std.proofs.lemmas.List.{take_all, append-nil}
 use Rattle.std.proofs.lemmas.List.Folds.{flat_map-map}
 use Rattle.ve_base.specs.declared.attrs.Attr.{Attr}
 use Rattle.model_spelling.specs.Grammar.{attr_text}
@@ -16,3 +16,7 @@ pub start_done : (now before tag : List ℕ) (items attrs : List Attr) (i : ℕ)
 start_done now before tag items attrs i e f le same =
     let all : take i items ≡ attrs = take_all i items le ∙ same in
     e ∙ ap (λ (l : List ℕ). l ++ 62 ∷ []) f ∙ ap (λ (l : List Attr). (60 ∷ tag ++ flat_map attr_written l) ++ 62 ∷ []) all ∙ start_is tag attrs
+
+pub start_begun : (now before none spelled tag : List ℕ) → now ≡ before ++ spelled → before ≡ none ++ 60 ∷ [] → none ≡ [] → spelled ≡ tag → now ≡ 60 ∷ tag ++ []
+start_begun now before none spelled tag e f n s =
+    e ∙ ap (λ (l : List ℕ). l ++ spelled) (f ∙ ap (λ (l : List ℕ). l ++ 60 ∷ []) n) ∙ ap (λ (l : List ℕ). 60 ∷ l) (s ∙ sym (append-nil tag))

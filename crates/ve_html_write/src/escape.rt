@@ -1,6 +1,6 @@
 //! Which characters are written as references, in texts and in values.
 
-ghost use Rattle.std.specs.Prelude.{◌≡◌, ◌≤◌, ◌<◌, ◌+◌, ◌++◌, ◌∷◌, [], length, slice_index, slice_range, IfSome, IfNone, OnErr, OnOk};
+ghost use Rattle.std.specs.Prelude.{◌≡◌, ◌≤◌, ◌<◌, ◌+◌, ◌++◌, ◌∷◌, [], length, slice_index, slice_range, IfSome, IfNone, OnErr, OnOk, IsUtf8};
 ghost use Rattle.model_spelling.specs.Written.{escaped};
 ghost use Rattle.ve_html_write.specs.Tags.{IsPartlyAppended, IsSpelledAs};
 
@@ -91,6 +91,7 @@ fn piece_at(bytes: &[u8], at: usize, in_value: bool) -> Piece<'_>
 pub fn push_escaped(out: &mut Bytes, bytes: &[u8], in_value: bool) -> Result<(), Memory>
     ensures ok { OnOk result (out.new ≡ out.old ++ escaped in_value bytes.now) }
     ensures err { OnErr result (IsPartlyAppended out.old out.new (escaped in_value bytes.now)) }
+    ensures utf8 { OnOk result (IsUtf8 bytes.now → IsUtf8 out.old → IsUtf8 out.new) }
 {
     let mut at = 0;
     while at < bytes.len() {

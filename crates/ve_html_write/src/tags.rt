@@ -1,6 +1,6 @@
 //! Tags.
 
-ghost use Rattle.std.specs.Prelude.{◌≡◌, ◌++◌, IfOk, OnOk, OnErr};
+ghost use Rattle.std.specs.Prelude.{◌≡◌, ◌++◌, IfOk, OnOk, OnErr, IsUtf8};
 ghost use Rattle.model_spelling.specs.Grammar.{attr_text, end_text};
 ghost use Rattle.model_spelling.specs.Written.{canon_attr, start_tag};
 
@@ -10,7 +10,8 @@ use ve_base::{Attrs, Bytes, Memory};
 
 /// Appends a space, the name, and the value in double quotes. After an `Err` a part may have been appended.
 pub fn push_attr(out: &mut Bytes, name: &str, value: &str) -> Result<(), Memory>
-    ensures { OnOk result (out.new ≡ out.old ++ attr_text (canon_attr (name.now, value.now))) }
+    ensures ok { OnOk result (out.new ≡ out.old ++ attr_text (canon_attr (name.now, value.now))) }
+    ensures utf8 { OnOk result (IsUtf8 out.old → IsUtf8 out.new) }
 {
     out.push(b" ")?;
     out.push(name.as_bytes())?;
@@ -20,7 +21,8 @@ pub fn push_attr(out: &mut Bytes, name: &str, value: &str) -> Result<(), Memory>
 }
 
 fn start_bytes(alloc: Global, tag: &str, attrs: &Attrs) -> Result<Bytes, Memory>
-    ensures { IfOk result (λ bytes. bytes ≡ start_tag tag.now attrs.now) }
+    ensures ok { IfOk result (λ bytes. bytes ≡ start_tag tag.now attrs.now) }
+    ensures utf8 { IfOk result IsUtf8 }
 {
     let mut bytes = Bytes::new(alloc);
     bytes.push(b"<")?;
@@ -33,7 +35,8 @@ fn start_bytes(alloc: Global, tag: &str, attrs: &Attrs) -> Result<Bytes, Memory>
 }
 
 fn end_bytes(alloc: Global, tag: &str) -> Result<Bytes, Memory>
-    ensures { IfOk result (λ bytes. bytes ≡ end_text tag.now) }
+    ensures ok { IfOk result (λ bytes. bytes ≡ end_text tag.now) }
+    ensures utf8 { IfOk result IsUtf8 }
 {
     let mut bytes = Bytes::new(alloc);
     bytes.push(b"</")?;
@@ -47,6 +50,7 @@ fn end_bytes(alloc: Global, tag: &str) -> Result<Bytes, Memory>
 pub fn put_start(alloc: Global, out: &mut Bytes, tag: &str, attrs: &Attrs) -> Result<(), Memory>
     ensures ok { OnOk result (out.new ≡ out.old ++ start_tag tag.now attrs.now) }
     ensures err { OnErr result (out.new ≡ out.old) }
+    ensures utf8 { OnOk result (IsUtf8 out.old → IsUtf8 out.new) }
 {
     let bytes = start_bytes(alloc, tag, attrs)?;
     out.push(bytes.as_slice())
@@ -56,6 +60,7 @@ pub fn put_start(alloc: Global, out: &mut Bytes, tag: &str, attrs: &Attrs) -> Re
 pub fn put_end(alloc: Global, out: &mut Bytes, tag: &str) -> Result<(), Memory>
     ensures ok { OnOk result (out.new ≡ out.old ++ end_text tag.now) }
     ensures err { OnErr result (out.new ≡ out.old) }
+    ensures utf8 { OnOk result (IsUtf8 out.old → IsUtf8 out.new) }
 {
     let bytes = end_bytes(alloc, tag)?;
     out.push(bytes.as_slice())

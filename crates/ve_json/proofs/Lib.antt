@@ -1,1 +1,1 @@
-pub mod SoFarExamples
+pub mod ReplyExamples

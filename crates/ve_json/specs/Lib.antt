@@ -1,4 +1,3 @@
 pub use Rattle.model_world.specs.Commands
 pub use Rattle.model_world.specs.Spelled
 pub use Rattle.ve_replies.specs.Answers
-pub mod SoFar

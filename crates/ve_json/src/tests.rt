@@ -4,11 +4,10 @@ use std::alloc::Global;
 use std::test::Fail;
 use ve_base::{Bytes, Memory};
 
-/// A reply, and the answer that is none.
+/// Two replies.
 fn printed(alloc: Global) -> Result<Bytes, Memory> {
     let mut out = Bytes::new(alloc);
     reply_text(alloc, &Answer::No(Refusal::NotOpen), &mut out)?;
-    not_yet_text(&mut out)?;
     reply_text(alloc, &Answer::Length(4_194_304), &mut out)?;
     Ok(out)
 }
@@ -16,7 +15,7 @@ fn printed(alloc: Global) -> Result<Bytes, Memory> {
 #[test]
 fn answers_are_lines(rt: HostRuntime) -> Result<(), Fail> {
     let out = printed(rt.alloc()).ok().ok_or("no memory")?;
-    assert!(rt; out.as_slice() == b"no not_open\nno not_yet\nok 4194304\n".as_slice());
+    assert!(rt; out.as_slice() == b"no not_open\nok 4194304\n".as_slice());
     Ok(())
 }
 

@@ -1,6 +1,6 @@
 -- Leaves, and the attributes of references.
-use Rattle.std.proofs.Common.{◌≡◌, ℕ, zero, suc, ◌+◌, ◌<◌, ◌≤◌, Bool, true, false, List, [], ◌∷◌, ◌++◌, length, take, map, get_or, refl, sym, ap, ◌∙◌, subst, append_assoc, arith, Option, Some, None}
-use Rattle.std.specs.Prelude.{option_map, encode_utf8_all, bytes_eq, codes, is_some, Contains, if◌then◌else◌, ◌&&◌, option_and_then}
+use Rattle.std.proofs.Common.{◌≡◌, ℕ, zero, suc, ◌<◌, ◌≤◌, Bool, true, false, List, [], ◌∷◌, ◌++◌, length, take, map, get_or, refl, sym, ap, ◌∙◌, subst, append_assoc, arith, Option, Some}
+use Rattle.std.specs.Prelude.{option_map, encode_utf8_all, bytes_eq, codes, is_some, Contains, if◌then◌else◌, option_and_then}
 use Rattle.std.specs.List.{flat_map}
 use Rattle.std.proofs.lemmas.Bool.{and_parts}
 use Rattle.std.proofs.lemmas.List.{append-nil, take_all, length-map, get_or-map}

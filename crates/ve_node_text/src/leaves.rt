@@ -1,5 +1,5 @@
 // Leaves.
-ghost use Rattle.std.specs.Prelude.{◌≡◌, ◌++◌, true, OnOk, option_map};
+ghost use Rattle.std.specs.Prelude.{◌≡◌, ◌++◌, true, OnOk, option_map, IsUtf8};
 ghost use Rattle.model_page.specs.Editable.{head_refers};
 ghost use Rattle.ve_node_text.specs.Leaves.{leaf_of};
 
@@ -19,7 +19,8 @@ pub fn put_leaf(
     body: Option<&str>,
 ) -> Result<(), Memory>
     requires { head_refers kind head.now ≡ true }
-    ensures { OnOk result (out.new ≡ out.old ++ leaf_of head.now (option_map (λ b. b.now) body.entry) kind) }
+    ensures text { OnOk result (out.new ≡ out.old ++ leaf_of head.now (option_map (λ b. b.now) body.entry) kind) }
+    ensures utf8 { OnOk result (IsUtf8 out.old → IsUtf8 out.new) }
 {
     match kind {
         Kind::Br | Kind::Img => put_start_tag(alloc, out, kind, &head.attrs),

@@ -1,5 +1,5 @@
 // The tags of marks, where they change.
-ghost use Rattle.std.specs.Prelude.{◌≡◌, ◌≤◌, ◌++◌, OnOk, length, drop, reverse, flat_map};
+ghost use Rattle.std.specs.Prelude.{◌≡◌, ◌≤◌, ◌++◌, OnOk, length, drop, reverse, flat_map, IsUtf8};
 ghost use Rattle.model_page_write.specs.Written as written;
 
 use std::alloc::Global;
@@ -27,7 +27,8 @@ fn common_count(opened: &[Mark], marks: &[Mark]) -> usize
 /// Closes the marks from the last one back to the n-th.
 fn close_marks(alloc: Global, out: &mut Bytes, opened: &[Mark], n: usize) -> Result<(), Memory>
     requires { n ≤ length opened.now }
-    ensures { OnOk result (out.new ≡ out.old ++ flat_map written.mark_end (reverse (drop n opened.now))) }
+    ensures text { OnOk result (out.new ≡ out.old ++ flat_map written.mark_end (reverse (drop n opened.now))) }
+    ensures utf8 { OnOk result (IsUtf8 out.old → IsUtf8 out.new) }
 {
     let mut k = opened.len();
     while k > n {
@@ -39,7 +40,8 @@ fn close_marks(alloc: Global, out: &mut Bytes, opened: &[Mark], n: usize) -> Res
 
 /// Opens marks in their order.
 fn open_marks(alloc: Global, out: &mut Bytes, marks: &[Mark]) -> Result<(), Memory>
-    ensures { OnOk result (out.new ≡ out.old ++ flat_map written.mark_start marks.now) }
+    ensures text { OnOk result (out.new ≡ out.old ++ flat_map written.mark_start marks.now) }
+    ensures utf8 { OnOk result (IsUtf8 out.old → IsUtf8 out.new) }
 {
     for mark in marks {
         put_start(alloc, out, mark.tag.as_str(), &mark.attrs)?;
@@ -54,7 +56,8 @@ pub fn change_marks(
     opened: &[Mark],
     marks: &[Mark],
 ) -> Result<(), Memory>
-    ensures { OnOk result (out.new ≡ out.old ++ written.marks_changed opened.now marks.now) }
+    ensures text { OnOk result (out.new ≡ out.old ++ written.marks_changed opened.now marks.now) }
+    ensures utf8 { OnOk result (IsUtf8 out.old → IsUtf8 out.new) }
 {
     let n = common_count(opened, marks);
     close_marks(alloc, out, opened, n)?;

@@ -1,5 +1,5 @@
 // References: their tags, with the composed `data-mw` in the place of their own.
-ghost use Rattle.std.specs.Prelude.{◌≡◌, ◌++◌, true, OnOk, option_map, bytes_eq, codes, encode_utf8_all};
+ghost use Rattle.std.specs.Prelude.{◌≡◌, ◌++◌, true, OnOk, option_map, bytes_eq, codes, encode_utf8_all, IsUtf8};
 ghost use Rattle.model_spelling.specs.Grammar.{attr_text};
 ghost use Rattle.model_spelling.specs.Written.{attr_bytes, canon_attr};
 ghost use Rattle.model_page.specs.Editable.{is_editable_ref};
@@ -25,7 +25,8 @@ fn push_attr_of(
     body: Option<&str>,
 ) -> Result<(), Memory>
     requires { CanCompose attr.now }
-    ensures { OnOk result (out.new ≡ out.old ++ attr_text (canon_attr (with_mw (attr_bytes attr.now) (option_map (λ b. b.now) body.entry)))) }
+    ensures text { OnOk result (out.new ≡ out.old ++ attr_text (canon_attr (with_mw (attr_bytes attr.now) (option_map (λ b. b.now) body.entry)))) }
+    ensures utf8 { OnOk result (IsUtf8 out.old → IsUtf8 out.new) }
 {
     if is_data_mw(attr) {
         let composed = compose(alloc, attr.value.as_str(), body)?;
@@ -43,7 +44,8 @@ fn push_start_of(
     body: Option<&str>,
 ) -> Result<(), Memory>
     requires { is_editable_ref head.now ≡ true }
-    ensures { OnOk result (out.new ≡ out.old ++ ref_start head.now (option_map (λ b. b.now) body.entry)) }
+    ensures text { OnOk result (out.new ≡ out.old ++ ref_start head.now (option_map (λ b. b.now) body.entry)) }
+    ensures utf8 { OnOk result (IsUtf8 out.old → IsUtf8 out.new) }
 {
     out.push(b"<")?;
     out.push(head.tag.as_str().as_bytes())?;
@@ -62,7 +64,8 @@ pub fn put_reference(
     body: Option<&str>,
 ) -> Result<(), Memory>
     requires { is_editable_ref head.now ≡ true }
-    ensures { OnOk result (out.new ≡ out.old ++ ref_of head.now (option_map (λ b. b.now) body.entry)) }
+    ensures text { OnOk result (out.new ≡ out.old ++ ref_of head.now (option_map (λ b. b.now) body.entry)) }
+    ensures utf8 { OnOk result (IsUtf8 out.old → IsUtf8 out.new) }
 {
     push_start_of(alloc, out, head, body)?;
     out.push(head.raw.as_str().as_bytes())?;

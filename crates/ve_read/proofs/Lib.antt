@@ -7,3 +7,6 @@ pub mod WholeLemmas
 pub mod BeginLemmas
 pub mod NodeRowLemmas
 pub mod StandLemmas
+pub mod AnewLemmas
+pub mod FragmentLemmas
+pub mod FragmentExamples

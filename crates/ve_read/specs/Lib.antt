@@ -4,3 +4,5 @@ pub mod Faults
 pub mod Moved
 pub mod Bodies
 pub mod Forests
+pub mod Anew
+pub mod Fragments

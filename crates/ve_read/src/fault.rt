@@ -24,10 +24,10 @@ pub enum ReadFault {
     /// It has no body, or no forest spells it.
     #[error("{0}")]
     Html(HtmlFault),
-    /// A node would stand inside of more than `MAX_OPEN_KINDS` kinds; one of the body of a reference is named by that reference.
+    /// A node would stand inside of `MAX_OPEN_KINDS` kinds already; one of the body of a reference is named by that reference.
     #[error("byte {at} is too deep")]
     TooDeep { at: usize },
-    /// An annotation would stand inside of more than `MAX_MARKS` marks, with the byte named so, too.
+    /// An annotation would stand inside of `MAX_MARKS` marks already, with the byte named so, too.
     #[error("byte {at} has too many marks")]
     TooManyMarks { at: usize },
     /// It has more than `MAX_ITEMS` items.

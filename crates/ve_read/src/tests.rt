@@ -4,6 +4,10 @@ use std::alloc::Global;
 use std::test::*;
 use ve_base::Memory;
 use ve_html_tree::HtmlFault;
+use ve_items::Item;
+use ve_kinds::Kind;
+use ve_lawful::State;
+use ve_store::{NewValues, Store};
 
 /// How many items, values and rows a page has.
 fn counts(alloc: Global, text: &str) -> Result<(usize, usize, usize), ReadFault> {
@@ -130,5 +134,54 @@ fn limits_name_bytes_of_the_page(rt: HostRuntime) {
             expected,
             "{tag} {count}"
         );
+    }
+}
+
+fn opening(kind: Kind) -> Item {
+    Item::Opening {
+        kind,
+        head: None,
+        marks: None,
+        pre: None,
+        origin: None,
+        generated: false,
+    }
+}
+
+/// How many items a fragment has where this kind is open, and how many values they cite.
+fn pasted(alloc: Global, kind: Option<Kind>, text: &str) -> Result<(usize, usize), FragmentFault> {
+    let mut state = State::root();
+    if let Some(kind) = kind {
+        if state.step(opening(kind)).is_err() {
+            return Err(FragmentFault::Memory);
+        }
+    }
+    let store = Store::new(alloc);
+    let mut new = NewValues::new(alloc, &store);
+    let items = fragment(alloc, text, &state, &store, &mut new)?;
+    Ok((items.as_slice().len(), new.len()))
+}
+
+#[test]
+fn fragments_are_read(rt: HostRuntime) {
+    let table = [
+        // A heading leaves the paragraph.
+        (Some(Kind::P), "<h2>x</h2>", Ok((3, 0))),
+        // The text of a list item is put into a paragraph.
+        (Some(Kind::Ul), "<li>b</li>", Ok((5, 0))),
+        (Some(Kind::P), "x<b>y</b>", Ok((2, 1))),
+        // A value that is cited twice is there once.
+        (Some(Kind::P), "<b>y</b><i>z</i><b>y</b>", Ok((3, 2))),
+        // Whitespace alone, where blocks may stand and in content.
+        (None, "  ", Ok((4, 0))),
+        (Some(Kind::P), "  ", Ok((2, 0))),
+        (
+            Some(Kind::P),
+            "<b>",
+            Err(FragmentFault::Html(HtmlFault::Unclosed { at: 0 })),
+        ),
+    ];
+    for (kind, text, expected) in table {
+        assert_eq!(rt; pasted(rt.alloc(), kind, text), expected, "{text}");
     }
 }

@@ -16,10 +16,10 @@ pub enum Purpose {
 /// Why reading stops: what is over a limit, with the byte where it starts, or want of memory.
 #[derive(Clone, Copy, Debug, PartialEq, Eq, Error)]
 pub enum ReadStop {
-    /// A node would stand inside of more than `max_open_kinds` kinds.
+    /// A node would stand inside of `max_open_kinds` kinds already.
     #[error("byte {at} is too deep")]
     TooDeep { at: usize },
-    /// An annotation would stand inside of more than `max_marks` marks.
+    /// An annotation would stand inside of `max_marks` marks already.
     #[error("byte {at} has too many marks")]
     TooManyMarks { at: usize },
     /// There is no memory for it.

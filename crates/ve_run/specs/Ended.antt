@@ -4,7 +4,7 @@ use Rattle.std.specs.Io.KnownBytes.{Appends}
 use Rattle.ve_base.specs.Limits.{max_script}
 use Rattle.ve_base.specs.Outside.{Rose}
 use Rattle.model_script.specs.Output.{Meaning}
-use Rattle.ve_json.specs.SoFar.{SoFar}
+use Rattle.model_world.specs.declared.reply.Reply.{Reply}
 use Rattle.ve_run.specs.declared.status.Status.{Status}
 use Rattle.ve_run.specs.declared.status.Status.TheVariants.{Done, Usage, ReadFault, WriteFault, InputTooLong, Memory, Help}
 use Rattle.ve_run.specs.Run.{Scene, Ran, Stopped, Broke, Starved}
@@ -31,7 +31,7 @@ moment scene left reads_failed writes_failed =
 --   WriteFault    the sink failed: the lines whose replies were written were taken, and the one whose reply was not, or not whole
 --   Memory        there was no memory to go on, and the replies to some lines from the first on were written
 --   Usage         other words came, and the usage line was written
-abbrev pub Ended : {W : Type 0} → Meaning W SoFar → (words : List (List ℕ)) → (before after : Moment W) → Status → Type 0
+abbrev pub Ended : {W : Type 0} → Meaning W Reply → (words : List (List ℕ)) → (before after : Moment W) → Status → Type 0
 Ended m words before after Done = IsRun words × Ran m before.left after.left before.scene after.scene
 Ended m words before after ReadFault =
     IsRun words × Rose before.reads_failed after.reads_failed × Stopped m before.left after.left before.scene after.scene []

@@ -21,10 +21,9 @@ struct Counter {
 impl Machine for Counter {
     ghost use Rattle.std.specs.Prelude.{◌+◌};
     ghost use Rattle.model_world.specs.declared.reply.Reply.TheVariants.{Length};
-    ghost use Rattle.ve_json.specs.SoFar.{Told};
 
     ghost meaning = { record {
-      reply = λ counter _. Told (Length (counter.answered + 1));
+      reply = λ counter _. Length (counter.answered + 1);
       next = λ counter _. record counter { answered = counter.answered + 1 };
       cost = λ _ _. 0;
     } };

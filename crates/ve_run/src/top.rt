@@ -3,7 +3,7 @@ ghost use Rattle.std.specs.Prelude.{◌≡◌, ◌≤◌, ◌⊎◌, ◌↔◌, 
 ghost use Rattle.std.specs.Io.KnownBytes.{Appends};
 ghost use Rattle.model_script.specs.Lines.{lines_of};
 ghost use Rattle.model_script.specs.Output.{output, state_after};
-ghost use Rattle.ve_json.specs.SoFar.{text_so_far};
+ghost use Rattle.model_world.specs.Spelled.{reply_text};
 ghost use Rattle.ve_run.specs.Ended.{moment, Ended, EndsByLength};
 ghost use Rattle.ve_run.specs.Run.{scene, AppendsPrefix, WrotePrefix, NoFaults};
 ghost use Rattle.ve_run.specs.Status.{IsRun, usage_line};
@@ -39,7 +39,7 @@ pub fn run<S: Source, K: Sink, M: Machine, L: Ledger>(
 ) -> Status
     // Whatever bytes the source has left, the machine's replies to their lines are written, and nothing else.
     ensures headline { result ≡ Status.Done → IfSome (S.left source.old) (λ script.
-        Appends (K.held sink.old) (K.held sink.new) (output text_so_far M.meaning world.old script)
+        Appends (K.held sink.old) (K.held sink.new) (output reply_text M.meaning world.old script)
         × (S.left source.new ≡ Some [])
         × (world.new ≡ state_after M.meaning world.old (lines_of script))) }
     // At each status, also where the source doesn't tell its bytes.

@@ -1,5 +1,6 @@
 -- Queues are staged and released one after the other; entries by value are flattened.
-use Rattle.std.proofs.Common.{◌≡◌, ℕ, zero, suc, ◌+◌, ◌-◌, ◌<◌, ◌≤◌, List, [], ◌∷◌, ◌++◌, length, map, take, drop, set, get_or, replicate, Option, refl, sym, ap, subst, ◌∙◌, arith}
+use Rattle.std.proofs.Common.{◌≡◌, ℕ, zero, suc, ◌+◌, ◌-◌, ◌<◌, ◌≤◌, List, [], ◌∷◌, ◌++◌, length, map, take, drop, set, get_or, replicate, Option, Some, None, Bor, option_map, ◌↔◌, refl, sym, ap, subst, ◌∙◌, arith}
+use Rattle.std.specs.Option.{IfSome, IsSome, option_copied}
 use Rattle.std.proofs.lemmas.Grind.{replicate_next}
 use Rattle.std.proofs.lemmas.List.{map-set, map-append, get_or-map, take_all, take-append-drop, drop_all, append-nil, drop-map, length-drop}
 use Rattle.model_change.specs.Replay.{flattened}
@@ -114,6 +115,19 @@ is_fed k committed ws v w next lt read e =
     let there : v.feeds ≡ get_or (feeds_in ws) k [] = ap (λ q. q.feeds) read ∙ sym (get_or-map (λ (q : Waiting). q.feeds) ws k v [] lt) in
     let left : Option SiteFeed × List SiteFeed → Option SiteFeed × Serving = λ r. (r.0, record { committed = committed; queues = set (feeds_in ws) k r.1 }) in
     ap (λ qs. (next, record { committed = committed; queues = qs })) (map-set (λ (q : Waiting). q.feeds) ws k w) ∙ ap left (e ∙ ap first_of there)
+
+-- the first feed of the deque, where one is ready
+pub first_lent : (r : Option (Bor Feed)) (ready n : ℕ) (feeds : List Feed) → 0 < ready → ready ≤ length feeds → n ≡ length feeds → (IsSome r ↔ (0 < n)) →
+    IfSome r (λ x. x.now ≡ get_or feeds 0 x.now) → option_map feed_of (option_copied r) ≡ (first_of (map feed_of (take ready feeds))).0
+first_lent r zero n feeds some within count is at = absurd (omega (arith, some))
+first_lent r (suc k) n [] some within count is at = absurd (omega (arith, within))
+first_lent None (suc k) n (f ∷ fs) some within count is at = let e = is.1 (omega (arith, count)) in cc
+first_lent (Some x) (suc k) n (f ∷ fs) some within count is at = ap (λ y. Some (feed_of y)) at
+
+pub is_next : (k : ℕ) (committed : List Parcel) (ws : List Waiting) (v : Waiting) (next : Option SiteFeed) → k < length ws → v ≡ get_or ws k v →
+    next ≡ (first_of v.feeds).0 → next ≡ (fed k (record { committed = committed; queues = feeds_in ws })).0
+is_next k committed ws v next lt read e =
+    e ∙ ap (λ q. (first_of q).0) (ap (λ q. q.feeds) read ∙ sym (get_or-map (λ (q : Waiting). q.feeds) ws k v [] lt))
 
 pub one_more : (n : ℕ) (ws : List Waiting) (w : Waiting) → feeds_in ws ≡ replicate n [] → w.feeds ≡ [] → feeds_in (ws ++ w ∷ []) ≡ replicate (n + 1) []
 one_more n ws w e f =

@@ -1,11 +1,12 @@
 -- A server of three sites.
-use Rattle.std.proofs.Common.{◌≡◌, ℕ, List, [], ◌∷◌, Some, None, refl}
+use Rattle.std.proofs.Common.{◌≡◌, ◌+◌, ℕ, List, [], ◌∷◌, length, Some, None, refl}
 use Rattle.model_items.specs.declared.plain_item.PlainItem.{PlainItem}
 use Rattle.model_items.specs.declared.plain_item.PlainItem.TheVariants.{Char}
 use Rattle.model_change.specs.Transaction.{Retain, Replace}
 use Rattle.model_site.specs.Entries.{Parcel}
-use Rattle.model_site.specs.Site.{Submission}
+use Rattle.model_site.specs.Site.{Site, Submission}
 use Rattle.model_site.specs.Session.{Foreign, Ack, accepted_of, served_as}
+use Rattle.ve_server.specs.Laws.{site_with}
 use Rattle.ve_server.specs.Serving.{Serving, all_queued, served, first_of, fed}
 use Rattle.ve_server.specs.Waiting.{Waiting, feeds_in, released, all_staged}
 
@@ -66,6 +67,13 @@ fed_once = refl
 
 nothing_to_feed : fed 0 begun ≡ (None, begun)
 nothing_to_feed = refl
+
+-- a site by the feed that is handed out: as it was, where there is none, and with what it sent committed, where that was answered
+no_feed : (s : Site) → site_with (fed 0 begun).0 s ≡ s
+no_feed s = refl
+
+answered : (s : Site) → site_with (Some (Ack 1)) s ≡ record s { seen = s.seen + length s.sent; sent = []; undone = []; in_flight = None }
+answered s = refl
 
 -- ---- staging
 

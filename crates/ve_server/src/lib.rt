@@ -3,8 +3,8 @@
 //! - `Parcels` are entries as they travel, seen by value; each cites its own values, by the type. `Submit` is
 //!   what a site sends, `Feed` what the server sends (specs/Fed.antt).
 //! - `Server` is seen as the committed entries and the queue to each site (specs/Serving.antt). `serve`
-//!   commits the entries of a submission before its first conflict and feeds each site; `feed` takes the next
-//!   feed of a site.
+//!   commits the entries of a submission before its first conflict and feeds each site; `next_feed` lends the
+//!   next feed of a site, and `feed` takes it.
 //! - A queue can hold staged feeds, which no view of the server shows (specs/Waiting.antt): so where `serve`
 //!   stops for want of memory, there is nothing to undo.
 //!

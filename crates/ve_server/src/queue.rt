@@ -1,5 +1,5 @@
 // A queue to a site.
-ghost use Rattle.std.specs.Prelude.{◌≡◌, [], option_map, OnOk};
+ghost use Rattle.std.specs.Prelude.{◌≡◌, [], option_copied, option_map, OnOk};
 ghost use Rattle.ve_server.specs.Fed.{feed_of, feeds_of};
 ghost use Rattle.ve_server.specs.Serving.{first_of};
 ghost use Rattle.ve_server.specs.Waiting.{released};
@@ -59,6 +59,16 @@ impl Queue {
         ensures { self.new ≡ released self.old }
     {
         self.ready = self.feeds.len();
+    }
+
+    /// Lends the next feed, if there is one.
+    pub fn first(&self) -> Option<&Feed>
+        ensures { option_map feed_of (option_copied result) ≡ (first_of self.now.feeds).0 }
+    {
+        if self.ready == 0 {
+            return None;
+        }
+        self.feeds.front()
     }
 
     /// Takes the next feed, if there is one.

@@ -1,5 +1,5 @@
 // The server.
-ghost use Rattle.std.specs.Prelude.{◌≡◌, ◌<◌, ◌≤◌, [], drop, length, map, option_map, replicate, IfOk, OnOk, OnErr};
+ghost use Rattle.std.specs.Prelude.{◌≡◌, ◌<◌, ◌≤◌, [], drop, length, map, option_copied, option_map, replicate, IfOk, OnOk, OnErr};
 ghost use Rattle.model_change.specs.Replay.{flattened};
 ghost use Rattle.model_site.specs.Session.{accepted_of, clash_of, feed_for as model_feed_for};
 ghost use Rattle.ve_rebase.specs.Lists.{RunFromOneLength};
@@ -139,6 +139,14 @@ impl Server {
         self.committed.append(kept)?;
         release_all(self.queues.as_mut_slice());
         Ok(answer)
+    }
+
+    /// Lends the next feed of a site, if there is one, and takes nothing.
+    pub fn next_feed(&self, site: u32) -> Option<&Feed>
+        requires { site < length self.now.queues }
+        ensures { option_map feed_of (option_copied result) ≡ (fed site self.now).0 }
+    {
+        self.queues[site as usize].first()
     }
 
     /// Takes the next feed of a site, if there is one. It takes no memory.

@@ -1,10 +1,15 @@
+pub mod TurnLemmas
+pub mod DraftLemmas
 pub mod StopLemmas
-pub mod LineLemmas
-pub mod GrownLemmas
-pub mod NumberedLemmas
-pub mod OpenLemmas
+pub mod QueueLemmas
+pub mod CaretLemmas
+pub mod BatchLemmas
+pub mod TypedLemmas
 pub mod ShownLemmas
-pub mod ChangeLemmas
-pub mod AfterLemmas
+pub mod WorldLemmas
+pub mod FirstLemmas
+pub mod NumberedLemmas
+pub mod PageLemmas
+pub mod HtmlLemmas
 pub mod ToldLemmas
-mod SessionExamples
+pub mod SessionExamples

@@ -1,45 +1,55 @@
--- What is answered so far, and what it may cost, computed from the definitions.
+-- What comes of a command, and what it may cost, computed from the definitions.
 use Rattle.std.proofs.Common.{◌≡◌, refl, true, false, []}
-use Rattle.std.specs.Prelude.{Ok, Err}
-use Rattle.model_world.specs.declared.change.Change.TheVariants as change
+use Rattle.std.specs.Prelude.{Ok, Err, None}
+use Rattle.model_site.specs.Replica.{opened_with}
+use Rattle.model_site.specs.Session.{joining, started}
 use Rattle.model_world.specs.declared.command.Request.TheVariants as request
-use Rattle.model_world.specs.declared.command.Command.TheVariants.{OpenPage, Ask}
-use Rattle.model_world.specs.declared.refusal.Refusal.TheVariants.{BadJson, NotOpen}
-use Rattle.model_world.specs.declared.reply.Reply.TheVariants.{No}
+use Rattle.model_world.specs.declared.command.Command.TheVariants.{Ask}
+use Rattle.model_world.specs.declared.refusal.Refusal.TheVariants.{NotOpen, NothingQueued, NothingToUndo}
+use Rattle.model_world.specs.declared.reply.Reply.TheVariants.{Caret, No}
 use Rattle.model_world.specs.World.{Closed}
-use Rattle.ve_session.specs.Answered.{is_answered, is_built, outcome, waits_for}
-use Rattle.ve_session.specs.Cost.{steps_of}
+use Rattle.ve_session.specs.Asked.{is_shown, kept_or_new, obeyed}
+use Rattle.ve_session.specs.Cost.{steps_of, steps_to_answer, steps_to_erase, steps_to_open, steps_to_perform}
+use Rattle.ve_session.specs.Opened.{replica_in}
+use Rattle.ve_session.specs.Turning.{CaretStands}
 
--- a page opens for one site, and not for two yet
-one_site : is_built (OpenPage [] 1) ≡ true
-one_site = refl
-
-two_sites : is_built (OpenPage [] 2) ≡ false
-two_sites = refl
-
--- a range is taken out, and no fragment is put in yet
-removed : is_answered (request.Edit (change.Remove 1 2)) ≡ true
-removed = refl
-
-inserted : is_answered (request.Edit (change.Insert 1 [])) ≡ false
-inserted = refl
-
-row_put_in : is_answered (request.RowIn 0 0) ≡ true
-row_put_in = refl
-
-undone : is_answered request.Undo ≡ false
-undone = refl
-
--- a line that is no JSON waits for nothing, and one that asks to undo waits
-no_json : waits_for (Err BadJson) ≡ false
-no_json = refl
-
-waiting : waits_for (Ok (Ask request.Undo 0)) ≡ true
-waiting = refl
-
--- without a page `html` is refused, and takes no step
-closed : outcome Closed (Ask request.Html 0) ≡ (No NotOpen, Closed)
+-- without a page `html` is refused, and takes no step; no site has a replica
+closed : obeyed Closed (Ask request.Html 0) ≡ (No NotOpen, Closed)
 closed = refl
 
 no_step : steps_of Closed (Ok (Ask request.Html 0)) ≡ 0
 no_step = refl
+
+no_replica : replica_in Closed 0 ≡ None
+no_replica = refl
+
+-- the grid is shown, and nothing is undone by showing
+grid_shown : is_shown (request.Grid 0) ≡ true
+grid_shown = refl
+
+undo_acts : is_shown request.Undo ≡ false
+undo_acts = refl
+
+-- a refusal leaves the session, and a reply brings one
+refusal_keeps : kept_or_new (started (opened_with []) 1) (Err (No NothingQueued)) ≡ (No NothingQueued, started (opened_with []) 1)
+refusal_keeps = refl
+
+reply_brings : kept_or_new (started (opened_with []) 1) (Ok (Caret 0 0, started (opened_with []) 2)) ≡ (Caret 0 0, started (opened_with []) 2)
+reply_brings = refl
+
+-- where nothing is unsent, undoing builds the tree of a copy at most; a turn without a feed takes no step
+nothing_erased : steps_to_erase [] (Err NothingToUndo) ≡ 0
+nothing_erased = refl
+
+nothing_performed : steps_to_perform [] (Err NothingToUndo) ≡ 0
+nothing_performed = refl
+
+unopened : steps_to_open 2 (Err NotOpen) ≡ 0
+unopened = refl
+
+nothing_taken : steps_to_answer request.Take [] (joining (opened_with [])) ≡ 0
+nothing_taken = refl
+
+-- a request that moves no caret asks nothing of it
+undo_moves_none : CaretStands request.Undo (opened_with [])
+undo_moves_none = tt

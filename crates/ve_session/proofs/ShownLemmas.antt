@@ -1,61 +1,42 @@
 -- What is replied to a request that changes nothing is what comes of it.
-use Rattle.std.proofs.Common.{◌≡◌, true, false, Bool, refl, ap, ◌∙◌}
-use Rattle.std.specs.Prelude.{if◌then◌else◌, Ok, Err}
+use Rattle.std.proofs.Common.{◌≡◌, ℕ, true, false, Bool, refl, ap, ◌∙◌, sym}
+use Rattle.std.specs.Prelude.{if◌then◌else◌, List, Result, Ok, Err, IfOk}
+use Rattle.model_items.specs.declared.plain_item.PlainItem.{PlainItem}
 use Rattle.model_site.specs.Session.{Session}
 use Rattle.model_page.specs.PageItems.{Opened}
 use Rattle.model_world.specs.declared.command.Request.{Request}
-use Rattle.model_world.specs.declared.command.Request.TheVariants as request
-use Rattle.model_world.specs.declared.command.Command.TheVariants.{Ask}
 use Rattle.model_world.specs.declared.reply.Reply.{Reply}
 use Rattle.model_world.specs.Answers.{asked}
 use Rattle.model_world.specs.Laws.{is_refusal}
-use Rattle.model_world.specs.World.{Open, on_page, settled}
-use Rattle.ve_answers.specs.Asked.{outcome_of, CaretIsAsked, HtmlIsAsked, ItemsAreAsked, NodeIsAsked, RefsAreAsked, TreeIsAsked}
-use Rattle.ve_session.specs.Answered.{is_shown, outcome, shown_reply}
-use Rattle.ve_session.specs.Opened.{OnePage, alone, asking, world_on}
+use Rattle.ve_answers.specs.Asked.{outcome_of}
+use Rattle.ve_replies.specs.declared.answer.Answer.{Answer}
+use Rattle.ve_replies.specs.Answers.{reply_of, AnswerCites}
+use Rattle.ve_session.specs.Asked.{asker, kept_or_new, IsAnswered}
+use Rattle.ve_turns.specs.Shared.{Shared, site_at}
 
--- the laws of what is replied
-pub record AreAsked : Type 0 where
-  pub html : HtmlIsAsked
-  pub items : ItemsAreAsked
-  pub tree : TreeIsAsked
-  pub node : NodeIsAsked
-  pub refs : RefsAreAsked
-  pub caret : CaretIsAsked
+-- a refusal or not, it is the reply, and the session stays
+pub stays : (w : Session) (r : Reply) → kept_or_new w (outcome_of w r) ≡ (r, w)
+stays w r = by (is_refusal r)
+  where
+    by : (refuses : Bool) → kept_or_new w (if refuses then Err r else Ok (r, w)) ≡ (r, w)
+    by true = refl
+    by false = refl
 
-shown_is_asked : (laws : AreAsked) (p : OnePage) (r : Request) → is_shown r ≡ true → asked (asking p) r ≡ outcome_of (alone p.page p.site) (shown_reply p.page p.site r)
-shown_is_asked laws p request.Html shown = laws.html (asking p)
-shown_is_asked laws p request.Tree shown = laws.tree (asking p)
-shown_is_asked laws p request.Refs shown = laws.refs (asking p)
-shown_is_asked laws p request.Caret shown = laws.caret (asking p)
-shown_is_asked laws p (request.ShowItems from to) shown = laws.items (asking p) from to
-shown_is_asked laws p (request.At at) shown = laws.node (asking p) at
-shown_is_asked laws p request.Undo shown = cc
-shown_is_asked laws p request.Redo shown = cc
-shown_is_asked laws p request.Send shown = cc
-shown_is_asked laws p request.Serve shown = cc
-shown_is_asked laws p request.Take shown = cc
-shown_is_asked laws p (request.Edit change) shown = cc
-shown_is_asked laws p (request.Batch cmds) shown = cc
-shown_is_asked laws p (request.Select anchor focus) shown = cc
-shown_is_asked laws p (request.Move dir by keep) shown = cc
-shown_is_asked laws p (request.TypeText text) shown = cc
-shown_is_asked laws p (request.Erase dir by) shown = cc
-shown_is_asked laws p (request.Grid at) shown = cc
-shown_is_asked laws p (request.RowIn at row) shown = cc
-shown_is_asked laws p (request.RowOut at row) shown = cc
-shown_is_asked laws p (request.ColIn at column) shown = cc
-shown_is_asked laws p (request.ColOut at column) shown = cc
-shown_is_asked laws p (request.Indent at) shown = cc
-shown_is_asked laws p (request.Outdent at) shown = cc
-shown_is_asked laws p (request.Revoke entry) shown = cc
+pub is_shown : (r : Request) (k : ℕ) (s : Shared) (answer : Answer) (reply : Reply) →
+    ((page : Opened) → asked (asker page s k) r ≡ outcome_of s.session reply) → reply_of answer ≡ reply → AnswerCites answer → IsAnswered r k s answer s
+is_shown r k s answer reply asks is cites = record {
+  replies = λ page. ap (kept_or_new s.session) (asks page) ∙ stays s.session reply ∙ ap (λ (x : Reply). (x, s.session)) (sym is);
+  first = refl;
+  base = refl;
+  cites = cites;
+}
 
--- a refusal or not, it is the reply, and the world stays
-stays : (page : Opened) (session : Session) (r : Reply) (refuses : Bool) → is_refusal r ≡ refuses → settled (Open page session) (on_page page (outcome_of session r)) ≡ (r, Open page session)
-stays page session r true e = ap (λ b. settled (Open page session) (on_page page (if b then Err r else Ok (r, session)))) e
-stays page session r false e = ap (λ b. settled (Open page session) (on_page page (if b then Err r else Ok (r, session)))) e
+-- a reply that is told of the items that the site lends
+pub shown_over : (r : Request) (k : ℕ) (s : Shared) (told : List PlainItem → Reply) (lent : List PlainItem) →
+    ((page : Opened) → asked (asker page s k) r ≡ outcome_of s.session (told (site_at s k).replica.items)) → lent ≡ (site_at s k).replica.items →
+    (answer : Answer) → reply_of answer ≡ told lent → AnswerCites answer → IsAnswered r k s answer s
+shown_over r k s told lent asks same answer is cites = is_shown r k s answer (told (site_at s k).replica.items) asks (is ∙ ap told same) cites
 
-pub shown_is : (laws : AreAsked) (p : OnePage) (r : Request) → is_shown r ≡ true → outcome (world_on p) (Ask r 0) ≡ (shown_reply p.page p.site r, world_on p)
-shown_is laws p r shown =
-    ap (λ o. settled (world_on p) (on_page p.page o)) (shown_is_asked laws p r shown)
-    ∙ stays p.page (alone p.page p.site) (shown_reply p.page p.site r) (is_refusal (shown_reply p.page p.site r)) refl
+pub ok_both : {A E : Type 0} (P Q R : A → Type 0) (r : Result A E) → ((x : A) → P x → Q x → R x) → IfOk r P → IfOk r Q → IfOk r R
+ok_both P Q R (Ok x) f p q = f x p q
+ok_both P Q R (Err e) f p q = tt

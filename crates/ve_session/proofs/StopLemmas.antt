@@ -1,26 +1,38 @@
--- What the crates below refuse is what the line is refused for.
-use Rattle.std.proofs.Common.{◌≡◌, ap, refl, subst, Option, Some, None}
-use Rattle.std.specs.Prelude.{Result, option_map}
-use Rattle.model_change.specs.Transaction.{Transaction}
+-- What the crates below refuse is what the request is refused for.
+use Rattle.std.proofs.Common.{◌≡◌, ℕ, Bool, true, false, ap, ◌∙◌}
+use Rattle.std.specs.Prelude.{Result, nat_lt}
+use Rattle.model_change.specs.Replay.{revoke}
 use Rattle.model_page.specs.PageItems.{Opened}
 use Rattle.model_page.specs.OpenPage.{OpenFault}
-use Rattle.model_site.specs.Causes.{EditCause, edit_fault}
-use Rattle.model_site.specs.Causes as cause
-use Rattle.model_site.specs.declared.edit_fault.EditFault.{EditFault}
-use Rattle.model_site.specs.declared.edit_fault.EditFault.TheVariants as edit
-use Rattle.model_world.specs.Edits.{unless_faulty}
-use Rattle.model_world.specs.Refusals.{open_refusal, refused_as}
-use Rattle.ve_editor.specs.Refusal.{IsEditRefusal}
+use Rattle.model_site.specs.Site.{entries_of, redo, revoke_by, revoke_entry, send, undo}
+use Rattle.model_site.specs.declared.site_fault.UndoFault.{UndoFault}
+use Rattle.model_site.specs.declared.site_fault.UndoFault.TheVariants as undone
+use Rattle.model_site.specs.declared.site_fault.RedoFault.{RedoFault}
+use Rattle.model_site.specs.declared.site_fault.RedoFault.TheVariants as redone
+use Rattle.model_site.specs.declared.site_fault.SendFault.{SendFault}
+use Rattle.model_site.specs.declared.site_fault.SendFault.TheVariants as sent
+use Rattle.model_world.specs.declared.command.Request.TheVariants as request
+use Rattle.model_world.specs.declared.refusal.Refusal.TheVariants.{BadEntry}
+use Rattle.model_world.specs.Answers.{Asked, Outcome, asked, changed_or_no, refused, sent_or_no, site_of}
+use Rattle.model_world.specs.Refusals.{open_refusal, redo_refusal, refused_as, revoke_refusal, send_refusal, undo_refusal}
+use Rattle.ve_changes.specs.Stops.{IsRefused}
 use Rattle.ve_html_tree.specs.declared.fault.HtmlFault.{HtmlFault}
 use Rattle.ve_html_tree.specs.declared.fault.HtmlFault.TheVariants as html
+use Rattle.ve_peer_undo.specs.declared.fault.RevokeFault.{RevokeFault}
+use Rattle.ve_peer_undo.specs.declared.fault.RevokeFault.TheVariants as revoked
+use Rattle.ve_peer_undo.specs.Refusal.{IsRevokeRefusal}
 use Rattle.ve_read.specs.Pages.{IsBad, IsRefusal, spelled_fault}
 use Rattle.ve_read.specs.declared.fault.ReadFault.{ReadFault}
 use Rattle.ve_read.specs.declared.fault.ReadFault.TheVariants as page
-use Rattle.ve_session.specs.Stopped.{IsStop, edit_stop, html_stop, page_stop}
+use Rattle.ve_site.specs.Refusal.{IsRedoRefusal, IsSendRefusal, IsUndoRefusal}
+use Rattle.ve_changes.specs.HtmlStops.{html_stop}
+use Rattle.ve_session.specs.Asked.{asker, IsStopped}
+use Rattle.ve_session.specs.Stopped.{page_stop, redo_stop, revoke_stop, send_stop, undo_stop}
+use Rattle.ve_turns.specs.Shared.{Shared, site_at}
 
 -- ---- pages
 
-html_stops : (fault : HtmlFault) (read : Result Opened OpenFault) → IsBad (spelled_fault fault) read → IsStop (html_stop fault) (refused_as open_refusal read)
+html_stops : (fault : HtmlFault) (read : Result Opened OpenFault) → IsBad (spelled_fault fault) read → IsRefused (html_stop fault) (refused_as open_refusal read)
 html_stops (html.Scan f) read e = ap (refused_as open_refusal) e
 html_stops (html.Mismatched at) read e = ap (refused_as open_refusal) e
 html_stops (html.Unclosed at) read e = ap (refused_as open_refusal) e
@@ -28,7 +40,7 @@ html_stops (html.Stray at) read e = ap (refused_as open_refusal) e
 html_stops (html.TooDeep at) read e = ap (refused_as open_refusal) e
 html_stops html.Memory read e = absurd e
 
-pub page_stops : (fault : ReadFault) (read : Result Opened OpenFault) → IsRefusal fault read → IsStop (page_stop fault) (refused_as open_refusal read)
+pub page_stops : (fault : ReadFault) (read : Result Opened OpenFault) → IsRefusal fault read → IsRefused (page_stop fault) (refused_as open_refusal read)
 page_stops (page.PageTooLong bytes) read e = ap (refused_as open_refusal) e
 page_stops (page.Html f) read e = html_stops f read e
 page_stops (page.TooDeep at) read e = ap (refused_as open_refusal) e
@@ -37,27 +49,42 @@ page_stops (page.TooManyItems count) read e = ap (refused_as open_refusal) e
 page_stops page.StoreFull read e = ap (refused_as open_refusal) e
 page_stops page.Memory read e = tt
 
--- ---- edits
+-- ---- what a site takes back, makes again and sends
 
-of_cause : (c : EditCause) (t : Transaction) → IsStop (edit_stop (edit_fault c)) (unless_faulty (Some c) t)
-of_cause (cause.BadLength has needs) t = refl
-of_cause (cause.Mismatch at) t = refl
-of_cause (cause.BadAttr at) t = refl
-of_cause (cause.Unlawful at) t = refl
-of_cause (cause.TooDeep at) t = refl
-of_cause (cause.TooManyItems count) t = refl
-of_cause cause.StoreFull t = refl
+pub undo_stops : (why : UndoFault) (k : ℕ) (old : Shared) → IsUndoRefusal (undo (site_at old k)) why → IsStopped request.Undo k old (undo_stop why)
+undo_stops undone.NothingToUndo k old e = λ page. ap (λ r. changed_or_no (asker page old k) (refused_as undo_refusal r)) e
+undo_stops (undone.AlreadyShared count) k old e = λ page. ap (λ r. changed_or_no (asker page old k) (refused_as undo_refusal r)) e
+undo_stops undone.Memory k old e = tt
 
-of_named : (c : Option EditCause) (t : Transaction) (why : EditFault) → option_map edit_fault c ≡ Some why → IsStop (edit_stop why) (unless_faulty c t)
-of_named None t why e = cc
-of_named (Some c) t why e = let same : edit_fault c ≡ why = cc in subst (λ w. IsStop (edit_stop w) (unless_faulty (Some c) t)) same (of_cause c t)
+pub redo_stops : (why : RedoFault) (k : ℕ) (old : Shared) → IsRedoRefusal (redo (site_at old k)) why → IsStopped request.Redo k old (redo_stop why)
+redo_stops redone.NothingToRedo k old e = λ page. ap (λ r. changed_or_no (asker page old k) (refused_as redo_refusal r)) e
+redo_stops redone.Memory k old e = tt
 
-pub edit_stops : (why : EditFault) (c : Option EditCause) (t : Transaction) → IsEditRefusal c why → IsStop (edit_stop why) (unless_faulty c t)
-edit_stops (edit.BadLength has needs) c t e = of_named c t (edit.BadLength has needs) e
-edit_stops (edit.Mismatch at) c t e = of_named c t (edit.Mismatch at) e
-edit_stops (edit.BadAttr at) c t e = of_named c t (edit.BadAttr at) e
-edit_stops (edit.Unlawful at) c t e = of_named c t (edit.Unlawful at) e
-edit_stops (edit.TooDeep at) c t e = of_named c t (edit.TooDeep at) e
-edit_stops (edit.TooManyItems count) c t e = of_named c t (edit.TooManyItems count) e
-edit_stops edit.StoreFull c t e = of_named c t edit.StoreFull e
-edit_stops edit.Memory c t e = tt
+pub send_stops : (why : SendFault) (k : ℕ) (old : Shared) → IsSendRefusal (send (site_at old k)) why → IsStopped request.Send k old (send_stop why)
+send_stops (sent.InFlight entries) k old e = λ page. ap (λ r. sent_or_no (asker page old k) (refused_as send_refusal r)) e
+send_stops sent.NothingToSend k old e = λ page. ap (λ r. sent_or_no (asker page old k) (refused_as send_refusal r)) e
+send_stops sent.Memory k old e = tt
+
+-- ---- a committed entry that is taken back
+
+revoked_by : Asked → ℕ → Bool → Outcome
+revoked_by a i seen = elim seen [
+  | false ↦ refused (BadEntry i (site_of a).seen)
+  | true ↦ changed_or_no a (refused_as revoke_refusal (revoke_entry a.session.committed i (site_of a)))
+]
+
+pub revokes : (a : Asked) (i : ℕ) → nat_lt i (site_of a).seen ≡ true →
+    asked a (request.Revoke i) ≡ changed_or_no a (refused_as revoke_refusal (revoke_entry a.session.committed i (site_of a)))
+unfolding revoked_by
+revokes a i seen = ap (revoked_by a i) seen
+
+pub no_entry : (a : Asked) (i : ℕ) → nat_lt i (site_of a).seen ≡ false → asked a (request.Revoke i) ≡ refused (BadEntry i (site_of a).seen)
+unfolding revoked_by
+no_entry a i unseen = ap (revoked_by a i) unseen
+
+pub revoke_stops : (why : RevokeFault) (k i : ℕ) (old : Shared) → nat_lt i (site_at old k).seen ≡ true →
+    IsRevokeRefusal (revoke (entries_of old.session.committed (site_at old k)) i) why → IsStopped (request.Revoke i) k old (revoke_stop why)
+revoke_stops (revoked.Conflict later reversal) k i old seen e = λ page.
+    revokes (asker page old k) i seen
+    ∙ ap (λ r. changed_or_no (asker page old k) (refused_as revoke_refusal (revoke_by r (site_at old k)))) e
+revoke_stops revoked.Memory k i old seen e = tt

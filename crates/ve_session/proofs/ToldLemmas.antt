@@ -1,15 +1,14 @@
 -- A page that was not edited is told as it was.
-use Rattle.std.proofs.Common.{refl, ap, ◌∙◌}
+use Rattle.std.proofs.Common.{ap, ◌∙◌}
 use Rattle.std.specs.Prelude.{chars}
 use Rattle.model_world.specs.declared.command.Request.TheVariants as request
 use Rattle.model_world.specs.declared.reply.Reply.TheVariants as reply
+use Rattle.model_world.specs.World.{asked_of, settled}
 use Rattle.model_world_law.specs.Reached.{UneditedIsWrittenBack}
 use Rattle.ve_session.specs.Laws.{UneditedIsTold}
-use Rattle.ve_session.specs.Opened.{alone, by_itself, world_on}
-use Rattle.ve_session.proofs.ShownLemmas.{AreAsked, shown_is}
+use Rattle.ve_session.specs.Opened.{world_on}
 
-pub unedited_is_told : AreAsked → UneditedIsWrittenBack → UneditedIsTold
-unedited_is_told laws written p led utf8 same =
-    shown_is laws p request.Html refl
-    ∙ ap (λ text. (reply.Page (chars text), world_on p))
-    (written led.lines p.page (alone p.page p.site) 0 (by_itself p.site) led.leads refl utf8 same)
+pub unedited_is_told : UneditedIsWrittenBack → UneditedIsTold
+unedited_is_told written p k m led there utf8 same =
+    ap (λ found. settled (world_on p) (asked_of p.page p.session request.Html k found)) there
+    ∙ ap (λ text. (reply.Page (chars text), world_on p)) (written led.lines p.page p.session k m led.leads there utf8 same)

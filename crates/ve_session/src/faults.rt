@@ -1,63 +1,68 @@
-// What the crates below refuse, as the refusal that a line is answered.
+// What the crates below refuse, as what stops a request.
 ghost use Rattle.std.specs.Prelude.{◌≡◌};
-ghost use Rattle.ve_session.specs.Stopped.{edit_stop, html_stop, page_stop};
+ghost use Rattle.ve_session.specs.Stopped.{page_stop, redo_stop, revoke_stop, send_stop, undo_stop};
 
-use model_site::EditFault;
-use model_world::{HtmlWord, Refusal};
-use ve_changes::DraftStop;
-use ve_html_tree::HtmlFault;
+use model_site::{RedoFault, SendFault, UndoFault};
+use model_world::Refusal;
+use ve_changes::Stop;
+use ve_peer_undo::RevokeFault;
 use ve_read::ReadFault;
 
-fn html_word(word: HtmlWord, at: usize) -> DraftStop
-    ensures { result ≡ DraftStop.Refused (Refusal.Html word at) }
-{
-    DraftStop::Refused(Refusal::Html { word, at })
-}
-
-/// Why the text of a page isn't spelled right.
-fn of_html(fault: HtmlFault) -> DraftStop
-    ensures { result ≡ html_stop fault }
-{
-    match fault {
-        HtmlFault::Scan(fault) => html_word(HtmlWord::Scan(fault.what), fault.at),
-        HtmlFault::Mismatched { at } => html_word(HtmlWord::Mismatched, at),
-        HtmlFault::Unclosed { at } => html_word(HtmlWord::Unclosed, at),
-        HtmlFault::Stray { at } => html_word(HtmlWord::Stray, at),
-        HtmlFault::TooDeep { at } => html_word(HtmlWord::TooDeep, at),
-        HtmlFault::Memory => DraftStop::Memory,
-    }
-}
-
 /// Why a page isn't opened.
-pub fn of_page(fault: ReadFault) -> DraftStop
+pub fn of_page(fault: ReadFault) -> Stop
     ensures { result ≡ page_stop fault }
 {
     match fault {
-        ReadFault::PageTooLong { len } => DraftStop::Refused(Refusal::PageTooLong { len }),
-        ReadFault::Html(fault) => of_html(fault),
-        ReadFault::TooDeep { at } => DraftStop::Refused(Refusal::TooDeep { at }),
-        ReadFault::TooManyMarks { at } => DraftStop::Refused(Refusal::TooManyMarks { at }),
-        ReadFault::TooManyItems { count } => DraftStop::Refused(Refusal::TooManyItems { count }),
-        ReadFault::StoreFull => DraftStop::Refused(Refusal::StoreFull),
-        ReadFault::Memory => DraftStop::Memory,
+        ReadFault::PageTooLong { len } => Stop::Refused(Refusal::PageTooLong { len }),
+        ReadFault::Html(fault) => Stop::from(fault),
+        ReadFault::TooDeep { at } => Stop::Refused(Refusal::TooDeep { at }),
+        ReadFault::TooManyMarks { at } => Stop::Refused(Refusal::TooManyMarks { at }),
+        ReadFault::TooManyItems { count } => Stop::Refused(Refusal::TooManyItems { count }),
+        ReadFault::StoreFull => Stop::Refused(Refusal::StoreFull),
+        ReadFault::Memory => Stop::Memory,
     }
 }
 
-/// Why a transaction isn't performed. That an item differs never comes, since what a line takes out is the list's own; it would have the
-/// word of a full store.
-pub fn of_edit(fault: EditFault) -> DraftStop
-    ensures { result ≡ edit_stop fault }
+/// Why nothing is undone.
+pub fn of_undo(fault: UndoFault) -> Stop
+    ensures { result ≡ undo_stop fault }
 {
     match fault {
-        EditFault::BadLength { has, needs } => DraftStop::Refused(Refusal::BadLength {
-            has,
-            needs,
-        }),
-        EditFault::BadAttr { at } => DraftStop::Refused(Refusal::BadAttr { at }),
-        EditFault::Unlawful { at } => DraftStop::Refused(Refusal::Unlawful { at }),
-        EditFault::TooDeep { at } => DraftStop::Refused(Refusal::TooDeep { at }),
-        EditFault::TooManyItems { count } => DraftStop::Refused(Refusal::TooManyItems { count }),
-        EditFault::StoreFull | EditFault::Mismatch { .. } => DraftStop::Refused(Refusal::StoreFull),
-        EditFault::Memory => DraftStop::Memory,
+        UndoFault::NothingToUndo => Stop::Refused(Refusal::NothingToUndo),
+        UndoFault::AlreadyShared { sent } => Stop::Refused(Refusal::AlreadyShared { sent }),
+        UndoFault::Memory => Stop::Memory,
+    }
+}
+
+/// Why nothing is redone.
+pub fn of_redo(fault: RedoFault) -> Stop
+    ensures { result ≡ redo_stop fault }
+{
+    match fault {
+        RedoFault::NothingToRedo => Stop::Refused(Refusal::NothingToRedo),
+        RedoFault::Memory => Stop::Memory,
+    }
+}
+
+/// Why nothing is sent.
+pub fn of_send(fault: SendFault) -> Stop
+    ensures { result ≡ send_stop fault }
+{
+    match fault {
+        SendFault::InFlight { entries } => Stop::Refused(Refusal::InFlight { entries }),
+        SendFault::NothingToSend => Stop::Refused(Refusal::NothingToSend),
+        SendFault::Memory => Stop::Memory,
+    }
+}
+
+/// Why an entry isn't taken back: the later entry's range and the reversal's are in conflict.
+pub fn of_revoke(fault: RevokeFault) -> Stop
+    ensures { result ≡ revoke_stop fault }
+{
+    match fault {
+        RevokeFault::Conflict { later, reversal } => {
+            Stop::Refused(Refusal::RevokeConflict { later, reversal })
+        }
+        RevokeFault::Memory => Stop::Memory,
     }
 }

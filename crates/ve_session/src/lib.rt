@@ -1,21 +1,30 @@
-//! A world: the page that is open with the site that edits it, and the commands on it.
+//! A world: the page that is open with the sites that edit it, and the commands on it.
 //!
-//! What a line is answered is `model_world`'s reply, but that some commands are not answered yet. A page is opened for one site; requests
-//! that change nothing are answered, and those that are one transaction with a builder. It holds the page as it was first read beside the
-//! site, and its type keeps that some lines lead to its world: so what holds of every world that lines lead to holds of it, and nothing
-//! is asked of its caller. In reading order:
+//! What a line is answered is `model_world`'s reply, and the world after it is the model's. A world holds the page as it was
+//! first read beside the session on it, and its type keeps that some lines lead to its world: so what holds of every world
+//! that lines lead to holds of it ([`World::lines_lead`]), and nothing is asked of its caller. In reading order:
 //!
-//! - `Answered`: which commands are answered so far, what a line is answered, and the world after it;
+//! - `States`: what a world keeps between lines;
+//! - `Asked`: what comes of a command, and of a request to one of the sites;
+//! - `Opened`: what is always so of a page that is open; `Turning`: so what is so of a site that is asked;
 //! - `Cost`: how many steps a line takes at most, and the `meaning` of a world as a machine;
-//! - `Opened`: what is always so of a page that is open;
-//! - `Stopped`: how a refusal is told;
-//! - `Laws`: `html` of a page that was not edited gives it back ([`unedited_page_is_told`]).
+//! - `Stopped`: how a refusal of the crates below is told;
+//! - `Laws`: `html` of a list that is as it was opened gives the page back ([`unedited_page_is_told`]).
 #![tactic(auto)]
 
+mod batches;
+mod edits;
 mod faults;
+mod history;
 mod laws;
 mod page;
-mod stage;
+mod queues;
+mod selections;
+mod shown;
+#[cfg(test)]
+mod tests;
+mod turn;
+mod typing;
 mod world;
 
 pub use laws::unedited_page_is_told;

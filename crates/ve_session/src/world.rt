@@ -3,20 +3,20 @@ ghost use Rattle.std.specs.Prelude.{◌≡◌, ◌≤◌, ◌+◌, ◌++◌, ◌
 ghost use Rattle.model_world.specs.declared.command.Command.TheVariants.{Ask, OpenPage as OpensPage};
 ghost use Rattle.model_world.specs.declared.reply.Reply.TheVariants as reply;
 ghost use Rattle.model_world.specs.Spelled.{reply_text};
-ghost use Rattle.ve_json.specs.SoFar.{text_so_far};
-ghost use Rattle.ve_session.specs.Answered.{answered_so_far, begun, is_answered, is_built, outcome, spent, IsAsked};
+ghost use Rattle.model_world.specs.World.{reply as model_reply};
+ghost use Rattle.ve_session.specs.Asked.{obeyed, IsAsked};
 ghost use Rattle.ve_session.specs.Cost.{steps_of, steps_of_line};
-ghost use Rattle.ve_session.specs.Opened.{replica_in, IsLed};
+ghost use Rattle.ve_session.specs.Opened.{replica_in, HasUtf8Page, IsLed};
+ghost use Rattle.ve_session.specs.States.{after, begun, spent};
 
 use crate::page::OpenPage;
-use crate::stage::is_built;
 use std::alloc::Global;
 use std::marker::Model;
 use std::sync::ledger::Ledger;
 use ve_base::{Bytes, MAX_LINE, Memory, Steps, Text};
-use ve_changes::DraftStop;
+use ve_changes::Stop;
 use ve_editor::Editor;
-use ve_json::{Answer, Command, CommandFault, Refusal, Request, command, not_yet_text, reply_text};
+use ve_json::{Answer, Command, CommandFault, Refusal, Request, command, reply_text};
 use ve_run::Machine;
 
 /// The page that is open, if one is. After it ran out of memory a world is spent.
@@ -28,8 +28,8 @@ pub struct World {
 }
 
 impl Model for World {
-    ghost use Rattle.ve_session.specs.Answered.{State};
     ghost use Rattle.ve_session.specs.Opened.{world_of};
+    ghost use Rattle.ve_session.specs.States.{State};
 
     ghost Value = { State };
 
@@ -69,43 +69,46 @@ impl World {
         ensures { option_map (λ editor. editor.now) result ≡ replica_in self.now.world site }
     {
         match &self.page {
-            Some(page) if site == 0 => Some(page.editor()),
+            Some(page) if site < page.sites() => Some(page.editor(site)),
             _ => None,
         }
     }
 
-    /// Tells that some lines lead to its world, which the type of an open page keeps.
-    fn tell_lines(&self)
-        ensures { IsLed self.now.world }
+    /// Tells that some lines lead to its world, which its type keeps, and that a page that is open is UTF-8. So what the
+    /// laws say of every world that lines lead to holds of it.
+    pub fn lines_lead(&self)
+        ensures led { IsLed self.now.world }
+        ensures utf8 { HasUtf8Page self.now.world }
     {
         if let Some(page) = &self.page {
-            page.tell_lines();
+            page.lines_lead();
         }
     }
 
-    /// Opens a page in place of the one that is open, unless it is refused.
+    /// Opens a page for so many sites in place of the one that is open, unless it is refused.
     fn open<L: Ledger>(
         &mut self,
         text: Text,
+        sites: usize,
         out: &mut Bytes,
         steps: &mut Steps<L>,
     ) -> Result<(), Memory>
-        requires asked { IsAsked (OpensPage text 1) }
-        ensures reply { OnOk result (out.new ≡ out.old ++ (reply_text (outcome self.old.world (OpensPage text 1)).0 ++ 10 ∷ [])) }
-        ensures world { OnOk result (self.new ≡ record self.old { world = (outcome self.old.world (OpensPage text 1)).1 }) }
+        requires asked { IsAsked (OpensPage text sites) }
+        ensures reply { OnOk result (out.new ≡ out.old ++ (reply_text (obeyed self.old.world (OpensPage text sites)).0 ++ 10 ∷ [])) }
+        ensures world { OnOk result (self.new ≡ record self.old { world = (obeyed self.old.world (OpensPage text sites)).1 }) }
         ensures unsaid { OnErr result (out.new ≡ out.old) }
         ensures counted { steps.old ≤ steps.new }
-        ensures cost { steps.new ≤ steps.old + steps_of self.old.world (Ok (OpensPage text 1)) }
+        ensures cost { steps.new ≤ steps.old + steps_of self.old.world (Ok (OpensPage text sites)) }
     {
-        self.tell_lines();
-        match OpenPage::open(self.alloc, text, steps) {
+        self.lines_lead();
+        match OpenPage::open(self.alloc, text, sites, steps) {
             Ok(page) => {
-                let len = page.editor().doc().list.len();
+                let len = page.first_len();
                 self.page = Some(page);
                 tell_length(self.alloc, len, out)
             }
-            Err(DraftStop::Refused(refusal)) => refuse(self.alloc, refusal, out),
-            Err(DraftStop::Memory) => Err(Memory),
+            Err(Stop::Refused(refusal)) => refuse(self.alloc, refusal, out),
+            Err(Stop::Memory) => Err(Memory),
         }
     }
 
@@ -118,9 +121,8 @@ impl World {
         steps: &mut Steps<L>,
     ) -> Result<(), Memory>
         requires asked { IsAsked (Ask request.now site) }
-        requires answered { is_answered request.now ≡ true }
-        ensures reply { OnOk result (out.new ≡ out.old ++ (reply_text (outcome self.old.world (Ask request.now site)).0 ++ 10 ∷ [])) }
-        ensures world { OnOk result (self.new ≡ record self.old { world = (outcome self.old.world (Ask request.now site)).1 }) }
+        ensures reply { OnOk result (out.new ≡ out.old ++ (reply_text (obeyed self.old.world (Ask request.now site)).0 ++ 10 ∷ [])) }
+        ensures world { OnOk result (self.new ≡ record self.old { world = (obeyed self.old.world (Ask request.now site)).1 }) }
         ensures unsaid { OnErr result (out.new ≡ out.old) }
         ensures counted { steps.old ≤ steps.new }
         ensures cost { steps.new ≤ steps.old + steps_of self.old.world (Ok (Ask request.now site)) }
@@ -128,10 +130,11 @@ impl World {
         let Some(page) = &mut self.page else {
             return refuse(self.alloc, Refusal::NotOpen, out);
         };
-        if site != 0 {
-            return refuse(self.alloc, Refusal::BadSite { sites: 1 }, out);
+        let sites = page.sites();
+        if site >= sites {
+            return refuse(self.alloc, Refusal::BadSite { sites }, out);
         }
-        page.answer(self.alloc, request, out, steps)
+        page.answer(self.alloc, request, site, out, steps)
     }
 
     /// Answers a command.
@@ -142,15 +145,14 @@ impl World {
         steps: &mut Steps<L>,
     ) -> Result<(), Memory>
         requires asked { IsAsked command }
-        requires built { is_built command ≡ true }
-        ensures reply { OnOk result (out.new ≡ out.old ++ (reply_text (outcome self.old.world command).0 ++ 10 ∷ [])) }
-        ensures world { OnOk result (self.new ≡ record self.old { world = (outcome self.old.world command).1 }) }
+        ensures reply { OnOk result (out.new ≡ out.old ++ (reply_text (obeyed self.old.world command).0 ++ 10 ∷ [])) }
+        ensures world { OnOk result (self.new ≡ record self.old { world = (obeyed self.old.world command).1 }) }
         ensures unsaid { OnErr result (out.new ≡ out.old) }
         ensures counted { steps.old ≤ steps.new }
         ensures cost { steps.new ≤ steps.old + steps_of self.old.world (Ok command) }
     {
         match command {
-            Command::OpenPage { page, .. } => self.open(page, out, steps),
+            Command::OpenPage { page, sites } => self.open(page, sites, out, steps),
             Command::Ask { request, site } => self.ask(&request, site, out, steps),
         }
     }
@@ -162,8 +164,8 @@ impl World {
         out: &mut Bytes,
         steps: &mut Steps<L>,
     ) -> Result<(), Memory>
-        ensures reply { OnOk result (out.new ≡ out.old ++ (text_so_far (answered_so_far self.old line.now).0 ++ 10 ∷ [])) }
-        ensures state { OnOk result (self.new ≡ (answered_so_far self.old line.now).1) }
+        ensures reply { OnOk result (out.new ≡ out.old ++ (reply_text (model_reply self.old.world line.now).0 ++ 10 ∷ [])) }
+        ensures state { OnOk result (self.new ≡ after self.old line.now) }
         ensures unsaid { OnErr result (out.new ≡ out.old) }
         ensures stays_spent { self.old.is_spent ≡ true → IsErr result }
         ensures counted { steps.old ≤ steps.new }
@@ -176,8 +178,7 @@ impl World {
             return refuse(self.alloc, Refusal::LineTooLong { len: line.len() }, out);
         }
         match command(self.alloc, line) {
-            Ok(command) if is_built(&command) => self.obey(command, out, steps),
-            Ok(_) => not_yet_text(out),
+            Ok(command) => self.obey(command, out, steps),
             Err(CommandFault::Refused(refusal)) => refuse(self.alloc, refusal, out),
             Err(CommandFault::Memory) => Err(Memory),
         }
@@ -192,8 +193,8 @@ impl World {
         out: &mut Bytes,
         steps: &mut Steps<L>,
     ) -> Result<(), Memory>
-        ensures reply { OnOk result (out.new ≡ out.old ++ (text_so_far (answered_so_far self.old line.now).0 ++ 10 ∷ [])) }
-        ensures state { OnOk result (self.new ≡ (answered_so_far self.old line.now).1) }
+        ensures reply { OnOk result (out.new ≡ out.old ++ (reply_text (model_reply self.old.world line.now).0 ++ 10 ∷ [])) }
+        ensures state { OnOk result (self.new ≡ after self.old line.now) }
         ensures unsaid { OnErr result (out.new ≡ out.old) }
         ensures spent { OnErr result (self.new ≡ spent) }
         ensures stays_spent { self.old.is_spent ≡ true → IsErr result }

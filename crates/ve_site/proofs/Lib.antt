@@ -8,4 +8,7 @@ mod TakenLemmas
 mod DropLemmas
 mod TakeLemmas
 mod FeedLemmas
+mod LengthLemmas
+mod StepBoundLemmas
 mod SiteExamples
+pub mod SettleLemmas

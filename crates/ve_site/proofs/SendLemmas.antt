@@ -3,9 +3,10 @@ use Rattle.std.proofs.Common.{◌≡◌, ◌<◌, ◌+◌, ℕ, List, [], ◌∷
 use Rattle.std.proofs.lemmas.List.{map-append, append-nil, length-map}
 use Rattle.model_site.specs.Causes.{SendCause}
 use Rattle.model_site.specs.Entries.{parcels}
-use Rattle.model_site.specs.Entries.{Entry as ModelEntry}
+use Rattle.model_site.specs.Entries.{Entry as ModelEntry, Parcel as ModelParcel}
 use Rattle.model_site.specs.Replica.{Replica}
-use Rattle.model_site.specs.Site.{Site, Submission, send, send_unless}
+use Rattle.model_site.specs.Site.{Site, Submission, pending, send, send_unless}
+use Rattle.model_site_law.proofs.ReplayLemmas.{parcels-append}
 use Rattle.ve_tx.specs.declared.entry.Entry.{Entry}
 use Rattle.ve_tx.specs.ByValue.{parcel_by_value, ParcelCites}
 use Rattle.ve_editor.specs.Edited.{entry_by_value, EntryCites}
@@ -26,6 +27,16 @@ module _ (editor : Replica) (seen : ℕ) (sent : List Entry) (old : Stacks) (sha
 
   pub unsent_cite : All (EntryCites editor.store) old.done
   unsent_cite = (cite_parts editor.store sent old.done (over_cites editor.store 0 (sent ++ old.done) is.over)).1
+
+  pub sent_cite : All (EntryCites editor.store) sent
+  sent_cite = (cite_parts editor.store sent old.done (over_cites editor.store 0 (sent ++ old.done) is.over)).0
+
+  -- all pending entries as parcels, the sent ones first
+  pub pending_parcels : (first second : List ModelParcel) → first ≡ parcels (map (entry_by_value editor.store) sent) →
+      second ≡ parcels (map (entry_by_value editor.store) old.done) → first ++ second ≡ parcels (pending site)
+  pending_parcels first second f g =
+      ap (λ ps. ps ++ second) f ∙ ap (λ ps. parcels (map (entry_by_value editor.store) sent) ++ ps) g
+      ∙ sym (parcels-append (map (entry_by_value editor.store) sent) (map (entry_by_value editor.store) old.done))
 
   module _ (now : Stacks) (all : List Entry) (count total : ℕ) (sent_all : all ≡ sent ++ old.done) (done : now.done ≡ []) (undone : now.undone ≡ old.undone)
       (counted : count ≡ length old.done) (added : total ≡ shared + count) where

@@ -15,6 +15,8 @@ pub use Rattle.ve_server.specs.Fed
 pub mod Ground
 pub mod Numbered
 pub mod Counted
+pub mod Settled
 pub mod Refusal
 pub mod Taking
 pub mod Dropped
+pub mod Laws

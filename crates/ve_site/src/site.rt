@@ -1,7 +1,7 @@
 // A site.
 ghost use Rattle.std.specs.Prelude.{◌≡◌, ◌≤◌, ◌+◌, ◌==◌, if◌then◌else◌, List, [], ◌∷◌, Ok, length, IfOk, IfErr, OnOk, OnErr};
 ghost use Rattle.model_change.specs.Transaction.{Transaction, InsertedApart};
-ghost use Rattle.model_site.specs.Entries.{entry_of, reverted};
+ghost use Rattle.model_site.specs.Entries.{entry_of, parcels, reverted};
 ghost use Rattle.model_site.specs.Replica.{all_performed};
 ghost use Rattle.model_change.specs.Replay.{AllRun, flattened};
 ghost use Rattle.model_site.specs.Session.{site_after, taken_as};
@@ -73,6 +73,7 @@ impl Site {
     ghost use Rattle.ve_site.specs.Ground.{ground_of};
     ghost use Rattle.ve_site.specs.Taking.{MayTake, steps_of_feed, steps_of_take, steps_to_take, steps_to_take_all};
     ghost use Rattle.ve_site.specs.Numbered.{with_site};
+    ghost use Rattle.ve_site.specs.Settled.{settled, Settles};
     ghost use Rattle.ve_site.specs.Refusal.{IsUndoRefusal, IsRedoRefusal, IsSendRefusal};
     ghost use Rattle.model_site.specs.Refused.{edit_cause};
 
@@ -152,12 +153,8 @@ impl Site {
     /// that were performed one after the other and are one, as a batch is. What was undone can't be redone
     /// then. An `Err` changes nothing.
     pub fn settle(&mut self, editor: Editor, entry: Entry) -> Result<(), Memory>
-        ghost ts: { List Transaction }
-        requires may { AllMayRun ts self.old.site.replica.items }
-        requires page { editor ≡ all_performed ts self.old.site.replica }
-        requires entry { entry_by_value editor.store entry ≡ entry_of ts self.old.site.replica }
-        requires cites { EntryCites editor.store entry }
-        ensures site { OnOk result (self.new ≡ with_site (with_entry ts self.old.site) self.old) }
+        requires settles { Settles self.old.site.replica editor entry }
+        ensures site { OnOk result (self.new ≡ with_site (settled editor entry self.old.site) self.old) }
         ensures kept { OnErr result (self.new ≡ self.old) }
     {
         self.history.reserve()?;
@@ -217,6 +214,34 @@ impl Site {
         };
         let moved = self.history.move_up(entry).is_ok();
         prove!(moved);
+        Ok(())
+    }
+
+    /// Its pending entries as they would travel: those that it sent, and then those that it has not sent.
+    pub fn pending(&self) -> Result<Parcels, Memory>
+        ensures { IfOk result (λ entries. entries ≡ parcels (pending self.now.site)) }
+    {
+        let store = self.editor.doc().store;
+        let mut entries = parcels_of(self.alloc, self.sent.as_slice(), store)?;
+        entries.append(parcels_of(self.alloc, self.history.done(), store)?)?;
+        Ok(entries)
+    }
+
+    /// Performs a parcel as a new entry of its own, as one that takes a committed entry back; what was undone
+    /// can't be redone then. It is asked that the parcel's transactions run on the list; the limits of items
+    /// and of values don't bind it. An `Err` changes nothing.
+    pub fn adopt<L: Ledger>(&mut self, back: &Parcel, steps: &mut Steps<L>) -> Result<(), Memory>
+        requires cites { ParcelCites back.now }
+        requires run { AllRun (parcel_by_value back.now) self.old.site.replica.items }
+        ensures site { OnOk result (self.new ≡ with_site (with_entry (parcel_by_value back.now) self.old.site) self.old) }
+        ensures kept { OnErr result (self.new ≡ self.old) }
+        ensures counted { steps.old ≤ steps.new }
+        ensures steps { steps.new ≤ steps.old + steps_over (parcel_by_value back.now) self.old.site.replica.items }
+    {
+        self.history.reserve()?;
+        let entry = self.editor.admit(back, steps)?;
+        let adopted = self.history.push(entry).is_ok();
+        prove!(adopted);
         Ok(())
     }
 

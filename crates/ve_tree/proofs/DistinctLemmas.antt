@@ -1,9 +1,11 @@
 -- What is read from links has no number twice, so it is a tree.
 use Rattle.std.proofs.Common.{◌≡◌, ◌≢◌, ◌≤◌, ◌<◌, ◌⊎◌, inl, inr, ℕ, Option, Some, None, List, [], ◌∷◌, ◌++◌, refl, sym, ap, ◌∙◌, subst, arith}
+use Rattle.model_items.specs.declared.plain_item.PlainItem.{PlainItem}
 use Rattle.model_items.specs.Tree.{node_count}
+use Rattle.ve_arena.specs.declared.node.NodeId.{NodeId}
 use Rattle.ve_tree.specs.Links.{links_of, first_or, last_or, AreSiblings, Apart, AllApart}
 use Rattle.ve_tree.specs.Named.{Named, NoNode, NamedRun, NamedBranch, unnumbered, heads, node_numbers, Shows}
-use Rattle.ve_tree.specs.Reads.{IsRead, ReadIsTree}
+use Rattle.ve_tree.specs.Reads.{IsRead, IsTreeRead, ReadIsTree}
 use Rattle.ve_tree.proofs.GrownLemmas.{Slots, apart-ls, apart-rs, apart-join, Disjoint, all-join}
 use Rattle.ve_tree.proofs.FitsLemmas.{same_or_not}
 use Rattle.ve_tree.proofs.ReadsLemmas.{last_or-cons, one_number, one_is_read}
@@ -41,7 +43,7 @@ in_right : (n : ℕ) (ls rs : List ℕ) → In n rs → In n (ls ++ rs)
 in_right n [] rs i = i
 in_right n (m ∷ ls) rs i = inr (in_right n ls rs i)
 
-disjoint_append : (ls rs ms : List ℕ) → Disjoint ls ms → Disjoint rs ms → Disjoint (ls ++ rs) ms
+pub disjoint_append : (ls rs ms : List ℕ) → Disjoint ls ms → Disjoint rs ms → Disjoint (ls ++ rs) ms
 disjoint_append [] rs ms l r = r
 disjoint_append (n ∷ ls) rs ms l r = (l.0, disjoint_append ls rs ms l.1 r)
 
@@ -204,15 +206,24 @@ are_linked slots (NamedBranch n kind inside later) p before here r =
       shown = (record { sort_is = r.1.sort_is; len_is = r.1.len_is; children = record { first = in_.here_is; last = in_.last_is; row = in_.row } }, in_.shown, rest.shown);
     }
 
+-- the root and what is read under it
+pub read_apart : (slots : Slots) (root : NodeId) (items : List PlainItem) (f : Named) → IsTreeRead slots root items f → AllApart (root.0 ∷ node_numbers f)
+read_apart slots root items f t = let apart_root = apart_unless root.0 (node_numbers f) (λ i. has_none (parents_in slots f root.0 None _ t.read root.0 i)) in (apart_root, all_distinct slots f root.0 None _ t.read apart_root)
+  where
+    none_is : (y : ℕ) → (links_of slots).parent root.0 ≡ Some y → ⊥
+    none_is y e = let bad : ◌≡◌ {A = Option ℕ} None (Some y) = sym t.root_alone.no_parent ∙ e in cc
+
+    has_none : ParentIn slots root.0 (node_numbers f) root.0 → ⊥
+    has_none h = elim h [ inl top ↦ none_is root.0 top | inr below ↦ none_is below.0 below.2 ]
+
 pub read_is_tree : ReadIsTree
 read_is_tree slots root items f t =
     let linked = are_linked slots f root.0 None _ t.read in
-    let apart_root = apart_unless root.0 (node_numbers f) (λ i. has_none (parents_in slots f root.0 None _ t.read root.0 i)) in
     record {
       lawful = t.lawful;
       named = f;
       is_tree = t.is_tree;
-      apart = (apart_root, all_distinct slots f root.0 None _ t.read apart_root);
+      apart = read_apart slots root items f t;
       shown = linked.shown;
       root_shown = record {
         sort_is = t.root_labelled.sort_is;
@@ -222,9 +233,3 @@ read_is_tree slots root items f t =
       root_alone = t.root_alone;
       only = t.only;
     }
-  where
-    none_is : (y : ℕ) → (links_of slots).parent root.0 ≡ Some y → ⊥
-    none_is y e = let bad : ◌≡◌ {A = Option ℕ} None (Some y) = sym t.root_alone.no_parent ∙ e in cc
-
-    has_none : ParentIn slots root.0 (node_numbers f) root.0 → ⊥
-    has_none h = elim h [ inl top ↦ none_is root.0 top | inr below ↦ none_is below.0 below.2 ]

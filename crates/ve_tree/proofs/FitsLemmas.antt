@@ -16,7 +16,7 @@ same_or_not q n =
     ]
 
 -- a number stands in one of two lists at most
-part : (ls rs : List ℕ) (q : ℕ) → AllApart (ls ++ rs) → Apart q ls ⊎ Apart q rs
+pub part : (ls rs : List ℕ) (q : ℕ) → AllApart (ls ++ rs) → Apart q ls ⊎ Apart q rs
 part [] rs q a = inl tt
 part (n ∷ ls) rs q a =
     elim (same_or_not q n) [
@@ -28,12 +28,12 @@ pub disjoint_of : (ls rs : List ℕ) → AllApart (ls ++ rs) → Disjoint ls rs
 disjoint_of [] rs a = tt
 disjoint_of (n ∷ ls) rs a = (apart-rs n ls rs a.0, disjoint_of ls rs a.1)
 
-apart_heads : (n : ℕ) (f : Named) → Apart n (node_numbers f) → Apart n (heads f)
+pub apart_heads : (n : ℕ) (f : Named) → Apart n (node_numbers f) → Apart n (heads f)
 apart_heads n NoNode a = tt
 apart_heads n (NamedRun m count later) a = (a.0, apart_heads n later a.1)
 apart_heads n (NamedBranch m kind inside later) a = (a.0, apart_heads n later (apart-rs n (node_numbers inside) (node_numbers later) a.1))
 
-all_heads : (f : Named) → AllApart (node_numbers f) → AllApart (heads f)
+pub all_heads : (f : Named) → AllApart (node_numbers f) → AllApart (heads f)
 all_heads NoNode a = tt
 all_heads (NamedRun n count later) a = (apart_heads n later a.0, all_heads later a.1)
 all_heads (NamedBranch n kind inside later) a =

@@ -44,11 +44,11 @@ pub all-join : (ls rs : List ℕ) → AllApart ls → AllApart rs → Disjoint l
 all-join [] rs l r d = r
 all-join (n ∷ ls) rs l r d = (apart-join n ls rs l.0 d.0, all-join ls rs l.1 r d.1)
 
-apart-turned : (n : ℕ) (ms : List ℕ) → Disjoint ms (n ∷ []) → Apart n ms
+pub apart-turned : (n : ℕ) (ms : List ℕ) → Disjoint ms (n ∷ []) → Apart n ms
 apart-turned n [] d = tt
 apart-turned n (m ∷ ms) d = (λ e. d.0.0 (sym e), apart-turned n ms d.1)
 
-disjoint-turned : (n : ℕ) (ms : List ℕ) → Apart n ms → Disjoint ms (n ∷ [])
+pub disjoint-turned : (n : ℕ) (ms : List ℕ) → Apart n ms → Disjoint ms (n ∷ [])
 disjoint-turned n [] a = tt
 disjoint-turned n (m ∷ ms) a = ((λ e. a.0 (sym e), tt), disjoint-turned n ms a.1)
 
@@ -56,7 +56,7 @@ disjoint-first : (ns : List ℕ) (m : ℕ) (ms : List ℕ) → Disjoint ns (m �
 disjoint-first [] m ms d = tt
 disjoint-first (n ∷ ns) m ms d = ((d.0.0, tt), disjoint-first ns m ms d.1)
 
-disjoint-cons : (ns : List ℕ) (m : ℕ) (ms : List ℕ) → Apart m ns → Disjoint ns ms → Disjoint ns (m ∷ ms)
+pub disjoint-cons : (ns : List ℕ) (m : ℕ) (ms : List ℕ) → Apart m ns → Disjoint ns ms → Disjoint ns (m ∷ ms)
 disjoint-cons [] m ms a d = tt
 disjoint-cons (n ∷ ns) m ms a d = ((λ e. a.0 (sym e), d.0), disjoint-cons ns m ms a.1 d.1)
 
@@ -77,11 +77,11 @@ pub same-where : (new old : Slots) (bad ns : List ℕ) → ((q : ℕ) → Apart 
 same-where new old bad [] h d = tt
 same-where new old bad (n ∷ ns) h d = (h n d.0, same-where new old bad ns h d.1)
 
-same-ls : (new old : Slots) (ls rs : List ℕ) → AllSame new old (ls ++ rs) → AllSame new old ls
+pub same-ls : (new old : Slots) (ls rs : List ℕ) → AllSame new old (ls ++ rs) → AllSame new old ls
 same-ls new old [] rs h = tt
 same-ls new old (n ∷ ls) rs h = (h.0, same-ls new old ls rs h.1)
 
-same-rs : (new old : Slots) (ls rs : List ℕ) → AllSame new old (ls ++ rs) → AllSame new old rs
+pub same-rs : (new old : Slots) (ls rs : List ℕ) → AllSame new old (ls ++ rs) → AllSame new old rs
 same-rs new old [] rs h = h
 same-rs new old (n ∷ ls) rs h = same-rs new old ls rs h.1
 
@@ -89,7 +89,7 @@ same-trans : (a b c : Slots) (ns : List ℕ) → AllSame a b ns → AllSame b c 
 same-trans a b c [] h k = tt
 same-trans a b c (n ∷ ns) h k = (h.0 ∙ k.0, same-trans a b c ns h.1 k.1)
 
-same-heads : (new old : Slots) (f : Named) → AllSame new old (node_numbers f) → AllSame new old (heads f)
+pub same-heads : (new old : Slots) (f : Named) → AllSame new old (node_numbers f) → AllSame new old (heads f)
 same-heads new old NoNode h = tt
 same-heads new old (NamedRun n count later) h = (h.0, same-heads new old later h.1)
 same-heads new old (NamedBranch n kind inside later) h = (h.0, same-heads new old later (same-rs new old (node_numbers inside) (node_numbers later) h.1))
@@ -106,7 +106,7 @@ row-same new old p start (n ∷ ns) end h r = (
 )
 
 -- a node without its parent and siblings
-abbrev core : ArenaNode → ArenaNode
+abbrev pub core : ArenaNode → ArenaNode
 core node = record node { parent = None; before = None; after = None }
 
 core-what : (o : Option ArenaNode) → option_map (λ node. node.what) (option_map core o) ≡ option_map (λ node. node.what) o

@@ -46,11 +46,11 @@ last_one row o n some long is le =
       before = le;
     }
 
-sum_cons : (x : ℕ) (xs : List ℕ) → sum (x ∷ xs) ≡ x + sum xs
+pub sum_cons : (x : ℕ) (xs : List ℕ) → sum (x ∷ xs) ≡ x + sum xs
 sum_cons x xs = let parts = sum_by-append (λ y. y) (x ∷ []) xs in omega (arith, parts)
 
 -- what lies before a place once a length is less
-sum_after : (xs : List ℕ) (k j by : ℕ) → k < j → k < length xs → by ≤ get_or xs k 0 → sum (take j (slice_set xs k (get_or xs k 0 - by))) + by ≡ sum (take j xs)
+pub sum_after : (xs : List ℕ) (k j by : ℕ) → k < j → k < length xs → by ≤ get_or xs k 0 → sum (take j (slice_set xs k (get_or xs k 0 - by))) + by ≡ sum (take j xs)
 sum_after [] k j by after within le = absurd (omega (arith, within))
 sum_after (x ∷ xs) k zero by after within le = absurd (omega (arith, after))
 sum_after (x ∷ xs) zero (suc j) by after within le =
@@ -64,7 +64,7 @@ sum_after (x ∷ xs) (suc k) (suc j) by after within le =
     let was : sum (take (suc j) (x ∷ xs)) ≡ x + sum (take j xs) = sum_cons x (take j xs) in
     omega (arith, rest, now, was)
 
-sum_before : (xs : List ℕ) (k j x : ℕ) → j ≤ k → sum (take j (slice_set xs k x)) ≡ sum (take j xs)
+pub sum_before : (xs : List ℕ) (k j x : ℕ) → j ≤ k → sum (take j (slice_set xs k x)) ≡ sum (take j xs)
 sum_before xs k j x le = ap sum (take-set-le j xs k x le)
 
 pub shortened : (xs : List ℕ) (k by : ℕ) → k < length xs → by ≤ get_or xs k 0 → IsShortened xs (slice_set xs k (get_or xs k 0 - by)) k by

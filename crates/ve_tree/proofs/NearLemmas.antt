@@ -150,12 +150,12 @@ comes tree o inner at left h f y child w first number from parent is_child e =
     }
 
 -- the places of a forest lie between its ends
-record Lies (at end : ℕ) (y : NodePlace) : Type 0 where
-  after_start : at ≤ y.from
-  in_order : y.from ≤ y.to
-  before_end : y.to ≤ end
+pub record Lies (at end : ℕ) (y : NodePlace) : Type 0 where
+  pub after_start : at ≤ y.from
+  pub in_order : y.from ≤ y.to
+  pub before_end : y.to ≤ end
 
-lies : (f : Named) (p at : ℕ) (y : NodePlace) → Contains (node_places p at f) y → Lies at (at + item_count (unnumbered f)) y
+pub lies : (f : Named) (p at : ℕ) (y : NodePlace) → Contains (node_places p at f) y → Lies at (at + item_count (unnumbered f)) y
 lies NoNode p at y c = absurd (omega (arith, c.1))
 lies (NamedRun h count later) p at y c =
     elim (contains_cases _ y (node_places p (at + count) later) c) [

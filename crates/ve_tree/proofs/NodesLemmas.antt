@@ -100,7 +100,7 @@ links_lead_to_nodes slots root items n tree =
     ]
 
 -- a number is none of a forest's, or that of a node of it
-listed : (f : Named) (p at q : ℕ) → Apart q (node_numbers f) ⊎ ((place : NodePlace) × Contains (node_places p at f) place × (place.number ≡ q))
+pub listed : (f : Named) (p at q : ℕ) → Apart q (node_numbers f) ⊎ ((place : NodePlace) × Contains (node_places p at f) place × (place.number ≡ q))
 listed NoNode p at q = inl tt
 listed (NamedRun n count later) p at q =
     elim (same_or_not q n) [

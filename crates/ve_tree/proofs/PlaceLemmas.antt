@@ -16,7 +16,7 @@ use Rattle.ve_tree.proofs.WalkLemmas.{Slots}
 use Rattle.ve_tree.proofs.ClimbLemmas.{contains_cases}
 
 -- a number that is none of a forest's is that of none of its places
-none_placed : (f : Named) (p at n : ℕ) (y : NodePlace) → Apart n (node_numbers f) → Contains (node_places p at f) y → n ≢ y.number
+pub none_placed : (f : Named) (p at n : ℕ) (y : NodePlace) → Apart n (node_numbers f) → Contains (node_places p at f) y → n ≢ y.number
 none_placed NoNode p at n y apart c e = absurd (omega (arith, c.1))
 none_placed (NamedRun h count later) p at n y apart c e = elim (contains_cases _ y (node_places p (at + count) later) c) [
   | inl same ↦ apart.0 (e ∙ sym (ap (λ (z : NodePlace). z.number) same))

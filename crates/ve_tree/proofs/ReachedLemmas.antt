@@ -29,7 +29,7 @@ pub record Reached (old now : List (Option ArenaNode)) (p : ℕ) (items : List I
   pub fresh : (m : ℕ) (x : Item) → suc m ≡ at → slice_get items m ≡ Some x → IsChar x → with_char (unnumbered forest) ≡ Run 1 (unnumbered forest)
   pub steps : after + 6 * count_from items to ≤ before + 6 * count_from items at
 
-nothing_grown : (slots : List (Option ArenaNode)) (p : ℕ) → IsChildless slots p → Grown slots slots p NoNode
+pub nothing_grown : (slots : List (Option ArenaNode)) (p : ℕ) → IsChildless slots p → Grown slots slots p NoNode
 nothing_grown slots p c = record {
   apart = (tt, tt);
   fresh = tt;
@@ -56,7 +56,7 @@ reached_start slots p items to before c begun = record {
 }
 
 -- the first child of p is another node
-next_apart_in : (old now : List (Option ArenaNode)) (p : ℕ) (f : Named) → IsChildless old p → Grown old now p f → IfSome (first_in (slot_at now p)) (λ next. next.0 ≢ p)
+pub next_apart_in : (old now : List (Option ArenaNode)) (p : ℕ) (f : Named) → IsChildless old p → Grown old now p f → IfSome (first_in (slot_at now p)) (λ next. next.0 ≢ p)
 next_apart_in old now p f c g = subst (λ o. IfSome (first_in o) (λ next. next.0 ≢ p)) (sym (above_is old now p f c.node c.here g)) (by_first f g.apart.0)
   where
     by_first : (f : Named) → Apart p (node_numbers f) → IfSome (first_in (Some (with_children (heads f) c.node))) (λ next. next.0 ≢ p)

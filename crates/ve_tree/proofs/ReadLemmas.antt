@@ -28,7 +28,7 @@ item_at items m within = elim (slice_get_cases items m).1 [
   | inr past ↦ absurd (omega (arith, past.0))
 ]
 
-drop-at : (items : List Item) (m : ℕ) (x : Item) → slice_get items m ≡ Some x → drop m items ≡ x ∷ drop (suc m) items
+pub drop-at : (items : List Item) (m : ℕ) (x : Item) → slice_get items m ≡ Some x → drop m items ≡ x ∷ drop (suc m) items
 drop-at items m x h = drop-cons items m x (slice_get_within items m x h) ∙ ap (λ y. y ∷ drop (suc m) items) (get_or_from_slice_get items m x x h)
 
 pub reading-at : (items : List Item) (m : ℕ) (x : Item) → slice_get items m ≡ Some x → reading_from items m ≡ reading_with (plain [] x) (reading_from items (suc m))

@@ -17,7 +17,7 @@ last_or-cons before n [] = refl
 last_or-cons before n (m ∷ ns) = refl
 
 -- siblings, read from the first one on
-row_is_read : (slots : Slots) (f : Named) (p : ℕ) (before : Option ℕ) → AreSiblings (links_of slots).parent (links_of slots).before (links_of slots).after p before (heads f) None →
+pub row_is_read : (slots : Slots) (f : Named) (p : ℕ) (before : Option ℕ) → AreSiblings (links_of slots).parent (links_of slots).before (links_of slots).after p before (heads f) None →
     (links_of slots).last p ≡ last_or before (heads f) → Shows slots f → IsRead slots p before (first_or (heads f) None) f
 row_is_read slots NoNode p before row last shown = (refl, last)
 row_is_read slots (NamedRun n count later) p before row last shown = (

@@ -281,8 +281,8 @@ walk_none tree o inner left w = by_forest w.forest w.on
 
 -- the next node ends after the offset
 pub walk_next : {slots : Slots} {root : NodeId} {items : List PlainItem} (tree : IsTree slots root items) (o : ℕ) (inner child : NodeId) (left : ℕ) (node : ArenaNode) →
-    Walk tree o inner.0 (Some child) left → slot_at slots child.0 ≡ Some node → left < node.len → IsChildThere tree o inner child left
-walk_next {slots = slots} tree o inner child left node w here lt = by_forest w.forest w.on
+    Walk tree o inner.0 (Some child) left → slot_at slots child.0 ≡ Some node → left < node.len → (0 < left → node.what ≡ what.Run) → IsChildThere tree o inner child left
+walk_next {slots = slots} tree o inner child left node w here lt stops = by_forest w.forest w.on
   where
     listed_as : (h : ℕ) (sort : NodeWhat) (from to : ℕ) → child.0 ≡ h →
         Contains (tree_places tree) (record { number = h; parent = Some inner.0; sort = sort; from = from; to = to }) →
@@ -302,6 +302,7 @@ walk_next {slots = slots} tree o inner child left node w here lt = by_forest w.f
           listed = listed_as h what.Run w.at (w.at + count) n.number (w.all_listed _ (contains-here _ (node_places inner.0 (w.at + count) later)));
           begins = w.sum;
           ends = omega (arith, w.sum, n.len_is, lt);
+          inside = λ some. refl;
         }
     by_forest (NamedBranch h kind inside later) w =
         let len = item_count (unnumbered inside) + 2 in
@@ -314,6 +315,7 @@ walk_next {slots = slots} tree o inner child left node w here lt = by_forest w.f
               (w.all_listed _ (contains-here _ (node_places h (suc w.at) inside ++ node_places inner.0 (w.at + len) later)));
           begins = w.sum;
           ends = omega (arith, w.sum, n.len_is, lt);
+          inside = λ some. sym n.sort_is ∙ stops some;
         }
 
 -- before a node, or in a run

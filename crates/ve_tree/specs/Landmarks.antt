@@ -1,5 +1,5 @@
 -- Nodes whose places are known.
-use Rattle.std.specs.Prelude.{◌≡◌, ◌≤◌, ◌<◌, ◌+◌, ◌^◌, ◌⊎◌, ℕ, Option, List, suc, Contains, length, take, sum, slice_index, slice_index_or}
+use Rattle.std.specs.Prelude.{◌≡◌, ◌≤◌, ◌<◌, ◌+◌, ◌-◌, ◌^◌, ◌⊎◌, ℕ, Option, List, suc, Contains, length, take, sum, slice_index, slice_index_or}
 use Rattle.model_items.specs.declared.plain_item.PlainItem.{PlainItem}
 use Rattle.ve_arena.specs.declared.node.NodeId.{NodeId}
 use Rattle.ve_arena.specs.declared.node.ArenaNode.{ArenaNode}
@@ -64,3 +64,45 @@ pub record HasOneMore (old new : LandmarkRow) (k : ℕ) (n : NodeId) (gap : ℕ)
   pub start_is : sum (take (suc k) new.gaps) ≡ sum (take k old.gaps) + gap
   pub next_is : k < length old.gaps → slice_index new.gaps (suc k) + gap ≡ slice_index old.gaps k
   pub others : (m : NodeId) (from : ℕ) → IsLandmark new m from → IsLandmark old m from ⊎ ((m ≡ n) × (from ≡ sum (take k old.gaps) + gap))
+
+-- each of them that begins after a place begins so many items after it at least
+abbrev pub HasSpaceAfter : LandmarkRow → ℕ → ℕ → Type 0
+HasSpaceAfter row place removed = (n : NodeId) (from : ℕ) → IsLandmark row n from → place < from → place + removed ≤ from
+
+-- the node was one of them; it begins where it did if that was not after the place, else so many items back and so many on
+pub record WasLandmark (old : LandmarkRow) (place removed inserted : ℕ) (n : NodeId) (from : ℕ) : Type 0 where
+  pub was : ℕ
+  pub landmark : IsLandmark old n was
+  pub stays : was ≤ place → from ≡ was
+  pub moves : place < was → from + removed ≡ was + inserted
+
+abbrev pub IsShifted : LandmarkRow → LandmarkRow → ℕ → ℕ → ℕ → Type 0
+IsShifted old new place removed inserted = (n : NodeId) (from : ℕ) → IsLandmark new n from → WasLandmark old place removed inserted n from
+
+-- The node was one of them. Where it began before the first place, or is the root, it begins there still; else it began at the second place or later,
+-- past the list's start, and begins by what lies between the places farther back, and so many items on.
+pub record WasKept (old : LandmarkRow) (root : NodeId) (from to len : ℕ) (n : NodeId) (start : ℕ) : Type 0 where
+  pub was : ℕ
+  pub landmark : IsLandmark old n was
+  pub kept : (((was < from) ⊎ (n ≡ root)) × (start ≡ was)) ⊎ ((to ≤ was) × (0 < was) × (start + (to - from) ≡ was + len))
+
+abbrev pub IsCut : LandmarkRow → LandmarkRow → NodeId → ℕ → ℕ → ℕ → Type 0
+IsCut old new root from to len = (n : NodeId) (start : ℕ) → IsLandmark new n start → WasKept old root from to len n start
+
+-- so many lengths end before a place, and the next one does not
+pub record EndBefore (gaps : List ℕ) (place count : ℕ) : Type 0 where
+  pub among : count ≤ length gaps
+  pub before : (j : ℕ) → j < count → sum (take (suc j) gaps) < place
+  pub after : (j : ℕ) → count ≤ j → j < length gaps → place ≤ sum (take (suc j) gaps)
+
+-- the first so many nodes stay where they are when those from a place on go: each begins before it, or is the root
+pub record Stay (nodes : List NodeId) (gaps : List ℕ) (root : NodeId) (from count : ℕ) : Type 0 where
+  pub among : count ≤ length gaps
+  pub begins : sum (take count gaps) ≤ from
+  pub each : (j : ℕ) (n : NodeId) → j < count → slice_index_or nodes j n ≡ n → (sum (take (suc j) gaps) < from) ⊎ (n ≡ root)
+
+-- The lengths from one up to another are gone, and what lies before the end of the one that stands there now is so many less and so many more.
+pub record IsClosedUp (old new : List ℕ) (low high less more : ℕ) : Type 0 where
+  pub count : length new + (high - low) ≡ length old
+  pub before : (j : ℕ) → j ≤ low → sum (take j new) ≡ sum (take j old)
+  pub after : (j : ℕ) → low < j → j ≤ length new → sum (take j new) + less ≡ sum (take (j + (high - low)) old) + more

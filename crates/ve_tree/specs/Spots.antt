@@ -4,12 +4,13 @@ use Rattle.model_items.specs.declared.plain_item.PlainItem.{PlainItem}
 use Rattle.model_items.specs.Tree.{node_at}
 use Rattle.ve_arena.specs.declared.node.NodeId.{NodeId}
 use Rattle.ve_arena.specs.declared.node.NodeWhat.{NodeWhat}
+use Rattle.ve_arena.specs.declared.node.NodeWhat.TheVariants as what
 use Rattle.ve_arena.specs.declared.node.ArenaNode.{ArenaNode}
 use Rattle.ve_tree.specs.declared.lookup.Spot.{Spot}
 use Rattle.ve_tree.specs.IsTree.{IsTree}
 use Rattle.ve_tree.specs.Places.{tree_places, IsNodeAt}
 
--- the child of a node begins `left` items before the offset, and ends after it
+-- the child of a node begins `left` items before the offset, and ends after it; a child that is no run begins at the offset
 pub record IsChildThere {slots : List (Option ArenaNode)} {root : NodeId} {items : List PlainItem} (tree : IsTree slots root items) (o : ℕ) (n child : NodeId) (left : ℕ) : Type 0 where
   pub sort : NodeWhat
   pub from : ℕ
@@ -17,6 +18,7 @@ pub record IsChildThere {slots : List (Option ArenaNode)} {root : NodeId} {items
   pub listed : Contains (tree_places tree) (record { number = child.0; parent = Some n.0; sort = sort; from = from; to = to })
   pub begins : from + left ≡ o
   pub ends : o < to
+  pub inside : 0 < left → sort ≡ what.Run
 
 -- how many items a node has after those inside it: its closing, and the root none
 abbrev pub closing_length : Option ℕ → ℕ

@@ -1,5 +1,5 @@
 // Building the tree of a list, from the list's end to its start, so that each node is made at its end and becomes the first child of its parent.
-ghost use Rattle.std.specs.Prelude.{◌≡◌, ◌≢◌, ◌+◌, ◌-◌, ◌≤◌, ◌<◌, None, IfOk, OnOk, IfSome, length};
+ghost use Rattle.std.specs.Prelude.{◌≡◌, ◌≢◌, ◌+◌, ◌-◌, ◌≤◌, ◌<◌, None, IfOk, OnOk, OnErr, IfSome, length};
 ghost use Rattle.model_items.specs.Law.{Lawful};
 ghost use Rattle.model_items.specs.Tree as forest;
 ghost use Rattle.ve_arena.specs.Arena.{slot_at, IsLive};
@@ -13,7 +13,7 @@ use ve_base::{Memory, Steps};
 use ve_items::Item;
 
 /// Makes a node, the first child of its parent, in at most five steps.
-fn make_first<L: Ledger>(
+pub(crate) fn make_first<L: Ledger>(
     arena: &mut Arena,
     what: NodeWhat,
     parent: NodeId,
@@ -24,8 +24,10 @@ fn make_first<L: Ledger>(
     requires next_apart { IfSome (first_in (slot_at arena.old parent.0)) (λ next. next.0 ≢ parent.0) }
     ensures vacant { IfOk result (λ n. slot_at arena.old n.0 ≡ None) }
     ensures made { IfOk result (λ n. MadeFirst (first_in (slot_at arena.old parent.0)) arena.old arena.new n.0 parent.0 what) }
+    ensures err { OnErr result (arena.new ≡ arena.old) }
     ensures counted { steps.old ≤ steps.new }
     ensures steps { steps.new ≤ steps.old + 5 }
+    ensures paid { OnOk result (steps.old + 5 ≤ steps.new) }
 {
     let first = arena.node(parent).first;
     let n = arena.make(what, steps)?;

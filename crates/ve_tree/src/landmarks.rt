@@ -1,6 +1,7 @@
 // Nodes whose places are known, so that a look-up can begin near its offset.
-ghost use Rattle.std.specs.Prelude.{◌≡◌, ◌≤◌, ◌<◌, ◌+◌, ◌^◌, [], None, IfSome, OnOk, OnErr, sum, length};
-ghost use Rattle.ve_tree.specs.Landmarks.{IsLandmark, IsLandmarkBefore, IsNumbered, HasSpace, IsShortened, HasOneMore};
+ghost use Rattle.std.specs.Prelude.{◌≡◌, ◌≤◌, ◌<◌, ◌+◌, ◌^◌, ◌++◌, [], None, IfSome, OnOk, OnErr, suc, sum, length, take, drop};
+ghost use Rattle.ve_tree.specs.Landmarks.{IsLandmark, IsLandmarkBefore, IsNumbered, HasSpace, IsShortened, HasOneMore, HasSpaceAfter, IsShifted};
+ghost use Rattle.ve_tree.specs.Landmarks.{IsCut, EndBefore, Stay, IsClosedUp};
 
 use crate::NodeId;
 use std::alloc::Global;
@@ -38,6 +39,61 @@ fn shorten(lens: &mut Lengths, k: usize, by: usize)
     prove!(total <= usize::MAX);
     if k < lens.len() {
         lens.shrink(k, by);
+    }
+}
+
+/// How many of some lengths, from the first on, end before a place.
+fn ends_before(lens: &Lengths, place: usize) -> usize
+    ensures { EndBefore lens.now.lens place result }
+{
+    if place == 0 {
+        return 0;
+    }
+    if lens.total() < place {
+        return lens.len();
+    }
+    let (k, _past) = lens.find(place - 1);
+    k
+}
+
+/// How many landmarks, from the first on, stay where they are when those from a place on go: those that begin
+/// before it; the root, if it is the first one, even at the list's start.
+fn staying(nodes: &[NodeId], gaps: &Lengths, root: NodeId, from: usize) -> usize
+    requires { length nodes.now ≡ length gaps.now.lens }
+    ensures { Stay nodes.now gaps.now.lens root from result }
+{
+    let low = ends_before(gaps, from);
+    if low == 0 && nodes.len() > 0 && nodes[0] == root && gaps.get(0) == 0 {
+        return 1;
+    }
+    low
+}
+
+/// Takes the nodes from one up to another out.
+fn cut_out(nodes: &mut Vec<NodeId>, from: usize, to: usize)
+    requires order { from ≤ to }
+    requires within { to ≤ length nodes.old.items }
+    ensures { nodes.new.items ≡ take from nodes.old.items ++ drop to nodes.old.items }
+{
+    let len = nodes.len();
+    nodes[from..].rotate_left(to - from);
+    nodes.truncate(len - (to - from));
+}
+
+/// Takes the lengths from one up to another out. The one after them ends where it did, but for so many places
+/// less and so many more.
+fn close_up(lens: &mut Lengths, low: usize, high: usize, less: usize, more: usize)
+    requires order { low ≤ high }
+    requires within { high ≤ length lens.old.lens }
+    requires long { high < length lens.old.lens → sum (take low lens.old.lens) + less ≤ sum (take (suc high) lens.old.lens) }
+    requires fits { sum lens.old.lens + more < 2 ^ 64 }
+    ensures { IsClosedUp lens.old.lens lens.new.lens low high less more }
+{
+    let gone = lens.start(high) - lens.start(low);
+    lens.take_out(low, high);
+    if low < lens.len() {
+        lens.grow(low, gone + more);
+        lens.shrink(low, less);
     }
 }
 
@@ -137,5 +193,37 @@ impl Landmarks {
         self.gaps.put_in(k, gap);
         rank_from(&mut self.ranks, &self.nodes, k);
         Ok(())
+    }
+
+    /// Moves those that begin after a place, `removed` items back and `inserted` on. Each of them begins
+    /// that far after the place at least, so none comes before another that it stood after. That there is a
+    /// gap for each node it knows itself.
+    pub fn shift(&mut self, from: usize, removed: usize, inserted: usize)
+        requires space { HasSpaceAfter self.old from removed }
+        requires fits { length self.old.nodes ≡ length self.old.gaps → sum self.old.gaps + inserted < 2 ^ 64 }
+        ensures { IsShifted self.old self.new from removed inserted }
+    {
+        if from < self.gaps.total() {
+            let (k, _past) = self.gaps.find(from);
+            self.gaps.shrink(k, removed);
+            self.gaps.grow(k, inserted);
+        }
+    }
+
+    /// Takes those out that begin from one place on and before another, and moves those that begin later: by
+    /// what lies between the two places back, and so many items on. The root stays. What else begins at the
+    /// list's start goes where the first place is there. That there is a gap for each node it knows itself.
+    /// Gives the number of the last one before the first place, from where the gap is to be filled again.
+    pub(crate) fn cut(&mut self, root: NodeId, from: usize, to: usize, len: usize) -> usize
+        requires order { from ≤ to }
+        requires fits { length self.old.nodes ≡ length self.old.gaps → sum self.old.gaps + len < 2 ^ 64 }
+        ensures { IsCut self.old self.new root from to len }
+    {
+        let low = staying(&self.nodes, &self.gaps, root, from);
+        let high = low.max(ends_before(&self.gaps, to.max(1)));
+        cut_out(&mut self.nodes, low, high);
+        close_up(&mut self.gaps, low, high, to - from, len);
+        rank_from(&mut self.ranks, &self.nodes, low);
+        low.saturating_sub(1)
     }
 }

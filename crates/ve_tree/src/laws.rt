@@ -2,6 +2,7 @@
 ghost use Rattle.ve_tree.specs.Fits.{TreeFits, FitsAreTree};
 ghost use Rattle.ve_tree.specs.Nodes.{LinksLeadToNodes, NodesAreInTree};
 ghost use Rattle.ve_tree.specs.Reads.{TreeIsRead, ReadIsTree, OneIsRead, OneNumbering};
+ghost use Rattle.ve_tree.specs.RunChange.{ShapesAreRead};
 
 /// Linked nodes are the tree of a list exactly where the list's tree is read under the root, by first child
 /// and next sibling, with parent, sibling before, last child and length agreeing, and no node stands besides.
@@ -27,4 +28,11 @@ pub fn children_lists_fit()
 pub fn nodes_are_linked()
     ensures links { LinksLeadToNodes }
     ensures nodes { NodesAreInTree }
+{}
+
+/// A tree is that of every list whose items have the same shapes in order: a character, or an opening or a
+/// closing of a kind. So it stays where characters, heads, marks, whitespace, origins or the flag generated
+/// change, and no item comes or goes.
+pub fn shapes_are_read()
+    ensures { ShapesAreRead }
 {}

@@ -1,8 +1,10 @@
-// Trees of whole pages, seen node by node, and a large page built within its bound of steps.
-ghost use Rattle.std.specs.Prelude.{◌≡◌, ◌≤◌, ◌+◌, ◌*◌, IfOk, IfSome};
+// Trees of whole pages, seen node by node, a large page built within its bound of steps, trees that are kept
+// while characters give way, and trees that are spliced, each way.
+ghost use Rattle.std.specs.Prelude.{◌≡◌, ◌≤◌, ◌+◌, ◌*◌, IfOk, IfSome, length, map, replicate};
 ghost use Rattle.model_items.specs.Law.{Lawful};
-ghost use Rattle.model_items.specs.Tree.{tree_of, node_count};
+ghost use Rattle.model_items.specs.Tree.{Letter, shape_of, tree_of, node_count};
 ghost use Rattle.ve_arena.specs.Arena.{IsLive};
+ghost use Rattle.ve_items.specs.Substitution.{spliced};
 ghost use Rattle.ve_tree.specs.IsTree.{IsTree, unvalued};
 ghost use Rattle.ve_tree.specs.TreeOf.{HasOffset};
 
@@ -12,14 +14,14 @@ use std::marker::Brand;
 use std::sync::ledger::{Blank, Ledger};
 use std::test::Fail;
 use ve_base::{Memory, Steps};
-use ve_items::Linear;
+use ve_items::{Item, Linear};
 use ve_kinds::Kind;
 use ve_lawful::check;
 use ve_samples::{closing, letter, list, opening};
 
 /// A node as it is seen from outside: how deep it stands, what it is, and where it begins and ends.
 #[derive(Clone, Copy, Debug, PartialEq, Eq)]
-struct NodeRow {
+pub(crate) struct NodeRow {
     depth: usize,
     what: NodeWhat,
     range: (usize, usize),
@@ -48,7 +50,7 @@ fn next_node(tree: &Tree, n: NodeId, depth: usize) -> Option<(NodeId, usize)>
 }
 
 /// All nodes of a tree, in the order of their starts.
-fn rows_of(alloc: Global, tree: &Tree) -> Result<Vec<NodeRow>, Memory>
+pub(crate) fn rows_of(alloc: Global, tree: &Tree) -> Result<Vec<NodeRow>, Memory>
     requires { HasOffset tree.now 0 }
 {
     let mut rows = Vec::new(alloc);
@@ -254,5 +256,179 @@ fn a_large_page_has_its_tree(rt: HostRuntime) -> Result<(), Fail> {
         walk_paragraphs::<Brand>(&rt, Blank::new(1), 20_000)?,
         expected
     );
+    Ok(())
+}
+
+/// Puts letters in the place of some characters of a page, and says whether the tree that is kept has the nodes
+/// of the tree that is built anew; none where the tree isn't kept.
+fn is_kept<L: Ledger>(
+    rt: &HostRuntime,
+    blank: Blank,
+    mut page: Linear,
+    at: usize,
+    removed: usize,
+    letters: &[Item],
+) -> Result<Option<bool>, Fail>
+    requires name { blank.name ≡ L.name }
+    requires parts { blank.parts ≡ L.parts }
+    requires one { blank.parts ≡ 1 }
+    requires letters { map shape_of (unvalued letters.now) ≡ replicate (length letters.now) Letter }
+{
+    let mut steps = Steps::<L>::start(rt, blank);
+    check(&page)?;
+    let mut tree = Tree::build(rt.alloc(), &page, &mut steps)?;
+    if at > page.len() {
+        return Ok(None);
+    }
+    let Some(change) = tree.run_change(at, removed, letters.len()) else {
+        return Ok(None);
+    };
+    page.splice(at, removed, letters)?;
+    check(&page)?;
+    tree.change_run(change, &mut steps);
+    let kept = rows_of(rt.alloc(), &tree)?;
+    let built = Tree::build(rt.alloc(), &page, &mut steps)?;
+    let rows = rows_of(rt.alloc(), &built)?;
+    Ok(Some(kept.as_slice() == rows.as_slice()))
+}
+
+#[test]
+fn a_nested_page_is_kept_while_letters_are_typed(rt: HostRuntime) -> Result<(), Fail> {
+    let page = list(rt.alloc(), "<ul><li><p>abc</p><p>x</p></li></ul><p>b</p>")?;
+    let typed = [letter('x'), letter('y')];
+    let kept = is_kept::<Brand>(&rt, Blank::new(1), page, 4, 1, &typed)?;
+    assert!(rt; kept == Some(true));
+    Ok(())
+}
+
+#[test]
+fn a_letter_after_the_end_of_a_run_is_its_last(rt: HostRuntime) -> Result<(), Fail> {
+    let page = list(rt.alloc(), "<p>ab<br>c</p><p>b</p>")?;
+    let typed = [letter('x')];
+    let kept = is_kept::<Brand>(&rt, Blank::new(1), page, 3, 0, &typed)?;
+    assert!(rt; kept == Some(true));
+    Ok(())
+}
+
+#[test]
+fn letters_of_a_run_are_erased(rt: HostRuntime) -> Result<(), Fail> {
+    let page = list(rt.alloc(), "<ul><li><p>abc</p></li></ul><p>b</p>")?;
+    let kept = is_kept::<Brand>(&rt, Blank::new(1), page, 3, 2, &[])?;
+    assert!(rt; kept == Some(true));
+    Ok(())
+}
+
+#[test]
+fn landmarks_behind_a_run_move(rt: HostRuntime) -> Result<(), Fail> {
+    let page = paragraphs(rt.alloc(), 300)?;
+    let typed = [letter('x'), letter('y'), letter('z')];
+    let kept = is_kept::<Brand>(&rt, Blank::new(1), page, 4, 1, &typed)?;
+    assert!(rt; kept == Some(true));
+    Ok(())
+}
+
+#[test]
+fn a_run_that_would_go_is_not_kept(rt: HostRuntime) -> Result<(), Fail> {
+    let page = list(rt.alloc(), "<p>ab</p>")?;
+    let kept = is_kept::<Brand>(&rt, Blank::new(1), page, 1, 2, &[])?;
+    assert!(rt; kept.is_none());
+    Ok(())
+}
+
+/// Whether two trees have the same nodes.
+fn have_same_rows(alloc: Global, one: &Tree, other: &Tree) -> Result<bool, Memory>
+    requires one { HasOffset one.now 0 }
+    requires other { HasOffset other.now 0 }
+{
+    let ones = rows_of(alloc, one)?;
+    let others = rows_of(alloc, other)?;
+    Ok(ones.as_slice() == others.as_slice())
+}
+
+/// Whether the tree of a page, spliced, has the nodes of the tree of the page after it.
+fn spliced_rows<L: Ledger>(
+    alloc: Global,
+    page: &Linear,
+    after: &Linear,
+    at: usize,
+    removed: usize,
+    items: &[Item],
+    steps: &mut Steps<L>,
+) -> Result<bool, Memory>
+    requires lawful { Lawful (unvalued page.now.items) }
+    requires range { at + removed ≤ length page.now.items }
+    requires after { after.now.items ≡ spliced page.now.items at removed items.now }
+    requires still { Lawful (unvalued after.now.items) }
+{
+    let mut tree = Tree::build(alloc, page, steps)?;
+    tree.splice(alloc, page, at, removed, items, steps)?;
+    let built = Tree::build(alloc, after, steps)?;
+    have_same_rows(alloc, &tree, &built)
+}
+
+/// Puts items in the place of some of a page, and says whether the tree that is spliced has the nodes of the tree
+/// that is built anew. There have to be so many items.
+fn is_spliced<L: Ledger>(
+    rt: &HostRuntime,
+    blank: Blank,
+    page: &Linear,
+    at: usize,
+    removed: usize,
+    items: &[Item],
+) -> Result<bool, Fail>
+    requires name { blank.name ≡ L.name }
+    requires parts { blank.parts ≡ L.parts }
+    requires one { blank.parts ≡ 1 }
+{
+    if at > page.len() || removed > page.len() - at {
+        return Ok(false);
+    }
+    check(page)?;
+    let mut after = page.copy(rt.alloc())?;
+    after.splice(at, removed, items)?;
+    check(&after)?;
+    let mut steps = Steps::<L>::start(rt, blank);
+    Ok(spliced_rows(rt.alloc(), page, &after, at, removed, items, &mut steps)?)
+}
+
+#[test]
+fn items_of_the_same_shapes_come(rt: HostRuntime) -> Result<(), Fail> {
+    let page = list(rt.alloc(), "<p>ab</p><h1>c</h1>")?;
+    let items = [letter('x'), closing(Kind::P)];
+    let spliced = is_spliced::<Brand>(&rt, Blank::new(1), &page, 2, 2, &items)?;
+    assert!(rt; spliced);
+    Ok(())
+}
+
+#[test]
+fn letters_come_into_a_run(rt: HostRuntime) -> Result<(), Fail> {
+    let page = list(rt.alloc(), "<ul><li><p>abc</p></li></ul><p>b</p>")?;
+    let typed = [letter('x'), letter('y')];
+    let spliced = is_spliced::<Brand>(&rt, Blank::new(1), &page, 4, 1, &typed)?;
+    assert!(rt; spliced);
+    Ok(())
+}
+
+#[test]
+fn a_paragraph_is_split(rt: HostRuntime) -> Result<(), Fail> {
+    let page = list(rt.alloc(), "<p>a</p><ul><li><p>xy</p></li></ul><p>b</p>")?;
+    let split = [closing(Kind::P), opening(Kind::P)];
+    let spliced = is_spliced::<Brand>(&rt, Blank::new(1), &page, 7, 0, &split)?;
+    assert!(rt; spliced);
+    Ok(())
+}
+
+#[test]
+fn a_page_gives_way_to_another(rt: HostRuntime) -> Result<(), Fail> {
+    let page = list(rt.alloc(), "<p>a</p><ul><li><p>xy</p></li></ul>")?;
+    let items = [
+        opening(Kind::P),
+        letter('x'),
+        closing(Kind::P),
+        opening(Kind::TransBlock),
+        closing(Kind::TransBlock),
+    ];
+    let spliced = is_spliced::<Brand>(&rt, Blank::new(1), &page, 0, 11, &items)?;
+    assert!(rt; spliced);
     Ok(())
 }

@@ -27,7 +27,7 @@ use ve_kinds::Kind;
 pub struct Tree {
     pub arena: Arena,
     pub root: NodeId,
-    landmarks: Landmarks,
+    pub(crate) landmarks: Landmarks,
 }
 
 impl Tree {

@@ -72,10 +72,27 @@ impl<'a> Unread<'a> {
         ensures items { result.items ≡ spliced list.now.items at removed items.now }
         ensures left { result.left ≡ len }
     {
-        let lent: &[Item] = if len == 0 {
+        Unread::up_to(list, at, removed, items, len)
+    }
+
+    /// The same list, of which only so many items are to be read, from there to its start.
+    pub fn up_to(
+        list: &'a Linear,
+        at: usize,
+        removed: usize,
+        items: &'a [Item],
+        left: usize,
+    ) -> Unread<'a>
+        requires counted { length list.now.items < 2 ^ 64 }
+        requires range { at + removed ≤ length list.now.items }
+        requires within { left ≤ length (spliced list.now.items at removed items.now) }
+        ensures items { result.items ≡ spliced list.now.items at removed items.now }
+        ensures left { result.left ≡ left }
+    {
+        let lent: &[Item] = if left == 0 {
             &[]
         } else {
-            end_of(list, at, removed, items, len)
+            end_of(list, at, removed, items, left)
         };
         Unread {
             list,
@@ -83,7 +100,7 @@ impl<'a> Unread<'a> {
             removed,
             items,
             lent,
-            left: len,
+            left,
         }
     }
 

@@ -65,7 +65,7 @@ fn body_text(alloc: Global, list: &Linear, store: &Store, at: usize) -> Result<T
     let mut spelled = Bytes::new(alloc);
     put_body(alloc, &mut spelled, list, store, at)?;
     let Ok(text) = std::str::from_utf8(spelled.as_slice()) else {
-        return Err(Memory);
+        unreachable!()
     };
     Ok(Text::from_str(alloc, text)?)
 }

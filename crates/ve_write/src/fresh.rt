@@ -1,5 +1,5 @@
 // Lists that are written afresh.
-ghost use Rattle.std.specs.Prelude.{◌≡◌, ◌++◌, true, OnOk, OnErr};
+ghost use Rattle.std.specs.Prelude.{◌≡◌, ◌++◌, true, OnOk, OnErr, IsUtf8};
 ghost use Rattle.model_items.specs.Law.{Lawful};
 ghost use Rattle.model_items.specs.Plain.{plain_list};
 ghost use Rattle.model_page.specs.Editable.{all_refer};
@@ -27,6 +27,7 @@ pub fn write_fresh(
     requires lawful { Lawful (plain_list store.now list.now.items) }
     ensures ok { OnOk result (out.new ≡ out.old ++ fresh (plain_list store.now list.now.items)) }
     ensures err { OnErr result (out.new ≡ out.old) }
+    ensures utf8 { OnOk result (IsUtf8 out.old → IsUtf8 out.new) }
 {
     let refs = table(alloc, list, store)?;
     let texts = body_texts(alloc, list, store, &refs)?;

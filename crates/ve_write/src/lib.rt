@@ -5,9 +5,8 @@
 //! - `write_fresh` appends the nodes of a list without origins: model_page_write's `fresh`.
 //!
 //! `BodyTexts` in specs/ serves private functions: it says by the rows of the table of references which text
-//! is carried where. What is written is read as UTF-8 before it is kept as a body; a text that weren't would
-//! be answered as a want of memory. There are no laws here: that what is written is read back is
-//! model_page_law's.
+//! is carried where. What is appended is UTF-8, so each body is kept as a text. There are no laws here: that what
+//! is written is read back is model_page_law's.
 #![tactic(auto)]
 
 mod bodies;

@@ -7,6 +7,8 @@
 #![tactic(auto)]
 
 mod adapters;
+#[cfg(test)]
+mod tests;
 
 ghost use Rattle.std.specs.Prelude.{◌≡◌};
 

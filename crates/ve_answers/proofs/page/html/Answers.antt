@@ -1,4 +1,5 @@
-use Rattle.std.proofs.Common.{[], ap, ◌∙◌}
+use Rattle.std.proofs.Common.{[], ap, ◌∙◌, IsUtf8, sym, subst}
+use Rattle.std.proofs.lemmas.Str.{IsUtf8-nil}
 use Rattle.model_items.proofs.VerdictLemmas.{verdict_reads_no_values}
 use Rattle.model_page_write.specs.PageText.{write}
 use Rattle.model_world.specs.declared.reply.Reply.TheVariants as reply
@@ -13,6 +14,10 @@ write-requires-clause-cites c = cites_each c.args.doc.store.now c.args.doc.list.
 
 pub write-requires-clause-lawful : goal.write-requires-clause-lawful
 write-requires-clause-lawful c = verdict_reads_no_values c.args.doc.store.now [] c.args.doc.list.now.items ∙ c.requires.doc.links.lawful
+
+pub unreachable-requires : goal.unreachable-requires
+unreachable-requires c =
+    c.in_default.ensures.cases.0 (subst IsUtf8 (sym c.as_slice.ensures) (c.in_ok-write.ensures.utf8 (subst IsUtf8 (sym c.new-written.ensures) IsUtf8-nil)))
 
 pub returns-clause-reply : goal.returns-clause-reply
 returns-clause-reply c =

@@ -14,7 +14,9 @@ use Rattle.ve_tx.specs.Operation.{by_value}
 use Rattle.ve_tx.specs.declared.change.Change.{Change}
 use Rattle.ve_editor.specs.Edited.{drafted}
 use Rattle.ve_editor.specs.Page.{page_of}
-use Rattle.ve_editor.specs.Prepared.{HasTree}
+use Rattle.ve_editor.specs.Prepared.{WillBe}
+use Rattle.ve_tree.specs.IsTree.{unvalued}
+use Rattle.ve_tree.specs.TreeOf.{IsTreeOf}
 use Rattle.ve_editor.specs.Refusal.{IsEditRefusal, list_cause}
 use Rattle.ve_editor.proofs.CauseLemmas.{refused_by_tx, refused_as, cause_of_list}
 use Rattle.ve_editor.proofs.GrownLemmas as grown
@@ -95,19 +97,17 @@ returns-in-Ok-with_entry-clause-ok g c =
     let list = c.change.new.list in
     let change = c.in-Ok-change.change in
     let t = drafted store d in
-    let ready = c.in-Ok-with_entry.ready in
+    let tree = c.with_entry.new.tree in
     let same = c.in-Ok-change.ensures.items in
     let over = grown.over_taken store d c.requires.draft c.len-before.ensures.distinct taken c.in-Ok.ensures.ok items c.requires.page.cites in
     let made = grown.apply_ok t (plain_list store items) (plain_after new items change) (sym (over apply) ∙ c.in-Ok-change.ensures.applied) in
     let extends = grown.all_extends store d c.requires.draft c.len-before.ensures.distinct taken c.in-Ok.ensures.ok items c.requires.page.cites new c.in-Ok-change.ensures.store in
-    let P : List Item → Type 0 = λ l. HasTree l ready.prepared in
-    let tree = subst P same c.in-Ok-with_entry.ensures.tree in
     let filled_new = grown.over_new store d c.requires.draft c.len-before.ensures.distinct taken c.in-Ok.ensures.ok items c.requires.page.cites new c.in-Ok-change.ensures.store filled in
     record {
       applies = subst (λ l. Applies t (plain_list store l)) (sym same) made.0;
       allowed = subst (λ (ch : Change). list_cause (spliced_by list.items ch) (length new) ≡ None) (sym c.in-Ok-with_entry.ensures.change) c.in_ok-may_become.ensures.ok;
-      change = will_be t store new list items change ready.prepared same c.in-Ok-with_entry.ensures.change made.1 extends c.requires.page.cites c.in-Ok-change.ensures.cites
-          c.in-Ok-change.ensures.within c.in-Ok-change.ensures.room tree;
+      change = subst (WillBe t store new list tree) (sym c.in-Ok-with_entry.ensures.change) (will_be t store new list items tree change same made.1 extends c.requires.page.cites c.in-Ok-change.ensures.cites
+          c.in-Ok-change.ensures.within c.in-Ok-change.ensures.room c.in-Ok-with_entry.ensures.tree);
       store = grown.new_store store d c.requires.draft c.len-before.ensures.distinct taken c.in-Ok.ensures.ok items c.requires.page.cites new c.in-Ok-change.ensures.store
           ∙ ap (λ l. fill store (brought t (plain_list store l))) (sym same);
       txs = c.in-Ok-with_entry.ensures.txs ∙ ap (λ l. filled (by_value new d.tx) (plain_list new l) ∷ []) same ∙ ap (λ f. f ∷ []) filled_new
@@ -148,3 +148,6 @@ returns-in-Err-with_entry-clause-steps g c =
     let made = grown.apply_ok (drafted store c.args.draft.now) (plain_list store items) (plain_after new items change) (sym (over apply) ∙ c.in-Ok-change.ensures.applied) in
     steps_within new (spliced_by c.change.new.list.items change) (edited (drafted store c.args.draft.now) (plain_list store items)) _ _
     (ap (λ l. plain_after new l change) c.in-Ok-change.ensures.items ∙ made.1) c.with_entry.ensures.steps
+
+pub with_entry-requires-clause-tree : goal.with_entry-requires-clause-tree
+with_entry-requires-clause-tree g c = subst (λ l. IsTreeOf c.args.tree.now (unvalued l)) (sym c.in-Ok-change.ensures.items) c.requires.page.tree

@@ -36,8 +36,8 @@ ready_back-requires-clause-lawful g c =
     let over = other.over_own c.args.values.now c.args.store.now c.recite.new.store c.args.tx.now c.in_ok-own.own c.args.list.now.items c.requires.list c.in_ok-own.ensures.filled c.in_ok-own.ensures.same in
     subst Lawful (sym (over edited)) c.requires.lawful
 
-pub returns-in_err-prepared-clause-extends : goal.returns-in_err-prepared-clause-extends
-returns-in_err-prepared-clause-extends g c =
+pub returns-in_err-change-clause-extends : goal.returns-in_err-change-clause-extends
+returns-in_err-change-clause-extends g c =
     extends_on c.args.store.now c.recite.new.store c.ready_back.new.store
     (other.own_extends c.args.values.now c.args.store.now c.recite.new.store c.args.tx.now c.in_ok-own.own c.args.list.now.items c.requires.list c.in_ok-own.ensures.filled c.in_ok-own.ensures.same)
     c.ready_back.ensures.extends
@@ -57,11 +57,11 @@ returns-clause-ok g c =
     let reduced : is_reduced (by_value values c.args.tx.now) ≡ true = normal-reduced (by_value values c.args.tx.now) (c.ops-ops.ensures.normal values) in
     let has = other.has_removed values store taken c.args.tx.now c.in_ok-own.own items c.requires.list c.in_ok-own.ensures.filled c.in_ok-own.ensures.same reduced c.requires.applies in
     other.ready_is values store taken c.args.tx.now c.in_ok-own.own items c.requires.list c.in_ok-own.ensures.filled c.in_ok-own.ensures.same (c.in_ok-own.ensures.inserted has)
-    c.ready_back.new.store c.ready_back.new.list (record { txs = c.in_ok-txs.txs; prepared = c.in_ok-prepared.prepared }) c.ready_back.ensures.items c.in_ok-prepared.ensures.ok
+    c.ready_back.new.store c.ready_back.new.list c.ready_back.new.tree (record { txs = c.in_ok-txs.txs; change = c.in_ok-change.change }) c.ready_back.ensures.items c.in_ok-change.ensures.ok
     c.in_ok-txs.ensures.txs c.in_ok-txs.ensures.cites
 
-pub returns-in_err-prepared-clause-steps : goal.returns-in_err-prepared-clause-steps
-returns-in_err-prepared-clause-steps g c =
+pub returns-in_err-change-clause-steps : goal.returns-in_err-change-clause-steps
+returns-in_err-change-clause-steps g c =
     let over = other.over_own c.args.values.now c.args.store.now c.recite.new.store c.args.tx.now c.in_ok-own.own c.args.list.now.items c.requires.list c.in_ok-own.ensures.filled c.in_ok-own.ensures.same in
     subst (λ l. c.ready_back.new.steps ≤ c.args.steps.now + most_steps l) (over edited) c.ready_back.ensures.steps
 

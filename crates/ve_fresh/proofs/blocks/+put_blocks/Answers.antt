@@ -47,7 +47,8 @@ sibling-preserved-in-Some-nest_at t c =
           (λ w v. blocks_at w v items false after.at) c.sibling.invariant.text
           (subst (λ o. GoesOn (known_of c.args.page) o c.put_closing.new.out (λ w v. blocks_at w v items c.sibling.before c.sibling.at) (λ w v. blocks_at w v items false after.at)) (none_then c.in_ok-step.field-0 c.in_default.not-Some c.in_ok-step.ensures.none)
           (nest_put (known_of c.args.page) c.sibling.at c.in-Some-nest_at.element.kind e.0 c.in-Some-nest_at.element.head e.1 c.in-Some-nest_at.element.pre e.2 c.sibling.before c.in_ok-end.end after c.put_kept.new.out _ _ _
-          e.3 (nests_is _ c.in-Some-nest_at.ensures.kind) (none_then c.in_ok-step.field-0 c.in_default.not-Some c.in_ok-step.ensures.afresh) c.in_ok-end.ensures.ends c.after_siblings-after.ensures.follows c.in_ok-put_opening.ensures c.in_ok-end.ensures.text c.in_ok-put_closing.ensures));
+          e.3 (nests_is _ c.in-Some-nest_at.ensures.kind) (none_then c.in_ok-step.field-0 c.in_default.not-Some c.in_ok-step.ensures.afresh) c.in_ok-end.ensures.ends c.after_siblings-after.ensures.follows c.in_ok-put_opening.ensures.text c.in_ok-end.ensures.text c.in_ok-put_closing.ensures.text));
+      utf8 = λ u. c.in_ok-put_closing.ensures.utf8 (c.in_ok-end.ensures.utf8 (c.in_ok-put_opening.ensures.utf8 (c.in_ok-step.ensures.utf8 (c.sibling.invariant.utf8 u))));
     }
 
 pub returns-clause-ends : goal.returns-clause-ends

@@ -1,4 +1,4 @@
-use Rattle.std.proofs.Common.{◌-◌, ◌≤◌, false, length}
+use Rattle.std.proofs.Common.{◌-◌, ◌≤◌, false, length, IsUtf8}
 use Rattle.ve_nodes.specs.Siblings.{SameOuter}
 use Rattle.ve_fresh.specs.Told.{blocks_at, known_of, GoesOn}
 use Rattle.ve_fresh.proofs.blocks.+put_blocks.Given as goal
@@ -12,6 +12,7 @@ invariant-sibling l = record {
   within : l.at ≤ length l.page.list.now.items;
   outer : SameOuter l.page.list.now.items l.from l.at;
   text : GoesOn (known_of l.page) l.initial.out l.out (λ w v. blocks_at w v l.page.list.now.items false l.from) (λ w v. blocks_at w v l.page.list.now.items l.before l.at);
+  utf8 : IsUtf8 l.initial.out → IsUtf8 l.out;
 }
 
 abbrev pub decreases-sibling : goal.decreases-sibling

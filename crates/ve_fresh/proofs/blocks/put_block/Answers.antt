@@ -23,7 +23,7 @@ returns-in_ok-put_letter-in-Char-clause-outer c = char_outer c.args.page.list.no
 
 pub returns-in_ok-put_letter-in-Char-clause-text :
     goal.returns-in_ok-put_letter-in-Char-clause-text
-returns-in_ok-put_letter-in-Char-clause-text c = char_block (known_of c.args.page) c.args.at c.in-Char.ch _ c.args.before c.args.out.now _ c.in-Char.ensures c.in_ok-put_letter-in-Char.ensures
+returns-in_ok-put_letter-in-Char-clause-text c = char_block (known_of c.args.page) c.args.at c.in-Char.ch _ c.args.before c.args.out.now _ c.in-Char.ensures c.in_ok-put_letter-in-Char.ensures.text
 
 pub returns-in_ok-put_single-in-Opening-clause-outer :
     goal.returns-in_ok-put_single-in-Opening-clause-outer
@@ -35,4 +35,4 @@ pub returns-in_ok-put_single-in-Opening-clause-text :
 returns-in_ok-put_single-in-Opening-clause-text c =
     single_put (known_of c.args.page) c.args.at c.in-Opening.kind _ c.in-Opening.head _ c.in-Opening.pre _ c.args.before c.siblings_end-end.result c.after_siblings.result c.args.out.now _ _
     c.in-Opening.ensures (sym c.is_content_branch.ensures ∙ c.if-is_content_branch.false) (sym (nests_found c.args.page.list.now.items c.args.at _ c.in-Opening.ensures) ∙ c.requires.nests) c.requires.afresh
-    c.siblings_end-end.ensures.end c.after_siblings.ensures.follows c.in_ok-put_white-in-Opening.ensures c.in_ok-put_single-in-Opening.ensures
+    c.siblings_end-end.ensures.end c.after_siblings.ensures.follows c.in_ok-put_white-in-Opening.ensures.text c.in_ok-put_single-in-Opening.ensures.text

@@ -28,4 +28,4 @@ returns-clause-text c =
     let e = c.requires.item in
     branch_put (known_of c.args.page) c.args.at c.args.element.kind e.0 c.args.element.head e.1 c.args.element.pre e.2 c.args.before c.in_ok-bare.bare
     c.in_ok-end.end c.after_siblings-after.result c.args.out.now _ _ _ e.3 c.requires.branch c.requires.afresh c.in_ok-end.ensures.ends c.after_siblings-after.ensures.follows c.in_ok-bare.ensures
-    c.in_ok-put_opening.ensures c.in_ok-end.ensures.text c.in_ok-put_closing.ensures
+    c.in_ok-put_opening.ensures.text c.in_ok-end.ensures.text c.in_ok-put_closing.ensures.text

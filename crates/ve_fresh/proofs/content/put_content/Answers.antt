@@ -16,4 +16,4 @@ returns-clause-ends c = ends_here c.args.page.list.now.items c.args.from c.loop-
 pub returns-clause-text : goal.returns-clause-text
 returns-clause-text c =
     content_done (known_of c.args.page) c.loop-out.at _ c.args.out.now c.loop-out.out _ (λ w v. content_at w v c.args.page.list.now.items [] c.args.from) (sym c.ends_at.ensures ∙ c.loop-out-test.false)
-    c.loop-out.invariant.text (changed_is c.loop-out.out _ _ _ _ _ c.in_ok-change_marks.ensures c.marks_of.ensures refl)
+    c.loop-out.invariant.text (changed_is c.loop-out.out _ _ _ _ _ c.in_ok-change_marks.ensures.text c.marks_of.ensures refl)

@@ -1,4 +1,4 @@
-use Rattle.std.proofs.Common.{◌-◌, ◌≤◌, [], length}
+use Rattle.std.proofs.Common.{◌-◌, ◌≤◌, [], length, IsUtf8}
 use Rattle.model_items.specs.Plain.{value_at, marks_in, CitesMarks}
 use Rattle.ve_nodes.specs.Siblings.{SameOuter}
 use Rattle.ve_fresh.specs.Told.{content_at, known_of, GoesOn}
@@ -12,6 +12,7 @@ invariant-loop-out l = record {
   outer : SameOuter l.page.list.now.items l.from l.at;
   text : GoesOn (known_of l.page) l.initial.out l.out (λ w v. content_at w v l.page.list.now.items [] l.from)
       (λ w v. content_at w v l.page.list.now.items (marks_in (value_at l.page.store.now l.opened)) l.at);
+  utf8 : IsUtf8 l.initial.out → IsUtf8 l.out;
 }
 
 abbrev pub decreases-loop-out : goal.decreases-loop-out

@@ -33,7 +33,7 @@ returns-in_ok-put_letter-in-Char-clause-outer c = char_outer c.args.page.list.no
 pub returns-in_ok-put_letter-in-Char-clause-text :
     goal.returns-in_ok-put_letter-in-Char-clause-text
 returns-in_ok-put_letter-in-Char-clause-text c =
-    char_put (known_of c.args.page) c.args.at c.in-Char.ch c.args.opened c.in-Char.marks c.args.out.now _ _ c.in-Char.ensures c.in_ok-change_cited-in-Char.ensures c.in_ok-put_letter-in-Char.ensures
+    char_put (known_of c.args.page) c.args.at c.in-Char.ch c.args.opened c.in-Char.marks c.args.out.now _ _ c.in-Char.ensures c.in_ok-change_cited-in-Char.ensures.text c.in_ok-put_letter-in-Char.ensures.text
 
 pub returns-in_ok-put_inline_leaf-in-Opening-clause-opened :
     goal.returns-in_ok-put_inline_leaf-in-Opening-clause-opened
@@ -48,4 +48,4 @@ pub returns-in_ok-put_inline_leaf-in-Opening-clause-text :
     goal.returns-in_ok-put_inline_leaf-in-Opening-clause-text
 returns-in_ok-put_inline_leaf-in-Opening-clause-text c =
     leaf_put (known_of c.args.page) c.args.at c.in-Opening.kind _ c.in-Opening.head c.in-Opening.marks _ _ c.args.opened c.siblings_end-end.result c.after_siblings.result c.args.out.now _ _
-    c.in-Opening.ensures c.siblings_end-end.ensures.end c.after_siblings.ensures.follows c.in_ok-change_cited-in-Opening.ensures c.in_ok-put_inline_leaf-in-Opening.ensures
+    c.in-Opening.ensures c.siblings_end-end.ensures.end c.after_siblings.ensures.follows c.in_ok-change_cited-in-Opening.ensures.text c.in_ok-put_inline_leaf-in-Opening.ensures.text

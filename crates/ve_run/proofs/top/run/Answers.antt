@@ -3,7 +3,7 @@ use Rattle.std.specs.Option.{IfSome}
 use Rattle.ve_run.specs.declared.stop.Stop.{Stop}
 use Rattle.ve_run.specs.declared.stop.Stop.TheVariants.{Memory, ReadFault, WriteFault, InputTooLong}
 use Rattle.model_script.specs.Output.{Meaning}
-use Rattle.ve_json.specs.SoFar.{SoFar}
+use Rattle.model_world.specs.declared.reply.Reply.{Reply}
 use Rattle.ve_base.specs.Limits.{max_script}
 use Rattle.ve_run.specs.Run.{Scene, Took, Stopped, Broke, Starved, WrotePrefix}
 use Rattle.ve_run.specs.declared.status.Status.{Status}
@@ -19,13 +19,13 @@ by_cause P ReadFault m r w l = r refl
 by_cause P WriteFault m r w l = w refl
 by_cause P InputTooLong m r w l = l refl
 
-prefix_at_stop : {W : Type 0} (m : Meaning W SoFar) (left_before left : Option (List ℕ)) (a b : Scene W) (extra : List ℕ) → Stopped m left_before left a b extra → WrotePrefix m left_before left a b
+prefix_at_stop : {W : Type 0} (m : Meaning W Reply) (left_before left : Option (List ℕ)) (a b : Scene W) (extra : List ℕ) → Stopped m left_before left a b extra → WrotePrefix m left_before left a b
 prefix_at_stop m left_before left a b extra h = record { script = h.script; extra = extra; took = h.took; written = AppendsPrefix-answered m a b h.script h.rest h.answered }
 
-prefix_at_fault : {W : Type 0} (m : Meaning W SoFar) (left_before left : Option (List ℕ)) (a b : Scene W) → Broke m left_before left a b → WrotePrefix m left_before left a b
+prefix_at_fault : {W : Type 0} (m : Meaning W Reply) (left_before left : Option (List ℕ)) (a b : Scene W) → Broke m left_before left a b → WrotePrefix m left_before left a b
 prefix_at_fault m left_before left a b h = record { script = h.script; extra = h.extra; took = h.took; written = AppendsPrefix-broke_off m a b h.script _ h.broke_off }
 
-prefix_at_want : {W : Type 0} (m : Meaning W SoFar) (left_before left : Option (List ℕ)) (a b : Scene W) → Starved m left_before left a b → WrotePrefix m left_before left a b
+prefix_at_want : {W : Type 0} (m : Meaning W Reply) (left_before left : Option (List ℕ)) (a b : Scene W) → Starved m left_before left a b → WrotePrefix m left_before left a b
 prefix_at_want m left_before left a b h = record { script = h.script; extra = h.extra; took = h.took; written = AppendsPrefix-gave_up m a b h.script h.gave_up }
 
 pub returns-in-Err-run_script-clause-prefix : goal.returns-in-Err-run_script-clause-prefix
@@ -51,7 +51,7 @@ if_known None P f = tt
 if_known (Some s) P f = f s refl
 
 -- where nothing failed, only a script that is too long or want of memory stops a run
-ends_by_length : {W : Type 0} (m : Meaning W SoFar) (left_before left : Option (List ℕ)) (a b : Scene W) (script : List ℕ) (status : Status) (stop : Stop) → status ≡ status_of stop → left_before ≡ Some script
+ends_by_length : {W : Type 0} (m : Meaning W Reply) (left_before left : Option (List ℕ)) (a b : Scene W) (script : List ℕ) (status : Status) (stop : Stop) → status ≡ status_of stop → left_before ≡ Some script
     → (stop ≡ ReadFault → ⊥) → (stop ≡ WriteFault → ⊥) → (stop ≡ InputTooLong → (x : ℕ) × Stopped m left_before left a b (x ∷ [])) → EndsByLength script status
 ends_by_length m left_before left a b script status Memory e known reads writes past = record { whole = λ _. inr e; too_long = λ _. inr e }
 ends_by_length m left_before left a b script status ReadFault e known reads writes past = absurd (reads refl)

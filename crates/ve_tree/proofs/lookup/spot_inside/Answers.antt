@@ -50,7 +50,7 @@ returns-then-left-eq0 c = λ items tree.
           c.node-node.ensures c.if-node-left.false (λ some. absurd (omega (arith, c.if-left-eq0.true, some)));
       next = walk_next tree c.args.o c.loop-next.inner c.in-Some-next.child c.loop-next.left c.node-node.result.now
           (subst (λ next. Walk tree c.args.o c.loop-next.inner.0 next c.loop-next.left) c.in-Some-next.is (c.loop-next.invariant items tree))
-          c.node-node.ensures (omega (arith, c.if-node-left.false));
+          c.node-node.ensures (omega (arith, c.if-node-left.false)) (λ some. absurd (omega (arith, c.if-left-eq0.true, some)));
     }
 
 pub returns-in-Run : goal.returns-in-Run
@@ -62,7 +62,7 @@ returns-in-Run c = λ items tree.
           c.node-node.ensures c.if-node-left.false (λ some. c.in-Run.is);
       next = walk_next tree c.args.o c.loop-next.inner c.in-Some-next.child c.loop-next.left c.node-node.result.now
           (subst (λ next. Walk tree c.args.o c.loop-next.inner.0 next c.loop-next.left) c.in-Some-next.is (c.loop-next.invariant items tree))
-          c.node-node.ensures (omega (arith, c.if-node-left.false));
+          c.node-node.ensures (omega (arith, c.if-node-left.false)) (λ some. c.in-Run.is);
     }
 
 pub loop-next-preserved : goal.loop-next-preserved

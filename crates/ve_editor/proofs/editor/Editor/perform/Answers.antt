@@ -12,24 +12,24 @@ use Rattle.ve_editor.proofs.editor.Editor.perform.Goals as goal
 pub returns-in-Ok-clause-allowed : goal.returns-in-Ok-clause-allowed
 returns-in-Ok-clause-allowed g c =
     ap (λ (r : Replica). edit_cause (drafted r.store c.args.draft.now) r) (sym c.self.view_is)
-    ∙ allowed_is c.args.draft.now c.self.inside.store c.ready.new.store c.self.inside.list.items c.self.inside.selection c.ready.new.list c.in-Ok.performing c.in-Ok.ensures.ok c.in-Ok.ensures.items
+    ∙ allowed_is c.args.draft.now c.self.inside.store c.ready.new.store c.self.inside.list.items c.self.inside.selection c.ready.new.list c.ready.new.tree c.in-Ok.performing c.in-Ok.ensures.ok c.in-Ok.ensures.items
 
 pub returns-in-Ok-clause-page : goal.returns-in-Ok-clause-page
 returns-in-Ok-clause-page g c =
-    performed_is c.args.draft.now c.self.inside.store c.ready.new.store c.self.inside.list.items c.self.inside.selection c.ready.new.list c.in-Ok.performing c.in-Ok.ensures.ok c.in-Ok.ensures.items
-    c.commit.new.list.items c.moved-self-inside.result c.commit.ensures.items
+    performed_is c.args.draft.now c.self.inside.store c.ready.new.store c.self.inside.list.items c.self.inside.selection c.ready.new.list c.ready.new.tree c.in-Ok.performing c.in-Ok.ensures.ok c.in-Ok.ensures.items
+    c.commit.new.list.items c.moved-self-inside.result c.commit.ensures
     (c.moved-self-inside.ensures c.ready.new.store (drafted_values c.self.inside.store c.args.draft.now))
     ∙ ap (λ (r : Replica). performed (drafted r.store c.args.draft.now) r) c.self.view_is
 
 pub returns-in-Ok-clause-entry : goal.returns-in-Ok-clause-entry
 returns-in-Ok-clause-entry g c =
-    entry_is c.args.draft.now c.self.inside.store c.ready.new.store c.self.inside.list.items c.self.inside.selection c.ready.new.list c.in-Ok.performing c.in-Ok.ensures.ok c.in-Ok.ensures.items
+    entry_is c.args.draft.now c.self.inside.store c.ready.new.store c.self.inside.list.items c.self.inside.selection c.ready.new.list c.ready.new.tree c.in-Ok.performing c.in-Ok.ensures.ok c.in-Ok.ensures.items
     ∙ ap (λ (r : Replica). entry_of (drafted r.store c.args.draft.now ∷ []) r) c.self.view_is
-
-pub returns-in-Ok-clause-steps : goal.returns-in-Ok-clause-steps
-returns-in-Ok-clause-steps g c =
-    subst (λ (r : Replica). c.ready.new.steps ≤ c.args.steps.now + most_steps (edited (drafted r.store c.args.draft.now) r.items)) c.self.view_is c.ready.ensures.steps
 
 pub returns-in-Err-clause-refused : goal.returns-in-Err-clause-refused
 returns-in-Err-clause-refused g c =
     subst (λ (r : Replica). IsEditRefusal (edit_cause (drafted r.store c.args.draft.now) r) c.in-Err.fault) c.self.view_is c.in-Err.ensures.refused
+
+pub returns-in-Ok-clause-steps : goal.returns-in-Ok-clause-steps
+returns-in-Ok-clause-steps g c =
+    subst (λ (r : Replica). c.ready.new.steps ≤ c.args.steps.now + most_steps (edited (drafted r.store c.args.draft.now) r.items)) c.self.view_is c.ready.ensures.steps

@@ -11,7 +11,7 @@ use Rattle.ve_editor.proofs.editor.Editor.perform_other.Goals as goal
 pub returns-in-Ok-clause-page : goal.returns-in-Ok-clause-page
 returns-in-Ok-clause-page g c =
     other_is (by_value c.args.values.now c.args.tx.now) c.self.inside.store c.ready_other.new.store c.self.inside.list.items c.commit.new.list.items c.self.inside.selection
-    c.moved-self-inside.result c.ready_other.new.list c.in-Ok.admitting c.in-Ok.ensures.ok c.in-Ok.ensures.items c.commit.ensures.items
+    c.moved-self-inside.result c.ready_other.new.list c.ready_other.new.tree c.in-Ok.admitting c.in-Ok.ensures.ok c.in-Ok.ensures.items c.commit.ensures
     (c.moved-self-inside.ensures c.ready_other.new.store c.args.values.now)
     ∙ ap (performed (by_value c.args.values.now c.args.tx.now)) c.self.view_is
 
@@ -20,10 +20,10 @@ returns-in-Ok-clause-txs g c =
     let t = by_value c.args.values.now c.args.tx.now in
     c.in-Ok.ensures.ok.txs ∙ ap (λ l. filled t (plain_list c.self.inside.store l) ∷ []) c.in-Ok.ensures.items ∙ ap (λ (r : Replica). filled t r.items ∷ []) c.self.view_is
 
-pub returns-in-Ok-clause-steps : goal.returns-in-Ok-clause-steps
-returns-in-Ok-clause-steps g c =
-    subst (λ (r : Replica). c.ready_other.new.steps ≤ c.args.steps.now + most_steps (edited (by_value c.args.values.now c.args.tx.now) r.items)) c.self.view_is c.ready_other.ensures.steps
-
 pub returns-in-Err-clause-steps : goal.returns-in-Err-clause-steps
 returns-in-Err-clause-steps g c =
+    subst (λ (r : Replica). c.ready_other.new.steps ≤ c.args.steps.now + most_steps (edited (by_value c.args.values.now c.args.tx.now) r.items)) c.self.view_is c.ready_other.ensures.steps
+
+pub returns-in-Ok-clause-steps : goal.returns-in-Ok-clause-steps
+returns-in-Ok-clause-steps g c =
     subst (λ (r : Replica). c.ready_other.new.steps ≤ c.args.steps.now + most_steps (edited (by_value c.args.values.now c.args.tx.now) r.items)) c.self.view_is c.ready_other.ensures.steps

@@ -10,16 +10,16 @@ use Rattle.ve_editor.proofs.editor.Editor.put_back.Goals as goal
 pub returns-in-Ok-clause-page : goal.returns-in-Ok-clause-page
 returns-in-Ok-clause-page g c =
     put_back_is (by_value c.self.inside.store c.args.tx.now) c.self.inside.store c.ready_back.new.store c.self.inside.list.items c.commit.new.list.items c.self.inside.selection
-    c.moved-self-inside.result c.ready_back.new.list c.in-Ok.prepared c.in-Ok.ensures.ok c.in-Ok.ensures.items c.commit.ensures.items (c.moved-self-inside.ensures c.ready_back.new.store c.self.inside.store)
+    c.moved-self-inside.result c.ready_back.new.list c.ready_back.new.tree c.in-Ok.change c.in-Ok.ensures.ok c.in-Ok.ensures.items c.commit.ensures (c.moved-self-inside.ensures c.ready_back.new.store c.self.inside.store)
     ∙ ap (λ (r : Replica). put_back (by_value r.store c.args.tx.now) r) c.self.view_is
 
 pub ready_back-requires-clause-cites : goal.ready_back-requires-clause-cites
 ready_back-requires-clause-cites g c = subst (λ (r : Replica). TxCites r.store c.args.tx.now) (sym c.self.view_is) c.requires.cites
 
-pub returns-in-Ok-clause-steps : goal.returns-in-Ok-clause-steps
-returns-in-Ok-clause-steps g c =
-    subst (λ (r : Replica). c.ready_back.new.steps ≤ c.args.steps.now + most_steps (edited (by_value r.store c.args.tx.now) r.items)) c.self.view_is c.ready_back.ensures.steps
-
 pub returns-in-Err-clause-steps : goal.returns-in-Err-clause-steps
 returns-in-Err-clause-steps g c =
+    subst (λ (r : Replica). c.ready_back.new.steps ≤ c.args.steps.now + most_steps (edited (by_value r.store c.args.tx.now) r.items)) c.self.view_is c.ready_back.ensures.steps
+
+pub returns-in-Ok-clause-steps : goal.returns-in-Ok-clause-steps
+returns-in-Ok-clause-steps g c =
     subst (λ (r : Replica). c.ready_back.new.steps ≤ c.args.steps.now + most_steps (edited (by_value r.store c.args.tx.now) r.items)) c.self.view_is c.ready_back.ensures.steps

@@ -1,42 +1,33 @@
-use Rattle.std.proofs.Common.{List, ap, ◌∙◌, sym, subst}
+use Rattle.std.proofs.Common.{◌≡◌, ap, sym, subst, ◌∙◌}
 use Rattle.std.specs.Prelude.{encode_utf8_all}
-use Rattle.model_edit.specs.Translate.{between}
-use Rattle.model_items.specs.declared.item.Item.{Item}
 use Rattle.model_items.specs.Plain.{plain_list}
-use Rattle.model_site.specs.Replica.{Replica}
-use Rattle.model_site.specs.Site.{starting}
-use Rattle.model_site_law.specs.Sound.{Sound}
-use Rattle.ve_editor.specs.Page.{page_of}
-use Rattle.ve_editor.proofs.ReadyLemmas.{lawful_unvalued}
-use Rattle.ve_site.specs.Numbered.{Numbered}
+use Rattle.model_site.specs.Replica.{opened_with}
+use Rattle.model_site.specs.Session.{started}
 use Rattle.ve_session.specs.Opened.{lent_of, IsOpen}
-use Rattle.ve_session.proofs.OpenLemmas.{begun_ok, is_open, opens, page}
+use Rattle.ve_session.proofs.PageLemmas.{begun, begun_ok, is_open, opens, page}
+use Rattle.ve_turns.specs.Shared.{Shared}
 use Rattle.ve_session.proofs.page.OpenPage.begin.Goals as goal
 
-pub new-requires-clause-lawful : goal.new-requires-clause-lawful
-new-requires-clause-lawful g c =
-    let read = c.args.read in
-    let sound = c.layers_fit.ensures.pages c.args.text (page c.args.text read c.requires.read c.requires.may) (opens c.args.text read c.requires.read c.requires.may) in
-    lawful_unvalued read.values c.in_ok-list.list.items (plain_list read.values read.list.items) (ap (plain_list read.values) c.in_ok-list.ensures.items) sound.lawful
-
-pub new-requires-2-clause-sound : goal.new-requires-2-clause-sound
-new-requires-2-clause-sound g c =
-    let read = c.args.read in
-    let sound = c.layers_fit.ensures.pages c.args.text (page c.args.text read c.requires.read c.requires.may) (opens c.args.text read c.requires.read c.requires.may) in
-    subst Sound (sym (ap (λ (r : Replica). r.items) c.in_ok-editor.ensures.ok ∙ ap (plain_list read.values) c.in_ok-list.ensures.items)) sound
+pub new-requires-clause-sound : goal.new-requires-clause-sound
+new-requires-clause-sound g c =
+    let a = c.args in
+    c.layers_fit.ensures.pages a.text (page a.text a.read a.sites c.requires.read c.requires.may) (opens a.text a.read a.sites c.requires.read c.requires.may)
 
 pub invariant_of-result : goal.invariant_of-result
 invariant_of-result g c =
-    let read = c.args.read in
-    let editor = c.in_ok-editor.ensures.ok ∙ ap (λ (items : List Item). page_of read.values items (between 0 0)) c.in_ok-list.ensures.items in
-    let site = ap (λ (n : Numbered). n.site) c.new-2.ensures ∙ ap starting editor in
-    let rows = c.rows_stand.ensures (encode_utf8_all c.args.text) read c.requires.utf8 c.requires.read c.requires.places in
-    subst (IsOpen (lent_of c.args.text read.body read.rows read.list.items c.in_ok-first_refs.first_refs)) (sym site)
-    (is_open c.args.text read c.requires.read c.requires.may c.in_ok-first_refs.first_refs c.in_ok-first_refs.ensures rows)
+    let a = c.args in
+    let refs = c.in_ok-first_refs.first_refs in
+    let same : c.in_ok-session.session ≡ begun a.text a.read a.sites c.requires.read c.requires.may =
+    c.in_ok-session.ensures.ok
+    ∙ ap (λ n. record { first = a.read.list.items; session = started (opened_with (plain_list a.read.values a.read.list.items)) n }) c.in-Ok.ensures.1 in
+    let rows = c.rows_stand.ensures (encode_utf8_all a.text) a.read c.requires.utf8 c.requires.read c.requires.places in
+    subst (λ (x : Shared). IsOpen (lent_of a.text a.read.body a.read.rows x.first refs) x.session) (sym same)
+    (is_open a.text a.read a.sites c.requires.read c.requires.may refs c.in_ok-first_refs.ensures rows)
 
 pub returns-clause-ok : goal.returns-clause-ok
 returns-clause-ok g c =
-    let read = c.args.read in
-    let editor = c.in_ok-editor.ensures.ok ∙ ap (λ (items : List Item). page_of read.values items (between 0 0)) c.in_ok-list.ensures.items in
-    let site = ap (λ (n : Numbered). n.site) c.new-2.ensures ∙ ap starting editor in
-    begun_ok c.args.text read c.requires.read c.requires.may c.in_ok-first_refs.first_refs c.new-2.result.site site
+    let a = c.args in
+    let same : c.in_ok-session.session ≡ begun a.text a.read a.sites c.requires.read c.requires.may =
+    c.in_ok-session.ensures.ok
+    ∙ ap (λ n. record { first = a.read.list.items; session = started (opened_with (plain_list a.read.values a.read.list.items)) n }) c.in-Ok.ensures.1 in
+    begun_ok a.text a.read a.sites c.requires.read c.requires.may c.in_ok-first_refs.first_refs c.in_ok-session.session same

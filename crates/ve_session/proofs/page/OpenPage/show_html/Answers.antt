@@ -1,19 +1,51 @@
-use Rattle.std.proofs.Common.{length, ap, ◌∙◌, sym, subst}
-use Rattle.std.specs.Prelude.{IsUtf8}
+use Rattle.std.proofs.Common.{◌≡◌, ◌<◌, ◌++◌, ◌∷◌, [], List, length, ap, sym, subst, ◌∙◌}
+use Rattle.std.specs.Prelude.{IsUtf8, OnOk}
+use Rattle.model_items.specs.declared.item.Item.{Item}
 use Rattle.model_page.specs.Editable.{all_refer}
-use Rattle.ve_origin.specs.Origins.{AreRows}
-use Rattle.ve_session.specs.Opened.{lent_of, OnePage}
-use Rattle.ve_session.proofs.OpenLemmas.{refers}
+use Rattle.model_world.specs.declared.command.Command.TheVariants.{Ask}
+use Rattle.model_world.specs.declared.command.Request.TheVariants as request
+use Rattle.model_world.specs.declared.reply.Reply.{Reply}
+use Rattle.model_world.specs.Spelled.{reply_text}
+use Rattle.ve_offsets.specs.Docs.{page_items}
+use Rattle.ve_origin.specs.Origins.{first_read, AreRows}
+use Rattle.ve_session.specs.Asked.{obeyed}
+use Rattle.ve_session.specs.Opened.{lent_of, world_on, OnPage}
+use Rattle.ve_session.proofs.HtmlLemmas.{first_there, html_is}
+use Rattle.ve_session.proofs.PageLemmas.{refers}
 use Rattle.ve_session.proofs.page.OpenPage.show_html.Goals as goal
 
 pub new-origins-requires-clause-rows : goal.new-origins-requires-clause-rows
 new-origins-requires-clause-rows c =
-    subst (λ text. AreRows text (length c.self.inside.first.items) c.self.inside.rows) (sym c.as_str.ensures.bytes) c.self.invariant.rows
+    subst (λ (items : List Item). AreRows c.as_str.result.now (length items) c.self.inside.rows) (sym c.first.ensures.same)
+    (subst (λ text. AreRows text (length c.self.inside.session.first) c.self.inside.rows) (sym c.as_str.ensures.bytes) c.self.invariant.rows)
 
 pub html-requires-clause-refers : goal.html-requires-clause-refers
 html-requires-clause-refers c =
-    let s = c.self.inside in
-    let o = lent_of s.text s.body s.rows s.first.items s.first_refs in
-    let site = ap (λ (p : OnePage). p.site.replica.items) c.self.view_is in
-    ap all_refer (c.doc.ensures.items ∙ sym site)
-    ∙ refers o s.site.site c.self.invariant c.every_item_stands.ensures (subst IsUtf8 c.as_str.ensures.bytes c.as_str.utf8)
+    let i = c.self.inside in
+    let o = lent_of i.text i.body i.rows i.session.first i.first_refs in
+    let within = subst (λ (q : OnPage). c.args.k < length q.session.members) (sym c.self.view_is) c.requires.site in
+    ap all_refer c.doc_at.ensures.items
+    ∙ refers o i.session c.args.k within c.self.invariant c.every_item_stands.ensures (subst IsUtf8 c.as_str.ensures.bytes c.as_str.utf8)
+
+pub html-requires-clause-first : goal.html-requires-clause-first
+html-requires-clause-first c =
+    let i = c.self.inside in
+    let o = lent_of i.text i.body i.rows i.session.first i.first_refs in
+    let within = subst (λ (q : OnPage). c.args.k < length q.session.members) (sym c.self.view_is) c.requires.site in
+    let lent : c.new-origins.result ≡ o =
+    c.new-origins.ensures ∙ ap (λ text. first_read text i.body i.rows c.first.result.now.items i.first_refs) c.as_str.ensures.bytes
+    ∙ ap (λ (items : List Item). lent_of i.text i.body i.rows items i.first_refs) c.first.ensures.same in
+    first_there o i.session c.args.k within c.self.invariant c.every_site_holds.ensures c.doc_at.result.store.now c.new-origins.result c.doc_at.ensures.store lent
+
+pub returns-clause-reply : goal.returns-clause-reply
+returns-clause-reply c =
+    let i = c.self.inside in
+    let o = lent_of i.text i.body i.rows i.session.first i.first_refs in
+    let within = subst (λ (q : OnPage). c.args.k < length q.session.members) (sym c.self.view_is) c.requires.site in
+    let lent : c.new-origins.result ≡ o =
+    c.new-origins.ensures ∙ ap (λ text. first_read text i.body i.rows c.first.result.now.items i.first_refs) c.as_str.ensures.bytes
+    ∙ ap (λ (items : List Item). lent_of i.text i.body i.rows items i.first_refs) c.first.ensures.same in
+    let told = html_is o i.session c.args.k within c.self.invariant c.every_site_holds.ensures c.doc_at.result.store.now c.new-origins.result c.doc_at.ensures.store lent
+    c.replies_are_as_asked.ensures.html (page_items c.doc_at.result) _ c.doc_at.ensures.items c.in_ok-answer.ensures.reply in
+    subst (λ (r : Reply). OnOk c.reply_text.result (c.reply_text.new.out ≡ c.args.out.now ++ (reply_text r ++ 10 ∷ [])))
+    (told ∙ ap (λ (q : OnPage). (obeyed (world_on q) (Ask request.Html c.args.k)).0) c.self.view_is) c.reply_text.ensures.ok

@@ -1,0 +1,4 @@
+pub mod BatchLemmas
+pub mod CaretLemmas
+pub mod TypingLemmas
+mod BatchExamples

@@ -1,0 +1,14 @@
+pub use Rattle.model_change.specs.Transaction
+pub use Rattle.model_site.specs.Entries
+pub use Rattle.model_site.specs.Replica
+pub use Rattle.model_site_law.specs.Sound
+pub use Rattle.model_world.specs.Edits
+pub use Rattle.model_world.specs.Answers
+pub use Rattle.model_world_law.specs.Fit
+pub use Rattle.ve_tree.specs.TreeOf
+pub use Rattle.ve_tx.specs.Operation
+pub use Rattle.ve_editor.specs.Edited
+pub use Rattle.ve_changes.specs.Stops
+pub mod Batches
+pub mod Costs
+pub mod Carets

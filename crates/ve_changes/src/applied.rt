@@ -1,0 +1,147 @@
+// Operations as a line writes them, over a page's store: the items that they remove are the list's, and those that they
+// insert cite values.
+ghost use Rattle.std.specs.Prelude.{◌≡◌, ◌≤◌, ◌+◌, None, IfOk, OnOk, drop, length};
+ghost use Rattle.model_change.specs.Store.{cited, fill};
+ghost use Rattle.model_change.specs.Transaction.{all_inserted};
+ghost use Rattle.model_edit.specs.Edits as model_edits;
+ghost use Rattle.model_world.specs.declared.change.Change.TheVariants as change;
+ghost use Rattle.model_world.specs.Edits as model;
+ghost use Rattle.model_world_law.specs.Fit.{IsWritten};
+ghost use Rattle.ve_store.specs.Following.{together};
+ghost use Rattle.ve_tx.specs.Cites.{OperationCites, TxCites};
+ghost use Rattle.ve_tx.specs.Operation.{by_value, operation_by_value, unkept, with_position};
+ghost use Rattle.ve_editor.specs.Page.{IsPage};
+ghost use Rattle.ve_offsets.specs.Docs.{page_items};
+ghost use Rattle.ve_changes.specs.Applied as words;
+ghost use Rattle.ve_changes.specs.Drafts.{Drafts};
+
+use crate::Stop;
+use crate::cited::cited_items;
+use model_world::{OpWords, Refusal};
+use std::alloc::Global;
+use ve_base::{Memory, Text, TryCopy};
+use ve_edits::present_value;
+use ve_offsets::Doc;
+use ve_store::NewValues;
+use ve_tx::{Draft, Op, OpList, Transaction};
+
+/// How many items an operation passes.
+fn passed(op: &OpWords) -> usize
+    ensures { result ≡ words.passed op.now }
+{
+    match op {
+        OpWords::Retain(count) => *count,
+        OpWords::Remove { count, .. } => *count,
+        OpWords::Attr { .. } => 0,
+    }
+}
+
+/// How long a list operations need. A length that no `usize` counts is a want of memory like any other: what a line can
+/// write, below 2^32 each, doesn't add up to one.
+fn needs(ops: &[OpWords]) -> Result<usize, Memory>
+    ensures { IfOk result (λ needs. needs ≡ model.needs ops.now) }
+{
+    let mut sum: usize = 0;
+    for op in ops {
+        let Some(next) = sum.checked_add(passed(op)) else {
+            return Err(Memory);
+        };
+        sum = next;
+    }
+    Ok(sum)
+}
+
+/// The value that an attribute has at a place; none at the list's end.
+fn value_at(alloc: Global, doc: Doc<'_>, at: usize, name: &Text) -> Result<Option<Text>, Memory>
+    requires page { IsPage doc.store.now doc.list.now.items doc.tree.now }
+    ensures { IfOk result (λ value. value ≡ model_edits.present_value name.now (drop at (page_items doc.entry))) }
+{
+    if at >= doc.list.len() {
+        return Ok(None);
+    }
+    let value = present_value(alloc, doc.store, doc.list.get(at), name)?;
+    Ok(value)
+}
+
+/// An operation at a place. The values take what its inserted items cite.
+fn op_at(
+    alloc: Global,
+    doc: Doc<'_>,
+    new: &mut NewValues,
+    at: usize,
+    op: &OpWords,
+) -> Result<Op, Memory>
+    requires page { IsPage doc.store.now doc.list.now.items doc.tree.now }
+    requires follows { new.old.after ≡ length doc.store.now }
+    requires within { at + words.passed op.now ≤ length doc.list.now.items }
+    ensures follows { OnOk result (new.new.after ≡ length doc.entry.store.now) }
+    ensures cites { IfOk result (λ made. OperationCites (together doc.entry.store.now new.new) (with_position made None)) }
+    ensures means { IfOk result (λ made. operation_by_value (together doc.entry.store.now new.new) (with_position made None) ≡ words.op_on op.now (drop at (page_items doc.entry))) }
+    ensures values { OnOk result (together doc.entry.store.now new.new ≡ fill (together doc.entry.store.now new.old) (cited (words.inserted_by op.now))) }
+{
+    match op {
+        OpWords::Retain(count) => Ok(Op::Retain(*count)),
+        OpWords::Remove { count, insert } => {
+            let len = doc.list.len();
+            prove!(at <= len);
+            let removed = doc.list.slice(alloc, at, at + *count)?;
+            let inserted = cited_items(alloc, doc.store, new, insert.as_slice())?;
+            Ok(Op::Replace { removed, inserted })
+        }
+        OpWords::Attr { name, to } => Ok(Op::Attribute {
+            name: name.copy(alloc)?,
+            from: value_at(alloc, doc, at, name)?,
+            to: to.copy(alloc)?,
+        }),
+    }
+}
+
+/// The operations of a list that is as long as they need. The values take what the inserted items cite.
+fn ops_on(
+    alloc: Global,
+    doc: Doc<'_>,
+    new: &mut NewValues,
+    ops: &[OpWords],
+) -> Result<OpList, Memory>
+    requires page { IsPage doc.store.now doc.list.now.items doc.tree.now }
+    requires follows { new.old.after ≡ length doc.store.now }
+    requires needs { model.needs ops.now ≡ length doc.list.now.items }
+    ensures follows { OnOk result (new.new.after ≡ length doc.entry.store.now) }
+    ensures cites { IfOk result (λ made. TxCites (together doc.entry.store.now new.new) (unkept made)) }
+    ensures means { IfOk result (λ made. by_value (together doc.entry.store.now new.new) (unkept made) ≡ model.ops_on ops.now (page_items doc.entry)) }
+    ensures values { OnOk result (together doc.entry.store.now new.new ≡ fill (together doc.entry.store.now new.old) (cited (all_inserted (model.ops_on ops.now (page_items doc.entry))))) }
+{
+    // a list's length fits, and so does each place in it
+    let _len = doc.list.len();
+    let mut made = OpList::new(alloc);
+    let mut at = 0;
+    for op in ops {
+        let next = op_at(alloc, doc, new, at, op)?;
+        made.push(next)?;
+        at += passed(op);
+    }
+    Ok(made)
+}
+
+/// The draft of operations that a line writes: what they remove, and the old values of the attributes that they set, are
+/// the list's.
+///
+/// `BadLength` comes exactly where the items that they pass and remove aren't as many as the list has. Lengths that add up
+/// to more than 2^60, those of inserted items among them, are a want of memory like any other.
+pub fn applied_draft(alloc: Global, doc: Doc<'_>, ops: &[OpWords]) -> Result<Draft, Stop>
+    requires written { IsWritten (change.Apply ops.now) }
+    requires page { IsPage doc.store.now doc.list.now.items doc.tree.now }
+    ensures { Drafts doc.entry.store.now (model.applied (page_items doc.entry) ops.now) result }
+{
+    let has = doc.list.len();
+    let needs = needs(ops)?;
+    if needs != has {
+        return Err(Stop::Refused(Refusal::BadLength { has, needs }));
+    }
+    let mut values = NewValues::new(alloc, doc.store);
+    let ops = ops_on(alloc, doc, &mut values, ops)?;
+    match Transaction::from_ops(ops) {
+        Ok(tx) => Ok(Draft { tx, values }),
+        Err(_) => Err(Stop::Memory),
+    }
+}

@@ -1,0 +1,3 @@
+mod UndoneLemmas
+mod RunLemmas
+mod RevokeExamples

@@ -1,0 +1,29 @@
+// Why an entry is not taken back.
+use thiserror::Error;
+use ve_base::Memory;
+
+/// Why an entry is not taken back.
+#[derive(Clone, Copy, Debug, PartialEq, Eq, Error)]
+pub enum RevokeFault {
+    /// A later entry conflicts with what takes it back: the active ranges of the first two transactions that
+    /// do, each as its start and its end in the list that both apply to, in items.
+    #[error("the range {reversal:?} of what takes it back conflicts with the later {later:?}")]
+    Conflict {
+        later: (usize, usize),
+        reversal: (usize, usize),
+    },
+    /// There is no memory for it, or it would be longer than a transaction may be.
+    #[error("there is no memory for it")]
+    Memory,
+}
+
+impl From<Memory> for RevokeFault {
+    ghost use Rattle.std.specs.Prelude.{◌≡◌};
+    ghost use Rattle.ve_peer_undo.specs.declared.fault.RevokeFault.TheVariants as fault;
+
+    ghost from_gives = { λ _ given. given ≡ fault.Memory };
+
+    fn from(_: Memory) -> Self {
+        RevokeFault::Memory
+    }
+}

@@ -1,0 +1,144 @@
+-- A draft that a request is, performed at a site.
+use Rattle.std.proofs.Common.{◌≡◌, ◌≤◌, ◌+◌, ℕ, true, List, [], ◌∷◌, refl, ap, sym, subst, ◌∙◌}
+use Rattle.std.specs.Prelude.{Result, Ok, Err, IfOk, IfErr}
+use Rattle.ve_base.specs.declared.value.Value.{Value}
+use Rattle.model_change.specs.Transaction.{Transaction}
+use Rattle.model_edit.specs.declared.selection.Selection.{Selection}
+use Rattle.model_edit.specs.declared.selection.By.{By}
+use Rattle.model_edit.specs.declared.selection.Dir.{Dir}
+use Rattle.model_items.specs.declared.plain_item.PlainItem.{PlainItem}
+use Rattle.model_page.specs.PageItems.{Opened}
+use Rattle.model_site.specs.Entries.{Parcel}
+use Rattle.model_site.specs.Session.{Member}
+use Rattle.model_site_law.specs.Sound.{Sound}
+use Rattle.model_world.specs.declared.change.Change.TheVariants as change
+use Rattle.model_world.specs.declared.command.Request.{Request}
+use Rattle.model_world.specs.declared.command.Request.TheVariants as request
+use Rattle.model_world.specs.declared.refusal.Refusal.{Refusal}
+use Rattle.model_world.specs.Answers.{asked, erased_or_no, higher, lower, performed_or_no, to_erase}
+use Rattle.model_world.specs.Edits.{allowed, change_of}
+use Rattle.model_world.specs.Refusals.{refused_as}
+use Rattle.model_world_law.specs.Fit.{Fit, MovesFit}
+use Rattle.ve_changes.specs.declared.faults.Stop.{Stop}
+use Rattle.ve_changes.specs.Carets.{range_to_erase}
+use Rattle.ve_changes.specs.Drafts.{IsDrafted}
+use Rattle.ve_changes.specs.Moves.{is_move, moved_by}
+use Rattle.ve_changes.specs.Stops.{IsRefused}
+use Rattle.ve_editor.specs.Counted.{steps_after}
+use Rattle.ve_tx.specs.declared.draft.Draft.{Draft}
+use Rattle.ve_session.specs.Asked.{asker, IsStopped}
+use Rattle.ve_session.specs.Cost.{steps_to_answer, steps_to_erase, steps_to_perform}
+use Rattle.ve_session.proofs.TurnLemmas.{unmeant}
+use Rattle.ve_turns.specs.Shared.{Shared, site_at}
+
+-- what holds of each value that a call may give holds of the one that it gives
+pub ok_as : {A E : Type 0} (P Q : A → Type 0) (r : Result A E) → ((x : A) → P x → Q x) → IfOk r P → IfOk r Q
+ok_as P Q (Ok x) f p = f x p
+ok_as P Q (Err e) f p = tt
+
+pub err_as : {A E : Type 0} (P Q : E → Type 0) (r : Result A E) → ((e : E) → P e → Q e) → IfErr r P → IfErr r Q
+err_as P Q (Ok x) f p = tt
+err_as P Q (Err e) f p = f e p
+
+-- a draft over what a site lends is one over the site's values and items
+pub drafted_at : (meant : List PlainItem → Result Transaction Refusal) (values store : List Value) (lent items : List PlainItem) (d : Draft) →
+    values ≡ store → lent ≡ items → IsDrafted values (meant lent) d → IsDrafted store (meant items) d
+drafted_at meant values store lent items d same as_lent is =
+    subst (λ (l : List PlainItem). IsDrafted store (meant l) d) as_lent (subst (λ (v : List Value). IsDrafted v (meant lent) d) same is)
+
+pub steps_of_meant : (items : List PlainItem) (meant : Result Transaction Refusal) (t : Transaction) (old new : ℕ) → meant ≡ Ok t →
+    new ≤ old + steps_after (t ∷ []) items → new ≤ old + steps_to_perform items meant
+steps_of_meant items meant t old new means h = subst (λ m. new ≤ old + steps_to_perform items m) (sym means) h
+
+-- ---- what is moved
+
+was_ok : {E : Type 0} (named : E → Refusal) (r : Result Transaction E) (t : Transaction) → refused_as named r ≡ Ok t → r ≡ Ok t
+was_ok named (Ok u) t e = let same : u ≡ t = cc in ap (λ v. Ok v) same
+was_ok named (Err f) t e = cc
+
+pub move_fits : MovesFit → (items : List PlainItem) (r : Request) (t : Transaction) → is_move r ≡ true → Sound items → moved_by items r ≡ Ok t → Fit t
+move_fits laws items (request.RowIn at row) t is sound e = laws.row_in items at row t sound (was_ok _ _ t e)
+move_fits laws items (request.RowOut at row) t is sound e = laws.row_out items at row t sound (was_ok _ _ t e)
+move_fits laws items (request.ColIn at column) t is sound e = laws.col_in items at column t sound (was_ok _ _ t e)
+move_fits laws items (request.ColOut at column) t is sound e = laws.col_out items at column t sound (was_ok _ _ t e)
+move_fits laws items (request.Indent at) t is sound e = laws.indent items at t sound (was_ok _ _ t e)
+move_fits laws items (request.Outdent at) t is sound e = laws.outdent items at t sound (was_ok _ _ t e)
+move_fits laws items request.Html t is sound e = cc
+move_fits laws items request.Tree t is sound e = cc
+move_fits laws items request.Refs t is sound e = cc
+move_fits laws items request.Caret t is sound e = cc
+move_fits laws items request.Undo t is sound e = cc
+move_fits laws items request.Redo t is sound e = cc
+move_fits laws items request.Send t is sound e = cc
+move_fits laws items request.Serve t is sound e = cc
+move_fits laws items request.Take t is sound e = cc
+move_fits laws items (request.ShowItems from to) t is sound e = cc
+move_fits laws items (request.At at) t is sound e = cc
+move_fits laws items (request.Edit change) t is sound e = cc
+move_fits laws items (request.Batch cmds) t is sound e = cc
+move_fits laws items (request.Select anchor focus) t is sound e = cc
+move_fits laws items (request.Move dir by keep) t is sound e = cc
+move_fits laws items (request.TypeText text) t is sound e = cc
+move_fits laws items (request.Erase dir by) t is sound e = cc
+move_fits laws items (request.Grid at) t is sound e = cc
+move_fits laws items (request.Revoke entry) t is sound e = cc
+
+pub move_steps : (r : Request) (committed : List Parcel) (m : Member) → is_move r ≡ true →
+    steps_to_answer r committed m ≡ steps_to_perform m.site.replica.items (moved_by m.site.replica.items r)
+move_steps (request.RowIn at row) committed m is = refl
+move_steps (request.RowOut at row) committed m is = refl
+move_steps (request.ColIn at column) committed m is = refl
+move_steps (request.ColOut at column) committed m is = refl
+move_steps (request.Indent at) committed m is = refl
+move_steps (request.Outdent at) committed m is = refl
+move_steps request.Html committed m is = cc
+move_steps request.Tree committed m is = cc
+move_steps request.Refs committed m is = cc
+move_steps request.Caret committed m is = cc
+move_steps request.Undo committed m is = cc
+move_steps request.Redo committed m is = cc
+move_steps request.Send committed m is = cc
+move_steps request.Serve committed m is = cc
+move_steps request.Take committed m is = cc
+move_steps (request.ShowItems from to) committed m is = cc
+move_steps (request.At at) committed m is = cc
+move_steps (request.Edit change) committed m is = cc
+move_steps (request.Batch cmds) committed m is = cc
+move_steps (request.Select anchor focus) committed m is = cc
+move_steps (request.Move dir by keep) committed m is = cc
+move_steps (request.TypeText text) committed m is = cc
+move_steps (request.Erase dir by) committed m is = cc
+move_steps (request.Grid at) committed m is = cc
+move_steps (request.Revoke entry) committed m is = cc
+
+-- ---- what is erased
+
+pub erased_at : (k : ℕ) (old : Shared) (dir : Dir) (by : By) (lent : List PlainItem) (selection s : Selection) →
+    lent ≡ (site_at old k).replica.items → selection ≡ (site_at old k).replica.selection → range_to_erase lent selection dir by ≡ Ok s →
+    to_erase (site_at old k).replica dir by ≡ Ok s
+erased_at k old dir by lent selection s items selected e =
+    subst (λ (l : List PlainItem). range_to_erase l (site_at old k).replica.selection dir by ≡ Ok s) items
+    (subst (λ (x : Selection). range_to_erase lent x dir by ≡ Ok s) selected e)
+
+module _ (k : ℕ) (old : Shared) (dir : Dir) (by : By) (s : Selection) (e : to_erase (site_at old k).replica dir by ≡ Ok s)
+    (from to : ℕ) (first : from ≡ lower s) (last : to ≡ higher s) where
+  same_change : change.Remove (lower s) (higher s) ≡ change.Remove from to
+  same_change = ap (λ n. change.Remove n (higher s)) (sym first) ∙ ap (λ n. change.Remove from n) (sym last)
+
+  pub erases : (page : Opened) → asked (asker page old k) (request.Erase dir by)
+      ≡ performed_or_no (asker page old k) (allowed (site_at old k).replica (change_of (site_at old k).replica.items (change.Remove from to)))
+  erases page =
+      ap (erased_or_no (asker page old k)) e
+      ∙ ap (λ c. performed_or_no (asker page old k) (allowed (site_at old k).replica (change_of (site_at old k).replica.items c))) same_change
+
+  pub erase_steps : (before after : ℕ) → after ≤ before + steps_to_perform (site_at old k).replica.items (change_of (site_at old k).replica.items (change.Remove from to)) →
+      after ≤ before + steps_to_erase (site_at old k).replica.items (to_erase (site_at old k).replica dir by)
+  erase_steps before after h =
+      subst (λ m. after ≤ before + steps_to_erase (site_at old k).replica.items m) (sym e)
+      (subst (λ c. after ≤ before + steps_to_perform (site_at old k).replica.items (change_of (site_at old k).replica.items c)) (sym same_change) h)
+
+  pub unerased : (why : Stop) (lent : List PlainItem) → lent ≡ (site_at old k).replica.items → IsRefused why (change_of lent (change.Remove from to)) →
+      IsStopped (request.Erase dir by) k old why
+  unerased why lent same is =
+      unmeant (request.Erase dir by) k old (change_of (site_at old k).replica.items (change.Remove from to)) erases why
+      (subst (λ (l : List PlainItem). IsRefused why (change_of l (change.Remove from to))) same is)

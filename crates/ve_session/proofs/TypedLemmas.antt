@@ -1,0 +1,65 @@
+-- A text typed at a caret: one change that is made in place.
+use Rattle.std.proofs.Common.{◌≡◌, ◌≤◌, ◌+◌, ℕ, List, [], ◌∷◌, None, refl, ap, sym, subst, ◌∙◌}
+use Rattle.std.specs.Prelude.{Ok}
+use Rattle.model_change.specs.Transaction.{Transaction}
+use Rattle.model_items.specs.declared.plain_item.PlainItem.{PlainItem}
+use Rattle.model_site.specs.Refused.{edit_cause}
+use Rattle.model_site.specs.Replica.{Replica}
+use Rattle.model_site.specs.Site.{Site, edit, with_entry}
+use Rattle.model_site.specs.declared.edit_fault.EditFault.{EditFault}
+use Rattle.model_world.specs.declared.change.Change.{Change}
+use Rattle.model_world.specs.declared.change.Change.TheVariants as change
+use Rattle.model_world.specs.declared.change.TextMarks.TheVariants.{Left}
+use Rattle.model_world.specs.declared.command.Request.TheVariants as request
+use Rattle.model_world.specs.Answers.{lower, typed_or_no, typing}
+use Rattle.model_world.specs.Edits.{batch_on, change_of, change_on}
+use Rattle.ve_batches.specs.Costs.{steps_of_batch}
+use Rattle.ve_batches.proofs.BatchLemmas.{allowed_is, lone_batch, lone_refused, not_allowed, steps_of_lone, undrafted}
+use Rattle.ve_batches.proofs.TypingLemmas.{typing_caret}
+use Rattle.ve_changes.specs.declared.faults.Stop.{Stop}
+use Rattle.ve_changes.specs.declared.faults.Stop.TheVariants as stop
+use Rattle.ve_changes.specs.Stops.{IsRefused, edit_stop}
+use Rattle.ve_changes.proofs.StopLemmas.{edit_stops}
+use Rattle.ve_editor.specs.Counted.{steps_after}
+use Rattle.ve_editor.specs.Refusal.{IsEditRefusal}
+use Rattle.ve_session.specs.Asked.{asker, IsStopped}
+use Rattle.ve_session.proofs.TurnLemmas.{edit_was}
+use Rattle.ve_turns.specs.Shared.{Shared, site_at, with_site_at}
+
+module _ (k : ℕ) (old : Shared) (text : List ℕ) (at : ℕ)
+    (caret : (site_at old k).replica.selection.anchor ≡ (site_at old k).replica.selection.focus)
+    (here : at ≡ lower (site_at old k).replica.selection) where
+  abbrev r : Replica
+  r = (site_at old k).replica
+
+  -- what typing is, as one change
+  abbrev pub put : Change
+  put = change.Text at text Left
+
+  is_typing : put ∷ [] ≡ typing r.selection text
+  is_typing = typing_caret r.selection text text at [] (put ∷ []) caret here refl refl refl
+
+  pub typed_batch : (t : Transaction) → change_of r.items put ≡ Ok t → edit_cause t r ≡ None → batch_on r (typing r.selection text) ≡ Ok (t ∷ [])
+  typed_batch t means fits = ap (batch_on r) (sym is_typing) ∙ lone_batch r put t (allowed_is r put t means fits)
+
+  stopped : (why : Stop) → IsRefused why (change_on r put) → IsStopped (request.TypeText text) k old why
+  stopped (stop.Refused why) e = λ page. ap (typed_or_no (asker page old k)) (ap (batch_on r) (sym is_typing) ∙ lone_refused r put why e)
+  stopped stop.Memory e = tt
+
+  -- there is no such change of the list that is lent
+  pub untyped : (why : Stop) (lent : List PlainItem) → lent ≡ r.items → IsRefused why (change_of lent put) → IsStopped (request.TypeText text) k old why
+  untyped why lent items e = stopped why (undrafted r lent put why items e)
+
+  -- and where there is, the site may refuse it
+  pub barred_typing : (t : Transaction) (fault : EditFault) → change_of r.items put ≡ Ok t → IsEditRefusal (edit_cause t r) fault →
+      IsStopped (request.TypeText text) k old (edit_stop fault)
+  barred_typing t fault means e = stopped (edit_stop fault) (not_allowed r put t (edit_stop fault) means (edit_stops fault (edit_cause t r) t e))
+
+  pub typing_steps : (t : Transaction) (before after : ℕ) → change_of r.items put ≡ Ok t → after ≤ before + steps_after (t ∷ []) r.items →
+      after ≤ before + steps_of_batch r (typing r.selection text)
+  typing_steps t before after means h = subst (λ cs. after ≤ before + steps_of_batch r cs) is_typing (steps_of_lone r put t before after means h)
+
+-- a site that was edited has the transaction as its last entry
+pub edited_there : (t : Transaction) (k : ℕ) (old middle : Shared) → edit t (site_at old k) ≡ Ok (site_at middle k) →
+    middle ≡ with_site_at k (site_at middle k) old → middle ≡ with_site_at k (with_entry (t ∷ []) (site_at old k)) old
+edited_there t k old middle e same = same ∙ ap (λ (s : Site). with_site_at k s old) (edit_was t (site_at old k) (site_at middle k) e).1

@@ -1,0 +1,58 @@
+use Rattle.std.proofs.Common.{◌≡◌, ◌≤◌, ◌<◌, ◌+◌, ◌++◌, ◌∷◌, [], length, ap, sym, subst, ◌∙◌}
+use Rattle.std.specs.Prelude.{Ok, OnOk}
+use Rattle.model_world.specs.declared.command.Command.TheVariants.{Ask}
+use Rattle.model_world.specs.declared.reply.Reply.{Reply}
+use Rattle.model_world.specs.Spelled.{reply_text}
+use Rattle.ve_session.specs.Asked.{obeyed}
+use Rattle.ve_session.specs.Cost.{steps_of}
+use Rattle.ve_session.specs.Opened.{lent_of, world_on, OnPage}
+use Rattle.ve_session.proofs.PageLemmas.{after_open, after_world, always, cost_within, may_turn, replied}
+use Rattle.ve_session.proofs.page.OpenPage.act.Goals as goal
+
+pub turn-requires-clause-may : goal.turn-requires-clause-may
+turn-requires-clause-may g c =
+    let i = c.self.inside in
+    let within = subst (λ (q : OnPage). c.args.k < length q.session.members) (sym c.self.view_is) c.requires.site in
+    may_turn (lent_of i.text i.body i.rows i.session.first i.first_refs) i.session c.args.k within c.self.invariant c.every_site_holds.ensures c.layers_fit.ensures.lines
+    c.args.request.now c.requires.asked
+
+pub returns-in_err-answer-clause-cost : goal.returns-in_err-answer-clause-cost
+returns-in_err-answer-clause-cost g c =
+    let i = c.self.inside in
+    let within = subst (λ (q : OnPage). c.args.k < length q.session.members) (sym c.self.view_is) c.requires.site in
+    subst (λ (q : OnPage). c.turn.new.steps ≤ c.args.steps.now + steps_of (world_on q) (Ok (Ask c.args.request.now c.args.k))) c.self.view_is
+    (cost_within i.text i.body i.rows i.first_refs i.session c.args.k within c.self.invariant c.args.request.now c.args.steps.now c.turn.new.steps c.turn.ensures.steps)
+
+pub invariant_of-self-2 : goal.invariant_of-self-2
+invariant_of-self-2 g c =
+    let i = c.self.inside in
+    let within = subst (λ (q : OnPage). c.args.k < length q.session.members) (sym c.self.view_is) c.requires.site in
+    after_open i.text i.body i.rows i.first_refs i.session c.args.k within c.self.invariant c.args.request.now c.requires.asked c.turn.new.session c.in_ok-answer.answer
+    c.in_ok-answer.ensures.answer
+
+pub returns-clause-reply : goal.returns-clause-reply
+returns-clause-reply g c =
+    let i = c.self.inside in
+    let r = c.args.request.now in
+    let k = c.args.k in
+    let within = subst (λ (q : OnPage). k < length q.session.members) (sym c.self.view_is) c.requires.site in
+    let told = sym (replied i.text i.body i.rows i.first_refs i.session k within c.self.invariant r c.turn.new.session c.in_ok-answer.answer c.in_ok-answer.ensures.answer)
+    ∙ ap (λ (q : OnPage). (obeyed (world_on q) (Ask r k)).0) c.self.view_is in
+    subst (λ (x : Reply). OnOk c.reply_text.result (c.reply_text.new.out ≡ c.args.out.now ++ (reply_text x ++ 10 ∷ []))) told c.reply_text.ensures.ok
+
+pub returns-clause-world : goal.returns-clause-world
+returns-clause-world g c =
+    let i = c.self.inside in
+    let r = c.args.request.now in
+    let k = c.args.k in
+    let within = subst (λ (q : OnPage). k < length q.session.members) (sym c.self.view_is) c.requires.site in
+    always _ c.reply_text.result
+    (after_world i.text i.body i.rows i.first_refs i.session k within c.self.invariant r c.requires.asked c.turn.new.session c.in_ok-answer.answer c.in_ok-answer.ensures.answer
+    ∙ ap (λ (q : OnPage). (obeyed (world_on q) (Ask r k)).1) c.self.view_is)
+
+pub returns-clause-cost : goal.returns-clause-cost
+returns-clause-cost g c =
+    let i = c.self.inside in
+    let within = subst (λ (q : OnPage). c.args.k < length q.session.members) (sym c.self.view_is) c.requires.site in
+    subst (λ (q : OnPage). c.turn.new.steps ≤ c.args.steps.now + steps_of (world_on q) (Ok (Ask c.args.request.now c.args.k))) c.self.view_is
+    (cost_within i.text i.body i.rows i.first_refs i.session c.args.k within c.self.invariant c.args.request.now c.args.steps.now c.turn.new.steps c.turn.ensures.steps)

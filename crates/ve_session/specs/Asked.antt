@@ -1,0 +1,73 @@
+-- What is asked of a world or of one of its sites, and what comes of it.
+use Rattle.std.specs.Prelude.{◌≡◌, ℕ, nat_lt, Bool, true, false, List, length, Ok, Err}
+use Rattle.ve_base.specs.Limits.{max_line}
+use Rattle.model_page.specs.PageItems.{Opened}
+use Rattle.model_site.specs.Session.{Session}
+use Rattle.model_world.specs.declared.command.Request.{Request}
+use Rattle.model_world.specs.declared.command.Request.TheVariants as request
+use Rattle.model_world.specs.declared.command.Command.{Command}
+use Rattle.model_world.specs.declared.reply.Reply.{Reply}
+use Rattle.model_change.specs.Transaction.{Transaction}
+use Rattle.model_world.specs.declared.reply.Reply.TheVariants.{No}
+use Rattle.model_world.specs.Answers.{Asked, Outcome, asked, performed_or_no}
+use Rattle.model_world.specs.Edits.{allowed}
+use Rattle.model_world.specs.Commands.{command}
+use Rattle.model_world.specs.World.{World, answered, settled}
+use Rattle.ve_replies.specs.declared.answer.Answer.{Answer}
+use Rattle.ve_changes.specs.declared.faults.Stop.{Stop}
+use Rattle.ve_changes.specs.declared.faults.Stop.TheVariants as stop
+use Rattle.ve_replies.specs.Answers.{reply_of, AnswerCites}
+use Rattle.ve_turns.specs.Shared.{Shared, member_at, site_at}
+
+-- ---- a world
+
+-- the reply to a command, and the world after it
+abbrev pub obeyed : World → Command → Reply × World
+obeyed w c = settled w (answered w c)
+
+-- Some line asks this, within a line's length.
+pub record IsAsked (c : Command) : Type 0 where
+  pub line : List ℕ
+  pub within : nat_lt max_line (length line) ≡ false
+  pub asks : command line ≡ Ok c
+
+-- ---- a site
+
+-- requests that change nothing
+abbrev pub is_shown : Request → Bool
+is_shown request.Html = true
+is_shown request.Tree = true
+is_shown request.Refs = true
+is_shown request.Caret = true
+is_shown (request.ShowItems from to) = true
+is_shown (request.At at) = true
+is_shown (request.Grid at) = true
+is_shown _ = false
+
+-- the site at k is asked, on this page
+abbrev pub asker : Opened → Shared → ℕ → Asked
+asker page s k = record { page = page; session = s.session; k = k; member = member_at s k }
+
+-- the reply, and the session after it: a refusal leaves it as it is
+abbrev pub kept_or_new : Session → Outcome → Reply × Session
+kept_or_new w (Ok both) = both
+kept_or_new w (Err refused) = (refused, w)
+
+-- The answer and the new session are what the model answers to the request, on whatever page it is asked.
+pub record IsAnswered (r : Request) (k : ℕ) (old : Shared) (answer : Answer) (new : Shared) : Type 0 where
+  pub replies : (page : Opened) → kept_or_new old.session (asked (asker page old k) r) ≡ (reply_of answer, new.session)
+  pub first : new.first ≡ old.first
+  pub base : new.session.base ≡ old.session.base
+  pub cites : AnswerCites answer
+
+-- So they are where the transaction is performed, if it may be.
+pub record IsPerformed (t : Transaction) (k : ℕ) (old : Shared) (answer : Answer) (new : Shared) : Type 0 where
+  pub replies : (page : Opened) → kept_or_new old.session (performed_or_no (asker page old k) (allowed (site_at old k).replica (Ok t))) ≡ (reply_of answer, new.session)
+  pub first : new.first ≡ old.first
+  pub base : new.session.base ≡ old.session.base
+  pub cites : AnswerCites answer
+
+-- The request is refused; or memory is wanting, which may be at any time.
+abbrev pub IsStopped : Request → ℕ → Shared → Stop → Type 0
+IsStopped r k old (stop.Refused why) = (page : Opened) → asked (asker page old k) r ≡ Err (No why)
+IsStopped r k old stop.Memory = Unit {0}

@@ -1,0 +1,19 @@
+-- What a world keeps between lines.
+use Rattle.std.specs.Prelude.{Bool, true, false, ℕ, List}
+use Rattle.model_world.specs.World.{World, Closed, reply}
+
+-- After it ran out of memory a world is spent, and has no page.
+pub record State : Type 0 where
+  pub world : World
+  pub is_spent : Bool
+
+-- without a page
+abbrev pub begun : State
+begun = record { world = Closed; is_spent = false }
+
+abbrev pub spent : State
+spent = record { world = Closed; is_spent = true }
+
+-- after a line
+abbrev pub after : State → List ℕ → State
+after s line = record s { world = (reply s.world line).1 }

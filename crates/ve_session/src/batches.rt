@@ -1,0 +1,42 @@
+// Several changes of a site's list as one entry.
+ghost use Rattle.std.specs.Prelude.{◌≡◌, ◌<◌, ◌≤◌, ◌+◌, IfErr, IfOk, OnErr};
+ghost use Rattle.model_world.specs.declared.command.Request.TheVariants as request;
+ghost use Rattle.ve_session.specs.Asked.{IsAnswered, IsStopped};
+ghost use Rattle.ve_session.specs.Cost.{steps_to_answer};
+ghost use Rattle.ve_session.specs.Turning.{MayTurn};
+ghost use Rattle.ve_turns.specs.Shared.{member_at, site_at, sites};
+
+use crate::edits::len_at;
+use model_world::ChangeList;
+use std::alloc::Global;
+use std::sync::ledger::Ledger;
+use ve_base::Steps;
+use ve_batches::{BatchStop, perform_all};
+use ve_changes::Stop;
+use ve_json::Answer;
+use ve_turns::Session;
+
+/// Changes made in turn, all of them or none.
+pub fn batch<L: Ledger>(
+    alloc: Global,
+    session: &mut Session,
+    k: usize,
+    changes: &ChangeList,
+    steps: &mut Steps<L>,
+) -> Result<Answer<'static>, Stop>
+    requires site { k < sites session.old }
+    requires may { MayTurn (request.Batch changes.now) (site_at session.old k).replica }
+    ensures answer { IfOk result (λ answer. IsAnswered (request.Batch changes.now) k session.old answer session.new) }
+    ensures refused { IfErr result (IsStopped (request.Batch changes.now) k session.old) }
+    ensures kept { OnErr result (session.new ≡ session.old) }
+    ensures counted { steps.old ≤ steps.new }
+    ensures steps { steps.new ≤ steps.old + steps_to_answer (request.Batch changes.now) session.old.session.committed (member_at session.old k) }
+{
+    let batch = match perform_all(alloc, session.site(k).editor(), changes.as_slice(), steps) {
+        Ok(batch) => batch,
+        Err(BatchStop::Refused { at, refusal }) => return Ok(Answer::NoBatch { at, refusal }),
+        Err(BatchStop::Memory) => return Err(Stop::Memory),
+    };
+    session.settle(k, batch.editor, batch.entry)?;
+    Ok(Answer::Length(len_at(session, k)))
+}

@@ -1,0 +1,81 @@
+// What a site takes back and makes again.
+ghost use Rattle.std.specs.Prelude.{◌≡◌, ◌<◌, ◌≤◌, ◌+◌, IfErr, IfOk, OnErr};
+ghost use Rattle.model_world.specs.declared.command.Request.TheVariants as request;
+ghost use Rattle.ve_session.specs.Asked.{IsAnswered, IsStopped};
+ghost use Rattle.ve_session.specs.Cost.{steps_to_answer};
+ghost use Rattle.ve_session.specs.Turning.{MayTurn};
+ghost use Rattle.ve_turns.specs.Shared.{member_at, site_at, sites};
+
+use crate::edits::len_at;
+use crate::faults::{of_redo, of_revoke, of_undo};
+use model_world::Refusal;
+use std::sync::ledger::Ledger;
+use ve_base::Steps;
+use ve_changes::Stop;
+use ve_json::Answer;
+use ve_turns::Session;
+
+/// The last unsent entry of a site taken back.
+pub fn undo<L: Ledger>(
+    session: &mut Session,
+    k: usize,
+    steps: &mut Steps<L>,
+) -> Result<Answer<'static>, Stop>
+    requires site { k < sites session.old }
+    requires may { MayTurn request.Undo (site_at session.old k).replica }
+    ensures answer { IfOk result (λ answer. IsAnswered request.Undo k session.old answer session.new) }
+    ensures refused { IfErr result (IsStopped request.Undo k session.old) }
+    ensures kept { OnErr result (session.new ≡ session.old) }
+    ensures counted { steps.old ≤ steps.new }
+    ensures steps { steps.new ≤ steps.old + steps_to_answer request.Undo session.old.session.committed (member_at session.old k) }
+{
+    match session.undo(k, steps) {
+        Ok(()) => Ok(Answer::Length(len_at(session, k))),
+        Err(fault) => Err(of_undo(fault)),
+    }
+}
+
+/// What a site undid last made again.
+pub fn redo<L: Ledger>(
+    session: &mut Session,
+    k: usize,
+    steps: &mut Steps<L>,
+) -> Result<Answer<'static>, Stop>
+    requires site { k < sites session.old }
+    requires may { MayTurn request.Redo (site_at session.old k).replica }
+    ensures answer { IfOk result (λ answer. IsAnswered request.Redo k session.old answer session.new) }
+    ensures refused { IfErr result (IsStopped request.Redo k session.old) }
+    ensures kept { OnErr result (session.new ≡ session.old) }
+    ensures counted { steps.old ≤ steps.new }
+    ensures steps { steps.new ≤ steps.old + steps_to_answer request.Redo session.old.session.committed (member_at session.old k) }
+{
+    match session.redo(k, steps) {
+        Ok(()) => Ok(Answer::Length(len_at(session, k))),
+        Err(fault) => Err(of_redo(fault)),
+    }
+}
+
+/// A committed entry that a site has seen taken back under all later ones.
+pub fn revoke<L: Ledger>(
+    session: &mut Session,
+    k: usize,
+    entry: usize,
+    steps: &mut Steps<L>,
+) -> Result<Answer<'static>, Stop>
+    requires site { k < sites session.old }
+    requires may { MayTurn (request.Revoke entry) (site_at session.old k).replica }
+    ensures answer { IfOk result (λ answer. IsAnswered (request.Revoke entry) k session.old answer session.new) }
+    ensures refused { IfErr result (IsStopped (request.Revoke entry) k session.old) }
+    ensures kept { OnErr result (session.new ≡ session.old) }
+    ensures counted { steps.old ≤ steps.new }
+    ensures steps { steps.new ≤ steps.old + steps_to_answer (request.Revoke entry) session.old.session.committed (member_at session.old k) }
+{
+    let seen = session.site(k).seen();
+    if entry >= seen {
+        return Err(Stop::Refused(Refusal::BadEntry { entry, seen }));
+    }
+    match session.revoke(k, entry, steps) {
+        Ok(()) => Ok(Answer::Length(len_at(session, k))),
+        Err(fault) => Err(of_revoke(fault)),
+    }
+}

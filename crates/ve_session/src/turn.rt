@@ -1,0 +1,78 @@
+// A request that may change a site or the queues.
+ghost use Rattle.std.specs.Prelude.{◌≡◌, ◌<◌, ◌≤◌, ◌+◌, false, IfErr, IfOk, OnErr};
+ghost use Rattle.ve_replies.specs.Answers.{AnswerCites};
+ghost use Rattle.ve_session.specs.Asked.{is_shown, IsAnswered, IsStopped};
+ghost use Rattle.ve_session.specs.Cost.{steps_to_answer};
+ghost use Rattle.ve_session.specs.Turning.{MayTurn};
+ghost use Rattle.ve_turns.specs.Shared.{member_at, site_at, sites};
+
+use crate::batches::batch;
+use crate::edits::{edit, erase, move_part};
+use crate::history::{redo, revoke, undo};
+use crate::queues::{send, serve, take};
+use crate::selections::{move_caret, select};
+use crate::typing::type_at;
+use std::alloc::Global;
+use std::sync::ledger::Ledger;
+use ve_base::{Memory, Steps};
+use ve_changes::Stop;
+use ve_json::{Answer, Request};
+use ve_turns::Session;
+
+/// What a request to a site does, and its answer.
+fn done<L: Ledger>(
+    alloc: Global,
+    session: &mut Session,
+    k: usize,
+    request: &Request,
+    steps: &mut Steps<L>,
+) -> Result<Answer<'static>, Stop>
+    requires acts { is_shown request.now ≡ false }
+    requires site { k < sites session.old }
+    requires may { MayTurn request.now (site_at session.old k).replica }
+    ensures answer { IfOk result (λ answer. IsAnswered request.now k session.old answer session.new) }
+    ensures refused { IfErr result (IsStopped request.now k session.old) }
+    ensures kept { OnErr result (session.new ≡ session.old) }
+    ensures counted { steps.old ≤ steps.new }
+    ensures steps { steps.new ≤ steps.old + steps_to_answer request.now session.old.session.committed (member_at session.old k) }
+{
+    match request {
+        Request::Edit { change } => edit(alloc, session, k, change, steps),
+        Request::Batch { cmds } => batch(alloc, session, k, cmds, steps),
+        Request::TypeText { text } => type_at(alloc, session, k, text, steps),
+        Request::Erase { dir, by } => erase(alloc, session, k, *dir, *by, steps),
+        Request::Select { anchor, focus } => select(session, k, *anchor, *focus),
+        Request::Move { dir, by, keep } => move_caret(alloc, session, k, *dir, *by, *keep),
+        Request::Undo => undo(session, k, steps),
+        Request::Redo => redo(session, k, steps),
+        Request::Revoke { entry } => revoke(session, k, *entry, steps),
+        Request::Send => send(session, k),
+        Request::Serve => serve(session, k),
+        Request::Take => take(session, k, steps),
+        _ => move_part(alloc, session, k, request, steps),
+    }
+}
+
+/// The answer of a site to a request that may change it, or its refusal. A refusal changes nothing.
+pub fn turn<L: Ledger>(
+    alloc: Global,
+    session: &mut Session,
+    k: usize,
+    request: &Request,
+    steps: &mut Steps<L>,
+) -> Result<Answer<'static>, Memory>
+    requires site { k < sites session.old }
+    requires acts { is_shown request.now ≡ false }
+    requires may { MayTurn request.now (site_at session.old k).replica }
+    ensures answer { IfOk result (λ answer. IsAnswered request.now k session.old answer session.new) }
+    ensures cites { IfOk result AnswerCites }
+    ensures kept { OnErr result (session.new ≡ session.old) }
+    ensures counted { steps.old ≤ steps.new }
+    ensures steps { steps.new ≤ steps.old + steps_to_answer request.now session.old.session.committed (member_at session.old k) }
+{
+    match done(alloc, session, k, request, steps) {
+        Ok(answer) => Ok(answer),
+        Err(Stop::Refused(refusal)) => Ok(Answer::No(refusal)),
+        Err(Stop::Memory) => Err(Memory),
+    }
+}

@@ -1,0 +1,136 @@
+// A text typed at a site: its caret stands after the text then.
+ghost use Rattle.std.specs.Prelude.{◌≡◌, ◌<◌, ◌≤◌, ◌+◌, IfErr, IfOk, OnErr};
+ghost use Rattle.model_world.specs.Answers.{lower};
+ghost use Rattle.model_world.specs.Edits.{change_of};
+ghost use Rattle.model_world.specs.declared.change.Change.TheVariants as change;
+ghost use Rattle.model_world.specs.declared.change.TextMarks.TheVariants.{Left};
+ghost use Rattle.model_world.specs.declared.command.Request.TheVariants as request;
+ghost use Rattle.ve_changes.specs.Drafts.{IsDrafted};
+ghost use Rattle.ve_changes.specs.Stops.{IsRefused};
+ghost use Rattle.ve_editor.specs.Page.{IsPage};
+ghost use Rattle.ve_offsets.specs.Docs.{page_items};
+ghost use Rattle.ve_session.specs.Asked.{IsAnswered, IsStopped};
+ghost use Rattle.ve_session.specs.Cost.{steps_to_answer};
+ghost use Rattle.ve_session.specs.Turning.{MayTurn};
+ghost use Rattle.ve_turns.specs.Shared.{member_at, site_at, sites};
+
+use crate::edits::{doc_at, len_at};
+use model_edit::Selection;
+use model_world::TextMarks;
+use model_world_law::layers_fit;
+use std::alloc::Global;
+use std::sync::ledger::Ledger;
+use ve_base::{Steps, Text, TryCopy};
+use ve_batches::{BatchStop, after_inserted, type_text};
+use ve_changes::{Change, Stop, change_draft};
+use ve_json::Answer;
+use ve_offsets::Doc;
+use ve_turns::Session;
+use ve_tx::Draft;
+
+/// The draft by which a text is put at a place, with the marks to the left.
+fn put_draft(alloc: Global, doc: Doc<'_>, at: usize, text: &Text) -> Result<Draft, Stop>
+    requires page { IsPage doc.store.now doc.list.now.items doc.tree.now }
+    ensures ok { IfOk result (IsDrafted doc.entry.store.now (change_of (page_items doc.entry) (change.Text at text.now Left))) }
+    ensures refused { IfErr result (λ why. IsRefused why (change_of (page_items doc.entry) (change.Text at text.now Left))) }
+{
+    let change = Change::Text {
+        at,
+        text: text.copy(alloc)?,
+        marks: TextMarks::Left,
+    };
+    change_draft(alloc, doc, &change)
+}
+
+/// A text typed at a caret, where nothing is selected: one change, made in place.
+fn type_here<L: Ledger>(
+    alloc: Global,
+    session: &mut Session,
+    k: usize,
+    at: usize,
+    text: &Text,
+    steps: &mut Steps<L>,
+) -> Result<Answer<'static>, Stop>
+    requires site { k < sites session.old }
+    requires may { MayTurn (request.TypeText text.now) (site_at session.old k).replica }
+    requires caret { (site_at session.old k).replica.selection.anchor ≡ (site_at session.old k).replica.selection.focus }
+    requires at { at ≡ lower (site_at session.old k).replica.selection }
+    ensures answer { IfOk result (λ answer. IsAnswered (request.TypeText text.now) k session.old answer session.new) }
+    ensures refused { IfErr result (IsStopped (request.TypeText text.now) k session.old) }
+    ensures kept { OnErr result (session.new ≡ session.old) }
+    ensures counted { steps.old ≤ steps.new }
+    ensures steps { steps.new ≤ steps.old + steps_to_answer (request.TypeText text.now) session.old.session.committed (member_at session.old k) }
+{
+    layers_fit();
+    let draft = put_draft(alloc, doc_at(session, k), at, text)?;
+    let caret = after_inserted(&draft.tx)?;
+    match session.edit(k, &draft, steps) {
+        Ok(()) => {}
+        Err(fault) => return Err(Stop::from(fault)),
+    }
+    session.select(
+        k,
+        Selection {
+            anchor: caret,
+            focus: caret,
+        },
+    );
+    Ok(Answer::Length(len_at(session, k)))
+}
+
+/// A text typed in the place of what a site has selected, made on a copy of its page: two changes that are one entry.
+fn type_over<L: Ledger>(
+    alloc: Global,
+    session: &mut Session,
+    k: usize,
+    text: &Text,
+    steps: &mut Steps<L>,
+) -> Result<Answer<'static>, Stop>
+    requires site { k < sites session.old }
+    requires may { MayTurn (request.TypeText text.now) (site_at session.old k).replica }
+    ensures answer { IfOk result (λ answer. IsAnswered (request.TypeText text.now) k session.old answer session.new) }
+    ensures refused { IfErr result (IsStopped (request.TypeText text.now) k session.old) }
+    ensures kept { OnErr result (session.new ≡ session.old) }
+    ensures counted { steps.old ≤ steps.new }
+    ensures steps { steps.new ≤ steps.old + steps_to_answer (request.TypeText text.now) session.old.session.committed (member_at session.old k) }
+{
+    let typed = match type_text(alloc, session.site(k).editor(), text, steps) {
+        Ok(typed) => typed,
+        Err(BatchStop::Refused { refusal, .. }) => return Err(Stop::Refused(refusal)),
+        Err(BatchStop::Memory) => return Err(Stop::Memory),
+    };
+    session.settle(k, typed.batch.editor, typed.batch.entry)?;
+    session.select(
+        k,
+        Selection {
+            anchor: typed.caret,
+            focus: typed.caret,
+        },
+    );
+    Ok(Answer::Length(len_at(session, k)))
+}
+
+/// A text typed in the place of what a site has selected, or at its caret; its caret stands after the text then.
+pub fn type_at<L: Ledger>(
+    alloc: Global,
+    session: &mut Session,
+    k: usize,
+    text: &Text,
+    steps: &mut Steps<L>,
+) -> Result<Answer<'static>, Stop>
+    requires site { k < sites session.old }
+    requires may { MayTurn (request.TypeText text.now) (site_at session.old k).replica }
+    ensures answer { IfOk result (λ answer. IsAnswered (request.TypeText text.now) k session.old answer session.new) }
+    ensures refused { IfErr result (IsStopped (request.TypeText text.now) k session.old) }
+    ensures kept { OnErr result (session.new ≡ session.old) }
+    ensures counted { steps.old ≤ steps.new }
+    ensures steps { steps.new ≤ steps.old + steps_to_answer (request.TypeText text.now) session.old.session.committed (member_at session.old k) }
+{
+    let selection = session.site(k).editor().selection();
+    if selection.anchor == selection.focus {
+        let at = selection.anchor.min(selection.focus);
+        type_here(alloc, session, k, at, text, steps)
+    } else {
+        type_over(alloc, session, k, text, steps)
+    }
+}

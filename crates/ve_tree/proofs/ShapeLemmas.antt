@@ -1,0 +1,88 @@
+-- A tree is read from the shapes of a list's items, and so is the law.
+use Rattle.std.proofs.Common.{◌≡◌, ℕ, ◌+◌, List, [], ◌∷◌, ◌++◌, length, map, take, drop, replicate, Result, Ok, Err, if◌then◌else◌, refl, sym, ap, ◌∙◌, subst, append_assoc}
+use Rattle.std.proofs.lemmas.List.{length-map, map-append, take-map, drop-map}
+use Rattle.ve_kinds.specs.declared.kind.Kind.TheVariants.{Root}
+use Rattle.ve_kinds.specs.Table.{is_content_branch}
+use Rattle.model_items.specs.declared.item.Item.{Item}
+use Rattle.model_items.specs.declared.plain_item.PlainItem.{PlainItem}
+use Rattle.model_items.specs.declared.plain_item.PlainItem.TheVariants.{Char, Opening, Closing}
+use Rattle.model_items.specs.declared.law_fault.LawFault.{LawFault}
+use Rattle.model_items.specs.declared.law_fault.LawFault.TheVariants.{Unlawful}
+use Rattle.model_items.specs.Law.{State, start, top, opened, closed, step, followed, after, verdict_at, Lawful}
+use Rattle.model_items.specs.Tree.{tree_of, Shape, Letter, Begin, End, shape_of}
+use Rattle.model_items.proofs.TreeLemmas.{tree_spells}
+use Rattle.model_items.proofs.OnlyLemmas.{tree_is_only, tree_has_whole_runs}
+use Rattle.ve_arena.specs.declared.node.NodeId.{NodeId}
+use Rattle.ve_arena.specs.declared.node.NodeWhat.TheVariants as what
+use Rattle.ve_tree.specs.Named.{heads, IsShown}
+use Rattle.ve_items.specs.Substitution.{spliced}
+use Rattle.ve_tree.specs.declared.run.RunChange.{RunChange}
+use Rattle.ve_tree.specs.IsTree.{unvalued, IsTree}
+use Rattle.ve_tree.specs.RunChange.{ShapesAreRead, with_letters}
+use Rattle.ve_tree.proofs.GrownLemmas.{Slots}
+
+abbrev step_by : State → Shape → Result State LawFault
+step_by s Letter = if is_content_branch (top s.stack) then Ok s else Err (Unlawful 0)
+step_by s (Begin kind) = opened s kind
+step_by s (End kind) = closed s.stack s.seen kind
+
+abbrev after_by : State → List Shape → Result State LawFault
+after_by s [] = Ok s
+after_by s (x ∷ xs) = followed 1 (step_by s x) (λ next. after_by next xs)
+
+step-shape : (s : State) (x : PlainItem) → step s x ≡ step_by s (shape_of x)
+step-shape s (Char c marks) = refl
+step-shape s (Opening kind head marks pre origin generated) = refl
+step-shape s (Closing kind pre) = refl
+
+after-shapes : (items : List PlainItem) (s : State) → after s items ≡ after_by s (map shape_of items)
+after-shapes [] s = refl
+after-shapes (x ∷ items) s = λ i. followed 1 (step-shape s x i) (λ next. after-shapes items next i)
+
+pub length-shapes : (items others : List PlainItem) → map shape_of items ≡ map shape_of others → length items ≡ length others
+length-shapes items others e = sym (length-map items shape_of) ∙ ap length e ∙ length-map others shape_of
+
+pub lawful-shapes : (items others : List PlainItem) → map shape_of items ≡ map shape_of others → Lawful items → Lawful others
+lawful-shapes items others e lawful =
+    let same : after start items ≡ after start others = after-shapes items start ∙ ap (after_by start) e ∙ sym (after-shapes others start) in
+    sym (λ i. verdict_at (length-shapes items others e i) (same i)) ∙ lawful
+
+pub tree-shapes : (items others : List PlainItem) → Lawful items → map shape_of items ≡ map shape_of others → tree_of items ≡ tree_of others
+tree-shapes items others lawful e = tree_is_only others (tree_of items) (tree_has_whole_runs items) (tree_spells items lawful ∙ e)
+
+shapes_are_tree : (slots : Slots) (root : NodeId) (items others : List PlainItem) → IsTree slots root items → map shape_of items ≡ map shape_of others → IsTree slots root others
+shapes_are_tree slots root items others tree e = record {
+  lawful = lawful-shapes items others e tree.lawful;
+  named = tree.named;
+  is_tree = tree.is_tree ∙ tree-shapes items others tree.lawful e;
+  apart = tree.apart;
+  shown = tree.shown;
+  root_shown = subst (λ n. IsShown slots root.0 (what.Node Root) n (heads tree.named)) (length-shapes items others e) tree.root_shown;
+  root_alone = tree.root_alone;
+  only = tree.only;
+}
+
+pub shapes_read : ShapesAreRead
+shapes_read t items others tree e = record {
+  links = shapes_are_tree t.arena t.root items others tree.links e;
+  landmarks = tree.landmarks;
+}
+
+-- letters that are spliced in
+pub taken : (n : ℕ) (items : List Item) → map shape_of (unvalued (take n items)) ≡ take n (map shape_of (unvalued items))
+taken n items = sym (take-map shape_of n (unvalued items) ∙ ap (map shape_of) (take-map _ n items))
+
+pub dropped : (n : ℕ) (items : List Item) → map shape_of (unvalued (drop n items)) ≡ drop n (map shape_of (unvalued items))
+dropped n items = sym (drop-map shape_of n (unvalued items) ∙ ap (map shape_of) (drop-map _ n items))
+
+pub joined : (xs ys : List Item) → map shape_of (unvalued (xs ++ ys)) ≡ map shape_of (unvalued xs) ++ map shape_of (unvalued ys)
+joined xs ys = ap (map shape_of) (map-append _ xs ys) ∙ map-append shape_of (unvalued xs) (unvalued ys)
+
+pub spliced-letters : (items letters : List Item) (change : RunChange) → map shape_of (unvalued letters) ≡ replicate change.inserted Letter →
+    map shape_of (unvalued (spliced items change.at change.removed letters)) ≡ with_letters change (map shape_of (unvalued items))
+spliced-letters items letters change e =
+    let rest = drop (change.at + change.removed) items in
+    ap (λ l. map shape_of (unvalued l)) (append_assoc (take change.at items) letters rest)
+    ∙ joined (take change.at items) (letters ++ rest)
+    ∙ (λ i. taken change.at items i ++ joined letters rest i)
+    ∙ (λ i. take change.at (map shape_of (unvalued items)) ++ (e i ++ dropped (change.at + change.removed) items i))

@@ -1,0 +1,8 @@
+mod MemberLemmas
+mod StayLemmas
+mod PlacedLemmas
+mod SentLemmas
+mod TurnLemmas
+mod RevokeLemmas
+mod BeginLemmas
+mod TurnExamples
