@@ -145,15 +145,15 @@ fn id_at(alloc: Global, at: usize) -> Result<Change, Memory>
     Ok(Change::Attr { at, name, to })
 }
 
-/// The operations that remove the first letter of two.
+/// The operations that remove the first letter of a paragraph of two, behind which the internal list stands.
 fn removing(alloc: Global) -> Result<OpWordList, Memory>
-    ensures { IfOk result (λ ops. ops ≡ op.Retain 1 ∷ op.Remove 1 [] ∷ op.Retain 2 ∷ []) }
+    ensures { IfOk result (λ ops. ops ≡ op.Retain 1 ∷ op.Remove 1 [] ∷ op.Retain 4 ∷ []) }
 {
     let mut ops = OpWordList::new(alloc);
     ops.push(OpWords::Retain(1))?;
     let insert = PlainList::new(alloc);
     ops.push(OpWords::Remove { count: 1, insert })?;
-    ops.push(OpWords::Retain(2))?;
+    ops.push(OpWords::Retain(4))?;
     Ok(ops)
 }
 
