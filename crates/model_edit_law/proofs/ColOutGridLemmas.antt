@@ -31,7 +31,7 @@ spans_some : (items : List PlainItem) (nodes : List Open) → AllSome (map (cell
 spans_some items [] = tt
 spans_some items (n ∷ nodes) = (span_least (codes "rowspan") max_row_span (slice_get items n.from), span_least (codes "colspan") max_column_span (slice_get items n.from), spans_some items nodes)
 
-lines_some : (items : List PlainItem) (rows : List TableRow) → EachSome (map (line_at items) rows)
+pub lines_some : (items : List PlainItem) (rows : List TableRow) → EachSome (map (line_at items) rows)
 lines_some items [] = tt
 lines_some items (row ∷ rows) = (spans_some items (row_cells items row.at), lines_some items rows)
 
@@ -40,7 +40,7 @@ left_length column all row [] = refl
 left_length column all row (line ∷ lines) = ap suc (left_length column all (suc row) lines)
 
 -- the cells of each row are its nodes
-grid_pairs : (items : List PlainItem) (at : ℕ) (g : Grid) → grid items at ≡ Ok g → (k : ℕ) (r : TableRow) → slice_get (table_rows items at) k ≡ Some r → Pairs items (cells_in k g.cells) (row_cells items r.at)
+pub grid_pairs : (items : List PlainItem) (at : ℕ) (g : Grid) → grid items at ≡ Ok g → (k : ℕ) (r : TableRow) → slice_get (table_rows items at) k ≡ Some r → Pairs items (cells_in k g.cells) (row_cells items r.at)
 grid_pairs items at g h = choose (passes (is_opening_of Table) (slice_get items at)) h
   where
     rows : List TableRow

@@ -23,7 +23,7 @@ covered_grow (x ∷ xs) ys row c h = by (has_row x row && has_column x c) h (cov
     by false h next = next h
 
 -- nothing before covers what a cell covers that meets none
-uncovered : (one : Rectangle) (before : List Rectangle) (c : ℕ) → 1 ≤ one.rows → one.column ≤ c → c < one.column + one.columns → list_any (meet one) before ≡ false →
+pub uncovered : (one : Rectangle) (before : List Rectangle) (c : ℕ) → 1 ≤ one.rows → one.column ≤ c → c < one.column + one.columns → list_any (meet one) before ≡ false →
     covered before one.row c ≡ false
 uncovered one [] c tall low high h = refl
 uncovered one (r ∷ before) c tall low high h =

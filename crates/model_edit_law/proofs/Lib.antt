@@ -25,24 +25,24 @@ mod ListLemmas
 pub mod IndentLemmas
 pub mod OutdentLemmas
 pub mod TablePlaceLemmas
-mod SpanLemmas
+pub mod SpanLemmas
 pub mod TableFineLemmas
-mod TableLawfulLemmas
-mod TableGrowLemmas
-mod LeastLemmas
-mod LayLemmas
-mod ColumnLemmas
-mod LinkLemmas
-mod SiblingLemmas
-mod TableSetLemmas
-mod TableLinesLemmas
-mod TableCellLemmas
-mod CellsOutLemmas
-mod CellsReadLemmas
-mod CellRowLemmas
-mod RowOutLemmas
-mod RowOutGridLemmas
-mod ColOutLemmas
-mod ColOutGridLemmas
+pub mod TableLawfulLemmas
+pub mod TableGrowLemmas
+pub mod LeastLemmas
+pub mod LayLemmas
+pub mod ColumnLemmas
+pub mod LinkLemmas
+pub mod SiblingLemmas
+pub mod TableSetLemmas
+pub mod TableLinesLemmas
+pub mod TableCellLemmas
+pub mod CellsOutLemmas
+pub mod CellsReadLemmas
+pub mod CellRowLemmas
+pub mod RowOutLemmas
+pub mod RowOutGridLemmas
+pub mod ColOutLemmas
+pub mod ColOutGridLemmas
 mod ResultLemmas
 mod ResultExamples

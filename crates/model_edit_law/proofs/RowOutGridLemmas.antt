@@ -51,11 +51,11 @@ pub no_fault : (o : Option TableCause) (s t : Transaction) → fault_or o s ≡ 
 no_fault None s t h = refl
 no_fault (Some e) s t h = cc
 
-first_none : (b : Bool) (fault : TableCause) (causes : List (Bool × TableCause)) → first_fault ((b, fault) ∷ causes) ≡ None → (b ≡ false) × (first_fault causes ≡ None)
+pub first_none : (b : Bool) (fault : TableCause) (causes : List (Bool × TableCause)) → first_fault ((b, fault) ∷ causes) ≡ None → (b ≡ false) × (first_fault causes ≡ None)
 first_none true fault causes h = cc
 first_none false fault causes h = (refl, h)
 
-low_in : (items : List PlainItem) (rows : List TableRow) (row : ℕ) (cells : List GridCell) → Homes items rows cells →
+pub low_in : (items : List PlainItem) (rows : List TableRow) (row : ℕ) (cells : List GridCell) → Homes items rows cells →
     first_fault (at_first (λ (c : GridCell). (c.row == row) && nat_lt 1 c.rows) cells (λ cell. Spanned cell)) ≡ None → LowIn row (map rectangle_of cells)
 low_in items rows row [] homes h = tt
 low_in items rows row (c ∷ cells) homes h =

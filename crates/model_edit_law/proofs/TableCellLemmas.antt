@@ -107,7 +107,7 @@ module _ (kind : Kind) (head : Head) (marks : List Mark) (pre : List ℕ) (origi
   abbrev cell_item : PlainItem
   cell_item = Opening kind head marks pre origin generated
 
-  rows_written : (m : ℕ) → 1 ≤ m → m ≤ max_row_span → span_read (set_in (codes "rowspan") (Some (decimal m)) (Some cell_item)) ≡ record (span_read (Some cell_item)) { rows = m }
+  pub rows_written : (m : ℕ) → 1 ≤ m → m ≤ max_row_span → span_read (set_in (codes "rowspan") (Some (decimal m)) (Some cell_item)) ≡ record (span_read (Some cell_item)) { rows = m }
   rows_written m some most =
       let rows : span_in max_row_span (value_of (codes "rowspan") (attrs_changed (codes "rowspan") (position_kept (value_of (codes "rowspan") head.attrs) (Some (decimal m)) (codes "rowspan") None cell_item) (value_of (codes "rowspan") head.attrs) (Some (decimal m)) head.attrs)) ≡ m =
       ap (span_in max_row_span) (attrs_set (codes "rowspan") (decimal m) head.attrs cell_item) ∙ span_written max_row_span m some most (omega arith) in

@@ -133,7 +133,7 @@ rows_apart items kinds low high (one ∷ rows) zero (suc k) r later c h g less =
     subst (λ (v : TableRow). suc (partner items v.at) ≤ later.at) e (row_within items kinds (end_of_node items one.at) high rows k later c.2 g).0
 rows_apart items kinds low high (one ∷ rows) (suc i) (suc k) r later c h g less = rows_apart items kinds (end_of_node items one.at) high rows i k r later c.2 h g (omega arith)
 
-place_within : (items : List PlainItem) (kinds : List Kind) (low high : ℕ) (one : TableRow) (rows : List TableRow) (k : ℕ) → Chain row_at items kinds low high (one ∷ rows) →
+pub place_within : (items : List PlainItem) (kinds : List Kind) (low high : ℕ) (one : TableRow) (rows : List TableRow) (k : ℕ) → Chain row_at items kinds low high (one ∷ rows) →
     (low ≤ row_place items (one ∷ rows) k) × (row_place items (one ∷ rows) k ≤ high)
 place_within items kinds low high one [] zero c = let a = c.0 in let b = c.2 in let d = (c.1.2).ahead in (c.0, omega arith)
 place_within items kinds low high one [] (suc k) c = let a = c.0 in let b = c.2 in let d = (c.1.2).ahead in (omega arith, c.2)
@@ -143,7 +143,7 @@ place_within items kinds low high one (next ∷ rows) (suc k) c =
     let r = place_within items kinds (end_of_node items one.at) high next rows k c.2 in
     let a = c.0 in let d = (c.1.2).ahead in let q = r.0 in (omega arith, r.1)
 
-place_after : (items : List PlainItem) (kinds : List Kind) (low high : ℕ) (rows : List TableRow) (i k : ℕ) (r : TableRow) → Chain row_at items kinds low high rows →
+pub place_after : (items : List PlainItem) (kinds : List Kind) (low high : ℕ) (rows : List TableRow) (i k : ℕ) (r : TableRow) → Chain row_at items kinds low high rows →
     slice_get rows i ≡ Some r → i < k → suc (partner items r.at) ≤ row_place items rows k
 place_after items kinds low high [] i k r c h less = cc
 place_after items kinds low high (one ∷ rows) i zero r c h less = absurd (omega arith)
@@ -303,7 +303,7 @@ col_out_fine items at column t lawful h =
     (col_out_may items cells (suc at) (partner items at) chain))
 
 -- cells that all lie between two places
-abbrev Between : List PlainItem → (low high : ℕ) → List GridCell → Type 0
+abbrev pub Between : List PlainItem → (low high : ℕ) → List GridCell → Type 0
 Between items low high [] = Unit {0}
 Between items low high (c ∷ cells) = (low ≤ c.at) × (end_of_node items c.at ≤ high) × Between items low high cells
 
@@ -316,14 +316,14 @@ Between-zero : (items : List PlainItem) (low high : ℕ) (cells : List GridCell)
 Between-zero items low high [] b = tt
 Between-zero items low high (c ∷ cells) b = (omega arith, b.1, Between-zero items low high cells b.2)
 
-chain_between : (items : List PlainItem) (low high low' high' : ℕ) (cells : List GridCell) → low' ≤ high' → Between items low' high' cells → Chain cell_at items cell_kinds low high cells →
+pub chain_between : (items : List PlainItem) (low high low' high' : ℕ) (cells : List GridCell) → low' ≤ high' → Between items low' high' cells → Chain cell_at items cell_kinds low high cells →
     Chain cell_at items cell_kinds low' high' cells
 chain_between items low high low' high' [] h b c = h
 chain_between items low high low' high' (cell ∷ cells) h b c =
     (b.0, c.1, chain_up_to items (end_of_node items cell.at) high high' cells b.1 (Between-zero items low' high' cells b.2) c.2)
 
 -- the cells of one row
-row_between : (items : List PlainItem) (rows : List TableRow) (index : ℕ) (row : TableRow) (cells : List GridCell) → Homes items rows cells → slice_get rows index ≡ Some row →
+pub row_between : (items : List PlainItem) (rows : List TableRow) (index : ℕ) (row : TableRow) (cells : List GridCell) → Homes items rows cells → slice_get rows index ≡ Some row →
     Between items (suc row.at) (partner items row.at) (filter (λ (c : GridCell). c.row == index) cells)
 row_between items rows index row [] h e = tt
 row_between items rows index row (cell ∷ cells) h e =
@@ -342,7 +342,7 @@ row_between items rows index row (cell ∷ cells) h e =
     ]
 
 -- where no cell grows into the new column at this row, none of the row's cells spans it
-none_spans : (items : List PlainItem) (rows : List TableRow) (index column : ℕ) (cells : List GridCell) → Homes items rows cells →
+pub none_spans : (items : List PlainItem) (rows : List TableRow) (index column : ℕ) (cells : List GridCell) → Homes items rows cells →
     list_any (λ (c : GridCell). spans_column column c && covers_row c index) cells ≡ false →
     filter (spans_column column) (filter (λ (c : GridCell). c.row == index) cells) ≡ []
 none_spans items rows index column [] h n = refl
@@ -367,7 +367,7 @@ none_spans items rows index column (cell ∷ cells) h n =
     and_false false b e h = refl
 
 -- the new cell's place is in the row
-place_between : (items : List PlainItem) (row : TableRow) (column low : ℕ) (cells : List GridCell) → Chain cell_at items cell_kinds low (partner items row.at) cells →
+pub place_between : (items : List PlainItem) (row : TableRow) (column low : ℕ) (cells : List GridCell) → Chain cell_at items cell_kinds low (partner items row.at) cells →
     (low ≤ cell_place items row column cells) × (cell_place items row column cells ≤ partner items row.at)
 place_between items row column low [] c = (c, omega arith)
 place_between items row column low (cell ∷ []) c =

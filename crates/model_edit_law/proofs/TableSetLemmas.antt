@@ -32,7 +32,7 @@ length_map f (x ∷ xs) = ap suc (length_map f xs)
 abbrev pub set_item : List ℕ → Option (List ℕ) → PlainItem → PlainItem
 set_item name to x = item_changed (setting name to (x ∷ [])) x
 
-setting_first : (name : List ℕ) (to : Option (List ℕ)) (x : PlainItem) (rest : List PlainItem) → item_changed (setting name to (x ∷ rest)) x ≡ set_item name to x
+pub setting_first : (name : List ℕ) (to : Option (List ℕ)) (x : PlainItem) (rest : List PlainItem) → item_changed (setting name to (x ∷ rest)) x ≡ set_item name to x
 setting_first name to (Char c marks) rest = refl
 setting_first name to (Opening kind head marks pre origin generated) rest = refl
 setting_first name to (Closing kind pre) rest = refl
@@ -41,7 +41,7 @@ abbrev pub set_in : List ℕ → Option (List ℕ) → Option PlainItem → Opti
 set_in name to None = None
 set_in name to (Some x) = Some (set_item name to x)
 
-shape_set : (c : AttrChange) (x : PlainItem) → shape_of (item_changed c x) ≡ shape_of x
+pub shape_set : (c : AttrChange) (x : PlainItem) → shape_of (item_changed c x) ≡ shape_of x
 shape_set c (Char ch marks) = refl
 shape_set c (Opening kind head marks pre origin generated) = refl
 shape_set c (Closing kind pre) = refl
