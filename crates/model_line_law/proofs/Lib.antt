@@ -1,0 +1,6 @@
+mod StringLemmas
+mod LexLemmas
+mod TreeLemmas
+pub mod LineLemmas
+mod TextExamples
+pub mod PageLemmas
