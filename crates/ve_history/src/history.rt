@@ -46,6 +46,7 @@ impl History {
         ensures done { self.new.done ≡ self.old.done }
         ensures undone { self.new.undone ≡ self.old.undone }
         ensures ok { OnOk result (1 ≤ self.new.spare) }
+        ensures spare { self.old.spare ≤ self.new.spare }
         ensures err { OnErr result (self.new ≡ self.old) }
         ensures within { 1 ≤ self.old.spare → IsOk result }
     {
@@ -57,11 +58,13 @@ impl History {
         Ok(())
     }
 
-    /// Puts a new entry on the first stack; nothing can be redone then. It succeeds within the spare room, and an `Err` changes nothing.
+    /// Puts a new entry on the first stack; nothing can be redone then. It succeeds within the spare room, of which it takes one, and an `Err`
+    /// changes nothing.
     pub fn push(&mut self, entry: Entry) -> Result<(), Memory>
         ensures done { OnOk result (self.new.done ≡ self.old.done ++ entry ∷ []) }
         ensures undone { OnOk result (self.new.undone ≡ []) }
         ensures err { OnErr result (self.new ≡ self.old) }
+        ensures spare { OnOk result (self.old.spare - 1 ≤ self.new.spare) }
         ensures within { 1 ≤ self.old.spare → IsOk result }
     {
         self.reserve()?;
@@ -93,6 +96,7 @@ impl History {
         ensures done { OnOk result (self.new.done ≡ without_last self.old.done) }
         ensures undone { OnOk result (self.new.undone ≡ undone ∷ self.old.undone) }
         ensures err { OnErr result (self.new ≡ self.old) }
+        ensures spare { OnOk result (self.old.spare - 1 ≤ self.new.spare) }
         ensures within { 1 ≤ self.old.spare → IsOk result }
     {
         self.reserve()?;
@@ -110,6 +114,7 @@ impl History {
         ensures done { OnOk result (self.new.done ≡ self.old.done ++ redone ∷ []) }
         ensures undone { OnOk result (self.new.undone ≡ drop 1 self.old.undone) }
         ensures err { OnErr result (self.new ≡ self.old) }
+        ensures spare { OnOk result (self.old.spare - 1 ≤ self.new.spare) }
         ensures within { 1 ≤ self.old.spare → IsOk result }
     {
         self.reserve()?;
