@@ -1,5 +1,5 @@
 -- What a world replies, in the subject's words.
-use Rattle.std.specs.Prelude.{◌≡◌, ℕ, Some, chars, slice_get, IsUtf8}
+use Rattle.std.specs.Prelude.{◌≡◌, ℕ, Some, chars, slice_get}
 use Rattle.model_site.specs.Session.{Member}
 use Rattle.model_world.specs.declared.command.Request.TheVariants as request
 use Rattle.model_world.specs.declared.command.Command.TheVariants.{Ask}
@@ -10,5 +10,5 @@ use Rattle.ve_session.specs.Opened.{world_on, IsLed, OnPage}
 -- Where lines lead to a page, and a site's list is as it was opened, `html` gives that page to it, byte for byte.
 abbrev pub UneditedIsTold : Type 0
 UneditedIsTold =
-    (p : OnPage) (k : ℕ) (m : Member) → IsLed (world_on p) → slice_get p.session.members k ≡ Some m → IsUtf8 p.page.page →
+    (p : OnPage) (k : ℕ) (m : Member) → IsLed (world_on p) → slice_get p.session.members k ≡ Some m →
     m.site.replica.items ≡ p.page.items → obeyed (world_on p) (Ask request.Html k) ≡ (reply.Page (chars p.page.page), world_on p)
