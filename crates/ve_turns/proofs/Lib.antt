@@ -6,3 +6,4 @@ mod TurnLemmas
 mod RevokeLemmas
 mod BeginLemmas
 mod TurnExamples
+mod EventLemmas

@@ -13,3 +13,4 @@ pub mod Shared
 pub mod Senders
 pub mod IsShared
 pub mod Turns
+pub mod Laws
