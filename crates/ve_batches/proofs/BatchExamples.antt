@@ -38,15 +38,15 @@ memory_has_no_place = refl
 second_is_refused : IsBatchRefused (batch_on letter (change.Text 1 (120 ∷ []) Left ∷ change.Remove 9 12 ∷ [])) (stop.Refused 1 (refusal.BadRange 9 12))
 second_is_refused = refl
 
--- a tree has three nodes here, and two where the letter is removed
-a_change_has_a_tree : steps_of_change letter (change.Remove 1 2) ≡ 32
-a_change_has_a_tree = refl
+-- the letter's text node goes, and the paragraph and the root become shorter
+three_are_touched : steps_of_change letter (change.Remove 1 2) ≡ 40
+three_are_touched = refl
 
 a_refused_change_has_none : steps_of_change letter (change.Remove 9 12) ≡ 0
 a_refused_change_has_none = refl
 
--- a copy, and two lists
-two_changes : steps_of_batch letter (change.Remove 1 2 ∷ change.Text 1 (120 ∷ []) Left ∷ []) ≡ 40 + (32 + 40)
+-- a copy, and two transactions that touch three nodes each
+two_changes : steps_of_batch letter (change.Remove 1 2 ∷ change.Text 1 (120 ∷ []) Left ∷ []) ≡ 40 + (40 + 40)
 two_changes = refl
 
 -- nothing is counted after what is refused

@@ -6,7 +6,7 @@ use Rattle.ve_base.specs.declared.value.Value.{Value}
 use Rattle.model_items.specs.declared.plain_item.PlainItem.{PlainItem}
 use Rattle.model_change.specs.Inverse.{filled}
 use Rattle.model_change.specs.Store.{brought}
-use Rattle.model_change.specs.Transaction.{Transaction, edited}
+use Rattle.model_change.specs.Transaction.{Transaction}
 use Rattle.model_change.proofs.FilledLemmas.{names_stay_apart}
 use Rattle.model_site.specs.Entries.{Entry, entry_of}
 use Rattle.model_site.specs.Refused.{edit_cause}
@@ -17,7 +17,6 @@ use Rattle.model_world.specs.declared.change.Change.{Change}
 use Rattle.model_world.specs.declared.refusal.Refusal.{Refusal}
 use Rattle.model_world.specs.Edits.{BatchRefusal, allowed, batch_from, batch_on, change_of, change_on, unless_faulty}
 use Rattle.model_world_law.specs.Fit.{AllWritten, ChangesFit, IsWritten}
-use Rattle.ve_tree.specs.TreeOf.{most_steps}
 use Rattle.ve_tx.specs.declared.draft.Draft.{Draft}
 use Rattle.ve_tx.specs.declared.entry.Entry.{Entry as KeptEntry}
 use Rattle.ve_tx.specs.Cites.{TxCites}
@@ -25,7 +24,7 @@ use Rattle.ve_tx.specs.Entry.{appended}
 use Rattle.ve_tx.specs.Making.{Extends}
 use Rattle.ve_tx.specs.Operation.{by_value}
 use Rattle.ve_tx.proofs.ValuesLemmas.{extends_by_fill}
-use Rattle.ve_editor.specs.Counted.{steps_after}
+use Rattle.ve_editor.specs.Counted.{steps_of, steps_after}
 use Rattle.ve_editor.specs.Edited.{EntryCites, entry_by_value}
 use Rattle.ve_editor.proofs.OtherLemmas.{all_by_value-extended, all_cites-extended}
 use Rattle.ve_changes.specs.declared.faults.Stop.{Stop}
@@ -71,9 +70,9 @@ pub may_run : (fit : ChangesFit) (law : EditMayRun) (r : Replica) (c : Change) (
     MayRun t r.items
 may_run fit law r c t written sound e n = let f = fit r.items c t written sound e in law t r f.reduced f.apart n
 
-pub steps_of_one : (r : Replica) (c : Change) (t : Transaction) (old new : ℕ) → change_of r.items c ≡ Ok t → new ≤ old + most_steps (edited t r.items) → new ≤ old + steps_of_change r c
+pub steps_of_one : (r : Replica) (c : Change) (t : Transaction) (old new : ℕ) → change_of r.items c ≡ Ok t → new ≤ old + steps_of t r.items → new ≤ old + steps_of_change r c
 steps_of_one r c t old new e h =
-    subst (λ (m : Result Transaction Refusal). new ≤ old + (elim m as (λ _. ℕ) [ Err refusal ↦ 0 | Ok t ↦ most_steps (edited t r.items) ])) (sym e) h
+    subst (λ (m : Result Transaction Refusal). new ≤ old + (elim m as (λ _. ℕ) [ Err refusal ↦ 0 | Ok t ↦ steps_of t r.items ])) (sym e) h
 
 -- ---- changes in turn
 

@@ -1,16 +1,16 @@
 -- How many steps changes count at most.
 use Rattle.std.specs.Prelude.{ℕ, ◌+◌, List, [], ◌∷◌, Ok, Err}
-use Rattle.model_change.specs.Transaction.{edited}
 use Rattle.model_site.specs.Replica.{Replica, performed}
 use Rattle.model_world.specs.declared.change.Change.{Change}
 use Rattle.model_world.specs.Edits.{change_of, change_on}
+use Rattle.ve_editor.specs.Counted.{steps_of}
 use Rattle.ve_tree.specs.TreeOf.{most_steps}
 
--- those of the tree of the list that a change would make, whether it may be performed or not
+-- those of the transaction that a change would make, whether it may be performed or not
 abbrev pub steps_of_change : Replica → Change → ℕ
 steps_of_change r c = elim (change_of r.items c) [
   | Err refusal ↦ 0
-  | Ok t ↦ most_steps (edited t r.items)
+  | Ok t ↦ steps_of t r.items
 ]
 
 -- those of changes in turn, up to the first that is refused

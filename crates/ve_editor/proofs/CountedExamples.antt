@@ -1,11 +1,11 @@
--- How many steps are counted on an empty paragraph: its tree has one node, and with a character in it two.
-use Rattle.std.proofs.Common.{◌≡◌, ◌+◌, false, List, [], ◌∷◌, None, refl}
+-- How many steps are counted on an empty paragraph: a character touches the root and the paragraph, which it makes longer, and its own text node.
+use Rattle.std.proofs.Common.{◌≡◌, ◌+◌, false, List, [], ◌∷◌, ◌++◌, None, refl}
 use Rattle.ve_base.specs.declared.head.Head.{Head}
 use Rattle.ve_kinds.specs.declared.kind.Kind.TheVariants.{P}
 use Rattle.model_items.specs.declared.plain_item.PlainItem.{PlainItem}
 use Rattle.model_items.specs.declared.plain_item.PlainItem.TheVariants.{Char, Closing, Opening}
 use Rattle.model_change.specs.Transaction.{Replace, Retain, Transaction}
-use Rattle.ve_editor.specs.Counted.{steps_after, steps_of_copy, steps_over}
+use Rattle.ve_editor.specs.Counted.{steps_of, steps_after, steps_of_copy, steps_over}
 
 abbrev head : Head
 head = record { tag = []; attrs = []; raw = []; reference = None; owner = false }
@@ -22,12 +22,12 @@ typing = Retain 1 ∷ Replace [] letter ∷ Retain 1 ∷ []
 abbrev erasing : Transaction
 erasing = Retain 1 ∷ Replace letter [] ∷ Retain 1 ∷ []
 
--- one transaction is made in place: the tree of the new list
-one_alone : steps_over (typing ∷ []) empty ≡ 32
+-- one transaction is made in place: three nodes
+one_alone : steps_over (typing ∷ []) empty ≡ 40
 one_alone = refl
 
--- two are made on a copy: its tree, and those of both new lists
-two_on_a_copy : steps_over (typing ∷ erasing ∷ []) empty ≡ 24 + (32 + 24)
+-- two are made on a copy: its tree has one node beside the root
+two_on_a_copy : steps_over (typing ∷ erasing ∷ []) empty ≡ 24 + (40 + 40)
 two_on_a_copy = refl
 
 -- none is made, on a copy too
@@ -35,8 +35,15 @@ none_on_a_copy : steps_over [] empty ≡ 24
 none_on_a_copy = refl
 
 -- without the copy
-only_new_lists : steps_after (typing ∷ erasing ∷ []) empty ≡ 32 + 24
-only_new_lists = refl
+only_transactions : steps_after (typing ∷ erasing ∷ []) empty ≡ 40 + 40
+only_transactions = refl
 
 no_copy_for_one : steps_of_copy (erasing ∷ []) empty ≡ 0
 no_copy_for_one = refl
+
+-- a paragraph before it is not touched
+abbrev typing_below : Transaction
+typing_below = Retain 3 ∷ Replace [] letter ∷ Retain 1 ∷ []
+
+others_are_not_counted : steps_of typing_below (empty ++ empty) ≡ 40
+others_are_not_counted = refl

@@ -1,6 +1,7 @@
 pub mod VerdictLemmas
 pub mod GrownLemmas
 pub mod CauseLemmas
+pub mod RelinkLemmas
 pub mod ReadyLemmas
 pub mod PerformLemmas
 pub mod SelectedLemmas

@@ -56,7 +56,7 @@ impl Editor {
     ghost use Rattle.ve_editor.specs.Edited.{IsDraftOf, drafted, entry_by_value, EntryCites, AllStand, CanBeReverted, CutsUncited, IsUncited, reversal_over};
     ghost use Rattle.ve_tx.specs.ByValue.{parcel_by_value, ParcelCites};
     ghost use Rattle.ve_editor.specs.Refusal.{IsEditRefusal};
-    ghost use Rattle.ve_editor.specs.Counted.{steps_after, steps_over};
+    ghost use Rattle.ve_editor.specs.Counted.{steps_of, steps_after, steps_over};
 
     /// An editor of a lawful list whose items cite values of the store, with the selection at the start. Its
     /// tree is built, in at most eight steps for each node and sixteen more.
@@ -134,9 +134,8 @@ impl Editor {
     /// over `MAX_ITEMS` items; the store would have over `MAX_VALUES` values. All memory is taken before
     /// anything changes, and an `Err` changes nothing.
     ///
-    /// Nodes are written or made only where no cause refuses it. `Tree::splice` says which: none where characters
-    /// come for characters, and openings and closings for those of their kinds, as by a mark or an attribute; and
-    /// lengths alone where characters of one run give way to others, as by typing.
+    /// Nodes are written, made or let go only where no cause refuses it: in at most eight steps for each node that the
+    /// transaction touches, and sixteen more. Nodes that stay keep their numbers, as `ready` and `relink` say.
     pub fn perform<L: Ledger>(
         &mut self,
         draft: &Draft,
@@ -150,7 +149,7 @@ impl Editor {
         ensures refused { IfErr result (IsEditRefusal (edit_cause (drafted self.old.store draft.now) self.old)) }
         ensures kept { OnErr result (self.new ≡ self.old) }
         ensures counted { steps.old ≤ steps.new }
-        ensures steps { steps.new ≤ steps.old + most_steps (performed (drafted self.old.store draft.now) self.old).items }
+        ensures steps { steps.new ≤ steps.old + steps_of (drafted self.old.store draft.now) self.old.items }
         ensures unstepped { IfErr result (λ why. why ≢ EditFault.Memory → steps.new ≡ steps.old) }
     {
         let before = self.store.len();
@@ -187,7 +186,7 @@ impl Editor {
         ensures page { OnOk result (self.new ≡ put_back (by_value self.old.store tx.now) self.old) }
         ensures kept { OnErr result (self.new ≡ self.old) }
         ensures counted { steps.old ≤ steps.new }
-        ensures steps { steps.new ≤ steps.old + most_steps (edited (by_value self.old.store tx.now) self.old.items) }
+        ensures steps { steps.new ≤ steps.old + steps_of (by_value self.old.store tx.now) self.old.items }
     {
         let before = self.store.len();
         match ready_back(
@@ -286,7 +285,7 @@ impl Editor {
         ensures cites { IfOk result (λ txs. All (TxCites self.new.store) txs) }
         ensures kept { OnErr result (self.new ≡ self.old) }
         ensures counted { steps.old ≤ steps.new }
-        ensures steps { steps.new ≤ steps.old + most_steps (edited (by_value values.now tx.now) self.old.items) }
+        ensures steps { steps.new ≤ steps.old + steps_of (by_value values.now tx.now) self.old.items }
     {
         let stored = self.store.len();
         match ready_other(

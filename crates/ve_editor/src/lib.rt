@@ -8,7 +8,9 @@
 //! list's, and that each value that is cited is in the store and of the sort that is asked for (`IsPage`).
 //!
 //! The tree becomes that of the new list as the last step that may fail, before the list itself changes
-//! (`Tree::splice`); after it the list takes no memory. So want of memory leaves list and tree as they were.
+//! (`ve_repair::relink`); after it the list takes no memory. So want of memory leaves list and tree as they were.
+//! The steps are bounded by how many nodes a transaction touches, and nodes that stay keep their numbers, which
+//! `ready` and `ready_back` say, as the view of an `Editor` has no tree.
 //!
 //! Definitions, in reading order: `Page` (what the type keeps), `Edited` (drafts and entries by value; what
 //! may be performed or taken back), `Counted` (how many steps a call counts at most), `Refusal` (how a refusal

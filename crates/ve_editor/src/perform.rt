@@ -9,11 +9,15 @@ ghost use Rattle.model_change.specs.Transaction.{edited};
 ghost use Rattle.model_edit.specs.Translate.{between};
 ghost use Rattle.model_site.specs.Refused.{edit_cause};
 ghost use Rattle.ve_tree.specs.IsTree.{unvalued};
-ghost use Rattle.ve_tree.specs.TreeOf.{IsTreeOf, most_steps};
-ghost use Rattle.ve_tx.specs.Applied.{AppliesTo, filled_on, spliced_by};
+ghost use Rattle.ve_tree.specs.TreeOf.{IsTreeOf};
+ghost use Rattle.ve_tx.specs.Applied.{AppliesTo, filled_on};
 ghost use Rattle.ve_tx.specs.Cites.{TxCites};
 ghost use Rattle.ve_tx.specs.Making.{Extends};
 ghost use Rattle.ve_tx.specs.Operation.{by_value};
+ghost use Rattle.ve_repair.specs.Change.{LawfulAfter};
+ghost use Rattle.ve_repair.specs.Kept.{KeepsNumbers};
+ghost use Rattle.ve_repair.specs.Repaired.{IsTreeOfAfter, IsWithinTouch};
+ghost use Rattle.ve_editor.specs.Counted.{steps_of};
 ghost use Rattle.ve_editor.specs.Edited.{IsDraftOf, drafted};
 ghost use Rattle.ve_editor.specs.Page.{IsPage, page_of};
 ghost use Rattle.ve_editor.specs.Prepared.{IsReadyBack, IsReadyOther, MayPerform};
@@ -90,8 +94,8 @@ fn entry_of(
     })
 }
 
-/// The entry of a transaction and its change. Then the tree is that of the list after the change; at an `Err` it
-/// is the tree of the list still.
+/// The entry of a transaction and its change. Then the tree is that of the list after the change, and nodes that stay
+/// keep their numbers; at an `Err` it is the tree of the list still.
 fn with_entry<L: Ledger>(
     alloc: Global,
     list: &Linear,
@@ -106,26 +110,26 @@ fn with_entry<L: Ledger>(
     requires tree { IsTreeOf tree.old (unvalued list.now.items) }
     requires applies { AppliesTo store.now tx.now list.now.items }
     requires cites { TxCites store.now tx.now }
-    requires within { change.at + change.removed ≤ length list.now.items }
-    requires lawful { Lawful (unvalued (spliced_by list.now.items change)) }
+    requires lawful { LawfulAfter tx.now list.now.items }
     ensures txs { IfOk result (λ ready. map (by_value store.now) ready.entry.txs ≡ filled_on store.now tx.now list.now.items ∷ []) }
     ensures before { IfOk result (λ ready. ready.entry.store_before ≡ store_before) }
     ensures after { IfOk result (λ ready. ready.entry.store_after ≡ length store.now) }
     ensures cites { IfOk result (λ ready. All (TxCites store.now) ready.entry.txs) }
     ensures change { IfOk result (λ ready. ready.change ≡ change) }
-    ensures tree { OnOk result (IsTreeOf tree.new (unvalued (spliced_by list.now.items change))) }
+    ensures tree { OnOk result (IsTreeOfAfter tree.new tx.now list.now.items) }
+    ensures numbers { OnOk result (KeepsNumbers tree.old.arena tree.new.arena tree.old.root tx.now list.now.items) }
     ensures kept { OnErr result (IsTreeOf tree.new (unvalued list.now.items)) }
     ensures counted { steps.old ≤ steps.new }
-    ensures steps { steps.new ≤ steps.old + most_steps (unvalued (spliced_by list.now.items change)) }
+    ensures steps { IsWithinTouch steps.old steps.new tx.now list.now.items }
 {
     let entry = entry_of(alloc, list, store, tx, store_before)?;
-    prepare(alloc, list, tree, &change, steps)?;
+    prepare(alloc, list, tree, tx, steps)?;
     Ok(Performing { entry, change })
 }
 
 /// Makes a draft ready to be performed on a page, or says why it is not performed. The store takes its values and
-/// the list room, and then the tree becomes that of the list after the change; an `Err` leaves it the list's, and
-/// may leave values after those that were there.
+/// the list room, and then the tree becomes that of the list after the change, in which nodes that stay keep their
+/// numbers; an `Err` leaves it the list's, and may leave values after those that were there.
 pub fn ready<L: Ledger>(
     alloc: Global,
     list: &mut Linear,
@@ -137,12 +141,13 @@ pub fn ready<L: Ledger>(
     requires page { IsPage store.old list.old.items tree.old }
     requires draft { IsDraftOf store.old draft.now }
     ensures ok { IfOk result (MayPerform draft.now store.old store.new list.new tree.new) }
+    ensures numbers { OnOk result (KeepsNumbers tree.old.arena tree.new.arena tree.old.root draft.now.tx list.old.items) }
     ensures refused { IfErr result (IsEditRefusal (edit_cause (drafted store.old draft.now) (page_of store.old list.old.items (between 0 0)))) }
     ensures kept { OnErr result (IsTreeOf tree.new (unvalued list.old.items)) }
     ensures items { list.new.items ≡ list.old.items }
     ensures extends { Extends store.old store.new }
     ensures counted { steps.old ≤ steps.new }
-    ensures steps { steps.new ≤ steps.old + most_steps (edited (drafted store.old draft.now) (plain_list store.old list.old.items)) }
+    ensures steps { steps.new ≤ steps.old + steps_of (drafted store.old draft.now) (plain_list store.old list.old.items) }
     ensures unstepped { IfErr result (λ why. why ≢ EditFault.Memory → steps.new ≡ steps.old) }
 {
     let before = store.len();
@@ -169,8 +174,8 @@ pub fn ready<L: Ledger>(
 }
 
 /// Makes a transaction ready that applies to a page and leaves it lawful. The store takes the heads that it
-/// changes and the list room, and then the tree becomes that of the list after the change; an `Err` leaves it the
-/// list's, and may leave values after those that were there.
+/// changes and the list room, and then the tree becomes that of the list after the change, in which nodes that stay
+/// keep their numbers; an `Err` leaves it the list's, and may leave values after those that were there.
 pub fn ready_back<L: Ledger>(
     alloc: Global,
     list: &mut Linear,
@@ -185,15 +190,16 @@ pub fn ready_back<L: Ledger>(
     requires applies { AppliesTo store.old tx.now list.old.items }
     requires lawful { Lawful (edited (by_value store.old tx.now) (plain_list store.old list.old.items)) }
     ensures ok { IfOk result (IsReadyBack (by_value store.old tx.now) store.old store.new list.new tree.new) }
+    ensures numbers { OnOk result (KeepsNumbers tree.old.arena tree.new.arena tree.old.root tx.now list.old.items) }
     ensures kept { OnErr result (IsTreeOf tree.new (unvalued list.old.items)) }
     ensures items { list.new.items ≡ list.old.items }
     ensures extends { Extends store.old store.new }
     ensures counted { steps.old ≤ steps.new }
-    ensures steps { steps.new ≤ steps.old + most_steps (edited (by_value store.old tx.now) (plain_list store.old list.old.items)) }
+    ensures steps { steps.new ≤ steps.old + steps_of (by_value store.old tx.now) (plain_list store.old list.old.items) }
 {
     match tx.change(alloc, list, store) {
         Ok(change) => {
-            prepare(alloc, list, tree, &change, steps)?;
+            prepare(alloc, list, tree, tx, steps)?;
             Ok(change)
         }
         Err(_) => Err(Memory),
@@ -222,7 +228,7 @@ pub fn ready_other<L: Ledger>(
     ensures items { list.new.items ≡ list.old.items }
     ensures extends { Extends store.old store.new }
     ensures counted { steps.old ≤ steps.new }
-    ensures steps { steps.new ≤ steps.old + most_steps (edited (by_value values.now tx.now) (plain_list store.old list.old.items)) }
+    ensures steps { steps.new ≤ steps.old + steps_of (by_value values.now tx.now) (plain_list store.old list.old.items) }
 {
     // its type keeps that it is in normal form, which `ops` tells
     let _ops = tx.ops();

@@ -1,8 +1,10 @@
 // A change of a page: the tree follows as the last step that may fail, and then the list, which takes no more memory.
-ghost use Rattle.std.specs.Prelude.{◌≡◌, ◌≤◌, ◌+◌, length, OnOk, OnErr};
-ghost use Rattle.model_items.specs.Law.{Lawful};
+ghost use Rattle.std.specs.Prelude.{◌≡◌, ◌≤◌, OnOk, OnErr};
+ghost use Rattle.ve_repair.specs.Change.{CanApply, LawfulAfter};
+ghost use Rattle.ve_repair.specs.Kept.{KeepsNumbers};
+ghost use Rattle.ve_repair.specs.Repaired.{IsTreeOfAfter, IsWithinTouch};
 ghost use Rattle.ve_tree.specs.IsTree.{unvalued};
-ghost use Rattle.ve_tree.specs.TreeOf.{IsTreeOf, most_steps};
+ghost use Rattle.ve_tree.specs.TreeOf.{IsTreeOf};
 ghost use Rattle.ve_tx.specs.Applied.{spliced_by};
 ghost use Rattle.ve_editor.specs.Prepared.{FitsInto};
 
@@ -10,28 +12,30 @@ use std::alloc::Global;
 use std::sync::ledger::Ledger;
 use ve_base::{Memory, Steps};
 use ve_items::Linear;
+use ve_repair::relink;
 use ve_tree::Tree;
-use ve_tx::Change;
+use ve_tx::{Change, Transaction};
 
-/// Makes the tree of a list that of the list after a change, which the list itself has still to go through: so it
-/// is the last step that may fail. At want of memory it is the tree of the list still.
+/// Makes the tree of a list that of the list which a transaction gives, and which the list itself has still to become: so
+/// it is the last step that may fail. Nodes that stay keep their numbers. At want of memory it is the tree of the list
+/// still.
 pub fn prepare<L: Ledger>(
     alloc: Global,
     list: &Linear,
     tree: &mut Tree,
-    change: &Change,
+    tx: &Transaction,
     steps: &mut Steps<L>,
 ) -> Result<(), Memory>
     requires tree { IsTreeOf tree.old (unvalued list.now.items) }
-    requires within { change.now.at + change.now.removed ≤ length list.now.items }
-    requires lawful { Lawful (unvalued (spliced_by list.now.items change.now)) }
-    ensures tree { OnOk result (IsTreeOf tree.new (unvalued (spliced_by list.now.items change.now))) }
+    requires applies { CanApply tx.now list.now.items }
+    requires lawful { LawfulAfter tx.now list.now.items }
+    ensures tree { OnOk result (IsTreeOfAfter tree.new tx.now list.now.items) }
+    ensures numbers { OnOk result (KeepsNumbers tree.old.arena tree.new.arena tree.old.root tx.now list.now.items) }
     ensures kept { OnErr result (IsTreeOf tree.new (unvalued list.now.items)) }
     ensures counted { steps.old ≤ steps.new }
-    ensures steps { steps.new ≤ steps.old + most_steps (unvalued (spliced_by list.now.items change.now)) }
+    ensures steps { IsWithinTouch steps.old steps.new tx.now list.now.items }
 {
-    let items = change.items.as_slice();
-    tree.splice(alloc, list, change.at, change.removed, items, steps)
+    relink(alloc, tree, list, tx, steps)
 }
 
 /// Makes the change of the list. It takes no memory.

@@ -9,6 +9,9 @@ mod DropLemmas
 mod TakeLemmas
 mod FeedLemmas
 mod LengthLemmas
+mod TotalLemmas
+mod SpellLemmas
+mod TouchLemmas
 mod StepBoundLemmas
 mod SiteExamples
 pub mod SettleLemmas

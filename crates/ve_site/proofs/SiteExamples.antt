@@ -140,19 +140,19 @@ answers_count_nothing = refl
 abbrev all_gone : Transaction
 all_gone = Replace (letters (codes "ad")) [] ∷ []
 
--- so b and c can't stay between them: both are taken back on a copy, the last one first
-both_are_dropped : steps_to_take (all_gone ∷ []) in_flight
-    ≡ (most_steps (letters (codes "abcd")) + (most_steps (letters (codes "abd")) + most_steps (letters (codes "ad")))) + most_steps []
+-- so b and c can't stay between them: both are taken back on a copy, the last one first; each time the root and its one text node
+-- become shorter, and at last the text node goes
+both_are_dropped : steps_to_take (all_gone ∷ []) in_flight ≡ (most_steps (letters (codes "abcd")) + (32 + 32)) + 32
 both_are_dropped = refl
 
--- x before a is in nobody's way
+-- x before a is in nobody's way; the root and its text node become longer
 abbrev puts_first : Transaction
 puts_first = Replace [] (letters (codes "x")) ∷ Retain 2 ∷ []
 
-none_is_dropped : steps_to_take (puts_first ∷ []) in_flight ≡ most_steps (letters (codes "xabcd")) + 0
+none_is_dropped : steps_to_take (puts_first ∷ []) in_flight ≡ 32
 none_is_dropped = refl
 
-alone_in_place : steps_of_take (Foreign ((puts_first ∷ []) ∷ [])) in_flight ≡ most_steps (letters (codes "xabcd")) + 0
+alone_in_place : steps_of_take (Foreign ((puts_first ∷ []) ∷ [])) in_flight ≡ 32
 alone_in_place = refl
 
 two_on_a_copy : steps_of_feed ((puts_first ∷ []) ∷ [] ∷ []) (letters (codes "abcd")) ≡ most_steps (letters (codes "abcd"))

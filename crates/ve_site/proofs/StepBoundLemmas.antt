@@ -1,12 +1,15 @@
--- How many trees a take builds, and how long its lists are.
+-- How many steps a take counts, and how long its lists are: no transaction counts more than a tree of the longest list does.
 use Rattle.std.proofs.Common.{◌≡◌, ◌≤◌, ℕ, suc, ◌+◌, ◌*◌, List, [], ◌∷◌, ◌++◌, length, map, take, drop, refl, sym, ap, ◌∙◌, subst, arith, add-mul, suc-mul, mul-le-mul_right}
-use Rattle.std.proofs.lemmas.List.{length-map, take-append-drop}
+use Rattle.std.proofs.lemmas.List.{length-append, length-map, take-append-drop}
 use Rattle.model_items.specs.declared.plain_item.PlainItem.{PlainItem}
 use Rattle.model_items.specs.declared.plain_item.PlainItem.TheVariants.{Char, Opening, Closing}
+use Rattle.model_items.specs.Law.{Lawful}
 use Rattle.model_items.specs.Tree.{Forest, Empty, Run, Branch, Reading, first_forest, node_count, reading, reading_with, with_char}
 use Rattle.model_change.specs.Inverse.{inverse}
-use Rattle.model_change.specs.Replay.{AllRun, flattened, inserted_by, replay, reversal}
-use Rattle.model_change.specs.Transaction.{Transaction, all_inserted, edited}
+use Rattle.model_change.specs.Replay.{AllRun, Runs, flattened, inserted_by, replay, reversal}
+use Rattle.model_change.specs.Transaction.{Transaction, Retain, Replace, Attribute, all_inserted, all_removed, edited, new_length, old_length}
+use Rattle.model_change.proofs.Fits.{gives_new_length, parts_of_Applies}
+use Rattle.model_change.proofs.InverseNormal.{inverse_inserts}
 use Rattle.model_change.proofs.JoinListLaw.{replay_within}
 use Rattle.model_change.proofs.ReversalLaw.{reversal_undoes}
 use Rattle.model_change_law.proofs.InsertedLemmas.{join_lists_insert_the_same}
@@ -20,10 +23,11 @@ use Rattle.model_site_law.proofs.ReplayLemmas.{AllRun-parts, flattened-append, p
 use Rattle.model_site_law.proofs.RevertLemmas.{items_all_reverted}
 use Rattle.model_site_law.proofs.UntilConflictLemmas.{joined_until_conflict}
 use Rattle.ve_tree.specs.TreeOf.{most_steps}
-use Rattle.ve_editor.specs.Counted.{steps_after, steps_of_copy, steps_over}
+use Rattle.ve_editor.specs.Counted.{steps_of, steps_after, steps_of_copy, steps_over}
 use Rattle.ve_site.specs.Ground.{Stands, ground_of}
 use Rattle.ve_site.specs.Taking.{steps_back, steps_of_feed, steps_to_drop, steps_to_take, steps_to_take_all}
 use Rattle.ve_site.specs.Laws.{TakeIsBounded, longest_of, trees_for}
+use Rattle.ve_site.proofs.TouchLemmas.{touch_within}
 use Rattle.ve_site.proofs.TakenLemmas.{committed_runs, has_taken, may_take_next}
 
 -- ---- a tree has no more nodes than its list has items
@@ -60,6 +64,27 @@ each n = 8 * (n + 2)
 steps_within : (items : List PlainItem) (n : ℕ) → length items ≤ n → most_steps items ≤ each n
 steps_within items n small = let all = read_within items in omega (arith, all, small)
 
+-- and those of one transaction, where the list with all that it inserts isn't longer
+one_within : (t : Transaction) (items : List PlainItem) (n : ℕ) → Lawful items → Runs t items → length items + length (all_inserted t) ≤ n → steps_of t items ≤ each n
+one_within t items n lawful run small = let few = touch_within t items lawful run.applies run.lawful in omega (arith, few, small)
+
+-- what a transaction leaves, with all that it removes, is as long as what it is given with all that it inserts
+lengths_are_kept : (t : Transaction) → new_length t + length (all_removed t) ≡ old_length t + length (all_inserted t)
+lengths_are_kept [] = refl
+lengths_are_kept (Retain count ∷ ops) = let rest = lengths_are_kept ops in omega (arith, rest)
+lengths_are_kept (Replace removed inserted ∷ ops) =
+    let rest = lengths_are_kept ops in
+    omega (arith, rest, length-append removed (all_removed ops), length-append inserted (all_inserted ops))
+lengths_are_kept (Attribute change ∷ ops) = lengths_are_kept ops
+
+one_back_within : (t : Transaction) (items : List PlainItem) (n : ℕ) → Sound items → Runs t items → length items + length (all_inserted t) ≤ n → steps_of (inverse t) (edited t items) ≤ each n
+one_back_within t items n sound run small =
+    let undone = reversal_undoes (t ∷ []) items sound.lawful sound.apart (run, tt) in
+    let was = (parts_of_Applies t items run.applies).0 in
+    let is = gives_new_length t items run.applies in
+    let removed : length (all_inserted (inverse t)) ≡ length (all_removed t) = ap (λ (l : List PlainItem). length l) (inverse_inserts t) in
+    one_within (inverse t) (edited t items) n run.lawful undone.runs.0 (omega (arith, small, was, is, removed, lengths_are_kept t))
+
 -- ---- products
 
 one_more : (k m : ℕ) → suc k * m ≡ m + k * m
@@ -86,19 +111,20 @@ copy_within [] items n small = steps_within items n small
 copy_within (t ∷ []) items n small = omega arith
 copy_within (t ∷ u ∷ ts) items n small = steps_within items n small
 
-made_within : (ts : List Transaction) (items : List PlainItem) (n : ℕ) → AllRun ts items → length items + inserted_by ts ≤ n → steps_after ts items ≤ length ts * each n
-made_within [] items n run small = omega arith
-made_within (t ∷ ts) items n run small =
+made_within : (ts : List Transaction) (items : List PlainItem) (n : ℕ) → Lawful items → AllRun ts items → length items + inserted_by ts ≤ n → steps_after ts items ≤ length ts * each n
+made_within [] items n lawful run small = omega arith
+made_within (t ∷ ts) items n lawful run small =
     let next = replay_within (t ∷ []) items (run.0, tt) in
-    let first = steps_within (edited t items) n (omega (arith, next, small)) in
-    let rest = made_within ts (edited t items) n run.1 (omega (arith, next, small)) in
+    let first = one_within t items n lawful run.0 (omega (arith, small)) in
+    let rest = made_within ts (edited t items) n run.0.lawful run.1 (omega (arith, next, small)) in
     let all = one_more (length ts) (each n) in
     omega (arith, first, rest, all)
 
-performed_within : (ts : List Transaction) (items : List PlainItem) (n : ℕ) → AllRun ts items → length items + inserted_by ts ≤ n → steps_over ts items ≤ suc (length ts) * each n
-performed_within ts items n run small =
+performed_within : (ts : List Transaction) (items : List PlainItem) (n : ℕ) → Lawful items → AllRun ts items → length items + inserted_by ts ≤ n →
+    steps_over ts items ≤ suc (length ts) * each n
+performed_within ts items n lawful run small =
     let copy = copy_within ts items n (omega (arith, small)) in
-    let made = made_within ts items n run small in
+    let made = made_within ts items n lawful run small in
     let all = one_more (length ts) (each n) in
     omega (arith, copy, made, all)
 
@@ -112,10 +138,10 @@ back_within (t ∷ ts) items n sound run small =
     let next = replay_within (t ∷ []) items (run.0, tt) in
     let rest = back_within ts new n (sound_after (t ∷ []) items sound (run.0, tt)) run.1 (omega (arith, next, small)) in
     let parts = steps-append (reversal ts) (inverse t ∷ []) (replay ts new) in
-    let end : edited (inverse t) (replay (reversal ts) (replay ts new)) ≡ items =
-    sym (replay-append (reversal ts) (inverse t ∷ []) (replay ts new)) ∙ (reversal_undoes (t ∷ ts) items sound.lawful sound.apart run).back in
+    let sound_next = sound_after (t ∷ []) items sound (run.0, tt) in
+    let there : replay (reversal ts) (replay ts new) ≡ new = (reversal_undoes ts new sound_next.lawful sound_next.apart run.1).back in
     let last : steps_after (inverse t ∷ []) (replay (reversal ts) (replay ts new)) ≤ each n =
-    subst (λ l. most_steps l + 0 ≤ each n) (sym end) (let s = steps_within items n (omega (arith, small)) in omega (arith, s)) in
+    subst (λ l. steps_of (inverse t) l + 0 ≤ each n) (sym there) (let s = one_back_within t items n sound run.0 (omega (arith, small)) in omega (arith, s)) in
     let all = one_more (length ts) (each n) in
     omega (arith, rest, parts, last, all)
 
@@ -258,7 +284,7 @@ module _ (foreign : Parcel) (s : Site) (stands : Stands s) (run : AllRun foreign
       let alike = inserted_alike j.committed foreign same_inserted.0 in
       let inserted_same = alike.0 in
       let count_same = alike.1 in
-      let made = performed_within j.committed (all_reverted gone s.replica).items n (committed_runs foreign s stands run) (omega (arith, small, all, grown, size, inserted_same)) in
+      let made = performed_within j.committed (all_reverted gone s.replica).items n (subst Lawful (sym left) sound_there.lawful) (committed_runs foreign s stands run) (omega (arith, small, all, grown, size, inserted_same)) in
       let more = more_trees (suc (length j.committed)) (2 + length foreign) (each n) (omega (arith, count_same)) in
       let both = parts_of (trees_for (parcels gone)) (2 + length foreign) (each n) in
       omega (arith, back, made, more, both)

@@ -18,8 +18,8 @@ trees_for (entry ∷ entries) = (2 + length entry) + trees_for entries
 abbrev pub longest_of : List Parcel → Site → ℕ
 longest_of entries s = length (ground_of s) + (inserted_by (flattened entries) + inserted_by (flattened (parcels (pending s))))
 
--- A take builds one tree, and for each entry that it takes and each that is pending two more than that has transactions, or fewer. Each tree
--- counts at most eight steps for each item of the longest list, and sixteen more.
+-- A take makes one copy of a page, and for each entry that it takes and each that is pending two more copies or changes than that has
+-- transactions, or fewer. Each counts at most eight steps for each item of the longest list, and sixteen more.
 abbrev pub TakeIsBounded : Type 0
 TakeIsBounded = (entries : List Parcel) (s : Site) → Stands s → AllRun (flattened entries) (ground_of s) →
     steps_of_take (Foreign entries) s ≤ (1 + (trees_for entries + trees_for (parcels (pending s)))) * (8 * (longest_of entries s + 2))

@@ -192,10 +192,6 @@ pub record Climb {slots : Slots} {root : NodeId} {items : List PlainItem} (tree 
   pub number : place.number ≡ at
   pub sum : from + place.from ≡ x.from
 
-pub climb_start : {slots : Slots} {root : NodeId} {items : List PlainItem} (tree : IsTree slots root items) (x : NodePlace) (n : ℕ) → Contains (tree_places tree) x → x.number ≡ n →
-    Climb tree x n 0
-climb_start tree x n c number = record { place = x; listed = c; number = number; sum = omega arith }
-
 -- the root, or a node in it
 data IsRootOr {slots : Slots} {root : NodeId} {items : List PlainItem} (tree : IsTree slots root items) (y : NodePlace) : Type 0 where
   AtRoot : y.number ≡ root.0 → y.from ≡ 0 → IsRootOr tree y
@@ -339,12 +335,6 @@ listed_live {slots = slots} tree y n c number = subst (λ m. IsSome (slot_at slo
 pub record Left {slots : Slots} {root : NodeId} {items : List PlainItem} (tree : IsTree slots root items) (x : NodePlace) (at all left : ℕ) : Type 0 where
   pub climb : Climb tree x at (all - left)
   pub within : left ≤ all
-
-pub left_start : {slots : Slots} {root : NodeId} {items : List PlainItem} (tree : IsTree slots root items) (x : NodePlace) (n all : ℕ) → Contains (tree_places tree) x → x.number ≡ n →
-    Left tree x n all all
-left_start tree x n all c number =
-    let none : 0 ≡ all - all = omega arith in
-    record { climb = subst (Climb tree x n) none (climb_start tree x n c number); within = omega arith }
 
 -- one step to the left, with the premises of the subtraction
 pub record LeftBefore {slots : Slots} {root : NodeId} {items : List PlainItem} (tree : IsTree slots root items) (x : NodePlace) (at all left len : ℕ) : Type 0 where

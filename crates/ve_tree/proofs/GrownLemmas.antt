@@ -85,10 +85,6 @@ pub same-rs : (new old : Slots) (ls rs : List ℕ) → AllSame new old (ls ++ rs
 same-rs new old [] rs h = h
 same-rs new old (n ∷ ls) rs h = same-rs new old ls rs h.1
 
-same-trans : (a b c : Slots) (ns : List ℕ) → AllSame a b ns → AllSame b c ns → AllSame a c ns
-same-trans a b c [] h k = tt
-same-trans a b c (n ∷ ns) h k = (h.0 ∙ k.0, same-trans a b c ns h.1 k.1)
-
 pub same-heads : (new old : Slots) (f : Named) → AllSame new old (node_numbers f) → AllSame new old (heads f)
 same-heads new old NoNode h = tt
 same-heads new old (NamedRun n count later) h = (h.0, same-heads new old later h.1)

@@ -1,5 +1,4 @@
 mod IsTreeExamples
-pub mod LentLemmas
 pub mod GrownLemmas
 pub mod ReadLemmas
 pub mod ReachedLemmas
@@ -18,30 +17,13 @@ pub mod GapLemmas
 pub mod LeftMarkLemmas
 pub mod PlaceLemmas
 pub mod ShiftLemmas
-pub mod RunAtLemmas
 pub mod ShapeLemmas
 pub mod RunLemmas
 pub mod RowLemmas
 pub mod RowRangeLemmas
-pub mod RowNodesLemmas
-pub mod WayUpLemmas
-pub mod ResizedLemmas
-pub mod SpliceLemmas
-pub mod SiblingLemmas
 pub mod NeighbourLemmas
-pub mod AdoptLemmas
-pub mod RelinkLemmas
-pub mod RelinkedLemmas
 pub mod BesideLemmas
 pub mod FrameLemmas
-pub mod MendLemmas
-pub mod MendedLemmas
-pub mod SplicedRowLemmas
-pub mod MendWayLemmas
-pub mod KeptLemmas
-pub mod MendRowLemmas
 pub mod CutLemmas
 pub mod CloseLemmas
-pub mod PassedLemmas
-pub mod MadeLemmas
-pub mod ReadRowLemmas
+mod FollowLemmas

@@ -1,6 +1,5 @@
 -- How much of a list is read, item by item from its end.
 use Rattle.std.proofs.Common.{◌≡◌, ◌≢◌, ◌≤◌, ◌<◌, ◌+◌, ◌-◌, ℕ, zero, suc, Option, Some, Ok, List, [], ◌∷◌, drop, length, refl, sym, ap, ◌∙◌, subst, arith, slice_get, inl, inr, drop-cons, length-drop}
-use Rattle.std.proofs.Math.Seq.{drop-length}
 use Rattle.std.proofs.lemmas.Option.{slice_get_within, get_or_from_slice_get, slice_get_cases}
 use Rattle.ve_base.specs.declared.value.ValueId.{ValueId}
 use Rattle.ve_kinds.specs.declared.kind.Kind.{Kind}
@@ -167,9 +166,6 @@ count-grows items m = total-drop items m
 pub count-is : (items : List Item) (m : ℕ) (here : Forest) (outer : List Forest) → reading_from items m ≡ record { here = here; outer = outer } →
     count_from items m ≡ node_count here + pending_count outer
 count-is items m here outer e = ap (λ (r : Reading). node_count r.here + pending_count r.outer) e
-
-pub reading-end : (items : List Item) → reading_from items (length items) ≡ record { here = Empty; outer = [] }
-reading-end items = ap (λ l. reading (unvalued l)) (drop-length items)
 
 -- an opening's closing is still to come
 pub opening-inside : (items : List Item) (m : ℕ) (x : Item) → Lawful (unvalued items) → slice_get items m ≡ Some x → OpensNode x → closes_from items (suc m) ≢ []

@@ -1,9 +1,8 @@
 -- A tree is read from the shapes of a list's items, and so is the law.
-use Rattle.std.proofs.Common.{◌≡◌, ℕ, ◌+◌, List, [], ◌∷◌, ◌++◌, length, map, take, drop, replicate, Result, Ok, Err, if◌then◌else◌, refl, sym, ap, ◌∙◌, subst, append_assoc}
-use Rattle.std.proofs.lemmas.List.{length-map, map-append, take-map, drop-map}
+use Rattle.std.proofs.Common.{◌≡◌, List, [], ◌∷◌, length, map, Result, Ok, Err, if◌then◌else◌, refl, sym, ap, ◌∙◌, subst}
+use Rattle.std.proofs.lemmas.List.{length-map}
 use Rattle.ve_kinds.specs.declared.kind.Kind.TheVariants.{Root}
 use Rattle.ve_kinds.specs.Table.{is_content_branch}
-use Rattle.model_items.specs.declared.item.Item.{Item}
 use Rattle.model_items.specs.declared.plain_item.PlainItem.{PlainItem}
 use Rattle.model_items.specs.declared.plain_item.PlainItem.TheVariants.{Char, Opening, Closing}
 use Rattle.model_items.specs.declared.law_fault.LawFault.{LawFault}
@@ -15,10 +14,8 @@ use Rattle.model_items.proofs.OnlyLemmas.{tree_is_only, tree_has_whole_runs}
 use Rattle.ve_arena.specs.declared.node.NodeId.{NodeId}
 use Rattle.ve_arena.specs.declared.node.NodeWhat.TheVariants as what
 use Rattle.ve_tree.specs.Named.{heads, IsShown}
-use Rattle.ve_items.specs.Substitution.{spliced}
-use Rattle.ve_tree.specs.declared.run.RunChange.{RunChange}
-use Rattle.ve_tree.specs.IsTree.{unvalued, IsTree}
-use Rattle.ve_tree.specs.RunChange.{ShapesAreRead, with_letters}
+use Rattle.ve_tree.specs.IsTree.{IsTree}
+use Rattle.ve_tree.specs.Shapes.{ShapesAreRead}
 use Rattle.ve_tree.proofs.GrownLemmas.{Slots}
 
 abbrev step_by : State → Shape → Result State LawFault
@@ -67,22 +64,3 @@ shapes_read t items others tree e = record {
   links = shapes_are_tree t.arena t.root items others tree.links e;
   landmarks = tree.landmarks;
 }
-
--- letters that are spliced in
-pub taken : (n : ℕ) (items : List Item) → map shape_of (unvalued (take n items)) ≡ take n (map shape_of (unvalued items))
-taken n items = sym (take-map shape_of n (unvalued items) ∙ ap (map shape_of) (take-map _ n items))
-
-pub dropped : (n : ℕ) (items : List Item) → map shape_of (unvalued (drop n items)) ≡ drop n (map shape_of (unvalued items))
-dropped n items = sym (drop-map shape_of n (unvalued items) ∙ ap (map shape_of) (drop-map _ n items))
-
-pub joined : (xs ys : List Item) → map shape_of (unvalued (xs ++ ys)) ≡ map shape_of (unvalued xs) ++ map shape_of (unvalued ys)
-joined xs ys = ap (map shape_of) (map-append _ xs ys) ∙ map-append shape_of (unvalued xs) (unvalued ys)
-
-pub spliced-letters : (items letters : List Item) (change : RunChange) → map shape_of (unvalued letters) ≡ replicate change.inserted Letter →
-    map shape_of (unvalued (spliced items change.at change.removed letters)) ≡ with_letters change (map shape_of (unvalued items))
-spliced-letters items letters change e =
-    let rest = drop (change.at + change.removed) items in
-    ap (λ l. map shape_of (unvalued l)) (append_assoc (take change.at items) letters rest)
-    ∙ joined (take change.at items) (letters ++ rest)
-    ∙ (λ i. taken change.at items i ++ joined letters rest i)
-    ∙ (λ i. take change.at (map shape_of (unvalued items)) ++ (e i ++ dropped (change.at + change.removed) items i))

@@ -65,20 +65,6 @@ pub record HasOneMore (old new : LandmarkRow) (k : ℕ) (n : NodeId) (gap : ℕ)
   pub next_is : k < length old.gaps → slice_index new.gaps (suc k) + gap ≡ slice_index old.gaps k
   pub others : (m : NodeId) (from : ℕ) → IsLandmark new m from → IsLandmark old m from ⊎ ((m ≡ n) × (from ≡ sum (take k old.gaps) + gap))
 
--- each of them that begins after a place begins so many items after it at least
-abbrev pub HasSpaceAfter : LandmarkRow → ℕ → ℕ → Type 0
-HasSpaceAfter row place removed = (n : NodeId) (from : ℕ) → IsLandmark row n from → place < from → place + removed ≤ from
-
--- the node was one of them; it begins where it did if that was not after the place, else so many items back and so many on
-pub record WasLandmark (old : LandmarkRow) (place removed inserted : ℕ) (n : NodeId) (from : ℕ) : Type 0 where
-  pub was : ℕ
-  pub landmark : IsLandmark old n was
-  pub stays : was ≤ place → from ≡ was
-  pub moves : place < was → from + removed ≡ was + inserted
-
-abbrev pub IsShifted : LandmarkRow → LandmarkRow → ℕ → ℕ → ℕ → Type 0
-IsShifted old new place removed inserted = (n : NodeId) (from : ℕ) → IsLandmark new n from → WasLandmark old place removed inserted n from
-
 -- The node was one of them. Where it began before the first place, or is the root, it begins there still; else it began at the second place or later,
 -- past the list's start, and begins by what lies between the places farther back, and so many items on.
 pub record WasKept (old : LandmarkRow) (root : NodeId) (from to len : ℕ) (n : NodeId) (start : ℕ) : Type 0 where
@@ -106,3 +92,13 @@ pub record IsClosedUp (old new : List ℕ) (low high less more : ℕ) : Type 0 w
   pub count : length new + (high - low) ≡ length old
   pub before : (j : ℕ) → j ≤ low → sum (take j new) ≡ sum (take j old)
   pub after : (j : ℕ) → low < j → j ≤ length new → sum (take j new) + less ≡ sum (take (j + (high - low)) old) + more
+
+-- A landmark that began there follows a change of what lies between two places: before it, or at the root, the node begins there still, and
+-- from the second place on, past the list's start, by what lies between the places farther back, and so many items on.
+pub record Follows (slots : List (Option ArenaNode)) (root : NodeId) (from to len : ℕ) (n : NodeId) (start : ℕ) : Type 0 where
+  pub fits : start + len < 2 ^ 64
+  pub stays : (start < from) ⊎ (n ≡ root) → IsAt slots root n start
+  pub moves : (q : ℕ) → to ≤ start → 0 < start → q + (to - from) ≡ start + len → IsAt slots root n q
+
+abbrev pub MayFollow : List (Option ArenaNode) → NodeId → LandmarkRow → ℕ → ℕ → ℕ → Type 0
+MayFollow slots root row from to len = (n : NodeId) (start : ℕ) → IsLandmark row n start → Follows slots root from to len n start

@@ -1,7 +1,6 @@
 -- A list that is read from its end, piece by piece as it is lent.
-use Rattle.std.specs.Prelude.{◌≡◌, ◌≤◌, ◌<◌, ◌+◌, ◌-◌, ◌^◌, ℕ, List, length, slice_range}
+use Rattle.std.specs.Prelude.{◌≡◌, ◌≤◌, ◌<◌, ◌-◌, ℕ, List, length, slice_range}
 use Rattle.model_items.specs.declared.item.Item.{Item}
-use Rattle.ve_items.specs.Substitution.{spliced}
 
 -- the items of the list, and how many of them are still to be read
 pub record Rest : Type 0 where
@@ -14,9 +13,7 @@ pub record IsEndPiece (items : List Item) (left : ℕ) (lent : List Item) : Type
   pub some : 0 < left → 0 < length lent
   pub piece : lent ≡ slice_range items (left - length lent) left
 
--- A list in which items take the place of a range is read as far as `left`, and its end is lent.
-pub record IsLent (list : List Item) (at removed : ℕ) (items : List Item) (left : ℕ) (lent : List Item) : Type 0 where
-  pub counted : length list < 2 ^ 64
-  pub range : at + removed ≤ length list
-  pub within : left ≤ length (spliced list at removed items)
-  pub end : IsEndPiece (spliced list at removed items) left lent
+-- The list is read as far as `left`, and the end of that is lent.
+pub record IsLent (items : List Item) (left : ℕ) (lent : List Item) : Type 0 where
+  pub within : left ≤ length items
+  pub end : IsEndPiece items left lent

@@ -12,11 +12,5 @@ pub mod Landmarks
 pub mod Way
 pub mod Gaps
 pub mod TreeOf
-pub mod RunChange
-pub mod RunAt
-pub mod WayUp
-pub mod ItemShapes
+pub mod Shapes
 pub mod Rows
-pub mod Mends
-pub mod RowParts
-pub mod ReadRow

@@ -1,6 +1,6 @@
 // Nodes whose places are known, so that a look-up can begin near its offset.
 ghost use Rattle.std.specs.Prelude.{◌≡◌, ◌≤◌, ◌<◌, ◌+◌, ◌^◌, ◌++◌, [], None, IfSome, OnOk, OnErr, suc, sum, length, take, drop};
-ghost use Rattle.ve_tree.specs.Landmarks.{IsLandmark, IsLandmarkBefore, IsNumbered, HasSpace, IsShortened, HasOneMore, HasSpaceAfter, IsShifted};
+ghost use Rattle.ve_tree.specs.Landmarks.{IsLandmark, IsLandmarkBefore, IsNumbered, HasSpace, IsShortened, HasOneMore};
 ghost use Rattle.ve_tree.specs.Landmarks.{IsCut, EndBefore, Stay, IsClosedUp};
 
 use crate::NodeId;
@@ -193,21 +193,6 @@ impl Landmarks {
         self.gaps.put_in(k, gap);
         rank_from(&mut self.ranks, &self.nodes, k);
         Ok(())
-    }
-
-    /// Moves those that begin after a place, `removed` items back and `inserted` on. Each of them begins
-    /// that far after the place at least, so none comes before another that it stood after. That there is a
-    /// gap for each node it knows itself.
-    pub fn shift(&mut self, from: usize, removed: usize, inserted: usize)
-        requires space { HasSpaceAfter self.old from removed }
-        requires fits { length self.old.nodes ≡ length self.old.gaps → sum self.old.gaps + inserted < 2 ^ 64 }
-        ensures { IsShifted self.old self.new from removed inserted }
-    {
-        if from < self.gaps.total() {
-            let (k, _past) = self.gaps.find(from);
-            self.gaps.shrink(k, removed);
-            self.gaps.grow(k, inserted);
-        }
     }
 
     /// Takes those out that begin from one place on and before another, and moves those that begin later: by

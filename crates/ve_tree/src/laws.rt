@@ -2,7 +2,7 @@
 ghost use Rattle.ve_tree.specs.Fits.{TreeFits, FitsAreTree};
 ghost use Rattle.ve_tree.specs.Nodes.{LinksLeadToNodes, NodesAreInTree};
 ghost use Rattle.ve_tree.specs.Reads.{TreeIsRead, ReadIsTree, OneIsRead, OneNumbering};
-ghost use Rattle.ve_tree.specs.RunChange.{ShapesAreRead};
+ghost use Rattle.ve_tree.specs.Shapes.{ShapesAreRead};
 
 /// Linked nodes are the tree of a list exactly where the list's tree is read under the root, by first child
 /// and next sibling, with parent, sibling before, last child and length agreeing, and no node stands besides.

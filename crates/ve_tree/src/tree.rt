@@ -6,7 +6,6 @@ ghost use Rattle.ve_tree.specs.Links.{number_of};
 ghost use Rattle.ve_tree.specs.IsTree.{unvalued};
 ghost use Rattle.ve_tree.specs.Places.{sort_of, IsNodeRound, OfItsPlace, IsBranch};
 ghost use Rattle.ve_tree.specs.Spots.{IsSpotOf};
-ghost use Rattle.ve_items.specs.Substitution.{spliced};
 ghost use Rattle.ve_tree.specs.TreeOf.{IsTreeOf, most_steps, HasOffset, HasNode};
 
 use crate::build::read_children;
@@ -18,7 +17,7 @@ use crate::{Arena, NodeId, NodeWhat};
 use std::alloc::Global;
 use std::sync::ledger::Ledger;
 use ve_base::{Memory, Steps};
-use ve_items::{Item, Linear};
+use ve_items::Linear;
 use ve_kinds::Kind;
 
 /// Linked nodes and the number of their root, with some nodes whose places are known. That they are the tree
@@ -43,35 +42,10 @@ impl Tree {
         ensures counted { steps.old ≤ steps.new }
         ensures steps { steps.new ≤ steps.old + most_steps (unvalued list.now.items) }
     {
-        Tree::build_spliced(alloc, list, 0, 0, &[], steps)
-    }
-
-    /// The tree of what a list becomes when items take the place of the `removed` items from `at` on, which
-    /// has to be lawful. Nothing is copied, so all memory that a change of a page needs can be had before it
-    /// begins. It takes the steps that `build` takes.
-    pub fn build_spliced<L: Ledger>(
-        alloc: Global,
-        list: &Linear,
-        at: usize,
-        removed: usize,
-        items: &[Item],
-        steps: &mut Steps<L>,
-    ) -> Result<Tree, Memory>
-        requires range { at + removed ≤ length list.now.items }
-        requires lawful { Lawful (unvalued (spliced list.now.items at removed items.now)) }
-        ensures tree { IfOk result (λ tree. IsTreeOf tree (unvalued (spliced list.now.items at removed items.now))) }
-        ensures counted { steps.old ≤ steps.new }
-        ensures steps { steps.new ≤ steps.old + most_steps (unvalued (spliced list.now.items at removed items.now)) }
-    {
-        let kept = list.len() - removed;
-        if items.len() > usize::MAX - kept {
-            return Err(Memory);
-        }
-        let len = kept + items.len();
         let mut arena = Arena::new(alloc);
         let root = arena.make(NodeWhat::Node(Kind::Root), steps)?;
-        arena.set_len(root, len, steps);
-        let mut rest = Unread::new(list, at, removed, items, len);
+        arena.set_len(root, list.len(), steps);
+        let mut rest = Unread::new(list);
         read_children(&mut arena, &mut rest, root, steps)?;
         let landmarks = landmarks_of(alloc, &arena, root);
         Ok(Tree {

@@ -5,7 +5,9 @@ use Rattle.model_items.specs.Plain.{plain_list, CitesWell}
 use Rattle.model_change.specs.Fault.{Applies, apply, fault}
 use Rattle.model_change.specs.Inverse.{filled}
 use Rattle.model_change.specs.Store.{brought, fill}
+use Rattle.model_change.specs.Touch.{touch}
 use Rattle.model_change.specs.Transaction.{edited}
+use Rattle.ve_repair.specs.Kept.{KeepsNumbers}
 use Rattle.model_edit.specs.Translate.{between}
 use Rattle.model_site.specs.Refused.{edit_cause}
 use Rattle.ve_tx.specs.Applied.{plain_after, spliced_by}
@@ -18,9 +20,10 @@ use Rattle.ve_editor.specs.Prepared.{WillBe}
 use Rattle.ve_tree.specs.IsTree.{unvalued}
 use Rattle.ve_tree.specs.TreeOf.{IsTreeOf}
 use Rattle.ve_editor.specs.Refusal.{IsEditRefusal, list_cause}
-use Rattle.ve_editor.proofs.CauseLemmas.{refused_by_tx, refused_as, cause_of_list}
+use Rattle.ve_editor.proofs.CauseLemmas.{refused_by_tx, refused_as, cause_of_list, lawful_of}
 use Rattle.ve_editor.proofs.GrownLemmas as grown
-use Rattle.ve_editor.proofs.ReadyLemmas.{steps_within, will_be}
+use Rattle.ve_editor.proofs.ReadyLemmas.{will_be}
+use Rattle.ve_editor.proofs.RelinkLemmas.{made_lawful, made_tree, within_touch}
 use Rattle.ve_editor.proofs.perform.ready.Goals as goal
 
 pub change-requires-clause-list : goal.change-requires-clause-list
@@ -103,11 +106,13 @@ returns-in-Ok-with_entry-clause-ok g c =
     let made = grown.apply_ok t (plain_list store items) (plain_after new items change) (sym (over apply) ∙ c.in-Ok-change.ensures.applied) in
     let extends = grown.all_extends store d c.requires.draft c.len-before.ensures.distinct taken c.in-Ok.ensures.ok items c.requires.page.cites new c.in-Ok-change.ensures.store in
     let filled_new = grown.over_new store d c.requires.draft c.len-before.ensures.distinct taken c.in-Ok.ensures.ok items c.requires.page.cites new c.in-Ok-change.ensures.store filled in
+    let edited_new = grown.over_new store d c.requires.draft c.len-before.ensures.distinct taken c.in-Ok.ensures.ok items c.requires.page.cites new c.in-Ok-change.ensures.store edited in
+    let over_list = ap (λ l. plain_after new l change) same ∙ made.1 ∙ sym edited_new ∙ ap (λ l. edited (by_value new d.tx) (plain_list new l)) (sym same) in
     record {
       applies = subst (λ l. Applies t (plain_list store l)) (sym same) made.0;
       allowed = subst (λ (ch : Change). list_cause (spliced_by list.items ch) (length new) ≡ None) (sym c.in-Ok-with_entry.ensures.change) c.in_ok-may_become.ensures.ok;
       change = subst (WillBe t store new list tree) (sym c.in-Ok-with_entry.ensures.change) (will_be t store new list items tree change same made.1 extends c.requires.page.cites c.in-Ok-change.ensures.cites
-          c.in-Ok-change.ensures.within c.in-Ok-change.ensures.room c.in-Ok-with_entry.ensures.tree);
+          c.in-Ok-change.ensures.within c.in-Ok-change.ensures.room (made_tree tree new new d.tx list.items (spliced_by list.items change) over_list c.in-Ok-with_entry.ensures.tree));
       store = grown.new_store store d c.requires.draft c.len-before.ensures.distinct taken c.in-Ok.ensures.ok items c.requires.page.cites new c.in-Ok-change.ensures.store
           ∙ ap (λ l. fill store (brought t (plain_list store l))) (sym same);
       txs = c.in-Ok-with_entry.ensures.txs ∙ ap (λ l. filled (by_value new d.tx) (plain_list new l) ∷ []) same ∙ ap (λ f. f ∷ []) filled_new
@@ -125,13 +130,12 @@ returns-in-Ok-with_entry-clause-extends g c =
 pub returns-in-Ok-with_entry-clause-steps : goal.returns-in-Ok-with_entry-clause-steps
 returns-in-Ok-with_entry-clause-steps g c =
     let store = c.args.store.now in
+    let d = c.args.draft.now in
     let items = c.args.list.now.items in
     let new = c.change.new.store in
-    let change = c.in-Ok-change.change in
-    let over = grown.over_taken store c.args.draft.now c.requires.draft c.len-before.ensures.distinct c.take_in.new.store c.in-Ok.ensures.ok items c.requires.page.cites in
-    let made = grown.apply_ok (drafted store c.args.draft.now) (plain_list store items) (plain_after new items change) (sym (over apply) ∙ c.in-Ok-change.ensures.applied) in
-    steps_within new (spliced_by c.change.new.list.items change) (edited (drafted store c.args.draft.now) (plain_list store items)) _ _
-    (ap (λ l. plain_after new l change) c.in-Ok-change.ensures.items ∙ made.1) c.with_entry.ensures.steps
+    let over = grown.over_new store d c.requires.draft c.len-before.ensures.distinct c.take_in.new.store c.in-Ok.ensures.ok items c.requires.page.cites new c.in-Ok-change.ensures.store touch in
+    within_touch new d.tx c.change.new.list.items (drafted store d) (plain_list store items) _ _
+    (ap (λ l. touch (by_value new d.tx) (plain_list new l)) c.in-Ok-change.ensures.items ∙ over) c.with_entry.ensures.steps
 
 pub returns-in-Err-with_entry-clause-extends : goal.returns-in-Err-with_entry-clause-extends
 returns-in-Err-with_entry-clause-extends g c =
@@ -141,13 +145,34 @@ returns-in-Err-with_entry-clause-extends g c =
 pub returns-in-Err-with_entry-clause-steps : goal.returns-in-Err-with_entry-clause-steps
 returns-in-Err-with_entry-clause-steps g c =
     let store = c.args.store.now in
+    let d = c.args.draft.now in
     let items = c.args.list.now.items in
     let new = c.change.new.store in
-    let change = c.in-Ok-change.change in
-    let over = grown.over_taken store c.args.draft.now c.requires.draft c.len-before.ensures.distinct c.take_in.new.store c.in-Ok.ensures.ok items c.requires.page.cites in
-    let made = grown.apply_ok (drafted store c.args.draft.now) (plain_list store items) (plain_after new items change) (sym (over apply) ∙ c.in-Ok-change.ensures.applied) in
-    steps_within new (spliced_by c.change.new.list.items change) (edited (drafted store c.args.draft.now) (plain_list store items)) _ _
-    (ap (λ l. plain_after new l change) c.in-Ok-change.ensures.items ∙ made.1) c.with_entry.ensures.steps
+    let over = grown.over_new store d c.requires.draft c.len-before.ensures.distinct c.take_in.new.store c.in-Ok.ensures.ok items c.requires.page.cites new c.in-Ok-change.ensures.store touch in
+    within_touch new d.tx c.change.new.list.items (drafted store d) (plain_list store items) _ _
+    (ap (λ l. touch (by_value new d.tx) (plain_list new l)) c.in-Ok-change.ensures.items ∙ over) c.with_entry.ensures.steps
 
 pub with_entry-requires-clause-tree : goal.with_entry-requires-clause-tree
 with_entry-requires-clause-tree g c = subst (λ l. IsTreeOf c.args.tree.now (unvalued l)) (sym c.in-Ok-change.ensures.items) c.requires.page.tree
+
+pub with_entry-requires-clause-lawful : goal.with_entry-requires-clause-lawful
+with_entry-requires-clause-lawful g c =
+    let store = c.args.store.now in
+    let d = c.args.draft.now in
+    let items = c.args.list.now.items in
+    let taken = c.take_in.new.store in
+    let new = c.change.new.store in
+    let list = c.change.new.list in
+    let change = c.in-Ok-change.change in
+    let same = c.in-Ok-change.ensures.items in
+    let over = grown.over_taken store d c.requires.draft c.len-before.ensures.distinct taken c.in-Ok.ensures.ok items c.requires.page.cites in
+    let made = grown.apply_ok (drafted store d) (plain_list store items) (plain_after new items change) (sym (over apply) ∙ c.in-Ok-change.ensures.applied) in
+    let edited_new = grown.over_new store d c.requires.draft c.len-before.ensures.distinct taken c.in-Ok.ensures.ok items c.requires.page.cites new c.in-Ok-change.ensures.store edited in
+    made_lawful new new d.tx list.items (spliced_by list.items change)
+    (ap (λ l. plain_after new l change) same ∙ made.1 ∙ sym edited_new ∙ ap (λ l. edited (by_value new d.tx) (plain_list new l)) (sym same))
+    (lawful_of (spliced_by list.items change) (length new) c.in_ok-may_become.ensures.ok)
+
+pub returns-in-Ok-with_entry-clause-numbers : goal.returns-in-Ok-with_entry-clause-numbers
+returns-in-Ok-with_entry-clause-numbers g c =
+    let t = c.args.tree.now in
+    subst (KeepsNumbers t.arena c.with_entry.new.tree.arena t.root c.args.draft.now.tx) c.in-Ok-change.ensures.items c.in-Ok-with_entry.ensures.numbers

@@ -1,12 +1,12 @@
-use Rattle.std.proofs.Common.{◌≡◌, ◌≤◌, ◌+◌, true, sym, subst, ◌∙◌}
+use Rattle.std.proofs.Common.{◌≡◌, ◌≤◌, ◌+◌, ◌*◌, true, sym, subst, ◌∙◌}
 use Rattle.model_items.specs.Law.{Lawful}
 use Rattle.model_change.specs.Fault.{fault}
+use Rattle.model_change.specs.Touch.{touch}
 use Rattle.model_change.specs.Transaction.{edited, is_reduced}
 use Rattle.ve_tx.specs.Operation.{by_value}
 use Rattle.ve_tx.proofs.ChangeLemmas.{normal-reduced}
 use Rattle.ve_tx.proofs.ValuesLemmas.{extends_on}
 use Rattle.ve_editor.proofs.OtherLemmas as other
-use Rattle.ve_tree.specs.TreeOf.{most_steps}
 use Rattle.ve_editor.proofs.perform.ready_other.Goals as goal
 
 pub one_filled-requires-clause-list : goal.one_filled-requires-clause-list
@@ -63,9 +63,9 @@ returns-clause-ok g c =
 pub returns-in_err-change-clause-steps : goal.returns-in_err-change-clause-steps
 returns-in_err-change-clause-steps g c =
     let over = other.over_own c.args.values.now c.args.store.now c.recite.new.store c.args.tx.now c.in_ok-own.own c.args.list.now.items c.requires.list c.in_ok-own.ensures.filled c.in_ok-own.ensures.same in
-    subst (λ l. c.ready_back.new.steps ≤ c.args.steps.now + most_steps l) (over edited) c.ready_back.ensures.steps
+    subst (λ n. c.ready_back.new.steps ≤ c.args.steps.now + 8 * (n + 2)) (over touch) c.ready_back.ensures.steps
 
 pub returns-clause-steps : goal.returns-clause-steps
 returns-clause-steps g c =
     let over = other.over_own c.args.values.now c.args.store.now c.recite.new.store c.args.tx.now c.in_ok-own.own c.args.list.now.items c.requires.list c.in_ok-own.ensures.filled c.in_ok-own.ensures.same in
-    subst (λ l. c.ready_back.new.steps ≤ c.args.steps.now + most_steps l) (over edited) c.ready_back.ensures.steps
+    subst (λ n. c.ready_back.new.steps ≤ c.args.steps.now + 8 * (n + 2)) (over touch) c.ready_back.ensures.steps
