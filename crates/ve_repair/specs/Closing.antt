@@ -11,7 +11,7 @@ use Rattle.ve_repair.specs.declared.write.Write.{Write}
 use Rattle.ve_repair.specs.declared.script.How.TheVariants.{Keep}
 use Rattle.ve_repair.specs.declared.script.Step.{Step}
 use Rattle.ve_repair.specs.declared.script.Step.TheVariants.{Text}
-use Rattle.ve_repair.specs.Plan.{Stacks, is_same_parent, script_writes}
+use Rattle.ve_repair.specs.Plan.{Stacks, is_same_parent, script_writes, script_stacks}
 
 -- nodes side by side that stay, whatever is inside them
 abbrev pub row_of : List ℕ → List Step
@@ -46,6 +46,14 @@ pub record IsRoomyRow (slots : List (Option ArenaNode)) (next : Option NodeId) (
   pub forest : Named
   pub row : IsRowFrom slots next forest
   pub room : item_count (unnumbered forest) ≤ most
+
+-- what keeping a row of no more items than `most` makes of the stacks, and of the writes
+abbrev pub StacksForRow : List (Option ArenaNode) → Option NodeId → ℕ → Stacks → Stacks → Type 0
+StacksForRow slots first most was is = (f : Named) → IsRowFrom slots first f → item_count (unnumbered f) ≤ most → is ≡ script_stacks (row_steps f) was
+
+abbrev pub WritesForRow : List (Option ArenaNode) → Option NodeId → ℕ → Stacks → List Write → List Write → Type 0
+WritesForRow slots first most s was is =
+    (f : Named) → IsRowFrom slots first f → item_count (unnumbered f) ≤ most → is ≡ was ++ script_writes (row_steps f) s
 
 -- The rows that are left, from the innermost open node outwards: the first begins with `next`, and each other with the sibling behind the open node inside it.
 abbrev pub AreLeft : List (Option ArenaNode) → ℕ → List NodeId → Option NodeId → List Named → Type 0

@@ -14,7 +14,8 @@ use Rattle.ve_repair.specs.Agree.{steps_of}
 use Rattle.ve_repair.specs.Spelled.{NoLetters}
 use Rattle.ve_repair.specs.Script.{Reader, script_for, first_reader}
 use Rattle.ve_repair.specs.Acts.{Act, Stay, Go, ComeLetter, ComeBegin, ComeEnd, marks, come, acts_of}
-use Rattle.ve_repair.specs.Cursors.{Spot, past, items_in, IsAt}
+use Rattle.ve_repair.specs.declared.cursor.Passed.{Passed}
+use Rattle.ve_repair.specs.Cursors.{Spot, past, items_in, IsAt, IsPassed}
 use Rattle.ve_repair.specs.Reader.{Reading, running_of, letters_in}
 
 -- A step ends a run of the new list, makes a text, or does neither.
@@ -124,6 +125,11 @@ with_stays count c = with_acts (replicate count Stay) count 0 c
 abbrev pub with_gone : ℕ → Course → Course
 with_gone count c = with_acts (replicate count Go) count 0 c
 
+-- Wherever the reader was, what the cursor passed there stays.
+abbrev pub RetainsPassed : List (Option ArenaNode) → Reading → Passed → List (Option ArenaNode) → Reading → Type 0
+RetainsPassed before was passed after is =
+    (c : Course) (most : ℕ) → HasRead c before was → IsPassed before most c.spot passed → HasRead (with_stays passed.count c) after is
+
 -- there is a place, so many items follow, and so many may come
 pub record IsReading (slots : List (Option ArenaNode)) (r : Reading) (count more : ℕ) : Type 0 where
   pub course : Course
@@ -183,3 +189,8 @@ pub record AreReadOut (ops : List Op) (c : Course) (slots : List (Option ArenaNo
   pub numbers : List ℕ
   pub counted : length numbers ≡ all_openings ops
   pub read : IsReadOut (with_acts (acts_of ops numbers) (old_size ops) (come_size ops) c) slots r
+
+-- Wherever the reader was, with enough items there for those in front and for the operations, all of them were read.
+abbrev pub ReadsOut : List (Option ArenaNode) → Reading → ℕ → List Op → List (Option ArenaNode) → Reading → Type 0
+ReadsOut before was front ops after is =
+    (c : Course) → HasRead c before was → front + old_size ops ≤ items_in c.spot.rest → AreReadOut ops (with_stays front c) after is

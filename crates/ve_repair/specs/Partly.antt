@@ -7,8 +7,10 @@ use Rattle.ve_repair.specs.declared.read.TextRun.{TextRun}
 use Rattle.ve_repair.specs.declared.script.Step.{Step}
 use Rattle.ve_repair.specs.Acts.{Act, Stay, Go, ComeLetter, ComeBegin, ComeEnd, marks, acts_of}
 use Rattle.ve_repair.specs.Charged.{made_count}
-use Rattle.ve_repair.specs.Courses.{Course}
-use Rattle.ve_repair.specs.Cursors.{past, items_in}
+use Rattle.ve_repair.specs.declared.cursor.Passed.{Passed}
+use Rattle.ve_arena.specs.declared.node.ArenaNode.{ArenaNode}
+use Rattle.ve_repair.specs.Courses.{Course, HasRead, with_stays}
+use Rattle.ve_repair.specs.Cursors.{past, items_in, IsPassed}
 use Rattle.ve_repair.specs.Reader.{Reading}
 use Rattle.ve_repair.specs.Script.{script_for, first_reader}
 use Rattle.ve_repair.specs.Spelled.{Sign, NoLetters, Proper}
@@ -30,6 +32,11 @@ makes_of acts ss = length (puts (script_for (λ k. 0) (marks (map unnumbered_act
 abbrev pub IsPart : Course → List Act → List Step → Type 0
 IsPart c acts xs = (later : List Act) → made_count xs ≤ makes_of (c.acts ++ (acts ++ later)) c.start.rest
 
+-- so too where what the cursor passed stays
+abbrev pub StopsAtPassed : List (Option ArenaNode) → Reading → Passed → List Step → Type 0
+StopsAtPassed before was passed xs =
+    (c : Course) (most : ℕ) → HasRead c before was → IsPassed before most c.spot passed → IsPart c (replicate passed.count Stay) xs
+
 -- or than that of operations, up to the end of the text that they end in
 pub record IsPartEnd (ops : List Op) (c : Course) (xs : List Step) : Type 0 where
   pub tail : ℕ
@@ -40,6 +47,11 @@ pub record IsPartEnd (ops : List Op) (c : Course) (xs : List Step) : Type 0 wher
 -- where no text to come is empty
 abbrev pub IsPartOut : List Op → Course → List Step → Type 0
 IsPartOut ops c xs = Proper (past (old_size ops) c.spot).rest → IsPartEnd ops c xs
+
+-- Wherever the reader was, with enough items there for those in front and for the operations, it stopped among these.
+abbrev pub StopsAmong : List (Option ArenaNode) → Reading → ℕ → List Op → List Step → Type 0
+StopsAmong before was front ops xs =
+    (c : Course) → HasRead c before was → front + old_size ops ≤ items_in c.spot.rest → IsPartOut ops (with_stays front c) xs
 
 -- a text is made where a run ends that keeps none
 abbrev pub made_at_end : Option NodeId → ℕ

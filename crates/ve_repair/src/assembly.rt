@@ -1,18 +1,16 @@
 // The repair of a tree's nodes after a change of its list.
-ghost use Rattle.std.specs.Prelude.{◌≡◌, ◌≤◌, ◌+◌, [], IfOk, IfErr, OnOk, OnErr, length, map};
+ghost use Rattle.std.specs.Prelude.{◌≡◌, ◌≤◌, ◌+◌, [], IfOk, OnOk, OnErr, length, map};
 ghost use Rattle.ve_tree.specs.IsTree.{IsTree, unvalued};
 ghost use Rattle.ve_tx.specs.Operation.{bare};
-ghost use Rattle.ve_tx.specs.Checked.{old_size};
 ghost use Rattle.ve_repair.specs.Change.{CanApply, LawfulAfter};
 ghost use Rattle.ve_repair.specs.Kept.{KeepsNumbers};
 ghost use Rattle.ve_repair.specs.Range.{IsChangedRange};
 ghost use Rattle.ve_repair.specs.Repaired.{IsTreeAfter, SameNodes, IsWithinTouch};
 ghost use Rattle.ve_repair.specs.Start.{StartsRange};
 ghost use Rattle.ve_repair.specs.Frees.{nodes_of};
-ghost use Rattle.ve_repair.specs.Cursors.{items_in};
 ghost use Rattle.ve_repair.specs.Reader.{Slots, HasMade, MakesOn, IsPaid, IsPaidOrOne};
-ghost use Rattle.ve_repair.specs.Courses.{Course, HasRead, AreReadOut, with_stays};
-ghost use Rattle.ve_repair.specs.Partly.{IsPartOut};
+ghost use Rattle.ve_repair.specs.Courses.{ReadsOut};
+ghost use Rattle.ve_repair.specs.Partly.{StopsAmong};
 ghost use Rattle.ve_repair.specs.Assembly.{MayRead, CanPlan, AreAllWrites, SomeMade};
 
 use crate::close::close_all;
@@ -49,11 +47,11 @@ fn read_all<L: Ledger>(
     steps: &mut Steps<L>,
 ) -> Result<(), Memory>
     requires reads { MayRead arena.old reader.old front ops.now }
-    ensures read { OnOk result ((c : Course) → HasRead c arena.old reader.old → front + old_size ops.now ≤ items_in c.spot.rest → AreReadOut ops.now (with_stays front c) arena.new reader.new) }
+    ensures read { OnOk result (ReadsOut arena.old reader.old front ops.now arena.new reader.new) }
     ensures made { MakesOn arena.old reader.old.script arena.new reader.new.script }
     ensures paid { OnOk result (IsPaid steps.old reader.old.script steps.new reader.new.script) }
     ensures at_most { OnErr result (IsPaidOrOne steps.old reader.old.script steps.new reader.new.script) }
-    ensures part { OnErr result ((c : Course) → HasRead c arena.old reader.old → front + old_size ops.now ≤ items_in c.spot.rest → IsPartOut ops.now (with_stays front c) reader.new.script) }
+    ensures part { OnErr result (StopsAmong arena.old reader.old front ops.now reader.new.script) }
 {
     reader.retain(arena, front, steps)?;
     reader.read(arena, ops, steps)

@@ -2,8 +2,7 @@
 ghost use Rattle.std.specs.Prelude.{◌≡◌, ◌≤◌, ◌++◌, OnOk, List};
 ghost use Rattle.model_items.specs.Tree.{item_count};
 ghost use Rattle.ve_tree.specs.Named.{Named, unnumbered};
-ghost use Rattle.ve_repair.specs.Plan.{script_writes, script_stacks};
-ghost use Rattle.ve_repair.specs.Closing.{row_steps, outer_stacks, level_writes, close_writes, IsRoomyRow, AreLeft, AreSomeLeft, IsRowFrom};
+ghost use Rattle.ve_repair.specs.Closing.{StacksForRow, WritesForRow, outer_stacks, level_writes, close_writes, IsRoomyRow, AreLeft, AreSomeLeft, IsRowFrom};
 
 use crate::plan::Plan;
 use crate::script::How;
@@ -18,8 +17,8 @@ fn keep_rest(
     most: usize,
 ) -> Result<(), Memory>
     requires row { IsRoomyRow arena.now first most }
-    ensures stacks { OnOk result ((f : Named) → IsRowFrom arena.now first f → item_count (unnumbered f) ≤ most → plan.new.stacks ≡ script_stacks (row_steps f) plan.old.stacks) }
-    ensures writes { OnOk result ((f : Named) → IsRowFrom arena.now first f → item_count (unnumbered f) ≤ most → plan.new.writes ≡ plan.old.writes ++ script_writes (row_steps f) plan.old.stacks) }
+    ensures stacks { OnOk result (StacksForRow arena.now first most plan.old.stacks plan.new.stacks) }
+    ensures writes { OnOk result (WritesForRow arena.now first most plan.old.stacks plan.old.writes plan.new.writes) }
 {
     let mut next = first;
     let mut left = most;

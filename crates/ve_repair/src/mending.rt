@@ -25,7 +25,7 @@ use ve_tree::Tree;
 use ve_tx::Transaction;
 
 /// Makes the tree of a list that of the list which a transaction gives, where that one is lawful; `list` is the old
-/// one. Nodes that stay keep their numbers, and the landmarks follow. Where no item comes or goes nothing is written.
+/// one. Nodes that stay keep their numbers, and the landmarks follow.
 /// It takes at most eight steps for each node that the transaction touches, and sixteen more, at an `Err` too. The only
 /// refusal is `Memory`: after it the tree is as before.
 pub fn relink<L: Ledger>(
@@ -45,6 +45,7 @@ pub fn relink<L: Ledger>(
     ensures counted { steps.old ≤ steps.new }
     ensures steps { IsWithinTouch steps.old steps.new tx.now list.now.items }
 {
+    // attributes are no part of a tree
     let Some(range) = changed_range(tx.ops()) else {
         return Ok(());
     };

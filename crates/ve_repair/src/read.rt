@@ -10,8 +10,8 @@ ghost use Rattle.ve_repair.specs.Reader.{Reading, letters_in, with_cursor, with_
 ghost use Rattle.ve_repair.specs.Reader.{Keeps, MakesOn, MakesSame, Slots, IsPaid, IsPaidOrOne, RunEnds};
 ghost use Rattle.ve_repair.specs.Acts.{Stay, Go, come, acts_of};
 ghost use Rattle.ve_repair.specs.Charged.{made_count};
-ghost use Rattle.ve_repair.specs.Partly.{IsPart, IsPartOut, made_when_ended};
-ghost use Rattle.ve_repair.specs.Courses.{Course, HasRead, IsReading, HaveCome, AreDone, IsReadOut, AreReadOut, with_stays, with_gone, come_size};
+ghost use Rattle.ve_repair.specs.Partly.{IsPart, IsPartOut, StopsAtPassed, made_when_ended};
+ghost use Rattle.ve_repair.specs.Courses.{Course, HasRead, RetainsPassed, IsReading, HaveCome, AreDone, IsReadOut, AreReadOut, with_stays, with_gone, come_size};
 
 use crate::cursor::{Ahead, Cursor, Passed};
 use crate::script::{How, Step};
@@ -267,11 +267,11 @@ impl Reader {
     ) -> Result<(), Memory>
         requires some { 1 ≤ passed.count }
         requires fits { letters_in self.old.run + passed.count < 2 ^ 64 }
-        ensures read { OnOk result ((c : Course) (most : ℕ) → HasRead c arena.old self.old → IsPassed arena.old most c.spot passed → HasRead (with_stays passed.count c) arena.new self.new) }
+        ensures read { OnOk result (RetainsPassed arena.old self.old passed arena.new self.new) }
         ensures made { MakesOn arena.old self.old.script arena.new self.new.script }
         ensures paid { OnOk result (IsPaid steps.old self.old.script steps.new self.new.script) }
         ensures at_most { OnErr result (IsPaidOrOne steps.old self.old.script steps.new self.new.script) }
-        ensures part { OnErr result ((c : Course) (most : ℕ) → HasRead c arena.old self.old → IsPassed arena.old most c.spot passed → IsPart c (replicate passed.count Stay) self.new.script) }
+        ensures part { OnErr result (StopsAtPassed arena.old self.old passed self.new.script) }
     {
         self.at = passed.at;
         match passed.what {
