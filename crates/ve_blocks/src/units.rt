@@ -66,8 +66,8 @@ fn flow_unit(forest: &Forest<'_>, kind: Kind, n: usize, to: Part) -> Unit
     ensures bound { result.part.end ≤ length forest.now }
     ensures unit { IsUnitAt forest.now (parent_of (around.Flow kind)) n to.end to.byte result }
 {
-    if is_in_run(forest, n, kind) {
-        let run = run_at(forest, kind, n, to.end, to.byte);
+    if is_in_run(forest, n) {
+        let run = run_at(forest, n, to.end, to.byte);
         if run.white {
             Unit {
                 sort: Sort::White,

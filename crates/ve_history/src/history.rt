@@ -33,6 +33,7 @@ impl History {
     pub fn new(alloc: Global) -> History
         ensures done { result.done ≡ [] }
         ensures undone { result.undone ≡ [] }
+        ensures spare { result.spare ≡ 0 }
     {
         History {
             done: Vec::new(alloc),
@@ -137,6 +138,7 @@ impl History {
         ensures handed { result ≡ self.old.done }
         ensures done { self.new.done ≡ done }
         ensures undone { self.new.undone ≡ self.old.undone }
+        ensures spare { self.new.spare ≡ 0 }
     {
         self.spare = 0;
         let mut list = done.into_vec();

@@ -4,13 +4,13 @@ ghost use Rattle.model_change.specs.Transaction.{old_length, new_length};
 ghost use Rattle.ve_tx.specs.Operation.{by_value};
 ghost use Rattle.ve_tx.specs.ByValue.{parcel_by_value};
 
-use crate::{JoinedEntries, RebaseFault, entries_over_list, lists};
+use crate::{JoinedEntries, RebaseFault, entries_over_list, entry_over_list, lists};
 use model_site::Clash;
 use std::alloc::Global;
 use std::test::Fail;
 use ve_base::Memory;
 use ve_items::{Item, Items};
-use ve_tx::{Entry, Op, OpList, Parcel, Transaction, TxList, ValueList};
+use ve_tx::{Entry, Op, OpList, Parcel, ParcelList, Transaction, TxList, ValueList};
 
 fn letter(ch: char) -> Item {
     Item::Char { ch, marks: None }
@@ -127,5 +127,31 @@ fn entries_are_kept_up_to_the_first_conflict(rt: HostRuntime) -> Result<(), Fail
             submitted: (1, 3),
         })
     );
+    Ok(())
+}
+
+/// A character near the end, joined with a committed one near the start.
+fn joined_entry(alloc: Global) -> Result<(ParcelList, Parcel), RebaseFault> {
+    let mut committed = ParcelList::new(alloc);
+    committed.push(entry(alloc, insertion(alloc, 2, 3)?)?)?;
+    let mine = entry(alloc, insertion(alloc, 4, 1)?)?;
+    entry_over_list(alloc, &committed, &mine)
+}
+
+/// Where the first change of an entry lies, if it has one.
+fn first_place(parcel: &Parcel) -> Option<usize> {
+    match parcel.entry.txs.as_slice().first() {
+        Some(tx) => Some(place(tx)),
+        None => None,
+    }
+}
+
+#[test]
+fn an_entry_comes_after_those_that_are_committed(rt: HostRuntime) -> Result<(), Fail> {
+    let (over, mine) = joined_entry(rt.alloc())?;
+    let over = over.as_slice();
+    assert_eq!(rt; over.len(), 1);
+    assert_eq!(rt; first_place(&over[0]), Some(2));
+    assert_eq!(rt; first_place(&mine), Some(5));
     Ok(())
 }

@@ -15,20 +15,20 @@ pub struct Run {
     pub white: bool,
 }
 
-/// Whether the part that begins at a node is a part of a run in a flow parent of the kind.
-pub fn is_in_run(forest: &Forest<'_>, n: usize, kind: Kind) -> bool
+/// Whether the part that begins at a node is a part of a run in a flow parent, of whatever kind that is.
+pub fn is_in_run(forest: &Forest<'_>, n: usize) -> bool
     requires within { n < length forest.now }
     requires leads { LeadsOn forest.now }
     ensures { IsInRun forest.now n result }
 {
-    match fit(forest, n, Around::Flow(kind)) {
+    match fit(forest, n, Around::Flow(Kind::Root)) {
         Fit::Inline => true,
         _ => false,
     }
 }
 
-/// The run that begins at a node of a flow parent of the kind, whose children end before the node `to` and that byte.
-pub fn run_at(forest: &Forest<'_>, kind: Kind, n: usize, to: usize, byte: usize) -> Run
+/// The run that begins at a node of a flow parent, whose children end before the node `to` and that byte.
+pub fn run_at(forest: &Forest<'_>, n: usize, to: usize, byte: usize) -> Run
     requires within { n < to }
     requires bound { to ≤ length forest.now }
     requires leads { LeadsOn forest.now }
@@ -38,7 +38,7 @@ pub fn run_at(forest: &Forest<'_>, kind: Kind, n: usize, to: usize, byte: usize)
 {
     let mut part = part_at(forest, n, to, byte);
     let mut white = is_white_text(&forest.node(n).token);
-    'parts: while part.end < to && is_in_run(forest, part.end, kind) {
+    'parts: while part.end < to && is_in_run(forest, part.end) {
         let text = is_white_text(&forest.node(part.end).token);
         white = white && text;
         part = part_at(forest, part.end, to, byte);

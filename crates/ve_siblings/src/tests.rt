@@ -3,7 +3,6 @@ use std::alloc::Global;
 use std::test::*;
 use ve_classify::read_stands;
 use ve_html_tree::read;
-use ve_kinds::Kind;
 
 /// The run that a page begins with: the number of the node after it, the byte, and whether it is whitespace.
 fn first_run(alloc: Global, page: &str) -> Option<(usize, usize, bool)> {
@@ -12,10 +11,10 @@ fn first_run(alloc: Global, page: &str) -> Option<(usize, usize, bool)> {
     };
     read_stands();
     let to = forest.len();
-    if to == 0 || !is_in_run(&forest, 0, Kind::Root) {
+    if to == 0 || !is_in_run(&forest, 0) {
         return None;
     }
-    let run = run_at(&forest, Kind::Root, 0, to, page.len());
+    let run = run_at(&forest, 0, to, page.len());
     Some((run.part.end, run.part.byte, run.white))
 }
 
