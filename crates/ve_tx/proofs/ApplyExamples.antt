@@ -11,7 +11,10 @@ use Rattle.ve_tx.specs.declared.op.Op.{Op}
 use Rattle.ve_tx.specs.declared.op.Op.TheVariants.{Retain, Replace, Attribute}
 use Rattle.ve_tx.specs.Attrs.{exchanged, new_attr, place_of, count_of}
 use Rattle.ve_tx.specs.Checked.{old_size, fault_in}
+use Rattle.ve_tx.specs.Changed.{brought_by}
 use Rattle.ve_tx.specs.Making.{headed}
+use Rattle.ve_tx.specs.Spliced.{spliced_by, come_count, gone_count}
+use Rattle.ve_tx.specs.declared.splice.Splice.{Splice}
 
 -- a paragraph with the letters a and b, and the empty internal list
 page : List Item
@@ -26,6 +29,37 @@ page =
 
 removes_b : List Op
 removes_b = Retain 1 ∷ Replace (Char 98 None ∷ []) [] ∷ Retain 4 ∷ []
+
+-- an x comes before the letters, and the second one goes; each place is the old list's
+two_splices : List Splice
+two_splices = record { at = 1; removed = 0; items = Char 120 None ∷ [] } ∷ record { at = 2; removed = 1; items = [] } ∷ []
+
+page_with_x : spliced_by page two_splices
+    ≡ Opening P false None None None None
+    ∷ Char 120 None
+    ∷ Char 97 None
+    ∷ Closing P None
+    ∷ Opening InternalList false None None None None
+    ∷ Closing InternalList None
+    ∷ []
+unfolding page two_splices
+page_with_x = refl
+
+one_comes : come_count two_splices ≡ 1
+unfolding two_splices
+one_comes = refl
+
+one_goes : gone_count two_splices ≡ 1
+unfolding two_splices
+one_goes = refl
+
+-- what is retained is not brought
+nothing_is_brought : brought_by removes_b ≡ 0
+unfolding removes_b
+nothing_is_brought = refl
+
+an_opening_is_brought : brought_by (Attribute (codes "id") None (Some (codes "x")) ∷ Retain 6 ∷ []) ≡ 1
+an_opening_is_brought = refl
 
 its_length : old_size removes_b ≡ 6
 unfolding removes_b

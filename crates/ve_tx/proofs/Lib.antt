@@ -11,8 +11,9 @@ pub mod CheckLemmas
 pub mod FaultLemmas
 pub mod ValuesLemmas
 pub mod MakingLemmas
+pub mod SplicedLemmas
+pub mod PlacesLemmas
 pub mod MadeLemmas
-pub mod CutLemmas
 pub mod StageLemmas
 pub mod ChangeLemmas
 pub mod FilledLemmas

@@ -1,8 +1,8 @@
 -- How far a new list is made, and one step further.
-use Rattle.std.proofs.Common.{◌≡◌, ◌≤◌, ◌<◌, ℕ, zero, suc, ◌+◌, ◌-◌, min, true, false, List, [], ◌∷◌, ◌++◌, length, take, drop, All, Option, Some, None, is_some, refl, sym, ap, ◌∙◌, subst, append_assoc, append-nil, arith}
+use Rattle.std.proofs.Common.{◌≡◌, ◌≤◌, ◌<◌, ℕ, zero, suc, ◌+◌, ◌-◌, true, false, List, [], ◌∷◌, ◌++◌, length, take, drop, All, Option, Some, None, is_some, refl, sym, ap, ◌∙◌, subst, append_assoc, append-nil, arith}
 use Rattle.std.proofs.lemmas.Bool.{ltb-true}
-use Rattle.std.proofs.lemmas.List.{map-append, length-map, length-drop, drop-drop, take_min, drop_min, drop_all}
-use Rattle.std.proofs.lemmas.List.Elements.{All-append}
+use Rattle.std.proofs.lemmas.List.{map-append, length-map, length-drop, drop-drop, drop_all}
+use Rattle.std.proofs.lemmas.List.Elements.{All-append, All-nil}
 use Rattle.ve_base.specs.declared.head.Head.{Head}
 use Rattle.ve_base.specs.declared.value.Value.{Value}
 use Rattle.model_items.specs.declared.item.Item.{Item}
@@ -11,12 +11,12 @@ use Rattle.model_items.specs.declared.plain_item.PlainItem.TheVariants.{Char, Op
 use Rattle.model_items.specs.Plain.{plain, plain_list, CitesWell}
 use Rattle.model_change.specs.Attributes.{AttrChange, item_changed, allows}
 use Rattle.model_change.specs.Transaction.{Retain, Replace, Attribute, Transaction, old_length, on_first, edited, may_precede, is_reduced}
-use Rattle.model_change.specs.Fault.{first_allows}
-use Rattle.model_change.specs.Join.{reach, without_end}
-use Rattle.model_change.specs.Store.{fill, head_if, heads_from}
+use Rattle.model_change.specs.Fault.{first_allows, Applies}
+use Rattle.model_change.specs.Store.{fill, head_if, heads_from, changed_heads}
+use Rattle.model_change.proofs.Fits.{Fits, parts_of_Applies}
 use Rattle.model_change.proofs.InverseLemmas.{reduced_parts}
 use Rattle.ve_tx.specs.Making.{Extends, headed, first_headed, IsOpening}
-use Rattle.ve_tx.proofs.ValuesLemmas.{extends_on, list-extended, all-extended, filled_on}
+use Rattle.ve_tx.proofs.ValuesLemmas.{extends_itself, extends_on, list-extended, all-extended, filled_on}
 
 -- each attribute operation is allowed, those before it at its place being done
 abbrev pub AreAllowed : Transaction → List PlainItem → Type 0
@@ -36,11 +36,10 @@ abbrev pub BeginsOpen : List PlainItem → Type 0
 BeginsOpen [] = ⊥
 BeginsOpen (item ∷ items) = IsOpening item
 
--- Over `old`, the old items up to the end of the active range: the new items so far, with what the operations that are left make of the rest, are the whole; so it is of the values.
+-- The new items so far, with what the operations that are left make of the rest of the old ones, are the whole; so it is of the values.
 pub record IsMade (first_values : List Value) (old whole : List PlainItem) (all_values values : List Value) (made : List Item) (at : ℕ) (head : Option Head) (ops : Transaction) : Type 0 where
   pub reduced : is_reduced ops ≡ true
-  pub within : at + reach (without_end ops) ≤ length old
-  pub full : length old ≤ at + old_length ops
+  pub fits : at + old_length ops ≡ length old
   pub extends : Extends first_values values
   pub cites : All (CitesWell values) made
   pub items : plain_list values made ++ edited ops (first_headed head (drop at old)) ≡ whole
@@ -52,12 +51,34 @@ pub first_headed-none : (items : List PlainItem) → first_headed None items ≡
 first_headed-none [] = refl
 first_headed-none (item ∷ items) = refl
 
-take-first_headed : (head : Option Head) (n : ℕ) (items : List PlainItem) → first_headed head (take n items) ≡ take n (first_headed head items)
+allowed-fits : (ops : Transaction) (items : List PlainItem) → Fits ops items → AreAllowed ops items
+allowed-fits [] items fits = tt
+allowed-fits (Retain n ∷ ops) items fits = allowed-fits ops (drop n items) fits
+allowed-fits (Replace removed inserted ∷ ops) items fits = allowed-fits ops (drop (length removed) items) fits.1
+allowed-fits (Attribute c ∷ ops) items fits = (fits.0, allowed-fits ops (on_first (item_changed c) items) fits.1)
+
+-- before the first operation nothing is made yet
+pub made-none : (values : List Value) (t : Transaction) (items : List PlainItem) → is_reduced t ≡ true → Applies t items →
+    IsMade values items (edited t items) (fill values (changed_heads t items)) values [] 0 None t
+made-none values t items reduced applies =
+    let parts = parts_of_Applies t items applies in
+    record {
+      reduced = reduced;
+      fits = omega (arith, parts.0);
+      extends = extends_itself values;
+      cites = All-nil (CitesWell values);
+      items = ap (edited t) (first_headed-none items);
+      store = ap (λ l. fill values (changed_heads t l)) (first_headed-none items);
+      allowed = subst (AreAllowed t) (sym (first_headed-none items)) (allowed-fits t items parts.1);
+      opening = λ f. cc;
+    }
+
+pub take-first_headed : (head : Option Head) (n : ℕ) (items : List PlainItem) → first_headed head (take n items) ≡ take n (first_headed head items)
 take-first_headed head zero items = refl
 take-first_headed head (suc n) [] = refl
 take-first_headed head (suc n) (item ∷ items) = refl
 
-drop-first_headed : (head : Option Head) (n : ℕ) (items : List PlainItem) → 0 < n → drop n (first_headed head items) ≡ drop n items
+pub drop-first_headed : (head : Option Head) (n : ℕ) (items : List PlainItem) → 0 < n → drop n (first_headed head items) ≡ drop n items
 drop-first_headed head zero items h = absurd (omega arith)
 drop-first_headed head (suc n) [] h = refl
 drop-first_headed head (suc n) (item ∷ items) h = refl
@@ -86,44 +107,32 @@ begins_within (suc at) (item ∷ items) h = let rest = begins_within at items h 
 
 module _ (S0 : List Value) (old whole : List PlainItem) (V S : List Value) (made : List Item) (at : ℕ) (head : Option Head) where
   pub made-within : (ops : Transaction) → IsMade S0 old whole V S made at head ops → at ≤ length old
-  made-within ops m = omega (arith, m.within)
+  made-within ops m = omega (arith, m.fits)
 
   -- a retain passes items, the first one with its head
-  pub made-retain : (n : ℕ) (ops : Transaction) (S' : List Value) (made' : List Item) (next : ℕ) → IsMade S0 old whole V S made at head (Retain n ∷ ops) →
-      next ≡ at + min n (length old - at) → Extends S S' → All (CitesWell S') made' →
-      plain_list S' made' ≡ plain_list S made ++ first_headed head (take (next - at) (drop at old)) →
-      S' ≡ fill S (head_if (is_some head) (first_headed head (drop at old))) → IsMade S0 old whole V S' made' next None ops
-  made-retain n ops S' made' next m next_is more cites items_are stored =
+  pub made-retain : (n : ℕ) (ops : Transaction) (S' : List Value) (made' : List Item) → IsMade S0 old whole V S made at head (Retain n ∷ ops) → Extends S S' → All (CitesWell S') made' →
+      plain_list S' made' ≡ plain_list S made ++ first_headed head (take n (drop at old)) →
+      S' ≡ fill S (head_if (is_some head) (first_headed head (drop at old))) → IsMade S0 old whole V S' made' (at + n) None ops
+  made-retain n ops S' made' m more cites items_are stored =
       let some : 0 < n = counts_some n ops m.reduced in
       let left = first_headed head (drop at old) in
-      let cut : length (drop at old) ≡ length old - at = length-drop at old in
-      let goes : next - at ≡ min n (length (drop at old)) = omega arith in
-      let passed : first_headed head (take (next - at) (drop at old)) ≡ take n left =
-      ap (λ k. first_headed head (take k (drop at old))) goes ∙ ap (first_headed head) (take_min n (drop at old)) ∙ take-first_headed head n (drop at old) in
-      let there : next ≡ at + min n (length (drop at old)) = omega arith in
-      let suffix : first_headed None (drop next old) ≡ drop n left =
-      first_headed-none (drop next old) ∙ ap (λ k. drop k old) there ∙ sym (drop-drop (min n (length (drop at old))) at old) ∙ drop_min n (drop at old)
-      ∙ sym (drop-first_headed head n (drop at old) some) in
+      let suffix : first_headed None (drop (at + n) old) ≡ drop n left =
+      first_headed-none (drop (at + n) old) ∙ sym (drop-drop n at old) ∙ sym (drop-first_headed head n (drop at old) some) in
       record {
         reduced = (reduced_parts (Retain n) ops m.reduced).2;
-        within = by ops m.within;
-        full = omega (arith, m.full);
+        fits = omega (arith, m.fits);
         extends = extends_on S0 S S' m.extends more;
         cites = cites;
         items =
-            ap (λ l. l ++ edited ops (first_headed None (drop next old))) (items_are ∙ ap (λ l. plain_list S made ++ l) passed)
+            ap (λ l. l ++ edited ops (first_headed None (drop (at + n) old))) (items_are ∙ ap (λ l. plain_list S made ++ l) (take-first_headed head n (drop at old)))
             ∙ ap (λ l. (plain_list S made ++ take n left) ++ edited ops l) suffix
             ∙ append_assoc (plain_list S made) (take n left) (edited ops (drop n left)) ∙ m.items;
         store =
-            filled_on S S' (head_if (is_some head) left) (heads_from false ops (first_headed None (drop next old))) stored
+            filled_on S S' (head_if (is_some head) left) (heads_from false ops (first_headed None (drop (at + n) old))) stored
             ∙ ap (λ l. fill S (head_if (is_some head) left ++ heads_from false ops l)) suffix ∙ m.store;
         allowed = subst (AreAllowed ops) (sym suffix) m.allowed;
         opening = λ h. cc;
       }
-    where
-      by : (rest : Transaction) → at + reach (without_end (Retain n ∷ rest)) ≤ length old → next + reach (without_end rest) ≤ length old
-      by [] h = omega arith
-      by (op ∷ rest) h = omega arith
 
   -- a replace passes those removed, and appends those inserted
   pub made-replace : (removed inserted : List Item) (ops : Transaction) (made' : List Item) (next : ℕ) →
@@ -142,8 +151,7 @@ module _ (S0 : List Value) (old whole : List PlainItem) (V S : List Value) (made
           let P : List Item → Type 0 = All (CitesWell S) in
           record {
             reduced = (reduced_parts (Replace (plain_list S0 removed) (plain_list S0 inserted)) ops k.reduced).2;
-            within = omega (arith, k.within);
-            full = omega (arith, k.full);
+            fits = omega (arith, k.fits);
             extends = k.extends;
             cites = subst P (sym made_is) (All-append (CitesWell S) made inserted k.cites (all-extended S0 S k.extends inserted cites));
             items =
@@ -168,8 +176,7 @@ module _ (S0 : List Value) (old whole : List PlainItem) (V S : List Value) (made
       let test : allows c (headed head p) ≡ true = subst (λ l. first_allows c l ≡ true) now m.allowed.0 in
       record {
         reduced = parts.2;
-        within = omega (arith, m.within);
-        full = omega (arith, m.full);
+        fits = m.fits;
         extends = m.extends;
         cites = m.cites;
         items = ap (λ l. plain_list S made ++ edited ops l) then_ ∙ m.items;
@@ -189,13 +196,19 @@ module _ (S0 : List Value) (old whole : List PlainItem) (V S : List Value) (made
       by : (h : Option Head) → IsMade S0 old whole V S made at h [] → (plain_list S made ≡ whole) × (S ≡ V)
       by (Some h) k = absurd (k.opening refl).1
       by None k =
-          let none : drop at old ≡ [] = drop_all at old (omega (arith, k.full)) in (
+          let none : drop at old ≡ [] = drop_all at old (omega (arith, k.fits)) in (
             sym (append-nil (plain_list S made)) ∙ ap (λ l. plain_list S made ++ first_headed None l) (sym none) ∙ k.items,
             k.store,
           )
 
-  pub made-below : (n : ℕ) (ops : Transaction) (next : ℕ) → IsMade S0 old whole V S made at head (Retain n ∷ ops) → next ≡ at + min n (length old - at) → is_some head ≡ true → at < next
-  made-below n ops next m next_is some =
-      let here = begins_within at old (m.opening some).0 in
-      let count = counts_some n ops m.reduced in
-      omega arith
+  -- the opening that has a changed head is there
+  pub made-below : (ops : Transaction) → IsMade S0 old whole V S made at head ops → is_some head ≡ true → at < length old
+  made-below ops m some = begins_within at old (m.opening some).0
+
+  -- so is the item whose attribute is to change
+  pub made-inside : (c : AttrChange) (ops : Transaction) → IsMade S0 old whole V S made at head (Attribute c ∷ ops) → at < length old
+  made-inside c ops m = there (drop at old) (length-drop at old) m.allowed.0
+    where
+      there : (left : List PlainItem) → length left ≡ length old - at → first_allows c (first_headed head left) ≡ true → at < length old
+      there [] e h = cc
+      there (item ∷ left) e h = omega arith

@@ -10,7 +10,7 @@ use Rattle.ve_tx.specs.Operation.{Operation, bare, by_value}
 use Rattle.ve_tx.specs.Operation as kept
 
 -- the pass over operations by value
-abbrev pass : ℕ → Option (ℕ × ℕ) → Transaction → Option (ℕ × ℕ)
+abbrev pub pass : ℕ → Option (ℕ × ℕ) → Transaction → Option (ℕ × ℕ)
 pass at range [] = range
 pass at range (Retain count ∷ ops) = pass (at + count) range ops
 pass at range (Replace removed inserted ∷ ops) = pass (at + length removed) (widened range at (at + length removed)) ops
@@ -59,7 +59,7 @@ pass-some at start end (Attribute c ∷ t) h w =
 both_to : (m n p q : ℕ) → m ≡ p → n ≡ q → let x : Option (ℕ × ℕ) = Some (m, n) in let y : Option (ℕ × ℕ) = Some (p, q) in x ≡ y
 both_to m n p q e f = cc
 
-pass-none : (t : Transaction) → is_reduced t ≡ true → pass 0 None t ≡ active_range t
+pub pass-none : (t : Transaction) → is_reduced t ≡ true → pass 0 None t ≡ active_range t
 pass-none [] h = refl
 pass-none (Retain n ∷ []) h = refl
 pass-none (Retain n ∷ Retain m ∷ t) h = let e = may_stand (Retain n) (Retain m ∷ t) h in cc

@@ -11,10 +11,10 @@ use Rattle.model_change.specs.Inverse.{IsRestorable, IsUndoneBy, filled}
 use Rattle.model_change.specs.Join.{active_range}
 use Rattle.model_change.specs.Store.{changed_heads, fill}
 use Rattle.model_change.specs.Transaction.{Transaction, edited}
-use Rattle.ve_items.specs.Substitution.{spliced}
-use Rattle.ve_tx.specs.declared.change.Change.{Change}
+use Rattle.ve_tx.specs.declared.splice.Splice.{Splice}
 use Rattle.ve_tx.specs.Changed.{IsOver}
 use Rattle.ve_tx.specs.Operation.{Operation, by_value}
+use Rattle.ve_tx.specs.Spliced.{spliced_by}
 
 -- the transaction applies
 abbrev pub AppliesTo : List Value → List Operation → List Item → Type 0
@@ -50,18 +50,14 @@ Undoes values tx back =
     (items : List PlainItem) → AllNamesApart items → Applies (by_value values tx) items → IsRestorable (by_value values tx) items →
     IsUndoneBy (by_value values tx) (by_value values back) items
 
--- the list after a change
-abbrev pub spliced_by : List Item → Change → List Item
-spliced_by items change = spliced items change.at change.removed change.items
+-- the list after splices, by value
+abbrev pub plain_after : List Value → List Item → List Splice → List PlainItem
+plain_after values items splices = plain_list values (spliced_by items splices)
 
--- the same by value
-abbrev pub plain_after : List Value → List Item → Change → List PlainItem
-plain_after values items change = plain_list values (spliced_by items change)
+-- After the splices the list is, over the new values, what the transaction makes of it over the old ones.
+abbrev pub MakesEdited : (old new : List Value) → List Operation → List Item → List Splice → Type 0
+MakesEdited old new tx items splices = plain_after new items splices ≡ edited (by_value old tx) (plain_list old items)
 
--- After the change the list is, over the new values, what the transaction makes of it over the old ones.
-abbrev pub MakesEdited : (old new : List Value) → List Operation → List Item → Change → Type 0
-MakesEdited old new tx items change = plain_after new items change ≡ edited (by_value old tx) (plain_list old items)
-
--- the items that the change removes are those of the active range of the transaction; without one it removes none
-abbrev pub IsOverActive : List Value → List Operation → Change → Type 0
-IsOverActive values tx change = IsOver (active_range (by_value values tx)) change.at change.removed
+-- the splices lie within the active range of the transaction; without one there are none
+abbrev pub IsOverActive : List Value → List Operation → List Splice → Type 0
+IsOverActive values tx splices = IsOver (active_range (by_value values tx)) splices

@@ -1,7 +1,6 @@
 -- The positions of removed attributes, as one pass along the operations finds them.
-use Rattle.std.specs.Prelude.{◌≡◌, ℕ, true, List, length, drop, Option}
+use Rattle.std.specs.Prelude.{◌≡◌, true, List, length, drop}
 use Rattle.ve_base.specs.declared.value.Value.{Value}
-use Rattle.ve_base.specs.declared.head.Head.{Head}
 use Rattle.model_items.specs.declared.item.Item.{Item}
 use Rattle.model_items.specs.declared.plain_item.PlainItem.{PlainItem}
 use Rattle.model_change.specs.Attributes.{item_changed}

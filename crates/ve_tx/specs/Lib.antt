@@ -26,5 +26,6 @@ pub mod Taken
 pub mod Checked
 pub mod Attrs
 pub mod Making
+pub mod Spliced
 pub mod Changed
 pub mod Filled

@@ -1,5 +1,5 @@
 -- The normal form, asked of operations whose items cite values: it reads no value. A law says that it is the normal form by value.
-use Rattle.std.specs.Prelude.{ℕ, ◌+◌, ◌^◌, Bool, true, false, not, ◌&&◌, nat_lt, nat_le, List, [], ◌∷◌, length}
+use Rattle.std.specs.Prelude.{ℕ, ◌+◌, Bool, true, false, not, ◌&&◌, nat_lt, nat_le, List, [], ◌∷◌, length}
 use Rattle.model_items.specs.Same.{text_same}
 use Rattle.ve_base.specs.Limits.{max_total_length}
 use Rattle.ve_tx.specs.declared.op.Op.{Op}

@@ -1,5 +1,5 @@
 -- Values of a list that a store has taken, and what cites them there.
-use Rattle.std.specs.Prelude.{◌≡◌, ℕ, List, map, Contains}
+use Rattle.std.specs.Prelude.{ℕ, List, map, Contains}
 use Rattle.ve_base.specs.declared.value.Value.{Value}
 use Rattle.ve_base.specs.declared.value.ValueId.{ValueId}
 use Rattle.model_change.specs.Store.{cited}

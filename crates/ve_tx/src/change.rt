@@ -1,26 +1,45 @@
 // What a list is to be changed by, made before the list is.
-ghost use Rattle.std.specs.Prelude.{◌≡◌, ◌≤◌, ◌+◌, length, All, IfOk, OnOk, OnErr};
+ghost use Rattle.std.specs.Prelude.{◌≡◌, ◌≤◌, length, All, IfOk, OnOk, OnErr};
 ghost use Rattle.model_items.specs.Plain.{CitesWell};
 ghost use Rattle.ve_tx.specs.Applied.{AppliesTo, IsOverActive, MakesEdited, store_after};
+ghost use Rattle.ve_tx.specs.Changed.{brought_count};
 ghost use Rattle.ve_tx.specs.Cites.{TxCites};
 ghost use Rattle.ve_tx.specs.Making.{Extends};
-ghost use Rattle.ve_tx.specs.Operation.{with_positions, IsNormal};
+ghost use Rattle.ve_tx.specs.Operation.{by_value, with_positions, IsNormal};
+ghost use Rattle.ve_tx.specs.Spliced.{AllCite, LieBetween, come_count, spliced_by};
 
 use crate::Op;
-use crate::making::new_items;
-use crate::range::range_of;
+use crate::making::{brought_by, new_splices};
+use crate::splice::Splice;
 use std::alloc::Global;
 use ve_base::Memory;
-use ve_items::{Items, Linear};
+use ve_items::Linear;
 use ve_store::Store;
 
-/// One change of a list: at the place `at` the items replace so many items that are there. Splicing it into the list makes
-/// the change.
+/// One change of a list: splices at rising places of the old list.
 #[derive(Drop)]
 pub struct Change {
-    pub at: usize,
-    pub removed: usize,
-    pub items: Items,
+    pub splices: Vec<Splice>,
+}
+
+impl Change {
+    /// Makes the change of the list, from the last splice to the first, so that each place is still the old list's. It
+    /// takes no memory.
+    pub fn splice_into(&self, list: &mut Linear)
+        requires within { LieBetween 0 (length list.old.items) self.now.splices.items }
+        requires room { come_count self.now.splices.items ≤ list.old.spare }
+        ensures { list.new.items ≡ spliced_by list.old.items self.now.splices.items }
+    {
+        let mut left = self.splices.len();
+        while left > 0 {
+            left -= 1;
+            let splice = &self.splices[left];
+            let spliced = list
+                .splice(splice.at, splice.removed, splice.items.as_slice())
+                .is_ok();
+            prove!(spliced);
+        }
+    }
 }
 
 /// The change that operations make which apply to the list. The store takes the heads that are new, and the list takes
@@ -36,29 +55,19 @@ pub fn prepared(
     requires list { All (CitesWell store.old) list.old.items }
     requires cites { TxCites store.old (with_positions ops.now kept.now) }
     requires applies { AppliesTo store.old (with_positions ops.now kept.now) list.old.items }
-    ensures changed { IfOk result (λ change. MakesEdited store.old store.new (with_positions ops.now kept.now) list.old.items change) }
-    ensures range { IfOk result (λ change. IsOverActive store.old (with_positions ops.now kept.now) change) }
-    ensures within { IfOk result (λ change. change.at + change.removed ≤ length list.old.items) }
-    ensures room { IfOk result (λ change. length change.items ≤ list.new.spare) }
-    ensures cites { IfOk result (λ change. All (CitesWell store.new) change.items) }
+    ensures changed { IfOk result (λ change. MakesEdited store.old store.new (with_positions ops.now kept.now) list.old.items change.splices.items) }
+    ensures range { IfOk result (λ change. IsOverActive store.old (with_positions ops.now kept.now) change.splices.items) }
+    ensures within { IfOk result (λ change. LieBetween 0 (length list.old.items) change.splices.items) }
+    ensures thrifty { IfOk result (λ change. come_count change.splices.items ≤ brought_count (by_value store.old (with_positions ops.now kept.now))) }
+    ensures room { IfOk result (λ change. come_count change.splices.items ≤ list.new.spare) }
+    ensures cites { IfOk result (λ change. AllCite store.new change.splices.items) }
     ensures store { OnOk result (store.new ≡ store_after store.old (with_positions ops.now kept.now) list.old.items) }
     ensures items { list.new.items ≡ list.old.items }
     ensures blocks { list.new.blocks ≡ list.old.blocks }
     ensures err { OnErr result (list.new ≡ list.old) }
     ensures extends { Extends store.old store.new }
 {
-    let Some((start, end)) = range_of(ops) else {
-        return Ok(Change {
-            at: 0,
-            removed: 0,
-            items: Items::new(alloc),
-        });
-    };
-    let items = new_items(alloc, ops, kept, list, store, start, end)?;
-    list.reserve(items.as_slice().len())?;
-    Ok(Change {
-        at: start,
-        removed: end - start,
-        items,
-    })
+    let splices = new_splices(alloc, ops, kept, list, store)?;
+    list.reserve(brought_by(ops))?;
+    Ok(Change { splices })
 }

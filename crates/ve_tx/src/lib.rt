@@ -5,7 +5,8 @@
 //!   operations (specs/Operation.antt, specs/Normal.antt); what it means by value is model_change's.
 //! - specs/Cites.antt says which values it cites, and specs/Applied.antt what it does to a list: whether it applies, the
 //!   new list, the first fault, and the store after it.
-//! - `Transaction::change` makes the one splice of a `Change` (specs/Changed.antt, specs/Making.antt), and `apply` splices.
+//! - `Transaction::change` makes the splices of a `Change` (specs/Spliced.antt, specs/Changed.antt, specs/Making.antt), and
+//!   `apply` carries them out. So performing costs what it changes, and not what lies between.
 //! - `inverse` (specs/Turned.antt), `filled` (specs/Filled.antt), `with_ends` (specs/Ends.antt) and `active_range`
 //!   (specs/Range.antt) make other transactions of one, as the model does.
 //! - `Entry` is transactions that are undone together (specs/Entry.antt). `Parcel` is an entry over its own values, to be
@@ -31,6 +32,7 @@ mod normal;
 mod op;
 mod parcel;
 mod range;
+mod splice;
 mod taken;
 mod transaction;
 
@@ -43,4 +45,5 @@ pub use model_change::TxFault;
 pub use normal::same_text;
 pub use op::{Op, OpList};
 pub use parcel::{Parcel, ParcelList, ValueList};
+pub use splice::Splice;
 pub use transaction::{Transaction, TxList};

@@ -1,21 +1,24 @@
-// The new items of the active range, made in one pass.
-ghost use Rattle.std.specs.Prelude.{◌≡◌, ◌≤◌, ◌<◌, ◌-◌, ◌++◌, ◌∷◌, [], length, take, drop, true, false, Some, All, IfOk, OnOk, OnErr, is_some, slice_get};
+// The splices of a change, made in one pass.
+ghost use Rattle.std.specs.Prelude.{◌≡◌, ◌≤◌, ◌<◌, ◌-◌, ◌++◌, length, take, drop, true, false, Some, All, IfOk, OnOk, OnErr, is_some, slice_get};
+ghost use Rattle.ve_base.specs.Limits.{max_total_length};
 ghost use Rattle.ve_base.specs.declared.value.Value.TheVariants as value;
 ghost use Rattle.model_items.specs.Plain.{plain, plain_list, head_in, value_at, CitesHead, CitesWell};
 ghost use Rattle.model_change.specs.Attributes as attributes;
 ghost use Rattle.model_change.specs.Attributes.{value_of};
-ghost use Rattle.model_change.specs.Join.{start_of, end_of};
-ghost use Rattle.model_change.specs.Fault.{Applies};
 ghost use Rattle.model_change.specs.Store.{fill, head_cited, head_if};
-ghost use Rattle.model_change.specs.Transaction.{is_reduced};
-ghost use Rattle.ve_tx.specs.Cites.{TxCites};
+ghost use Rattle.ve_tx.specs.Applied.{AppliesTo, IsOverActive, MakesEdited, store_after};
+ghost use Rattle.ve_tx.specs.Changed.{brought_by, brought_count};
 ghost use Rattle.ve_tx.specs.Checked.{change_of};
-ghost use Rattle.ve_tx.specs.Making.{Extends, headed, headed_from, headed_between, IsOpening, MayHead, IsHeadChanged, IsHeaded, IsAppended, BeginActive, IsRangeEdited, store_after_range};
-ghost use Rattle.ve_tx.specs.Operation.{by_value, with_positions};
+ghost use Rattle.ve_tx.specs.Cites.{TxCites};
+ghost use Rattle.ve_tx.specs.Making.{Extends, headed, headed_from, MayHead, IsHeadChanged, IsHeaded, IsSettled};
+ghost use Rattle.ve_tx.specs.Normal.{total_size};
+ghost use Rattle.ve_tx.specs.Operation.{by_value, with_positions, IsNormal};
+ghost use Rattle.ve_tx.specs.Spliced.{AllCite, LieBetween, come_count};
 
 use crate::Op;
 use crate::attributes::changed;
 use crate::inverse::position_at;
+use crate::splice::Splice;
 use std::alloc::Global;
 use ve_base::{Head, Memory, Text, TryCopy, Value, ValueId};
 use ve_items::{Item, Items, Linear};
@@ -122,19 +125,98 @@ fn with_head(item: Item, head: Option<ValueId>) -> Item
     }
 }
 
-/// Appends an opening with its changed head.
-fn settle(items: &mut Items, store: &mut Store, item: Item, head: Head) -> Result<(), Memory>
-    requires cites { CitesWell store.old item }
-    requires opening { IsOpening (plain store.old item) }
-    requires made { All (CitesWell store.old) items.old }
-    ensures made { OnOk result (All (CitesWell store.new) items.new) }
-    ensures items { OnOk result (IsAppended store.old items.old store.new items.new (headed (Some head) (plain store.old item) ∷ [])) }
-    ensures store { OnOk result (store.new ≡ fill store.old (head_cited head)) }
+/// Puts the splice after the others that gives an opening its changed head, where it has one.
+fn settle(
+    alloc: Global,
+    splices: &mut Vec<Splice>,
+    list: &Linear,
+    store: &mut Store,
+    at: usize,
+    head: Option<Head>,
+) -> Result<(), Memory>
+    requires list { All (CitesWell store.old) list.now.items }
+    requires within { is_some head ≡ true → at < length list.now.items }
+    requires opening { (item : _) → slice_get list.now.items at ≡ Some item → MayHead head (plain store.old item) }
+    ensures splices { OnOk result (IsSettled store.old store.new list.now.items at head splices.old.items splices.new.items) }
+    ensures store { OnOk result (store.new ≡ fill store.old (head_if (is_some head) (headed_from store.old list.now.items at head))) }
     ensures extends { Extends store.old store.new }
 {
+    let Some(head) = head else {
+        return Ok(());
+    };
+    let item = list.get(at);
     let id = cited(store, head)?;
+    let mut items = Items::new(alloc);
     items.push(with_head(item, id))?;
+    splices.push(Splice {
+        at,
+        removed: 1,
+        items,
+    })?;
     Ok(())
+}
+
+/// How many items operations bring: those that they insert, and an opening for each attribute operation.
+pub fn brought_by(ops: &[Op]) -> usize
+    requires { total_size ops.now ≤ max_total_length }
+    ensures { result ≡ brought_by ops.now }
+{
+    let mut count = 0;
+    for op in ops {
+        count += match op {
+            Op::Retain(_) => 0,
+            Op::Replace { inserted, .. } => inserted.as_slice().len(),
+            Op::Attribute { .. } => 1,
+        };
+    }
+    count
+}
+
+/// The splices that operations are which apply to the list: one for each replace, and one for each opening of which they
+/// change the head. Heads that are new go into the store. What is retained is neither read nor copied.
+pub fn new_splices(
+    alloc: Global,
+    ops: &[Op],
+    kept: &[Option<usize>],
+    list: &Linear,
+    store: &mut Store,
+) -> Result<Vec<Splice>, Memory>
+    requires list { All (CitesWell store.old) list.now.items }
+    requires cites { TxCites store.old (with_positions ops.now kept.now) }
+    requires normal { IsNormal (with_positions ops.now kept.now) }
+    requires applies { AppliesTo store.old (with_positions ops.now kept.now) list.now.items }
+    ensures changed { IfOk result (λ splices. MakesEdited store.old store.new (with_positions ops.now kept.now) list.now.items splices.items) }
+    ensures range { IfOk result (λ splices. IsOverActive store.old (with_positions ops.now kept.now) splices.items) }
+    ensures within { IfOk result (λ splices. LieBetween 0 (length list.now.items) splices.items) }
+    ensures thrifty { IfOk result (λ splices. come_count splices.items ≤ brought_count (by_value store.old (with_positions ops.now kept.now))) }
+    ensures cites { IfOk result (λ splices. AllCite store.new splices.items) }
+    ensures store { OnOk result (store.new ≡ store_after store.old (with_positions ops.now kept.now) list.now.items) }
+    ensures extends { Extends store.old store.new }
+{
+    let mut splices = Vec::new(alloc);
+    let mut at = 0;
+    let mut head = None;
+    for i in 0..ops.len() {
+        match &ops[i] {
+            Op::Retain(count) => {
+                settle(alloc, &mut splices, list, store, at, head)?;
+                head = None;
+                at += *count;
+            }
+            Op::Replace { removed, inserted } => {
+                let items = inserted.copy(alloc)?;
+                let removed = removed.as_slice().len();
+                splices.push(Splice { at, removed, items })?;
+                at += removed;
+            }
+            Op::Attribute { name, from, to } => {
+                let present = present_head(alloc, store, list.get(at), head)?;
+                let next = next_head(alloc, present, name, position_at(kept, i), from, to)?;
+                head = Some(next);
+            }
+        }
+    }
+    Ok(splices)
 }
 
 /// Appends the list's items from one place up to another, as they are lent.
@@ -150,91 +232,4 @@ pub fn copy_range(items: &mut Items, list: &Linear, from: usize, to: usize) -> R
         at += piece.len();
     }
     Ok(())
-}
-
-/// Appends the list's items from one place up to another, the first one with its changed head, where it has one.
-fn pass(
-    items: &mut Items,
-    list: &Linear,
-    store: &mut Store,
-    head: Option<Head>,
-    from: usize,
-    to: usize,
-) -> Result<(), Memory>
-    requires order { from ≤ to }
-    requires within { to ≤ length list.now.items }
-    requires list { All (CitesWell store.old) list.now.items }
-    requires made { All (CitesWell store.old) items.old }
-    requires some { is_some head ≡ true → from < to }
-    requires opening { (item : _) → slice_get list.now.items from ≡ Some item → MayHead head (plain store.old item) }
-    ensures made { OnOk result (All (CitesWell store.new) items.new) }
-    ensures items { OnOk result (IsAppended store.old items.old store.new items.new (headed_between store.old list.now.items from to head)) }
-    ensures store { OnOk result (store.new ≡ fill store.old (head_if (is_some head) (headed_from store.old list.now.items from head))) }
-    ensures extends { Extends store.old store.new }
-{
-    match head {
-        Some(head) => {
-            settle(items, store, list.get(from), head)?;
-            copy_range(items, list, from + 1, to)
-        }
-        None => copy_range(items, list, from, to),
-    }
-}
-
-/// 1 where the first operation is a retain, and else 0.
-fn first_retains(ops: &[Op]) -> usize
-    ensures bare { BeginActive ops.now result }
-    ensures within { result ≤ length ops.now }
-{
-    match ops.first() {
-        Some(Op::Retain(_)) => 1,
-        _ => 0,
-    }
-}
-
-/// The new items of the active range, which the operations make of the list's items from `start` to `end`; heads that
-/// are new go into the store.
-pub fn new_items(
-    alloc: Global,
-    ops: &[Op],
-    kept: &[Option<usize>],
-    list: &Linear,
-    store: &mut Store,
-    start: usize,
-    end: usize,
-) -> Result<Items, Memory>
-    requires list { All (CitesWell store.old) list.now.items }
-    requires cites { TxCites store.old (with_positions ops.now kept.now) }
-    requires reduced { is_reduced (by_value store.old (with_positions ops.now kept.now)) ≡ true }
-    requires applies { Applies (by_value store.old (with_positions ops.now kept.now)) (plain_list store.old list.now.items) }
-    requires start { start ≡ start_of (by_value store.old (with_positions ops.now kept.now)) }
-    requires end { end ≡ end_of (by_value store.old (with_positions ops.now kept.now)) }
-    ensures made { IfOk result (All (CitesWell store.new)) }
-    ensures items { IfOk result (IsRangeEdited store.old store.new (with_positions ops.now kept.now) start end list.now.items) }
-    ensures store { OnOk result (store.new ≡ store_after_range store.old (with_positions ops.now kept.now) start end list.now.items) }
-    ensures extends { Extends store.old store.new }
-{
-    let mut items = Items::new(alloc);
-    let mut at = start;
-    let mut head = None;
-    for i in first_retains(ops)..ops.len() {
-        match &ops[i] {
-            Op::Retain(count) => {
-                let next = at + (*count).min(end - at);
-                pass(&mut items, list, store, head, at, next)?;
-                head = None;
-                at = next;
-            }
-            Op::Replace { removed, inserted } => {
-                items.extend(inserted.as_slice())?;
-                at += removed.as_slice().len();
-            }
-            Op::Attribute { name, from, to } => {
-                let present = present_head(alloc, store, list.get(at), head)?;
-                let next = next_head(alloc, present, name, position_at(kept, i), from, to)?;
-                head = Some(next);
-            }
-        }
-    }
-    Ok(items)
 }

@@ -6,11 +6,12 @@ ghost use Rattle.model_change.specs.Join.{active_range, core, with_ends};
 ghost use Rattle.model_change.specs.Store.{cited, fill};
 ghost use Rattle.model_change.specs.Transaction.{all_inserted, is_normal};
 ghost use Rattle.ve_tx.specs.Applied.{AppliesTo, IsOverActive, IsRestorableOn, Undoes, applied_to, fault_on, filled_on, plain_after, store_after};
-ghost use Rattle.ve_tx.specs.Changed.{IsRefusal};
+ghost use Rattle.ve_tx.specs.Changed.{IsRefusal, brought_count};
 ghost use Rattle.ve_tx.specs.Cites.{TxCites};
 ghost use Rattle.ve_tx.specs.Copied.{AreCopied, TransactionsAlike};
 ghost use Rattle.ve_tx.specs.Operation.{unkept, bare, by_value};
 ghost use Rattle.ve_tx.specs.Parcel.{transaction_cited_in};
+ghost use Rattle.ve_tx.specs.Spliced.{AllCite, LieBetween, come_count};
 ghost use Rattle.ve_tx.specs.Taken.{HasRemoved};
 
 use crate::change::prepared;
@@ -210,9 +211,9 @@ impl Transaction {
         range_of(self.ops.as_slice())
     }
 
-    /// What changes a list as the transaction says, without changing it. The change replaces the items of the active
-    /// range, and inside it those that are retained stay; splicing it into the list gives the new list and succeeds. Heads
-    /// that attribute operations change are put into the store, where they are new.
+    /// What changes a list as the transaction says, without changing it. The change has a splice for each replace and for
+    /// each opening whose attributes change, all within the active range; no other item that stays is copied. Making it
+    /// gives the new list and succeeds. Heads that attribute operations change are put into the store, where they are new.
     ///
     /// It is refused by the first of these causes: the retained and removed lengths don't add up to the list's; an item
     /// that is to be removed isn't the list's, at the first such place; an attribute operation doesn't stand on the opening
@@ -226,11 +227,12 @@ impl Transaction {
     ) -> Result<Change, TxFault>
         requires list { All (CitesWell store.old) list.old.items }
         requires cites { TxCites store.old self.now }
-        ensures applied { IfOk result (λ change. applied_to store.old self.now list.old.items ≡ Ok (plain_after store.new list.old.items change)) }
-        ensures range { IfOk result (λ change. IsOverActive store.old self.now change) }
-        ensures within { IfOk result (λ change. change.at + change.removed ≤ length list.old.items) }
-        ensures room { IfOk result (λ change. length change.items ≤ list.new.spare) }
-        ensures cites { IfOk result (λ change. All (CitesWell store.new) change.items) }
+        ensures applied { IfOk result (λ change. applied_to store.old self.now list.old.items ≡ Ok (plain_after store.new list.old.items change.splices.items)) }
+        ensures range { IfOk result (λ change. IsOverActive store.old self.now change.splices.items) }
+        ensures within { IfOk result (λ change. LieBetween 0 (length list.old.items) change.splices.items) }
+        ensures thrifty { IfOk result (λ change. come_count change.splices.items ≤ brought_count (by_value store.old self.now)) }
+        ensures room { IfOk result (λ change. come_count change.splices.items ≤ list.new.spare) }
+        ensures cites { IfOk result (λ change. AllCite store.new change.splices.items) }
         ensures store { OnOk result (store.new ≡ store_after store.old self.now list.old.items) }
         ensures items { list.new.items ≡ list.old.items }
         ensures blocks { list.new.blocks ≡ list.old.blocks }
@@ -255,7 +257,7 @@ impl Transaction {
         }
     }
 
-    /// Changes a list as the transaction says, by one splice. It is refused as `change` is, and an `Err` changes neither
+    /// Changes a list as the transaction says, splice by splice. It is refused as `change` is, and an `Err` changes neither
     /// the list nor the store.
     pub fn apply(&self, alloc: Global, list: &mut Linear, store: &mut Store) -> Result<(), TxFault>
         requires list { All (CitesWell store.old) list.old.items }
@@ -268,10 +270,7 @@ impl Transaction {
         ensures store_kept { OnErr result (store.new ≡ store.old) }
     {
         let change = self.change(alloc, list, store)?;
-        let spliced = list
-            .splice(change.at, change.removed, change.items.as_slice())
-            .is_ok();
-        prove!(spliced);
+        change.splice_into(list);
         Ok(())
     }
 }

@@ -3,9 +3,9 @@ use Rattle.std.proofs.lemmas.Result.{err_from_is_err_and}
 use Rattle.model_items.specs.Plain.{plain_list}
 use Rattle.model_change.specs.Fault.{Applies, fault}
 use Rattle.model_change.specs.Transaction.{edited}
-use Rattle.ve_items.specs.Substitution.{spliced}
 use Rattle.ve_tx.specs.Cites.{TxCites}
 use Rattle.ve_tx.specs.Operation.{Operation, by_value, with_positions, unkept, IsNormal}
+use Rattle.ve_tx.specs.Spliced.{spliced_by}
 use Rattle.ve_tx.proofs.NormalLemmas.{total-within}
 use Rattle.ve_tx.proofs.ValuesLemmas.{unkept_cites}
 use Rattle.ve_tx.proofs.ChangeLemmas.{fault-found, refused-by, refused-memory, applied-is, view-lent}
@@ -45,7 +45,7 @@ pub returns-in-Ok-clause-applied : goal.returns-in-Ok-clause-applied
 returns-in-Ok-clause-applied c =
     let view : with_positions c.as_slice-2.result.now c.as_slice-3.result.now ≡ c.args.self.now =
     view-lent c.self.inside.ops.items c.as_slice-2.result.now c.self.inside.kept.items c.as_slice-3.result.now c.args.self.now c.as_slice-2.ensures.value c.as_slice-3.ensures.value c.self.view_is in
-    let new = plain_list c.prepared.new.store (spliced c.args.list.now.items c.in-Ok.change.at c.in-Ok.change.removed c.in-Ok.change.items) in
+    let new = plain_list c.prepared.new.store (spliced_by c.args.list.now.items c.in-Ok.change.splices.items) in
     applied-is (by_value c.args.store.now c.args.self.now) (plain_list c.args.store.now c.args.list.now.items) new
     (fault-found c.args.store.now c.args.self.now c.self.inside.ops.items c.as_slice.result.now c.self.inside.kept.items c.args.list.now.items None c.self.view_is c.self.invariant c.as_slice.ensures.value c.in_ok-check.ensures.ok)
     (subst (λ tx. new ≡ edited (by_value c.args.store.now tx) (plain_list c.args.store.now c.args.list.now.items)) view c.in-Ok.ensures.changed)
