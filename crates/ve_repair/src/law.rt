@@ -11,6 +11,9 @@ use ve_lawful::{State, check_piece};
 use ve_offsets::{Doc, state_at};
 use ve_tx::{Op, Transaction};
 
+/// How many items that stay between two changes are read at most, where they could be skipped.
+const NEAR: usize = 64;
+
 /// The same offence so many items on.
 fn moved(fault: LawFault, by: usize) -> LawFault
     requires { by + law.fault_place fault < 2 ^ 64 }
@@ -68,7 +71,8 @@ fn is_same(one: &State, other: &State) -> bool
     }
 }
 
-/// Goes on by items that stay. Where the state before them is the old list's, the state behind them is too, and then neither is found by reading them.
+/// Goes on by items that stay. Where the state before them is the old list's, the state behind them is too: many are then
+/// skipped, and so are the first and the last of a list.
 fn pass_retained(
     state: &mut State,
     doc: Doc<'_>,
@@ -82,7 +86,7 @@ fn pass_retained(
     ensures ok { OnOk result (after state.old (take count (drop at doc.entry.list.now.items)) ≡ Ok state.new) }
     ensures err { IfErr result (λ fault. after state.old (take count (drop at doc.entry.list.now.items)) ≡ Err fault) }
 {
-    if is_outer {
+    if is_outer || count > NEAR {
         let old = state_at(doc, at);
         if is_same(state, &old) {
             *state = state_at(doc, at + count);
@@ -145,9 +149,10 @@ fn ended(state: &State, len: usize) -> Result<(), LawFault>
     }
 }
 
-/// Whether the list is lawful once a transaction is made, or the first place of the new list where it is not. It takes no memory, and writes nothing. Of the
-/// items that stay it reads those between the first and the last operation that changes anything; those before are read by no one, and those behind only where
-/// the list isn't lawful.
+/// Whether the list is lawful once a transaction is made, or the first place of the new list where it is not. It takes no
+/// memory, and writes nothing. Items that stay before the first change it doesn't read, and those behind the last change
+/// only where the list isn't lawful. Of those that stay between two changes it reads up to 64 in a row, and a longer row
+/// only where the new list has other nodes open there than the old one.
 pub fn check_change(doc: Doc<'_>, tx: &Transaction) -> Result<(), LawFault>
     requires doc { IsDoc doc }
     requires applies { CanApply tx.now doc.list.now.items }

@@ -5,7 +5,7 @@ ghost use Rattle.ve_tree.specs.IsTree.{unvalued};
 ghost use Rattle.ve_tree.specs.TreeOf.{IsTreeOf};
 ghost use Rattle.ve_repair.specs.Change.{CanApply, LawfulAfter};
 ghost use Rattle.ve_repair.specs.Kept.{KeepsNumbers};
-ghost use Rattle.ve_repair.specs.Repaired.{IsTreeOfAfter, IsCause, CostsNone, IsWithinTouch, fault_of};
+ghost use Rattle.ve_repair.specs.Repaired.{IsTreeOfAfter, SameNodes, IsCause, CostsNone, IsWithinTouch, fault_of};
 
 use crate::assembly::{Begun, relink_nodes};
 use crate::fault::RepairFault;
@@ -27,7 +27,7 @@ use ve_tx::Transaction;
 /// Makes the tree of a list that of the list which a transaction gives, where that one is lawful; `list` is the old
 /// one. Nodes that stay keep their numbers, and the landmarks follow.
 /// It takes at most eight steps for each node that the transaction touches, and sixteen more, at an `Err` too. The only
-/// refusal is `Memory`: after it the tree is as before.
+/// refusal is `Memory`: after it the tree is as before, node by node.
 pub fn relink<L: Ledger>(
     alloc: Global,
     tree: &mut Tree,
@@ -42,6 +42,7 @@ pub fn relink<L: Ledger>(
     ensures numbers { OnOk result (KeepsNumbers tree.old.arena tree.new.arena tree.old.root tx.now list.now.items) }
     ensures root { tree.new.root ≡ tree.old.root }
     ensures kept { OnErr result ((others : List PlainItem) → IsTreeOf tree.old others → IsTreeOf tree.new others) }
+    ensures same { OnErr result (SameNodes tree.old.arena tree.new.arena) }
     ensures counted { steps.old ≤ steps.new }
     ensures steps { IsWithinTouch steps.old steps.new tx.now list.now.items }
 {
@@ -79,8 +80,8 @@ fn fault_of(fault: LawFault) -> RepairFault
 /// Makes the tree of a list that of the list which a transaction gives; `list` is the old one. It is refused where the
 /// new list is not lawful, as `Unlawful` or `TooDeep` with its first offence and the place of that in the new list, in
 /// items: then nothing is written, and no step is taken. At want of memory it is refused as `Memory`, and the new list
-/// is lawful. After each refusal the tree is as before. It takes at most eight steps for each node that the transaction
-/// touches, and sixteen more.
+/// is lawful. After each refusal the tree is as before, node by node. It takes at most eight steps for each node that the
+/// transaction touches, and sixteen more.
 pub fn repair<L: Ledger>(
     alloc: Global,
     tree: &mut Tree,
@@ -95,6 +96,7 @@ pub fn repair<L: Ledger>(
     ensures numbers { OnOk result (KeepsNumbers tree.old.arena tree.new.arena tree.old.root tx.now list.now.items) }
     ensures root { tree.new.root ≡ tree.old.root }
     ensures kept { OnErr result ((others : List PlainItem) → IsTreeOf tree.old others → IsTreeOf tree.new others) }
+    ensures same { OnErr result (SameNodes tree.old.arena tree.new.arena) }
     ensures none { IfErr result (CostsNone steps.old steps.new) }
     ensures counted { steps.old ≤ steps.new }
     ensures steps { IsWithinTouch steps.old steps.new tx.now list.now.items }

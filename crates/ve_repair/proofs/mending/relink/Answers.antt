@@ -30,6 +30,9 @@ pub returns-in_err-relink_nodes-clause-kept : goal.returns-in_err-relink_nodes-c
 returns-in_err-relink_nodes-clause-kept g c =
     on_err c.from_residual-in_err-relink_nodes.result _ (λ others. kept_tree c.args.tree.now _ others c.in_err-relink_nodes.ensures.kept refl refl)
 
+pub returns-in_err-relink_nodes-clause-same : goal.returns-in_err-relink_nodes-clause-same
+returns-in_err-relink_nodes-clause-same g c = on_err c.from_residual-in_err-relink_nodes.result _ c.in_err-relink_nodes.ensures.kept
+
 pub overflow_add-range : goal.overflow_add-range
 overflow_add-range g c =
     let fits = to_fits c.args.tx.now c.args.list.now.items c.in-Some.range c.requires.applies c.ops.ensures.normal
