@@ -1,3 +1,5 @@
 pub mod FirstLemmas
 pub mod PlaceLemmas
 pub mod CountLemmas
+pub mod AttrLemmas
+pub mod BodyLemmas
