@@ -3,3 +3,4 @@ pub mod PlaceLemmas
 pub mod CountLemmas
 pub mod AttrLemmas
 pub mod BodyLemmas
+pub mod PageLemmas
