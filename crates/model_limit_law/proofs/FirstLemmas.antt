@@ -84,7 +84,7 @@ past_none [] n l = refl
 past_none (x ∷ xs) zero l = absurd (omega (arith, l))
 past_none (x ∷ xs) (suc n) l = past_none xs n (omega (arith, l))
 
-none_past : (xs : List ℕ) (n : ℕ) → slice_get xs n ≡ None → length xs ≤ n
+pub none_past : (xs : List ℕ) (n : ℕ) → slice_get xs n ≡ None → length xs ≤ n
 none_past [] n e = omega arith
 none_past (x ∷ xs) zero e = cc
 none_past (x ∷ xs) (suc n) e = let l = none_past xs n e in omega (arith, l)

@@ -4,3 +4,4 @@ pub mod CountLemmas
 pub mod AttrLemmas
 pub mod BodyLemmas
 pub mod PageLemmas
+pub mod WithinLemmas

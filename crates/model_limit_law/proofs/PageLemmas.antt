@@ -39,7 +39,7 @@ texted room (Group nodes later) f u = texted room later f.1 u.1
 texted room (Single name attrs source later) f u = texted room later f.1 u.1
 texted room (Parent name attrs children later) f u = (texted (room - 1) children f.1 u.1, texted room later f.2 u.2)
 
-forest_texted : (f : Forest) → is_forest 200 f ≡ true → IsUtf8 (spelling f) → Texted (parts_of f)
+pub forest_texted : (f : Forest) → is_forest 200 f ≡ true → IsUtf8 (spelling f) → Texted (parts_of f)
 forest_texted f h u = texted 200 (parts_of f) (Faithful-parts_of 200 f h) (all_utf8 f h u)
 
 pub body_texted : (html : List ℕ) → IsUtf8 html → Texted (parts_of (or_nothing (forest_of html)))
@@ -119,7 +119,7 @@ first_bodies (o ∷ owners) l u (inr later) =
 abbrev own_limit : ℕ → Forest → Option Limit
 own_limit at f = limit_of 0 (Flow Root) (parts_of f) at (page_made at f)
 
-page_owns : (at : ℕ) (f : Forest) → is_forest 200 f ≡ true → IsUtf8 (spelling f) → AllOwnUtf8 (page_made at f).owners
+pub page_owns : (at : ℕ) (f : Forest) → is_forest 200 f ≡ true → IsUtf8 (spelling f) → AllOwnUtf8 (page_made at f).owners
 page_owns at f h u = flow_owns 200 Root (parts_of f) (record { at = at; owners = []; editable = true }) (Faithful-parts_of 200 f h) (all_utf8 f h u)
 
 pub page_first : (at : ℕ) (f : Forest) (l : Limit) → is_forest 200 f ≡ true → IsUtf8 (spelling f) → page_limit at f ≡ Some l → FirstInPage at f l

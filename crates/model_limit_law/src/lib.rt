@@ -3,4 +3,4 @@
 
 mod laws;
 
-pub use laws::{over_limit_is_first};
+pub use laws::{counts_are_of_items, limits_are_of_items, over_limit_is_first};
