@@ -5,3 +5,4 @@ pub mod AttrLemmas
 pub mod BodyLemmas
 pub mod PageLemmas
 pub mod WithinLemmas
+mod CountExamples
