@@ -6,3 +6,4 @@ pub mod BodyLemmas
 pub mod PageLemmas
 pub mod WithinLemmas
 mod CountExamples
+pub mod OrderLemmas

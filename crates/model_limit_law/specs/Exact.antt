@@ -1,9 +1,10 @@
--- That what is counted is what the list has, and which lists are within the limits.
-use Rattle.std.specs.Prelude.{◌≡◌, ◌↔◌, ◌≤◌, ℕ, List, [], length, map, Some, None, IsUtf8}
+-- That what is counted is what the list has, and what the limits are of lists alone.
+use Rattle.std.specs.Prelude.{◌≡◌, ◌↔◌, ◌≤◌, ℕ, suc, ◌-◌, if◌then◌else◌, nat_le, nat_lt, List, [], ◌∷◌, length, map, Option, Some, None, option_map, IsUtf8}
 use Rattle.std.specs.List.{AllByRecursion}
-use Rattle.ve_base.specs.Limits.{max_marks}
+use Rattle.ve_base.specs.Limits.{max_marks, max_open_kinds}
 use Rattle.ve_kinds.specs.declared.kind.Kind.{Kind}
 use Rattle.model_items.specs.declared.plain_item.PlainItem.{PlainItem}
+use Rattle.model_items.specs.declared.plain_item.PlainItem.TheVariants.{Char, Opening, Closing}
 use Rattle.model_items.specs.Law.{Lawful}
 use Rattle.model_edit.specs.Marking.{item_marks}
 use Rattle.model_page.specs.Parts.{Parts}
@@ -11,6 +12,7 @@ use Rattle.model_page.specs.Fit.{Flow}
 use Rattle.model_page.specs.Pieces.{Progress}
 use Rattle.model_page.specs.Convert.{in_flow}
 use Rattle.model_page.specs.PageItems.{Opened, opened_page}
+use Rattle.model_page.specs.Limits.{Limit, TooDeep, TooManyMarks}
 use Rattle.model_page.specs.OpenPage.{limit_in}
 use Rattle.model_limit_law.specs.Counted.{openings, open_counts, mark_places, place_counts, mark_counts}
 
@@ -31,3 +33,26 @@ HasFewMarks item = length (item_marks item) ≤ max_marks
 abbrev pub LimitsAreOfItems : Type 0
 LimitsAreOfItems = (page : List ℕ) (o : Opened) → IsUtf8 page → opened_page page ≡ Some o →
     (limit_in o ≡ None) ↔ (Lawful o.items × AllByRecursion HasFewMarks o.items)
+
+-- which limit
+pub data Which : Type 0 where
+  OfKinds : Which
+  OfMarks : Which
+
+abbrev pub which : Limit → Which
+which (TooDeep at) = OfKinds
+which (TooManyMarks at) = OfMarks
+
+-- The first item of a list that has more than 64 marks or opens inside of 100 kinds, and which of the two; so many kinds are open before.
+abbrev pub first_over : ℕ → List PlainItem → Option Which
+first_over depth [] = None
+first_over depth (Char c marks ∷ items) = if nat_le (length marks) max_marks then first_over depth items else Some OfMarks
+first_over depth (Closing kind pre ∷ items) = first_over (depth - 1) items
+first_over depth (Opening kind head marks pre origin generated ∷ items) =
+    if nat_le (length marks) max_marks
+    then (if nat_lt depth max_open_kinds then first_over (suc depth) items else Some OfKinds)
+    else Some OfMarks
+
+-- And it is over the limit that the first item of its list is over, reference bodies and all.
+abbrev pub FirstItemIsOver : Type 0
+FirstItemIsOver = (page : List ℕ) (o : Opened) → IsUtf8 page → opened_page page ≡ Some o → option_map which (limit_in o) ≡ first_over 0 o.items
