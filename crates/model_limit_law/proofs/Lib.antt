@@ -7,3 +7,4 @@ pub mod PageLemmas
 pub mod WithinLemmas
 mod CountExamples
 pub mod OrderLemmas
+pub mod LaidLemmas
