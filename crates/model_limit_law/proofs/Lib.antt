@@ -1,0 +1,10 @@
+pub mod FirstLemmas
+pub mod PlaceLemmas
+pub mod CountLemmas
+pub mod AttrLemmas
+pub mod BodyLemmas
+pub mod PageLemmas
+pub mod WithinLemmas
+mod CountExamples
+pub mod OrderLemmas
+pub mod LaidLemmas
