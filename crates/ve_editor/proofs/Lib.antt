@@ -1,4 +1,3 @@
-pub mod VerdictLemmas
 pub mod GrownLemmas
 pub mod CauseLemmas
 pub mod RelinkLemmas

@@ -14,7 +14,7 @@ use Rattle.model_site.specs.Refused.{edit_cause}
 use Rattle.model_site.specs.Replica.{changed_by, performed, put_back}
 use Rattle.ve_items.specs.ItemList.{ItemList}
 use Rattle.ve_tree.specs.declared.tree.Tree.{Tree}
-use Rattle.ve_tx.specs.Applied.{spliced_by}
+use Rattle.ve_tx.specs.Spliced.{spliced_by}
 use Rattle.ve_tx.specs.declared.change.Change.{Change}
 use Rattle.ve_tx.specs.declared.draft.Draft.{Draft}
 use Rattle.ve_editor.specs.declared.perform.Admitting.{Admitting}
@@ -26,7 +26,7 @@ use Rattle.ve_editor.proofs.CauseLemmas.{cause_of_list}
 
 -- a change of the list, made
 changed_is : (t : Transaction) (store new values : List Value) (items committed : List Item) (selected moved : Selection) (list : ItemList) (linked : Tree) (change : Change) →
-    WillBe t store new list linked change → list.items ≡ items → committed ≡ spliced_by list.items change → new ≡ fill store values →
+    WillBe t store new list linked change → list.items ≡ items → committed ≡ spliced_by list.items change.splices.items → new ≡ fill store values →
     moved ≡ moved_selection t (plain_list new committed) selected → page_of new committed moved ≡ changed_by t values (page_of store items selected)
 changed_is t store new values items committed selected moved list linked change will same made grown selects =
     let e = ap (plain_list new) made ∙ will.items ∙ ap (λ l. edited t (plain_list store l)) same in
@@ -37,14 +37,14 @@ module _ (d : Draft) (store new : List Value) (items : List Item) (selected : Se
   grown : new ≡ fill store (brought (drafted store d) (plain_list store items))
   grown = may.store ∙ ap (λ l. fill store (brought (drafted store d) (plain_list store l))) same
 
-  pub performed_is : (committed : List Item) (moved : Selection) → committed ≡ spliced_by list.items p.change →
+  pub performed_is : (committed : List Item) (moved : Selection) → committed ≡ spliced_by list.items p.change.splices.items →
       moved ≡ moved_selection (drafted store d) (plain_list new committed) selected → page_of new committed moved ≡ performed (drafted store d) (page_of store items selected)
   performed_is committed moved made selects =
       changed_is (drafted store d) store new (brought (drafted store d) (plain_list store items)) items committed selected moved list linked p.change may.change same made grown selects
 
   pub allowed_is : edit_cause (drafted store d) (page_of store items selected) ≡ None
   allowed_is =
-      cause_of_list (drafted store d) (page_of store items selected) new (spliced_by list.items p.change) (subst (λ l. Applies (drafted store d) (plain_list store l)) same may.applies)
+      cause_of_list (drafted store d) (page_of store items selected) new (spliced_by list.items p.change.splices.items) (subst (λ l. Applies (drafted store d) (plain_list store l)) same may.applies)
       (may.change.items ∙ ap (λ l. edited (drafted store d) (plain_list store l)) same) grown
       ∙ may.allowed
 
@@ -55,14 +55,14 @@ module _ (d : Draft) (store new : List Value) (items : List Item) (selected : Se
       λ i. record { txs = txs i; store_before = may.store_before i; store_after = after i }
 
 pub put_back_is : (t : Transaction) (store new : List Value) (items committed : List Item) (selected moved : Selection) (list : ItemList) (linked : Tree) (change : Change) →
-    IsReadyBack t store new list linked change → list.items ≡ items → committed ≡ spliced_by list.items change →
+    IsReadyBack t store new list linked change → list.items ≡ items → committed ≡ spliced_by list.items change.splices.items →
     moved ≡ moved_selection t (plain_list new committed) selected → page_of new committed moved ≡ put_back t (page_of store items selected)
 put_back_is t store new items committed selected moved list linked change ready same made selects =
     changed_is t store new (changed_heads t (plain_list store items)) items committed selected moved list linked change ready.change same made
     (ready.store ∙ ap (λ l. fill store (changed_heads t (plain_list store l))) same) selects
 
 pub other_is : (t : Transaction) (store new : List Value) (items committed : List Item) (selected moved : Selection) (list : ItemList) (linked : Tree) (a : Admitting) →
-    IsReadyOther t store new list linked a → list.items ≡ items → committed ≡ spliced_by list.items a.change →
+    IsReadyOther t store new list linked a → list.items ≡ items → committed ≡ spliced_by list.items a.change.splices.items →
     moved ≡ moved_selection t (plain_list new committed) selected → page_of new committed moved ≡ performed t (page_of store items selected)
 other_is t store new items committed selected moved list linked a ready same made selects =
     changed_is t store new (brought t (plain_list store items)) items committed selected moved list linked a.change ready.change same made

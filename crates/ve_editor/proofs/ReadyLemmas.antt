@@ -13,12 +13,14 @@ use Rattle.model_change.specs.Transaction.{Transaction, edited}
 use Rattle.ve_items.specs.ItemList.{ItemList}
 use Rattle.ve_tree.specs.IsTree.{unvalued}
 use Rattle.ve_tree.specs.TreeOf.{IsTreeOf, most_steps}
-use Rattle.ve_tx.specs.Applied.{plain_after, spliced_by}
+use Rattle.ve_tx.specs.Applied.{plain_after}
 use Rattle.ve_tx.specs.Cites.{TxCites}
 use Rattle.ve_tx.specs.Making.{Extends}
 use Rattle.ve_tx.specs.Operation.{Operation}
 use Rattle.ve_tx.specs.declared.change.Change.{Change}
-use Rattle.ve_tx.proofs.ChangeLemmas.{spliced-cites}
+use Rattle.ve_tx.specs.Spliced.{AllCite, LieBetween, come_count, spliced_by}
+use Rattle.ve_tx.proofs.SplicedLemmas.{spliced-cites}
+use Rattle.ve_tx.proofs.ValuesLemmas.{all-extended}
 use Rattle.ve_tree.specs.declared.tree.Tree.{Tree}
 use Rattle.ve_editor.specs.Prepared.{WillBe}
 
@@ -35,13 +37,14 @@ pub steps_within : (values : List Value) (items : List Item) (made : List PlainI
 steps_within values items made old new e h = subst (λ n. new ≤ old + n) (steps_unvalued values items made e) h
 
 pub will_be : (t : Transaction) (old new : List Value) (list : ItemList) (items : List Item) (linked : Tree) (change : Change) →
-    list.items ≡ items → plain_after new items change ≡ edited t (plain_list old items) → Extends old new →
-    All (CitesWell old) items → All (CitesWell new) change.items → change.at + change.removed ≤ length items → length change.items ≤ list.spare →
-    IsTreeOf linked (unvalued (spliced_by list.items change)) → WillBe t old new list linked change
+    list.items ≡ items → plain_after new items change.splices.items ≡ edited t (plain_list old items) → Extends old new →
+    All (CitesWell old) items → AllCite new change.splices.items → LieBetween 0 (length items) change.splices.items → come_count change.splices.items ≤ list.spare →
+    IsTreeOf linked (unvalued (spliced_by list.items change.splices.items)) → WillBe t old new list linked change
 will_be t old new list items linked change same made extends cited made_cited within room tree = record {
-  items = ap (λ l. plain_after new l change) same ∙ made ∙ ap (λ l. edited t (plain_list old l)) (sym same);
-  cites = subst (λ l. All (CitesWell new) (spliced_by l change)) (sym same) (spliced-cites old new extends items change.items change.at change.removed cited made_cited);
-  fits = record { within = subst (λ l. change.at + change.removed ≤ length l) (sym same) within; room = room };
+  items = ap (λ l. plain_after new l change.splices.items) same ∙ made ∙ ap (λ l. edited t (plain_list old l)) (sym same);
+  cites = subst (λ l. All (CitesWell new) (spliced_by l change.splices.items)) (sym same)
+      (spliced-cites new items change.splices.items (all-extended old new extends items cited) made_cited);
+  fits = record { within = subst (λ l. LieBetween 0 (length l) change.splices.items) (sym same) within; room = room };
   tree = tree;
 }
 

@@ -68,12 +68,6 @@ lawful_after values tx items lawful others =
     lawful-shapes (new_list values tx items) (new_list others tx items)
     (edited_alike values others tx (plain_list values items) (plain_list others items) (list_alike values others items)) lawful
 
--- the same of the list that a change makes, over the values that it cites
-pub made_lawful : (values new : List Value) (tx : List Operation) (items made : List Item) → plain_list new made ≡ new_list values tx items → Lawful (unvalued made) →
-    LawfulAfter tx items
-made_lawful values new tx items made e lawful =
-    lawful_after values tx items (subst Lawful e (lawful-shapes (unvalued made) (plain_list new made) (list_alike [] new made) lawful))
-
 -- the tree of the new list is that of the list that a change makes
 pub made_tree : (linked : Tree) (values new : List Value) (tx : List Operation) (items made : List Item) → plain_list new made ≡ new_list values tx items → IsTreeOfAfter linked tx items →
     IsTreeOf linked (unvalued made)

@@ -14,4 +14,3 @@ pub mod Edited
 pub mod Counted
 pub mod Refusal
 pub mod Prepared
-pub mod Rest

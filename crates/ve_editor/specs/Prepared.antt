@@ -1,5 +1,5 @@
 -- A change of a page that needs no more memory. For private functions.
-use Rattle.std.specs.Prelude.{◌≡◌, ◌≤◌, ◌+◌, None, List, [], ◌∷◌, All, length, map}
+use Rattle.std.specs.Prelude.{◌≡◌, ◌≤◌, None, List, [], ◌∷◌, All, length, map}
 use Rattle.ve_base.specs.declared.value.Value.{Value}
 use Rattle.model_items.specs.Plain.{plain_list, CitesWell}
 use Rattle.model_change.specs.Fault.{Applies}
@@ -10,9 +10,10 @@ use Rattle.ve_items.specs.ItemList.{ItemList}
 use Rattle.ve_tree.specs.IsTree.{unvalued}
 use Rattle.ve_tree.specs.TreeOf.{IsTreeOf}
 use Rattle.ve_tree.specs.declared.tree.Tree.{Tree}
-use Rattle.ve_tx.specs.Applied.{plain_after, spliced_by}
+use Rattle.ve_tx.specs.Applied.{plain_after}
 use Rattle.ve_tx.specs.Cites.{TxCites}
 use Rattle.ve_tx.specs.Operation.{by_value}
+use Rattle.ve_tx.specs.Spliced.{LieBetween, come_count, spliced_by}
 use Rattle.ve_tx.specs.declared.change.Change.{Change}
 use Rattle.ve_tx.specs.declared.draft.Draft.{Draft}
 use Rattle.ve_editor.specs.declared.perform.Admitting.{Admitting}
@@ -20,23 +21,23 @@ use Rattle.ve_editor.specs.declared.perform.Performing.{Performing}
 use Rattle.ve_editor.specs.Edited.{drafted, entry_by_value, EntryCites}
 use Rattle.ve_editor.specs.Refusal.{list_cause}
 
--- the change is one of the list's, and the list has room for it
+-- the splices of the change are the list's, and the list has room for it
 pub record FitsInto (list : ItemList) (change : Change) : Type 0 where
-  pub within : change.at + change.removed ≤ length list.items
-  pub room : length change.items ≤ list.spare
+  pub within : LieBetween 0 (length list.items) change.splices.items
+  pub room : come_count change.splices.items ≤ list.spare
 
 -- Over the new values the list will be what the transaction makes of it over the old ones, and its items will cite them well;
 -- and the tree is already that of the list as it will be.
 pub record WillBe (t : Transaction) (old new : List Value) (list : ItemList) (linked : Tree) (change : Change) : Type 0 where
-  pub items : plain_after new list.items change ≡ edited t (plain_list old list.items)
-  pub cites : All (CitesWell new) (spliced_by list.items change)
+  pub items : plain_after new list.items change.splices.items ≡ edited t (plain_list old list.items)
+  pub cites : All (CitesWell new) (spliced_by list.items change.splices.items)
   pub fits : FitsInto list change
-  pub tree : IsTreeOf linked (unvalued (spliced_by list.items change))
+  pub tree : IsTreeOf linked (unvalued (spliced_by list.items change.splices.items))
 
 -- the draft applies, its new list is allowed, and its change is ready, as is its entry
 pub record MayPerform (d : Draft) (old new : List Value) (list : ItemList) (linked : Tree) (performing : Performing) : Type 0 where
   pub applies : Applies (drafted old d) (plain_list old list.items)
-  pub allowed : list_cause (spliced_by list.items performing.change) (length new) ≡ None
+  pub allowed : list_cause (spliced_by list.items performing.change.splices.items) (length new) ≡ None
   pub change : WillBe (drafted old d) old new list linked performing.change
   pub store : new ≡ fill old (brought (drafted old d) (plain_list old list.items))
   pub txs : (entry_by_value new performing.entry).txs ≡ filled (drafted old d) (plain_list old list.items) ∷ []

@@ -14,9 +14,8 @@
 //!
 //! Definitions, in reading order: `Page` (what the type keeps), `Edited` (drafts and entries by value; what
 //! may be performed or taken back), `Counted` (how many steps a call counts at most), `Refusal` (how a refusal
-//! names its cause). `Prepared` and `Rest` serve private functions: a change whose tree is there and whose list
-//! needs no more memory, and the law over a list's end. There is no law of its own: those of model_site_law
-//! hold by the clauses.
+//! names its cause). `Prepared` serves private functions: a change whose tree is there and whose list needs no more
+//! memory. There is no law of its own: those of model_site_law hold by the clauses.
 #![tactic(auto)]
 
 mod editor;

@@ -165,6 +165,7 @@ pub fn ready<L: Ledger>(
             tree: &*tree,
             store: &*store,
         },
+        &draft.tx,
         &change,
     )?;
     match with_entry(alloc, list, store, tree, &draft.tx, before, change, steps) {

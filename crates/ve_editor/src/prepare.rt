@@ -5,7 +5,7 @@ ghost use Rattle.ve_repair.specs.Kept.{KeepsNumbers};
 ghost use Rattle.ve_repair.specs.Repaired.{IsTreeOfAfter, IsWithinTouch};
 ghost use Rattle.ve_tree.specs.IsTree.{unvalued};
 ghost use Rattle.ve_tree.specs.TreeOf.{IsTreeOf};
-ghost use Rattle.ve_tx.specs.Applied.{spliced_by};
+ghost use Rattle.ve_tx.specs.Spliced.{spliced_by};
 ghost use Rattle.ve_editor.specs.Prepared.{FitsInto};
 
 use std::alloc::Global;
@@ -41,10 +41,7 @@ pub fn prepare<L: Ledger>(
 /// Makes the change of the list. It takes no memory.
 pub fn commit(list: &mut Linear, change: Change)
     requires { FitsInto list.old change }
-    ensures { list.new.items ≡ spliced_by list.old.items change }
+    ensures { list.new.items ≡ spliced_by list.old.items change.splices.items }
 {
-    let spliced = list
-        .splice(change.at, change.removed, change.items.as_slice())
-        .is_ok();
-    prove!(spliced);
+    change.splice_into(list);
 }

@@ -91,12 +91,12 @@ fn refusals_come_in_order(rt: HostRuntime) -> Result<(), Fail> {
     Ok(())
 }
 
-/// What a transaction of all three operations makes of the page, and its change: the place, and how many items go and come.
+/// What a transaction of all three operations makes of the page, and its splices: each place, and how many items go and come.
 const ALL: &str = "id:>x class:>y 2 -b+xyz 3";
 
 const ALL_DONE: &str = "<p id=\"x\" class=\"y\">axyz</p>";
 
-const ALL_CHANGED: (usize, usize, usize) = (0, 3, 5);
+const ALL_CHANGED: [(usize, usize, usize); 2] = [(0, 1, 1), (2, 1, 3)];
 
 /// Whether it changes the page so. The store takes the new head.
 fn is_changed(alloc: Global, tx: &Transaction, store: &mut Store) -> Result<bool, Fail>
@@ -104,8 +104,16 @@ fn is_changed(alloc: Global, tx: &Transaction, store: &mut Store) -> Result<bool
 {
     let mut list = page(alloc, PAGE)?;
     let change = tx.change(alloc, &mut list, store)?;
-    let count = change.items.as_slice().len();
-    Ok((change.at, change.removed, count) == ALL_CHANGED)
+    if change.splices.len() != ALL_CHANGED.len() {
+        return Ok(false);
+    }
+    for (i, splice) in change.splices.iter().enumerate() {
+        let come = splice.items.as_slice().len();
+        if (splice.at, splice.removed, come) != ALL_CHANGED[i] {
+            return Ok(false);
+        }
+    }
+    Ok(true)
 }
 
 fn is_spelled(alloc: Global, list: &Linear, store: &Store, line: &str) -> Result<bool, Fail> {

@@ -7,8 +7,9 @@ use Rattle.ve_repair.specs.Change.{CanApply, LawfulAfter}
 use Rattle.ve_repair.specs.Kept.{KeepsNumbers}
 use Rattle.ve_tree.specs.IsTree.{unvalued}
 use Rattle.ve_tree.specs.TreeOf.{IsTreeOf}
-use Rattle.ve_tx.specs.Applied.{plain_after, spliced_by}
+use Rattle.ve_tx.specs.Applied.{plain_after}
 use Rattle.ve_tx.specs.Operation.{by_value}
+use Rattle.ve_tx.specs.Spliced.{spliced_by}
 use Rattle.ve_tx.proofs.ValuesLemmas.{extends_by_fill}
 use Rattle.ve_editor.proofs.GrownLemmas.{apply_ok}
 use Rattle.ve_editor.proofs.ReadyLemmas.{will_be}
@@ -42,9 +43,9 @@ returns-in_ok-prepare-in-Ok-clause-ok g c =
     let change = c.in-Ok.change in
     let t = by_value old c.args.tx.now in
     let same = c.in-Ok.ensures.items in
-    let made = apply_ok t (plain_list old items) (plain_after new items change) c.in-Ok.ensures.applied in
+    let made = apply_ok t (plain_list old items) (plain_after new items change.splices.items) c.in-Ok.ensures.applied in
     let extends = extends_by_fill old new (changed_heads t (plain_list old items)) c.in-Ok.ensures.store in
-    let tree = made_tree c.prepare.new.tree old new c.args.tx.now list.items (spliced_by list.items change) (ap (λ l. plain_after new l change) same ∙ made.1 ∙ ap (λ l. edited t (plain_list old l)) (sym same))
+    let tree = made_tree c.prepare.new.tree old new c.args.tx.now list.items (spliced_by list.items change.splices.items) (ap (λ l. plain_after new l change.splices.items) same ∙ made.1 ∙ ap (λ l. edited t (plain_list old l)) (sym same))
     c.in_ok-prepare-in-Ok.ensures.tree in
     record {
       change = will_be t old new list items c.prepare.new.tree change same made.1 extends c.requires.list c.in-Ok.ensures.cites c.in-Ok.ensures.within c.in-Ok.ensures.room tree;
