@@ -8,3 +8,6 @@ pub mod WithinLemmas
 mod CountExamples
 pub mod OrderLemmas
 pub mod LaidLemmas
+pub mod BoundLemmas
+pub mod ToldLemmas
+pub mod ItemLemmas

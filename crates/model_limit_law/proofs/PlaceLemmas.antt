@@ -61,7 +61,7 @@ added_at (x ∷ xs) (suc n) at e = added_at xs n at (omega (arith, e))
 -- ---- what an element becomes
 
 -- a mark has something in it
-abbrev MayMark : Parts → Fit → Type 0
+abbrev pub MayMark : Parts → Fit → Type 0
 MayMark children Annotation = has_child children ≡ true
 MayMark children _ = Unit {0}
 
@@ -76,7 +76,7 @@ block_marks parent children None = tt
 block_marks parent children (Some kind) =
     elim (may_hold parent kind && is_convertible kind children) as (λ b. MayMark children (if b then Branch kind else Whole AlienBlock)) [ true ↦ tt | false ↦ tt ]
 
-may_mark : (around : Around) (name : List ℕ) (children : Parts) → MayMark children (fit_of around name children)
+pub may_mark : (around : Around) (name : List ℕ) (children : Parts) → MayMark children (fit_of around name children)
 may_mark (Content marks) name children = content_marks children (fit_in_content name children (kind_of_tag name)) (FitsContent-kind name children (kind_of_tag name))
 may_mark (Flow parent) name children =
     elim (is_inline_tag name) as (λ b. MayMark children (if b then fit_in_content name children (kind_of_tag name) else fit_in_block parent children (kind_of_tag name))) [

@@ -1,5 +1,5 @@
 // Where pages are over their limits. Each function does nothing, and its contract is a law that is proved.
-ghost use Rattle.model_limit_law.specs.Exact.{LimitsAreOfItems, MarksHavePlaces, OpeningsAreCounted};
+ghost use Rattle.model_limit_law.specs.Exact.{FirstItemIsOver, LimitsAreOfItems, MarksHavePlaces, OpeningsAreCounted};
 ghost use Rattle.model_limit_law.specs.First.{FirstIsRefused, RefusedIsFirst};
 
 /// A page is refused for its nesting or its marks exactly where something of it is over these limits, and at the first such thing: the first
@@ -15,7 +15,9 @@ pub fn counts_are_of_items()
     ensures marks { MarksHavePlaces }
 {}
 
-/// A page is within these limits exactly where its list is lawful and no item has more than 64 marks.
+/// A page is within these limits exactly where its list is lawful and no item has more than 64 marks. Else it is over the limit that the first
+/// item of the list is over that has more than 64 marks or opens inside of 100 kinds, reference bodies and all.
 pub fn limits_are_of_items()
-    ensures { LimitsAreOfItems }
+    ensures within { LimitsAreOfItems }
+    ensures over { FirstItemIsOver }
 {}
