@@ -3,7 +3,7 @@ use Rattle.std.specs.List.{AllByRecursion, filter}
 use Rattle.std.specs.Option.{option_or}
 use Rattle.std.specs.Prelude.{flat_map, nat_lt, option_map, slice_get, unwrap_or}
 use Rattle.std.proofs.Common.{◌≡◌, ◌≤◌, ◌<◌, ◌↔◌, ℕ, suc, ◌-◌, Bool, true, false, cond, if◌then◌else◌, List, [], ◌∷◌, ◌++◌, length, map, Option, Some, None, Result, Ok, Err, IsUtf8, refl, sym, ap, ◌∙◌, subst, arith}
-use Rattle.std.proofs.lemmas.Bool.{ltb-false}
+use Rattle.std.proofs.lemmas.Bool.{le-leb, leb-true, ltb-false}
 use Rattle.ve_base.specs.Empty.{empty_head}
 use Rattle.ve_base.specs.Limits.{max_marks, max_open_kinds}
 use Rattle.ve_kinds.specs.Table.{is_content_branch}
@@ -31,8 +31,10 @@ use Rattle.model_page_law.proofs.BodyUtf8.{body_utf8}
 use Rattle.model_page_law.proofs.KindFits.{Sane}
 use Rattle.model_page_law.proofs.LawfulLemmas.{flow_counted, flow_holds, limited_is_lawful, opening_count, runs}
 use Rattle.model_page_law.proofs.MarkedLemmas.{Texted}
+use Rattle.model_site_law.specs.ItemLaws.{AllPass}
+use Rattle.model_world_law.specs.Standing.{has_few_marks}
 use Rattle.model_limit_law.specs.Counted.{mark_counts, mark_places, open_counts, openings, place_counts}
-use Rattle.model_limit_law.specs.Exact.{HasFewMarks, LimitsAreOfItems, OpeningsAreCounted}
+use Rattle.model_limit_law.specs.Exact.{LimitsAreOfItems, OpeningsAreCounted}
 use Rattle.model_limit_law.proofs.BodyLemmas.{AllOwnUtf8}
 use Rattle.model_limit_law.proofs.CountLemmas.{marks_have_places}
 use Rattle.model_limit_law.proofs.FirstLemmas.{first_marked, none_past, one_limit, past_none}
@@ -73,15 +75,15 @@ small_kept (n ∷ ns) s = by (nat_lt 0 n) refl s (small_kept ns)
     by false e s rest = (let none = ltb-false 0 n e in omega (arith, none), rest s)
 
 abbrev AreFew : List PlainItem → Type 0
-AreFew items = AllByRecursion HasFewMarks items
+AreFew items = AllPass has_few_marks items
 
 few_small : (items : List PlainItem) → AreFew items → AreSmall (map (λ item. length (item_marks item)) items)
 few_small [] h = tt
-few_small (item ∷ items) h = (h.0, few_small items h.1)
+few_small (item ∷ items) h = (leb-true (length (item_marks item)) max_marks h.0, few_small items h.1)
 
 small_few : (items : List PlainItem) → AreSmall (map (λ item. length (item_marks item)) items) → AreFew items
 small_few [] h = tt
-small_few (item ∷ items) h = (h.0, small_few items h.1)
+small_few (item ∷ items) h = (le-leb (length (item_marks item)) max_marks h.0, small_few items h.1)
 
 places_none : (places : List (List ℕ)) → AreSmall (map length places) → first_marked places ≡ None
 places_none [] h = refl
@@ -243,7 +245,7 @@ bodies_few (o ∷ owners) utf none =
     let p = or_none (body_limit o) (first_body_limit owners) none in
     let inner = split_none (deep_at 2 m.later.items m.later.spans) (marked_at (Flow InternalItem) (parts_of f) 0) (moved_none o.at (inner_limit o) p.0) in
     let few = within_few InternalItem (parts_of f) w (body_texted o.html utf.0) inner.1 in
-    few-append (internal_item o) (flat_map internal_item owners) (omega arith, few-append m.later.items (Closing InternalItem m.pre ∷ []) few (omega arith, tt)) (bodies_few owners utf.1 p.1)
+    few-append (internal_item o) (flat_map internal_item owners) (refl, few-append m.later.items (Closing InternalItem m.pre ∷ []) few (refl, tt)) (bodies_few owners utf.1 p.1)
 
 -- ---- a page
 
@@ -258,7 +260,7 @@ within_items at f h u none =
     (
       limited_is_lawful at f none,
       few-append (with_origins 0 m.later.items) (internal_list m.pre m.owners) (origins-few 0 m.later.items few)
-          (omega arith, few-append (flat_map internal_item m.owners) (Closing InternalList [] ∷ []) bodies (omega arith, tt)),
+          (refl, few-append (flat_map internal_item m.owners) (Closing InternalList [] ∷ []) bodies (refl, tt)),
     )
 
 pub items_within : (at : ℕ) (f : Forest) → is_forest 200 f ≡ true → IsUtf8 (spelling f) → Lawful (items_of_page (page_made at f)) × AreFew (items_of_page (page_made at f)) → page_limit at f ≡ None
