@@ -10,25 +10,14 @@ use Rattle.model_page.specs.Convert.{element_source, marked_around, marks_at}
 use Rattle.model_page.specs.Fit.{Annotation, Around, Branch, Fit, Leaf, Whole, around_in, fit_of}
 use Rattle.model_page.specs.Limits.{marked_at}
 use Rattle.model_page.specs.Parts.{Ended, Group, Note, Parent, Parts, Single, Words, source_of}
+use Rattle.model_limit_law.proofs.FirstLemmas.{some_same}
+use Rattle.model_limit_law.proofs.PlaceLemmas.{limit_by}
 use Rattle.model_limit_law.proofs.LaidLemmas.{inner_fits}
-
-some_is : (a n : ℕ) → ◌≡◌ {A = Option ℕ} (Some a) (Some n) → a ≡ n
-some_is a n e = cc
-
-abbrev pub limit_by : Around → List ℕ → List Spelled → Parts → Parts → ℕ → ℕ → ℕ → Fit → Option ℕ
-limit_by around name attrs children later at inside end fit = elim fit [
-  | Annotation ↦
-      if nat_lt (length (marks_at around)) max_marks
-      then option_or (marked_at (marked_around around name attrs) children inside) (marked_at around later end)
-      else Some at
-  | Branch kind ↦ option_or (marked_at (around_in kind) children inside) (marked_at around later end)
-  | _ ↦ marked_at around later end
-]
 
 abbrev pub In : ℕ → ℕ → Option ℕ → Type 0
 In low high o = (n : ℕ) → o ≡ Some n → (low ≤ n) × (n < high)
 
-in_either : (low high : ℕ) (a b : Option ℕ) → In low high a → In low high b → In low high (option_or a b)
+pub in_either : (low high : ℕ) (a b : Option ℕ) → In low high a → In low high b → In low high (option_or a b)
 in_either low high None b f g = g
 in_either low high (Some x) b f g = f
 
@@ -60,7 +49,7 @@ element_in around name attrs children later at high fit g room rest = by fit
             then option_or (marked_at (marked_around around name attrs) children (at + length (start_text name attrs false))) (marked_at around later (at + length (element_source name attrs children)))
             else Some at)
         marks true = in_either at high _ _ (inner_in (marked_around around name attrs)) later_in
-        marks false = λ n e. let same = some_is at n e in (omega (arith, same), omega (arith, same, room))
+        marks false = λ n e. let same = some_same at n e in (omega (arith, same), omega (arith, same, room))
     by (Branch kind) = in_either at high _ _ (inner_in (around_in kind)) later_in
     by (Leaf kind) = later_in
     by (Whole kind) = later_in

@@ -26,14 +26,14 @@ use Rattle.model_page_law.proofs.InlinedLemmas.{is_white-parts}
 use Rattle.model_page_law.proofs.MarkedLemmas.{FitsContent, FitsContent-kind, inline-whole_kind}
 use Rattle.model_limit_law.specs.Counted.{mark_counts, mark_places, place_counts}
 use Rattle.model_limit_law.specs.Exact.{MarksHavePlaces}
-use Rattle.model_limit_law.proofs.PlaceLemmas.{Even, even_in, even_more}
+use Rattle.model_limit_law.proofs.PlaceLemmas.{Even, even_in, even_more, places_by}
 
 -- ---- lists of counts
 
-pub marks-append : (xs ys : List PlainItem) → mark_counts (xs ++ ys) ≡ mark_counts xs ++ mark_counts ys
+marks-append : (xs ys : List PlainItem) → mark_counts (xs ++ ys) ≡ mark_counts xs ++ mark_counts ys
 marks-append xs ys = ap (Rattle.std.specs.List.filter (nat_lt 0)) (map-append (λ item. length (item_marks item)) xs ys) ∙ filter-append (nat_lt 0) (map (λ item. length (item_marks item)) xs) (map (λ item. length (item_marks item)) ys)
 
-pub places-append : (xs ys : List (List ℕ)) → place_counts (xs ++ ys) ≡ place_counts xs ++ place_counts ys
+places-append : (xs ys : List (List ℕ)) → place_counts (xs ++ ys) ≡ place_counts xs ++ place_counts ys
 places-append xs ys = ap (Rattle.std.specs.List.filter (nat_lt 0)) (map-append length xs ys) ∙ filter-append (nat_lt 0) (map length xs) (map length ys)
 
 letters_counted : (outer : List ℕ) (marks : List Mark) (text : List ℕ) → length outer ≡ length marks → mark_counts (map (λ c. Char c marks) text) ≡ place_counts (map (λ (c : ℕ). outer) text)
@@ -270,13 +270,6 @@ branch_outside (Structural k) children kind f = tt
 -- that what parts become is counted
 abbrev AreCounted : Parts → Type 0
 AreCounted parts = (outer : List ℕ) (around : Around) (w : Progress) → Even outer around → Counts around (place_counts (mark_places outer around parts w.at)) (made_of around parts w)
-
-abbrev places_by : List ℕ → Around → List ℕ → List Spelled → Parts → Parts → ℕ → ℕ → ℕ → Fit → List (List ℕ)
-places_by outer around name attrs children later at inside end fit = elim fit [
-  | Annotation ↦ mark_places (outer ++ at ∷ []) (marked_around around name attrs) children inside ++ mark_places outer around later end
-  | Branch kind ↦ mark_places [] (around_in kind) children inside ++ mark_places outer around later end
-  | _ ↦ outer ∷ mark_places outer around later end
-]
 
 element_counted : (outer : List ℕ) (around : Around) (name : List ℕ) (attrs : List Spelled) (source : List ℕ) (children later : Parts) (w : Progress) (fit : Fit) → FitsIn around children fit → is_white source ≡ false → Even outer around →
     AreCounted children → ((owners : List Owner) → Counts around (place_counts (mark_places outer around later (w.at + length source))) (made_of around later (past w source owners))) →

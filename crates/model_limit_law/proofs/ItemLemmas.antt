@@ -24,7 +24,7 @@ use Rattle.model_page_law.proofs.BodyUtf8.{body_utf8}
 use Rattle.model_page_law.proofs.ShapeLemmas.{Fine-made_of, Fine-run_closed, Shaped}
 use Rattle.model_limit_law.specs.Exact.{FirstItemIsOver, OfKinds, OfMarks, Which, first_over, which}
 use Rattle.model_limit_law.proofs.BodyLemmas.{AllOwnUtf8}
-use Rattle.model_limit_law.proofs.OrderLemmas.{over_append}
+use Rattle.model_limit_law.proofs.OrderLemmas.{over_append, which_or}
 use Rattle.model_limit_law.proofs.PageLemmas.{body_texted, forest_texted, page_owns}
 use Rattle.model_limit_law.proofs.ToldLemmas.{told_flow}
 
@@ -39,10 +39,6 @@ over_origins d k (Opening kind head marks pre origin generated ∷ items) ys =
 
 flow_shaped : (kind : Kind) (parts : Parts) (w : Progress) → Shaped (in_flow kind parts w).later
 flow_shaped kind parts w = (Fine-run_closed w (made_of (Flow kind) parts w) (Fine-made_of (Flow kind) parts w)).later
-
-which_or : (a b : Option Limit) → option_map which (option_or a b) ≡ option_or (option_map which a) (option_map which b)
-which_or None b = refl
-which_or (Some l) b = refl
 
 which_moved : (at : ℕ) (a : Option Limit) → option_map which (option_map (moved_to at) a) ≡ option_map which a
 which_moved at None = refl

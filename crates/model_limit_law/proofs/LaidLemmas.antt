@@ -23,6 +23,7 @@ use Rattle.model_page.specs.Pieces.{Made, Owner, Piece, Progress, SourceSpan, be
 use Rattle.model_page.specs.ReferenceNodes.{RefNode, ref_of}
 use Rattle.model_page_law.proofs.KindFits.{FitStands, LeafFits, Sane, Stands, fit_stands, group_fits, no_reference, note_fits}
 use Rattle.model_page_law.proofs.TileLemmas.{run_ended-source}
+use Rattle.model_limit_law.proofs.FirstLemmas.{some_same}
 
 -- ---- spans in an order
 
@@ -37,9 +38,6 @@ pub within-append : (low high : ℕ) (xs ys : List SourceSpan) → Within low hi
 within-append low high [] ys v w = w
 within-append low high (x ∷ xs) ys v w = (v.0, within-append low high xs ys v.1 w)
 
-some_is : (a n : ℕ) → ◌≡◌ {A = Option ℕ} (Some a) (Some n) → a ≡ n
-some_is a n e = cc
-
 pub deep_within : (d : ℕ) (items : List PlainItem) (low high : ℕ) (spans : List SourceSpan) → Within low high spans → (n : ℕ) → deep_at d items spans ≡ Some n → (low ≤ n) × (n ≤ high)
 deep_within d [] low high spans w n e = cc
 deep_within d (Char c marks ∷ items) low high spans w n e = deep_within d items low high spans w n e
@@ -49,7 +47,7 @@ deep_within d (Opening kind head marks pre origin generated ∷ items) low high 
   where
     by : (b : Bool) → (if b then deep_at (suc d) items spans else Some span.from) ≡ Some n → (deep_at (suc d) items spans ≡ Some n → (low ≤ n) × (n ≤ high)) → (low ≤ n) × (n ≤ high)
     by true e rest = rest e
-    by false e rest = let same = some_is span.from n e in (omega (arith, same, w.0.0), omega (arith, same, w.0.1))
+    by false e rest = let same = some_same span.from n e in (omega (arith, same, w.0.0), omega (arith, same, w.0.1))
 
 -- ---- what is made from a place on
 
@@ -112,7 +110,7 @@ laid_before high w piece source added owners m p l =
       fits = omega (arith, none, room);
     }
 
-one_within : (w : Progress) (source : List ℕ) → Within w.at (w.at + length source) (source_span w source ∷ [])
+pub one_within : (w : Progress) (source : List ℕ) → Within w.at (w.at + length source) (source_span w source ∷ [])
 one_within w source = ((omega arith, omega arith), tt)
 
 laid_leaf : (high : ℕ) (w : Progress) (kind : Kind) (head : Head) (marks : List Mark) (source : List ℕ) (owners : List Owner) (m : Made) → Laid (w.at + length source) high m →

@@ -4,10 +4,10 @@ pub mod CountLemmas
 pub mod AttrLemmas
 pub mod BodyLemmas
 pub mod PageLemmas
-pub mod WithinLemmas
 mod CountExamples
 pub mod OrderLemmas
 pub mod LaidLemmas
 pub mod BoundLemmas
 pub mod ToldLemmas
 pub mod ItemLemmas
+pub mod WithinLemmas

@@ -156,7 +156,7 @@ pub same_after : (d : ℕ) (white : List ℕ) (p : Piece) (marked : Option ℕ) 
 same_after d white p marked h =
     ap (λ o. option_map which (one_limit o marked)) (deep_after d white p.items p.spans) ∙ h ∙ sym (over_after d white p.items)
 
-which_or : (a b : Option Limit) → option_map which (option_or a b) ≡ option_or (option_map which a) (option_map which b)
+pub which_or : (a b : Option Limit) → option_map which (option_or a b) ≡ option_or (option_map which a) (option_map which b)
 which_or None b = refl
 which_or (Some l) b = refl
 

@@ -30,7 +30,7 @@ use Rattle.model_world.specs.declared.refusal.Refusal.{Refusal}
 use Rattle.model_world.specs.declared.refusal.Refusal.TheVariants as refusal
 use Rattle.model_limit_law.specs.Counted.{mark_places, openings}
 use Rattle.model_limit_law.specs.First.{FirstIn, FirstInBodies, FirstInBody, FirstInOpened, FirstInPage, FirstIsRefused, OpeningTellsLimits, RefusedIsFirst}
-use Rattle.model_limit_law.proofs.FirstLemmas.{deep_at-first, first_deep, first_is_limit, first_marked, limit_is_first, one_limit}
+use Rattle.model_limit_law.proofs.FirstLemmas.{deep_at-first, first_deep, first_is_limit, first_marked, limit_is_first, limit_same, one_limit}
 use Rattle.model_limit_law.proofs.PlaceLemmas.{marked_at-places}
 use Rattle.model_limit_law.proofs.BodyLemmas.{AllOwnUtf8, flow_owns}
 
@@ -58,9 +58,6 @@ body_texted html u = by (forest_of html) refl
 
 no_limit : (a : Option Limit) (l : Limit) → a ≡ None → a ≡ Some l → ⊥
 no_limit a l e f = cc
-
-limit_same : (a b : Limit) → ◌≡◌ {A = Option Limit} (Some a) (Some b) → a ≡ b
-limit_same a b e = cc
 
 pub flow_limit : (depth : ℕ) (kind : Kind) (parts : Parts) (at : ℕ) (m : Made) → Texted parts →
     limit_of depth (Flow kind) parts at m ≡ one_limit (first_deep (openings depth m.later.items m.later.spans)) (first_marked (mark_places [] (Flow kind) parts at))
@@ -174,7 +171,7 @@ within_limit o = by (limit_in o)
     by (Some l) = refl
     by None = small_has_none o
 
-abbrev spanned : List ℕ → ℕ → ℕ → Forest → Opened
+abbrev pub spanned : List ℕ → ℕ → ℕ → Forest → Opened
 spanned page from to f = page_opened page (record { from = from; to = to }) (page_made from f)
 
 abbrev body_read : List ℕ → ℕ → ℕ → Option ForestFault → Read

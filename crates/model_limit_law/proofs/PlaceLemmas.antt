@@ -87,7 +87,7 @@ may_mark (Structural parent) name children = block_marks parent children (kind_o
 
 -- ---- where 65 marks are open, the first part has them
 
-abbrev places_by : List ℕ → Around → List ℕ → List Spelled → Parts → Parts → ℕ → ℕ → ℕ → Fit → List (List ℕ)
+abbrev pub places_by : List ℕ → Around → List ℕ → List Spelled → Parts → Parts → ℕ → ℕ → ℕ → Fit → List (List ℕ)
 places_by outer around name attrs children later at inside end fit = elim fit [
   | Annotation ↦ mark_places (outer ++ at ∷ []) (marked_around around name attrs) children inside ++ mark_places outer around later end
   | Branch kind ↦ mark_places [] (around_in kind) children inside ++ mark_places outer around later end
@@ -140,7 +140,7 @@ even_more outer around name attrs at e =
     omega (arith, e, more, marks)
 
 -- the limit at an element, by what it becomes
-abbrev limit_by : Around → List ℕ → List Spelled → Parts → Parts → ℕ → ℕ → ℕ → Fit → Option ℕ
+abbrev pub limit_by : Around → List ℕ → List Spelled → Parts → Parts → ℕ → ℕ → ℕ → Fit → Option ℕ
 limit_by around name attrs children later at inside end fit = elim fit [
   | Annotation ↦
       if nat_lt (length (marks_at around)) max_marks

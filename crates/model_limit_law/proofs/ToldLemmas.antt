@@ -32,11 +32,11 @@ use Rattle.model_page_law.proofs.ShapeLemmas.{Fine, Fine-made_of, Shaped, Shaped
 use Rattle.model_page_law.proofs.TileLemmas.{run_ended-source}
 use Rattle.model_limit_law.specs.Exact.{OfKinds, OfMarks, Which, first_over, which}
 use Rattle.model_limit_law.proofs.CountLemmas.{FitsIn, InlineIn, NotContent, branch_outside, fits_in, group_inline, leaf_inline, note_inline, ref_inline, whole_inline}
-use Rattle.model_limit_law.proofs.FirstLemmas.{one_limit}
-use Rattle.model_limit_law.proofs.LaidLemmas.{AreLaid, Laid, Within, deep_within, ended_none, fits, inner_fits, laid_ended, laid_inside, laid_made, run_laid, wider}
+use Rattle.model_limit_law.proofs.FirstLemmas.{one_limit, some_same}
+use Rattle.model_limit_law.proofs.LaidLemmas.{AreLaid, Laid, Within, deep_within, ended_none, fits, inner_fits, laid_ended, laid_inside, laid_made, one_within, run_laid, wider}
 use Rattle.model_limit_law.proofs.OrderLemmas.{Below, From, Same, UpTo, over_kept, same_after, same_chars, same_joined, same_leaf, same_node, which_assoc}
-use Rattle.model_limit_law.proofs.PlaceLemmas.{MayMark, may_mark}
-use Rattle.model_limit_law.proofs.BoundLemmas.{In, in_wider, limit_by, marked_in}
+use Rattle.model_limit_law.proofs.PlaceLemmas.{MayMark, limit_by, may_mark}
+use Rattle.model_limit_law.proofs.BoundLemmas.{In, in_either, in_wider, marked_in}
 
 -- ---- few marks, and too many
 
@@ -228,16 +228,12 @@ told_in_run around d low high piece source owners m taken marked s spans same bo
           same t.run;
       later = t.later;
       run_in =
-          in_both low (low + length (source ++ m.source)) taken t.run_marks
+          in_either low (low + length (source ++ m.source)) taken t.run_marks
           (in_wider low low mid (low + length (source ++ m.source)) taken (omega arith) (omega (arith, long)) bound)
           (in_wider mid low (mid + length m.source) (low + length (source ++ m.source)) t.run_marks (omega arith) (omega (arith, long)) t.run_in);
       later_from = from_lower (mid + length m.source) (low + length (source ++ m.source)) t.later_marks (omega (arith, long)) t.later_from;
       quiet = run_quiet around piece source owners m taken t.run_marks t.later_marks plain t.quiet;
     }
-  where
-    in_both : (x y : ℕ) (a b : Option ℕ) → In x y a → In x y b → In x y (option_or a b)
-    in_both x y None b f g = g
-    in_both x y (Some n) b f g = f
 
 none_quiet : (around : Around) (m : Made) (later : Option ℕ) → NotContent around → Quiet around m None later
 none_quiet (Content marks) m later n = absurd n
@@ -288,9 +284,6 @@ none_plain (Structural kind) source = refl
 told_chosen : (around : Around) (d low : ℕ) (marked : Option ℕ) (c : Bool) (a b : Made) → Told around d low a marked → Told around d low b marked → Told around d low (if c then a else b) marked
 told_chosen around d low marked true a b f g = f
 told_chosen around d low marked false a b f g = g
-
-one_within : (w : Progress) (source : List ℕ) → Within w.at (w.at + length source) (source_span w source ∷ [])
-one_within w source = ((omega arith, omega arith), tt)
 
 told_leaf : (around : Around) (d high : ℕ) (w : Progress) (kind : Kind) (head : Head) (source : List ℕ) (owners : List Owner) (m : Made) (marked : Option ℕ) → nat_le (length (marks_at around)) max_marks ≡ true → InlineIn around kind →
     Told around d (w.at + length source) m marked → Laid (w.at + length source) high m → Shaped m.run → Told around d w.at (leaf_before w kind head (marks_at around) source owners m) marked
@@ -417,11 +410,8 @@ told_element around name attrs children later d high w Annotation f i mark t few
         told_in_run around d w.at high inside.run (element_source name attrs children) inside.owners (made_of around later (past w (element_source name attrs children) inside.owners)) (Some w.at)
         (marked_at around later end) (Fine-made_of a children p).run (wider p.at w.at end end inside.run.spans (omega arith) (omega arith) spans)
         (full_same (run_depth around d) w.at end inside.run (wider p.at (suc w.at) end end inside.run.spans (omega arith) (omega arith) spans) (first_is children mark t (marks_at around ++ m ∷ []) many (run_depth around d) p))
-        (λ n k. let same = here n k in (omega (arith, same), omega (arith, same)))
+        (λ n k. let same = some_same w.at n k in (omega (arith, same), omega (arith, same)))
         (marks_plain around (element_source name attrs children) (Some w.at) f refl) next.told next.laid
-      where
-        here : (n : ℕ) → ◌≡◌ {A = Option ℕ} (Some w.at) (Some n) → w.at ≡ n
-        here n k = cc
 told_element around name attrs children later d high w (Branch kind) f i mark t few g h =
     let source = element_source name attrs children in
     let a = around_in kind in
