@@ -274,7 +274,7 @@ AreCounted parts = (outer : List ℕ) (around : Around) (w : Progress) → Even 
 element_counted : (outer : List ℕ) (around : Around) (name : List ℕ) (attrs : List Spelled) (source : List ℕ) (children later : Parts) (w : Progress) (fit : Fit) → FitsIn around children fit → is_white source ≡ false → Even outer around →
     AreCounted children → ((owners : List Owner) → Counts around (place_counts (mark_places outer around later (w.at + length source))) (made_of around later (past w source owners))) →
     Counts around (place_counts (places_by outer around name attrs children later w.at (w.at + length (start_text name attrs false)) (w.at + length source) fit))
-        (element_made around name attrs source (λ a. made_of a children) (made_of around later) w fit)
+    (element_made around name attrs source (λ a. made_of a children) (made_of around later) w fit)
 element_counted outer around name attrs source children later w Annotation f c even g h =
     let a = marked_around around name attrs in
     let p = inside_of w name attrs in

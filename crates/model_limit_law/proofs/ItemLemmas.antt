@@ -1,8 +1,7 @@
 -- The limit that a page is over is the one that the first item of its list is over.
 use Rattle.std.specs.Option.{option_or}
 use Rattle.std.specs.Prelude.{flat_map, nat_le, nat_lt, option_map, unwrap_or}
-use Rattle.std.proofs.Common.{◌≡◌, ℕ, suc, ◌-◌, Bool, true, false, if◌then◌else◌, List, [], ◌∷◌, ◌++◌, length, Option, Some, None, Result, Ok, Err, IsUtf8, refl, sym, ap, ◌∙◌, subst, append_assoc}
-use Rattle.ve_base.specs.Empty.{empty_head}
+use Rattle.std.proofs.Common.{◌≡◌, ℕ, suc, ◌-◌, true, false, if◌then◌else◌, List, [], ◌∷◌, ◌++◌, length, Option, Some, None, Result, Ok, Err, IsUtf8, refl, sym, ap, ◌∙◌, subst, append_assoc}
 use Rattle.ve_base.specs.Limits.{max_marks, max_open_kinds}
 use Rattle.ve_kinds.specs.declared.kind.Kind.{Kind}
 use Rattle.ve_kinds.specs.declared.kind.Kind.TheVariants.{InternalItem, InternalList, Root}
@@ -17,12 +16,12 @@ use Rattle.model_page.specs.Convert.{in_flow, made_of}
 use Rattle.model_page.specs.Fit.{Flow}
 use Rattle.model_page.specs.Limits.{Limit, TooDeep, TooManyMarks, body_limit, first_body_limit, limit_of, moved_to, page_limit}
 use Rattle.model_page.specs.OpenPage.{limit_in}
-use Rattle.model_page.specs.PageItems.{Opened, body_made, internal_item, internal_list, items_of_page, opened_body, opened_forest, opened_page, or_nothing, page_made, page_opened, slice, with_origins}
+use Rattle.model_page.specs.PageItems.{Opened, body_made, internal_item, internal_list, items_of_page, opened_body, opened_forest, or_nothing, page_made, page_opened, slice, with_origins}
 use Rattle.model_page.specs.Parts.{Parts, parts_of}
 use Rattle.model_page.specs.Pieces.{Owner, Progress}
 use Rattle.model_page_law.proofs.BodyUtf8.{body_utf8}
 use Rattle.model_page_law.proofs.ShapeLemmas.{Fine-made_of, Fine-run_closed, Shaped}
-use Rattle.model_limit_law.specs.Exact.{FirstItemIsOver, OfKinds, OfMarks, Which, first_over, which}
+use Rattle.model_limit_law.specs.Exact.{FirstItemIsOver, OfKinds, OfMarks, first_over, which}
 use Rattle.model_limit_law.proofs.BodyLemmas.{AllOwnUtf8}
 use Rattle.model_limit_law.proofs.OrderLemmas.{over_append, which_or}
 use Rattle.model_limit_law.proofs.PageLemmas.{body_texted, forest_texted, page_owns}

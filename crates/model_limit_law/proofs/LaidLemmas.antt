@@ -1,7 +1,7 @@
 -- Sources of a run stand before those of what comes later.
 use Rattle.std.specs.List.{AllByRecursion}
 use Rattle.std.specs.Prelude.{chars, nat_lt}
-use Rattle.std.proofs.Common.{◌≡◌, ◌<◌, ◌≤◌, ℕ, suc, ◌+◌, ◌-◌, Bool, true, false, if◌then◌else◌, List, [], ◌∷◌, ◌++◌, length, Option, Some, None, refl, sym, ap, ◌∙◌, subst, arith}
+use Rattle.std.proofs.Common.{◌≡◌, ◌≤◌, ℕ, suc, ◌+◌, ◌-◌, Bool, true, false, if◌then◌else◌, List, [], ◌∷◌, ◌++◌, length, Option, Some, None, refl, sym, ap, subst, arith}
 use Rattle.std.proofs.lemmas.List.{length-append}
 use Rattle.ve_base.specs.Limits.{max_open_kinds}
 use Rattle.ve_base.specs.declared.head.Head.{Head}
@@ -13,7 +13,7 @@ use Rattle.model_items.specs.declared.plain_item.PlainItem.{PlainItem}
 use Rattle.model_items.specs.declared.plain_item.PlainItem.TheVariants.{Char, Closing, Opening}
 use Rattle.model_spelling.specs.Forest.{Forest, spelling}
 use Rattle.model_spelling.specs.Grammar.{Attr as Spelled, Comment, end_text, start_text, token_text}
-use Rattle.model_page.specs.Convert.{element_made, element_source, group_made, in_flow, inside_of, inside_piece, leaf_made, made_of, marked_around, marks_at, words_before}
+use Rattle.model_page.specs.Convert.{element_made, element_source, group_made, inside_of, inside_piece, leaf_made, made_of, marked_around, marks_at, words_before}
 use Rattle.model_page.specs.Elements.{is_white}
 use Rattle.model_page.specs.Fit.{Annotation, Around, Branch, Content, Fit, Flow, Leaf, Structural, Whole, around_in, fit_of, group_kind, note_kind}
 use Rattle.model_page.specs.Heads.{characters, head_with, whole_head}

@@ -1,7 +1,7 @@
 -- A page is refused for its nesting or its marks exactly at the first thing over these limits.
 use Rattle.std.specs.Option.{option_or}
 use Rattle.std.specs.Prelude.{encode_utf8_all, nat_lt, option_map, unwrap_or}
-use Rattle.std.proofs.Common.{◌≡◌, ◌≤◌, ◌⊎◌, inl, inr, ℕ, ◌-◌, Bool, true, false, if◌then◌else◌, List, [], ◌∷◌, length, Option, Some, None, Result, Ok, Err, IsUtf8, refl, sym, ap, ◌∙◌, subst, arith}
+use Rattle.std.proofs.Common.{◌≡◌, inl, inr, ℕ, ◌-◌, Bool, true, false, if◌then◌else◌, List, [], ◌∷◌, length, Option, Some, None, Result, Ok, Err, IsUtf8, refl, sym, ap, ◌∙◌, subst, arith}
 use Rattle.std.proofs.lemmas.Bool.{le-ltb}
 use Rattle.ve_base.specs.Limits.{max_items, max_page, max_values}
 use Rattle.ve_kinds.specs.declared.kind.Kind.{Kind}
@@ -14,17 +14,16 @@ use Rattle.model_spelling.specs.Parsed.{forest_of}
 use Rattle.model_spelling.specs.declared.scan_fault.ScanFault.{ScanFault}
 use Rattle.model_spelling.proofs.Proved.{law_found, law_only, law_reads_right}
 use Rattle.model_page.specs.Fit.{Flow}
-use Rattle.model_page.specs.Limits.{Limit, TooDeep, TooManyMarks, body_limit, first_body_limit, limit_of, moved_to, page_limit}
+use Rattle.model_page.specs.Limits.{Limit, TooDeep, TooManyMarks, first_body_limit, limit_of, moved_to, page_limit}
 use Rattle.model_page.specs.OpenPage.{BadPage, OpenFault, OverLimit, PageTooLong, StoreFull, TooManyItems, if_small, if_within, limit_in, read_body, read_page, values_of}
 use Rattle.model_page.specs.PageItems.{Opened, body_made, opened_body, opened_forest, opened_page, or_nothing, page_made, page_opened, slice}
 use Rattle.model_page.specs.Parts.{Ended, Group, Note, Parent, Parts, Single, Words, parts_of}
-use Rattle.model_page.specs.Pieces.{Made, Owner, Progress, SourceSpan}
+use Rattle.model_page.specs.Pieces.{Made, Owner}
 use Rattle.model_page_law.proofs.BodyUtf8.{body_utf8}
 use Rattle.model_page_law.proofs.InlinedLemmas.{Faithful, Faithful-parts_of, characters-nonempty}
 use Rattle.model_page_law.proofs.MarkedLemmas.{Texted}
 use Rattle.model_page_law.proofs.PartsUtf8.{all_utf8}
 use Rattle.model_page_law.proofs.Premises.{AllUtf8}
-use Rattle.model_world.specs.Opening.{open_page}
 use Rattle.model_world.specs.Refusals.{limit_refusal, open_refusal, refused_as}
 use Rattle.model_world.specs.declared.refusal.Refusal.{Refusal}
 use Rattle.model_world.specs.declared.refusal.Refusal.TheVariants as refusal

@@ -162,7 +162,6 @@ element_agrees : (outer : List ℕ) (around : Around) (name : List ℕ) (attrs :
     limit_by around name attrs children later at inside end fit ≡ first_marked (places_by outer around name attrs children later at inside end fit)
 element_agrees outer around name attrs children later at inside end Annotation f t e few inner rest = by (nat_lt (length (marks_at around)) max_marks) refl
   where
-
     by : (b : Bool) → nat_lt (length (marks_at around)) max_marks ≡ b →
         (if b then option_or (marked_at (marked_around around name attrs) children inside) (marked_at around later end) else Some at)
         ≡ first_marked (mark_places (outer ++ at ∷ []) (marked_around around name attrs) children inside ++ mark_places outer around later end)

@@ -1,8 +1,8 @@
 -- Which limit comes first in the text is which limit the first item is over.
 use Rattle.std.specs.Option.{option_or}
 use Rattle.std.specs.Prelude.{chars, nat_le, nat_lt, option_map}
-use Rattle.std.proofs.Common.{◌≡◌, ◌<◌, ◌≤◌, ℕ, suc, ◌+◌, Bool, true, false, if◌then◌else◌, List, [], ◌∷◌, ◌++◌, length, map, Option, Some, None, refl, sym, ap, ◌∙◌, subst, arith}
-use Rattle.std.proofs.lemmas.Bool.{le-leb, leb-false, leb-true, lt-leb, lt-ltb, ltb-false, ltb-true}
+use Rattle.std.proofs.Common.{◌≡◌, ◌≤◌, ℕ, suc, ◌+◌, Bool, true, false, if◌then◌else◌, List, [], ◌∷◌, ◌++◌, length, map, Option, Some, None, refl, sym, ap, ◌∙◌, subst, arith}
+use Rattle.std.proofs.lemmas.Bool.{le-leb, leb-false, lt-leb, lt-ltb, ltb-false, ltb-true}
 use Rattle.std.proofs.lemmas.List.{length-append}
 use Rattle.ve_base.specs.Empty.{empty_head}
 use Rattle.ve_base.specs.Limits.{max_marks, max_open_kinds}
@@ -13,7 +13,7 @@ use Rattle.ve_kinds.specs.Tags.{kind_of_tag}
 use Rattle.ve_kinds.specs.declared.kind.Kind.{Kind}
 use Rattle.ve_kinds.specs.declared.kind.Kind.TheVariants.{P, Ref}
 use Rattle.model_items.specs.declared.plain_item.PlainItem.{PlainItem}
-use Rattle.model_items.specs.declared.plain_item.PlainItem.TheVariants.{Char, Closing, Opening}
+use Rattle.model_items.specs.declared.plain_item.PlainItem.TheVariants.{Char, Closing}
 use Rattle.model_spelling.specs.Forest.{Forest, spelling}
 use Rattle.model_spelling.specs.Grammar.{Attr as Spelled, Comment, start_text, token_text}
 use Rattle.model_page.specs.Convert.{element_made, element_source, group_made, in_flow, inside_of, inside_piece, leaf_made, made_of, marked_around, marks_at, words_before}
@@ -22,19 +22,19 @@ use Rattle.model_page.specs.Fit.{Annotation, Around, Branch, Content, Fit, Flow,
 use Rattle.model_page.specs.Heads.{attrs_of, characters, head_with, whole_head}
 use Rattle.model_page.specs.Limits.{TooDeep, TooManyMarks, deep_at, limit_of, marked_at}
 use Rattle.model_page.specs.Parts.{Ended, Group, Note, Parent, Parts, Single, Words, source_of}
-use Rattle.model_page.specs.Pieces.{Made, Owner, Piece, Progress, SourceSpan, before_run, chars_piece, in_run, joined_pieces, leaf, leaf_before, no_piece, node, paragraph_before, past, run_closed, run_dropped, run_ended, source_span, with_white}
+use Rattle.model_page.specs.Pieces.{Made, Owner, Piece, Progress, before_run, chars_piece, in_run, joined_pieces, leaf, leaf_before, no_piece, node, paragraph_before, past, run_closed, run_dropped, run_ended, source_span, with_white}
 use Rattle.model_page.specs.ReferenceNodes.{RefNode, ref_of}
 use Rattle.model_page_write.specs.Written.{is_empty}
 use Rattle.model_page_law.proofs.InlinedLemmas.{is_white-parts}
 use Rattle.model_page_law.proofs.KindFits.{FitStands, Sane, fit_stands}
 use Rattle.model_page_law.proofs.MarkedLemmas.{FitsContent, FitsContent-kind, Texted, inline-whole_kind}
-use Rattle.model_page_law.proofs.ShapeLemmas.{Fine, Fine-made_of, Shaped, Shaped-chars, Shaped-inside_piece, Shaped-node, Shaped-none}
+use Rattle.model_page_law.proofs.ShapeLemmas.{Fine-made_of, Shaped, Shaped-chars, Shaped-inside_piece, Shaped-node, Shaped-none}
 use Rattle.model_page_law.proofs.TileLemmas.{run_ended-source}
-use Rattle.model_limit_law.specs.Exact.{OfKinds, OfMarks, Which, first_over, which}
+use Rattle.model_limit_law.specs.Exact.{OfKinds, OfMarks, first_over, which}
 use Rattle.model_limit_law.proofs.CountLemmas.{FitsIn, InlineIn, NotContent, branch_outside, fits_in, group_inline, leaf_inline, note_inline, ref_inline, whole_inline}
 use Rattle.model_limit_law.proofs.FirstLemmas.{one_limit, some_same}
-use Rattle.model_limit_law.proofs.LaidLemmas.{AreLaid, Laid, Within, deep_within, ended_none, fits, inner_fits, laid_ended, laid_inside, laid_made, one_within, run_laid, wider}
-use Rattle.model_limit_law.proofs.OrderLemmas.{Below, From, Same, UpTo, over_kept, same_after, same_chars, same_joined, same_leaf, same_node, which_assoc}
+use Rattle.model_limit_law.proofs.LaidLemmas.{Laid, Within, deep_within, ended_none, fits, inner_fits, laid_ended, laid_inside, laid_made, one_within, run_laid, wider}
+use Rattle.model_limit_law.proofs.OrderLemmas.{Below, From, Same, over_kept, same_after, same_chars, same_joined, same_leaf, same_node, which_assoc}
 use Rattle.model_limit_law.proofs.PlaceLemmas.{MayMark, limit_by, may_mark}
 use Rattle.model_limit_law.proofs.BoundLemmas.{In, in_either, in_wider, marked_in}
 
@@ -375,14 +375,14 @@ told_element : (around : Around) (name : List ℕ) (attrs : List Spelled) (child
     ((owners : List Owner) → Follows around d (w.at + length (element_source name attrs children)) high (made_of around later (past w (element_source name attrs children) owners))
     (marked_at around later (w.at + length (element_source name attrs children)))) →
     Told around d w.at (element_made around name attrs (element_source name attrs children) (λ a. made_of a children) (made_of around later) w fit)
-        (limit_by around name attrs children later w.at (w.at + length (start_text name attrs false)) (w.at + length (element_source name attrs children)) fit)
+    (limit_by around name attrs children later w.at (w.at + length (start_text name attrs false)) (w.at + length (element_source name attrs children)) fit)
 told_element around name attrs children later d high w Annotation f i mark t few g h = by (nat_lt (length (marks_at around)) max_marks) refl
   where
     by : (b : Bool) → nat_lt (length (marks_at around)) max_marks ≡ b →
         Told around d w.at (element_made around name attrs (element_source name attrs children) (λ a. made_of a children) (made_of around later) w Annotation)
-            (if b
-            then option_or (marked_at (marked_around around name attrs) children (w.at + length (start_text name attrs false))) (marked_at around later (w.at + length (element_source name attrs children)))
-            else Some w.at)
+        (if b
+        then option_or (marked_at (marked_around around name attrs) children (w.at + length (start_text name attrs false))) (marked_at around later (w.at + length (element_source name attrs children)))
+        else Some w.at)
     by true e =
         let a = marked_around around name attrs in
         let p = inside_of w name attrs in

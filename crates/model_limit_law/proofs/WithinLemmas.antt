@@ -1,6 +1,6 @@
 -- A page is within its limits exactly where its list is lawful and no item has too many marks.
 use Rattle.std.specs.Prelude.{nat_le, nat_lt, option_map, unwrap_or}
-use Rattle.std.proofs.Common.{◌≡◌, ◌≤◌, ◌↔◌, ℕ, suc, ◌-◌, Bool, true, false, if◌then◌else◌, List, [], ◌∷◌, length, map, Option, Some, None, Result, Ok, Err, IsUtf8, refl, sym, ap, ◌∙◌, subst, arith}
+use Rattle.std.proofs.Common.{◌≡◌, ◌≤◌, ℕ, suc, ◌-◌, Bool, true, false, if◌then◌else◌, List, [], ◌∷◌, length, map, Option, Some, None, Result, Ok, Err, refl, sym, ap, ◌∙◌, subst, arith}
 use Rattle.ve_base.specs.Limits.{max_marks, max_open_kinds}
 use Rattle.ve_kinds.specs.Table.{is_content_branch}
 use Rattle.ve_kinds.specs.declared.kind.Kind.{Kind}
@@ -16,7 +16,7 @@ use Rattle.model_spelling.specs.declared.scan_fault.ScanFault.{ScanFault}
 use Rattle.model_page.specs.Convert.{in_flow}
 use Rattle.model_page.specs.Limits.{Limit, page_limit}
 use Rattle.model_page.specs.OpenPage.{limit_in}
-use Rattle.model_page.specs.PageItems.{Opened, opened_body, opened_forest, opened_page, or_nothing, slice}
+use Rattle.model_page.specs.PageItems.{Opened, opened_body, opened_forest, or_nothing, slice}
 use Rattle.model_page.specs.Pieces.{SourceSpan}
 use Rattle.model_page_law.proofs.LawfulLemmas.{flow_counted, limited_is_lawful, opening_count}
 use Rattle.model_site_law.specs.ItemLaws.{AllPass}
@@ -96,8 +96,7 @@ which_none (Some l) e = cc
 
 pub limits_are_of_items : LimitsAreOfItems
 limits_are_of_items page o u e =
-    let first = first_item_is_over page o u e in
-    (
+    let first = first_item_is_over page o u e in (
       λ none. (body_lawful page o (body_at page) e none, none_few 0 o.items (sym first ∙ ap (option_map which) none)),
       λ good. which_none (limit_in o) (first ∙ none_over o.items start finish (after_from_Lawful o.items good.0) good.1),
     )

@@ -1,6 +1,5 @@
 -- What the limits on nesting and marks count: the kinds that are open at each opening of a list, and the marks of each item.
 use Rattle.std.specs.Prelude.{ℕ, suc, ◌+◌, ◌-◌, false, nat_lt, List, [], ◌∷◌, ◌++◌, length, map, filter}
-use Rattle.ve_kinds.specs.declared.kind.Kind.{Kind}
 use Rattle.model_items.specs.declared.plain_item.PlainItem.{PlainItem}
 use Rattle.model_items.specs.declared.plain_item.PlainItem.TheVariants.{Char, Opening, Closing}
 use Rattle.model_spelling.specs.Grammar.{Comment, token_text, start_text}
