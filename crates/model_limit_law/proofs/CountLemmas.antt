@@ -24,8 +24,7 @@ use Rattle.model_page.specs.Pieces.{Made, Owner, Piece, Progress, SourceSpan, be
 use Rattle.model_page.specs.ReferenceNodes.{RefNode, ref_of}
 use Rattle.model_page_law.proofs.InlinedLemmas.{is_white-parts}
 use Rattle.model_page_law.proofs.MarkedLemmas.{FitsContent, FitsContent-kind, inline-whole_kind}
-use Rattle.model_limit_law.specs.Counted.{mark_counts, mark_places, place_counts}
-use Rattle.model_limit_law.specs.Exact.{MarksHavePlaces}
+use Rattle.model_limit_law.specs.Counted.{MarksHavePlaces, mark_counts, mark_places, place_counts}
 use Rattle.model_limit_law.proofs.PlaceLemmas.{Even, even_in, even_more, places_by}
 
 -- ---- lists of counts

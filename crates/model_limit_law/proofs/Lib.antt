@@ -5,6 +5,7 @@ pub mod AttrLemmas
 pub mod BodyLemmas
 pub mod PageLemmas
 mod CountExamples
+mod FirstExamples
 pub mod OrderLemmas
 pub mod LaidLemmas
 pub mod BoundLemmas

@@ -15,7 +15,7 @@ use Rattle.model_page.specs.Pieces.{Piece, SourceSpan, chars_piece, items_after,
 use Rattle.model_page_write.specs.Nodes.{Empty, Letter, Node, Nodes}
 use Rattle.model_page_law.proofs.ShapeLemmas as shape
 use Rattle.model_page_law.proofs.ShapeLemmas.{Shaped, plain}
-use Rattle.model_limit_law.specs.Exact.{OfKinds, OfMarks, Which, first_over, which}
+use Rattle.model_limit_law.specs.Items.{OfKinds, OfMarks, Which, first_over, which}
 use Rattle.model_limit_law.proofs.FirstLemmas.{one_limit}
 
 -- ---- options

@@ -30,7 +30,7 @@ use Rattle.model_page_law.proofs.KindFits.{FitStands, Sane, fit_stands}
 use Rattle.model_page_law.proofs.MarkedLemmas.{FitsContent, FitsContent-kind, Texted, inline-whole_kind}
 use Rattle.model_page_law.proofs.ShapeLemmas.{Fine-made_of, Shaped, Shaped-chars, Shaped-inside_piece, Shaped-node, Shaped-none}
 use Rattle.model_page_law.proofs.TileLemmas.{run_ended-source}
-use Rattle.model_limit_law.specs.Exact.{OfKinds, OfMarks, first_over, which}
+use Rattle.model_limit_law.specs.Items.{OfKinds, OfMarks, first_over, which}
 use Rattle.model_limit_law.proofs.CountLemmas.{FitsIn, InlineIn, NotContent, branch_outside, fits_in, group_inline, leaf_inline, note_inline, ref_inline, whole_inline}
 use Rattle.model_limit_law.proofs.FirstLemmas.{one_limit, some_same}
 use Rattle.model_limit_law.proofs.LaidLemmas.{Laid, Within, deep_within, ended_none, fits, inner_fits, laid_ended, laid_inside, laid_made, one_within, run_laid, wider}

@@ -21,8 +21,8 @@ use Rattle.model_page.specs.Pieces.{SourceSpan}
 use Rattle.model_page_law.proofs.LawfulLemmas.{flow_counted, limited_is_lawful, opening_count}
 use Rattle.model_site_law.specs.ItemLaws.{AllPass}
 use Rattle.model_world_law.specs.Standing.{has_few_marks}
-use Rattle.model_limit_law.specs.Counted.{open_counts, openings}
-use Rattle.model_limit_law.specs.Exact.{LimitsAreOfItems, OfKinds, OfMarks, OpeningsAreCounted, first_over, which}
+use Rattle.model_limit_law.specs.Counted.{OpeningsAreCounted, open_counts, openings}
+use Rattle.model_limit_law.specs.Items.{LimitsAreOfItems, OfKinds, OfMarks, first_over, which}
 use Rattle.model_limit_law.proofs.ItemLemmas.{first_item_is_over}
 use Rattle.model_limit_law.proofs.PageLemmas.{spanned}
 

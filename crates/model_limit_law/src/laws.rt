@@ -1,6 +1,13 @@
 // Where pages are over their limits. Each function does nothing, and its contract is a law that is proved.
-ghost use Rattle.model_limit_law.specs.Exact.{FirstItemIsOver, LimitsAreOfItems, MarksHavePlaces, OpeningsAreCounted};
+ghost use Rattle.model_limit_law.specs.Counted.{MarksHavePlaces, OpeningsAreCounted};
 ghost use Rattle.model_limit_law.specs.First.{FirstIsRefused, OpeningTellsLimits, RefusedIsFirst};
+ghost use Rattle.model_limit_law.specs.Items.{FirstItemIsOver, LimitsAreOfItems};
+
+/// What is counted is what the list has: each opening, with the kinds that are open at it, and as many places of marks as each marked item has marks.
+pub fn counts_are_of_items()
+    ensures openings { OpeningsAreCounted }
+    ensures marks { MarksHavePlaces }
+{}
 
 /// A page is refused for its nesting or its marks exactly where something of it is over these limits, and at the first such thing: the first
 /// opening inside of 100 kinds, or the element that gives the first item with more than 64 marks its 65th, whichever begins first. The line that
@@ -9,12 +16,6 @@ pub fn over_limit_is_first()
     ensures first { RefusedIsFirst }
     ensures refused { FirstIsRefused }
     ensures told { OpeningTellsLimits }
-{}
-
-/// What is counted is what the list has: each opening, with the kinds that are open at it, and as many places of marks as each marked item has marks.
-pub fn counts_are_of_items()
-    ensures openings { OpeningsAreCounted }
-    ensures marks { MarksHavePlaces }
 {}
 
 /// A page is within these limits exactly where its list is lawful and no item has more than 64 marks. Else it is over the limit that the first
