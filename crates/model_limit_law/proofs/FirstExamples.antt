@@ -1,13 +1,20 @@
 -- The first item over a limit, and the first place, by computation.
-use Rattle.std.specs.Prelude.{◌≡◌, ℕ, List, ◌++◌, Option, Some, None, codes, refl, option_and_then}
+use Rattle.std.specs.Prelude.{◌≡◌, ℕ, List, [], ◌++◌, Option, Some, None, codes, refl, option_and_then}
 use Rattle.std.specs.List.{repeat}
+use Rattle.ve_base.specs.declared.head.Key.TheVariants.{Auto}
+use Rattle.ve_kinds.specs.declared.kind.Kind.TheVariants.{InternalItem}
+use Rattle.model_spelling.specs.Forest.{Forest}
 use Rattle.model_spelling.specs.Parsed.{forest_of}
 use Rattle.model_page.specs.Limits.{Limit, TooDeep, TooManyMarks, page_limit}
-use Rattle.model_page.specs.PageItems.{body_made, items_of_page, page_made}
+use Rattle.model_page.specs.PageItems.{body_made, items_of_page, or_nothing, page_made}
+use Rattle.model_page.specs.Parts.{parts_of}
+use Rattle.model_page.specs.Fit.{Flow}
+use Rattle.model_page.specs.Pieces.{Owner}
 use Rattle.model_page.proofs.OnLiterals.{page_on_literals}
-use Rattle.model_limit_law.specs.Counted.{openings}
+use Rattle.model_limit_law.specs.Counted.{mark_places, openings}
+use Rattle.model_limit_law.specs.First.{FirstInBody}
 use Rattle.model_limit_law.specs.Items.{OfKinds, OfMarks, Which, first_over}
-use Rattle.model_limit_law.proofs.FirstLemmas.{first_deep}
+use Rattle.model_limit_law.proofs.FirstLemmas.{limit_is_first}
 
 abbrev over : List ℕ → Option Which
 over page = option_and_then (λ f. first_over 0 (items_of_page (page_made 0 f))) (forest_of page)
@@ -49,12 +56,15 @@ unfolding page_on_literals
 kinds_begin_first = refl
 
 -- a body stands in the internal list and in an item of it
-abbrev body : List ℕ → Option ℕ
-body html = option_and_then (λ f. first_deep (openings 2 (body_made f).later.items (body_made f).later.spans)) (forest_of html)
+abbrev owner : Owner
+owner = record { at = 4; key = record { group = []; key = Auto 0 }; html = repeat 98 (codes "<div>") ++ codes "a" ++ repeat 98 (codes "</div>") }
 
-bodies_are_in_two : body (repeat 98 (codes "<div>") ++ codes "a" ++ repeat 98 (codes "</div>")) ≡ Some 490
+abbrev body : Forest
+body = or_nothing (forest_of owner.html)
+
+bodies_are_in_two : FirstInBody owner (TooDeep 490)
 unfolding page_on_literals
-bodies_are_in_two = refl
+bodies_are_in_two = limit_is_first (openings 2 (body_made body).later.items (body_made body).later.spans) (mark_places [] (Flow InternalItem) (parts_of body) 0) (TooDeep 490) refl
 
 body_in_list : over (codes "<p>a<sup typeof=\"mw:Extension/ref\" data-mw='{\"body\":{\"html\":\"" ++ repeat 98 (codes "<div>") ++ codes "a" ++ repeat 98 (codes "</div>") ++ codes "\"}}'></sup></p>") ≡ Some OfKinds
 unfolding page_on_literals

@@ -13,8 +13,9 @@ use Rattle.model_spelling.specs.Page.{body_at, fault_in_page}
 use Rattle.model_spelling.specs.Parsed.{forest_of}
 use Rattle.model_spelling.specs.declared.scan_fault.ScanFault.{ScanFault}
 use Rattle.model_spelling.proofs.Proved.{law_found, law_only, law_reads_right}
-use Rattle.model_page.specs.Fit.{Flow}
-use Rattle.model_page.specs.Limits.{Limit, TooDeep, TooManyMarks, first_body_limit, limit_of, moved_to, page_limit}
+use Rattle.model_page.specs.Fit.{Flow, around_in}
+use Rattle.model_page.specs.Fragment.{context_of}
+use Rattle.model_page.specs.Limits.{Limit, TooDeep, TooManyMarks, first_body_limit, fragment_limit, limit_of, moved_to, page_limit}
 use Rattle.model_page.specs.OpenPage.{BadPage, OpenFault, OverLimit, PageTooLong, StoreFull, TooManyItems, if_small, if_within, limit_in, read_body, read_page, values_of}
 use Rattle.model_page.specs.PageItems.{Opened, body_made, opened_body, opened_forest, opened_page, or_nothing, page_made, page_opened, slice}
 use Rattle.model_page.specs.Parts.{Ended, Group, Note, Parent, Parts, Single, Words, parts_of}
@@ -28,9 +29,9 @@ use Rattle.model_world.specs.Refusals.{limit_refusal, open_refusal, refused_as}
 use Rattle.model_world.specs.declared.refusal.Refusal.{Refusal}
 use Rattle.model_world.specs.declared.refusal.Refusal.TheVariants as refusal
 use Rattle.model_limit_law.specs.Counted.{mark_places, openings}
-use Rattle.model_limit_law.specs.First.{FirstIn, FirstInBodies, FirstInBody, FirstInOpened, FirstInPage, FirstIsRefused, OpeningTellsLimits, RefusedIsFirst}
-use Rattle.model_limit_law.proofs.FirstLemmas.{deep_at-first, first_deep, first_is_limit, first_marked, limit_is_first, limit_same, one_limit}
-use Rattle.model_limit_law.proofs.PlaceLemmas.{marked_at-places}
+use Rattle.model_limit_law.specs.First.{FirstIn, FirstInBodies, FirstInBody, FirstInOpened, FirstInPage, FirstIsRefused, FragmentsAtFirst, OpeningTellsLimits, RefusedIsFirst}
+use Rattle.model_limit_law.proofs.FirstLemmas.{deep_at-first, first_deep, first_is_limit, first_marked, limit_is_first, limit_same, marked_found, marked_only, one_limit}
+use Rattle.model_limit_law.proofs.PlaceLemmas.{even_in, marked_at-places}
 use Rattle.model_limit_law.proofs.BodyLemmas.{AllOwnUtf8, flow_owns}
 
 -- ---- texts have characters
@@ -52,6 +53,16 @@ body_texted html u = by (forest_of html) refl
     by : (r : Option Forest) → forest_of html ≡ r → Texted (parts_of (or_nothing r))
     by None e = tt
     by (Some f) e = let s = law_reads_right html f e in forest_texted f s.1 (subst IsUtf8 (sym s.0) u)
+
+-- ---- fragments
+
+pub fragments_at_first : FragmentsAtFirst
+fragments_at_first stack f at h u =
+    let parts = parts_of f in
+    let kind = context_of parts stack in
+    let places = mark_places [] (around_in kind) parts 0 in
+    let same : fragment_limit stack f ≡ first_marked places = marked_at-places parts (forest_texted f h u) [] (around_in kind) 0 (even_in kind) (omega arith) in
+    (λ e. marked_found places at (sym same ∙ e), λ first. same ∙ marked_only places at first)
 
 -- ---- what stands in a flow parent
 

@@ -1,6 +1,6 @@
 // Where pages are over their limits. Each function does nothing, and its contract is a law that is proved.
 ghost use Rattle.model_limit_law.specs.Counted.{MarksHavePlaces, OpeningsAreCounted};
-ghost use Rattle.model_limit_law.specs.First.{FirstIsRefused, OpeningTellsLimits, RefusedIsFirst};
+ghost use Rattle.model_limit_law.specs.First.{FirstIsRefused, FragmentsAtFirst, OpeningTellsLimits, RefusedIsFirst};
 ghost use Rattle.model_limit_law.specs.Items.{FirstItemIsOver, LimitsAreOfItems};
 
 /// What is counted is what the list has: each opening, with the kinds that are open at it, and as many places of marks as each marked item has marks.
@@ -10,11 +10,12 @@ pub fn counts_are_of_items()
 {}
 
 /// A page is refused for its nesting or its marks exactly where something of it is over these limits, and at the first such thing: the first
-/// opening inside of 100 kinds, or the element that gives the first item with more than 64 marks its 65th, whichever begins first. The line that
-/// opens it is answered so, and in no other case.
+/// opening inside of 100 kinds, or the element that gives the first item with more than 64 marks its 65th, whichever begins first. So is a
+/// fragment for its marks. The line that opens a page is answered so, and in no other case.
 pub fn over_limit_is_first()
     ensures first { RefusedIsFirst }
     ensures refused { FirstIsRefused }
+    ensures fragments { FragmentsAtFirst }
     ensures told { OpeningTellsLimits }
 {}
 

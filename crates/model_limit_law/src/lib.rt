@@ -8,7 +8,7 @@
 //! - `Items`: the first item of a list that is over a limit: a page is over that limit, and where there is none over no limit
 //!   ([`limits_are_of_items`]).
 //!
-//! It speaks of pages that are UTF-8, as are those that lines open. Fragments are `model_world_law`'s.
+//! It speaks of pages and fragments that are UTF-8, as are those that lines give.
 #![tactic(auto)]
 
 mod laws;
