@@ -1,7 +1,7 @@
 -- The values of the attributes of an element that is UTF-8 are UTF-8.
 use Rattle.std.specs.List.{list_all}
 use Rattle.std.specs.Prelude.{codes, flat_map}
-use Rattle.std.proofs.Common.{◌≡◌, ◌<◌, ℕ, zero, suc, ◌+◌, Bool, true, false, not, ◌&&◌, ◌||◌, ◌==◌, List, [], ◌∷◌, ◌++◌, length, get_or, drop, IsUtf8, IsCharBoundary, refl, sym, ap, ◌∙◌, subst, append_assoc, add-zero, eqb-true, arith}
+use Rattle.std.proofs.Common.{◌≡◌, ◌<◌, ℕ, zero, suc, Bool, true, false, not, ◌&&◌, ◌||◌, ◌==◌, List, [], ◌∷◌, ◌++◌, length, get_or, IsUtf8, refl, sym, ap, ◌∙◌, subst, append_assoc, add-zero, eqb-true, arith}
 use Rattle.std.proofs.Math.Seq.{drop-append_seam, take-append_seam}
 use Rattle.std.proofs.lemmas.Bool.{and_parts}
 use Rattle.std.proofs.lemmas.List.{get_or-drop, length-append}

@@ -1,11 +1,10 @@
 -- The bodies of a page that is UTF-8 are UTF-8.
 use Rattle.std.specs.List.{AllByRecursion}
-use Rattle.std.specs.Prelude.{IfSome, bytes_eq, chars, codes, is_some, unwrap_or}
+use Rattle.std.specs.Prelude.{IfSome, bytes_eq, chars, codes, is_some}
 use Rattle.std.specs.Ordering.{match_ordering, nat_cmp}
 use Rattle.std.specs.declared.cmp.Ordering.TheVariants.{Equal, Greater, Less}
 use Rattle.std.specs.Cmp.Lexicographic.{slice_cmp}
-use Rattle.std.specs.Str.{is_utf8}
-use Rattle.std.proofs.Common.{◌≡◌, ℕ, ◌-◌, Bool, true, false, ◌&&◌, ◌||◌, if◌then◌else◌, List, [], ◌∷◌, ◌++◌, Option, Some, None, Ordering, IsUtf8, refl, sym, ap, ◌∙◌, subst}
+use Rattle.std.proofs.Common.{◌≡◌, ℕ, ◌-◌, Bool, true, false, ◌&&◌, ◌||◌, if◌then◌else◌, List, [], ◌∷◌, ◌++◌, Option, Some, None, Ordering, IsUtf8, refl, sym, subst}
 use Rattle.std.proofs.lemmas.Str.{is_utf8-from_IsUtf8}
 use Rattle.ve_base.specs.declared.head.Head.{Head}
 use Rattle.ve_base.specs.declared.marks.Mark.{Mark}
@@ -32,7 +31,6 @@ use Rattle.model_page.specs.Pieces.{Made, Owner, Piece, Progress, before_run, in
 use Rattle.model_page.specs.ReferenceNodes.{RefNode, is_owned, key_of, may_be_reference, owners_of, ref_node, ref_of, reference_in, unless_owned}
 use Rattle.model_page_law.proofs.InlinedLemmas.{Faithful}
 use Rattle.model_page_law.proofs.Premises.{AllUtf8}
-use Rattle.model_world.specs.Values.{line_json}
 use Rattle.model_line_law.specs.Texts.{AllInMembers, AllStrings}
 use Rattle.model_line_law.proofs.LineLemmas.{line_utf8}
 use Rattle.model_limit_law.proofs.AttrLemmas.{ValuesUtf8, element_values}

@@ -1,5 +1,5 @@
--- What is counted of a page, and the first thing over a limit, by computation.
-use Rattle.std.specs.Prelude.{◌≡◌, ℕ, List, [], ◌∷◌, ◌++◌, Option, Some, None, codes, refl, option_map}
+-- What is counted of a page, by computation.
+use Rattle.std.specs.Prelude.{◌≡◌, ℕ, List, [], ◌∷◌, ◌++◌, Option, Some, codes, refl, option_map}
 use Rattle.std.specs.List.{repeat}
 use Rattle.ve_kinds.specs.declared.kind.Kind.TheVariants.{Root}
 use Rattle.model_spelling.specs.Parsed.{forest_of}

@@ -24,16 +24,15 @@ use Rattle.model_page.specs.Pieces.{Made, Owner, Piece, Progress, SourceSpan, be
 use Rattle.model_page.specs.ReferenceNodes.{RefNode, ref_of}
 use Rattle.model_page_law.proofs.InlinedLemmas.{is_white-parts}
 use Rattle.model_page_law.proofs.MarkedLemmas.{FitsContent, FitsContent-kind, inline-whole_kind}
-use Rattle.model_limit_law.specs.Counted.{mark_counts, mark_places, place_counts}
-use Rattle.model_limit_law.specs.Exact.{MarksHavePlaces}
-use Rattle.model_limit_law.proofs.PlaceLemmas.{Even, even_in, even_more}
+use Rattle.model_limit_law.specs.Counted.{MarksHavePlaces, mark_counts, mark_places, place_counts}
+use Rattle.model_limit_law.proofs.PlaceLemmas.{Even, even_in, even_more, places_by}
 
 -- ---- lists of counts
 
-pub marks-append : (xs ys : List PlainItem) → mark_counts (xs ++ ys) ≡ mark_counts xs ++ mark_counts ys
+marks-append : (xs ys : List PlainItem) → mark_counts (xs ++ ys) ≡ mark_counts xs ++ mark_counts ys
 marks-append xs ys = ap (Rattle.std.specs.List.filter (nat_lt 0)) (map-append (λ item. length (item_marks item)) xs ys) ∙ filter-append (nat_lt 0) (map (λ item. length (item_marks item)) xs) (map (λ item. length (item_marks item)) ys)
 
-pub places-append : (xs ys : List (List ℕ)) → place_counts (xs ++ ys) ≡ place_counts xs ++ place_counts ys
+places-append : (xs ys : List (List ℕ)) → place_counts (xs ++ ys) ≡ place_counts xs ++ place_counts ys
 places-append xs ys = ap (Rattle.std.specs.List.filter (nat_lt 0)) (map-append length xs ys) ∙ filter-append (nat_lt 0) (map length xs) (map length ys)
 
 letters_counted : (outer : List ℕ) (marks : List Mark) (text : List ℕ) → length outer ≡ length marks → mark_counts (map (λ c. Char c marks) text) ≡ place_counts (map (λ (c : ℕ). outer) text)
@@ -88,7 +87,7 @@ ended_run (b ∷ bs) w m =
       | false ↦ refl
     ]
 
-abbrev NotContent : Around → Type 0
+abbrev pub NotContent : Around → Type 0
 NotContent (Content marks) = ⊥
 NotContent _ = Unit {0}
 
@@ -148,7 +147,7 @@ counts_chosen around counts true a b f g = f
 counts_chosen around counts false a b f g = g
 
 -- a leaf of content is inline
-abbrev InlineIn : Around → Kind → Type 0
+abbrev pub InlineIn : Around → Kind → Type 0
 InlineIn (Content marks) kind = is_inline_leaf kind ≡ true
 InlineIn _ kind = Unit {0}
 
@@ -198,17 +197,17 @@ words_counted around outer text places m even h =
 
 -- ---- all parts
 
-note_inline : (around : Around) → InlineIn around (note_kind around)
+pub note_inline : (around : Around) → InlineIn around (note_kind around)
 note_inline (Content marks) = refl
 note_inline (Flow kind) = tt
 note_inline (Structural kind) = tt
 
-group_inline : (around : Around) (nodes : Forest) → InlineIn around (group_kind around nodes)
+pub group_inline : (around : Around) (nodes : Forest) → InlineIn around (group_kind around nodes)
 group_inline (Content marks) nodes = inline-whole_kind (is_generated nodes)
 group_inline (Flow kind) nodes = tt
 group_inline (Structural kind) nodes = tt
 
-ref_inline : (around : Around) → InlineIn around Ref
+pub ref_inline : (around : Around) → InlineIn around Ref
 ref_inline (Content marks) = refl
 ref_inline (Flow kind) = tt
 ref_inline (Structural kind) = tt
@@ -221,7 +220,7 @@ group_counted around outer nodes places later w None even h =
     leaf_before_counted around outer w (group_kind around nodes) (whole_head (spelling nodes)) (spelling nodes) [] places (later (past w (spelling nodes) [])) even (group_inline around nodes) (h [])
 
 -- what an element may become there
-abbrev FitsIn : Around → Parts → Fit → Type 0
+abbrev pub FitsIn : Around → Parts → Fit → Type 0
 FitsIn (Content marks) children fit = FitsContent children fit
 FitsIn (Flow kind) children fit = Unit {0}
 FitsIn (Structural kind) children Annotation = ⊥
@@ -231,17 +230,17 @@ block_fit : (parent k : Kind) (children : Parts) (kind : Option Kind) → FitsIn
 block_fit parent k children None = tt
 block_fit parent k children (Some kind) = elim (may_hold parent kind && is_convertible kind children) as (λ b. FitsIn (Structural k) children (if b then Branch kind else Whole AlienBlock)) [ true ↦ tt | false ↦ tt ]
 
-fits_in : (around : Around) (name : List ℕ) (children : Parts) → FitsIn around children (fit_of around name children)
+pub fits_in : (around : Around) (name : List ℕ) (children : Parts) → FitsIn around children (fit_of around name children)
 fits_in (Content marks) name children = FitsContent-kind name children (kind_of_tag name)
 fits_in (Flow kind) name children = tt
 fits_in (Structural kind) name children = block_fit kind kind children (kind_of_tag name)
 
-leaf_inline : (around : Around) (children : Parts) (kind : Kind) → FitsIn around children (Leaf kind) → InlineIn around kind
+pub leaf_inline : (around : Around) (children : Parts) (kind : Kind) → FitsIn around children (Leaf kind) → InlineIn around kind
 leaf_inline (Content marks) children kind f = f
 leaf_inline (Flow k) children kind f = tt
 leaf_inline (Structural k) children kind f = tt
 
-whole_inline : (around : Around) (children : Parts) (kind : Kind) → FitsIn around children (Whole kind) → InlineIn around kind
+pub whole_inline : (around : Around) (children : Parts) (kind : Kind) → FitsIn around children (Whole kind) → InlineIn around kind
 whole_inline (Content marks) children kind f = f
 whole_inline (Flow k) children kind f = tt
 whole_inline (Structural k) children kind f = tt
@@ -262,7 +261,7 @@ marks_colored (Content marks) children source counts f c = tt
 marks_colored (Flow kind) children source counts f c = λ white. absurd (let e : true ≡ false = sym white ∙ c in cc)
 marks_colored (Structural kind) children source counts f c = absurd f
 
-branch_outside : (around : Around) (children : Parts) (kind : Kind) → FitsIn around children (Branch kind) → NotContent around
+pub branch_outside : (around : Around) (children : Parts) (kind : Kind) → FitsIn around children (Branch kind) → NotContent around
 branch_outside (Content marks) children kind f = f
 branch_outside (Flow k) children kind f = tt
 branch_outside (Structural k) children kind f = tt
@@ -271,17 +270,10 @@ branch_outside (Structural k) children kind f = tt
 abbrev AreCounted : Parts → Type 0
 AreCounted parts = (outer : List ℕ) (around : Around) (w : Progress) → Even outer around → Counts around (place_counts (mark_places outer around parts w.at)) (made_of around parts w)
 
-abbrev places_by : List ℕ → Around → List ℕ → List Spelled → Parts → Parts → ℕ → ℕ → ℕ → Fit → List (List ℕ)
-places_by outer around name attrs children later at inside end fit = elim fit [
-  | Annotation ↦ mark_places (outer ++ at ∷ []) (marked_around around name attrs) children inside ++ mark_places outer around later end
-  | Branch kind ↦ mark_places [] (around_in kind) children inside ++ mark_places outer around later end
-  | _ ↦ outer ∷ mark_places outer around later end
-]
-
 element_counted : (outer : List ℕ) (around : Around) (name : List ℕ) (attrs : List Spelled) (source : List ℕ) (children later : Parts) (w : Progress) (fit : Fit) → FitsIn around children fit → is_white source ≡ false → Even outer around →
     AreCounted children → ((owners : List Owner) → Counts around (place_counts (mark_places outer around later (w.at + length source))) (made_of around later (past w source owners))) →
     Counts around (place_counts (places_by outer around name attrs children later w.at (w.at + length (start_text name attrs false)) (w.at + length source) fit))
-        (element_made around name attrs source (λ a. made_of a children) (made_of around later) w fit)
+    (element_made around name attrs source (λ a. made_of a children) (made_of around later) w fit)
 element_counted outer around name attrs source children later w Annotation f c even g h =
     let a = marked_around around name attrs in
     let p = inside_of w name attrs in

@@ -2,7 +2,7 @@
 use Rattle.std.specs.List.{AllByRecursion}
 use Rattle.std.specs.Option.{option_or}
 use Rattle.std.specs.Prelude.{nat_lt, option_map, slice_get}
-use Rattle.std.proofs.Common.{◌≡◌, ◌<◌, ◌≤◌, ℕ, zero, suc, ◌-◌, Bool, true, false, if◌then◌else◌, List, [], ◌∷◌, ◌++◌, length, Option, Some, None, refl, sym, ap, ◌∙◌, subst, arith}
+use Rattle.std.proofs.Common.{◌≡◌, ◌<◌, ◌≤◌, ℕ, zero, suc, ◌-◌, Bool, true, false, if◌then◌else◌, List, [], ◌∷◌, ◌++◌, length, Option, Some, None, refl, ap, ◌∙◌, subst, arith}
 use Rattle.std.proofs.lemmas.Bool.{le-ltb, lt-ltb, ltb-false, ltb-true}
 use Rattle.ve_base.specs.Limits.{max_marks, max_open_kinds}
 use Rattle.model_items.specs.declared.plain_item.PlainItem.{PlainItem}
@@ -34,7 +34,7 @@ deep_at-first depth (Opening kind head marks pre origin generated ∷ items) (sp
     ap (λ o. if nat_lt depth max_open_kinds then o else Some span.from) (deep_at-first (suc depth) items spans)
     ∙ turned depth (first_deep (openings (suc depth) items spans)) span.from (nat_lt depth max_open_kinds) (nat_lt max_open_kinds (suc depth)) refl refl
 
-some_same : (a b : ℕ) → ◌≡◌ {A = Option ℕ} (Some a) (Some b) → a ≡ b
+pub some_same : (a b : ℕ) → ◌≡◌ {A = Option ℕ} (Some a) (Some b) → a ≡ b
 some_same a b e = cc
 
 deep_later : (o : ℕ × ℕ) (opens : List (ℕ × ℕ)) (at : ℕ) → o.0 ≤ max_open_kinds → FirstDeep opens at → FirstDeep (o ∷ opens) at
@@ -84,7 +84,7 @@ past_none [] n l = refl
 past_none (x ∷ xs) zero l = absurd (omega (arith, l))
 past_none (x ∷ xs) (suc n) l = past_none xs n (omega (arith, l))
 
-pub none_past : (xs : List ℕ) (n : ℕ) → slice_get xs n ≡ None → length xs ≤ n
+none_past : (xs : List ℕ) (n : ℕ) → slice_get xs n ≡ None → length xs ≤ n
 none_past [] n e = omega arith
 none_past (x ∷ xs) zero e = cc
 none_past (x ∷ xs) (suc n) e = let l = none_past xs n e in omega (arith, l)
@@ -122,7 +122,7 @@ marked_only places at f =
 abbrev pub one_limit : Option ℕ → Option ℕ → Option Limit
 one_limit deep marked = earlier (option_map (λ n. TooDeep n) deep) (option_map (λ n. TooManyMarks n) marked)
 
-limit_same : (a b : Limit) → ◌≡◌ {A = Option Limit} (Some a) (Some b) → a ≡ b
+pub limit_same : (a b : Limit) → ◌≡◌ {A = Option Limit} (Some a) (Some b) → a ≡ b
 limit_same a b e = cc
 
 none_is : (o : Option ℕ) (n : ℕ) → o ≡ None → o ≡ Some n → ⊥

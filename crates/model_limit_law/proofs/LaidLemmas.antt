@@ -1,7 +1,7 @@
 -- Sources of a run stand before those of what comes later.
 use Rattle.std.specs.List.{AllByRecursion}
 use Rattle.std.specs.Prelude.{chars, nat_lt}
-use Rattle.std.proofs.Common.{◌≡◌, ◌<◌, ◌≤◌, ℕ, suc, ◌+◌, ◌-◌, Bool, true, false, if◌then◌else◌, List, [], ◌∷◌, ◌++◌, length, Option, Some, None, refl, sym, ap, ◌∙◌, subst, arith}
+use Rattle.std.proofs.Common.{◌≡◌, ◌≤◌, ℕ, suc, ◌+◌, ◌-◌, Bool, true, false, if◌then◌else◌, List, [], ◌∷◌, ◌++◌, length, Option, Some, None, refl, sym, ap, subst, arith}
 use Rattle.std.proofs.lemmas.List.{length-append}
 use Rattle.ve_base.specs.Limits.{max_open_kinds}
 use Rattle.ve_base.specs.declared.head.Head.{Head}
@@ -13,7 +13,7 @@ use Rattle.model_items.specs.declared.plain_item.PlainItem.{PlainItem}
 use Rattle.model_items.specs.declared.plain_item.PlainItem.TheVariants.{Char, Closing, Opening}
 use Rattle.model_spelling.specs.Forest.{Forest, spelling}
 use Rattle.model_spelling.specs.Grammar.{Attr as Spelled, Comment, end_text, start_text, token_text}
-use Rattle.model_page.specs.Convert.{element_made, element_source, group_made, in_flow, inside_of, inside_piece, leaf_made, made_of, marked_around, marks_at, words_before}
+use Rattle.model_page.specs.Convert.{element_made, element_source, group_made, inside_of, inside_piece, leaf_made, made_of, marked_around, marks_at, words_before}
 use Rattle.model_page.specs.Elements.{is_white}
 use Rattle.model_page.specs.Fit.{Annotation, Around, Branch, Content, Fit, Flow, Leaf, Structural, Whole, around_in, fit_of, group_kind, note_kind}
 use Rattle.model_page.specs.Heads.{characters, head_with, whole_head}
@@ -23,6 +23,7 @@ use Rattle.model_page.specs.Pieces.{Made, Owner, Piece, Progress, SourceSpan, be
 use Rattle.model_page.specs.ReferenceNodes.{RefNode, ref_of}
 use Rattle.model_page_law.proofs.KindFits.{FitStands, LeafFits, Sane, Stands, fit_stands, group_fits, no_reference, note_fits}
 use Rattle.model_page_law.proofs.TileLemmas.{run_ended-source}
+use Rattle.model_limit_law.proofs.FirstLemmas.{some_same}
 
 -- ---- spans in an order
 
@@ -37,9 +38,6 @@ pub within-append : (low high : ℕ) (xs ys : List SourceSpan) → Within low hi
 within-append low high [] ys v w = w
 within-append low high (x ∷ xs) ys v w = (v.0, within-append low high xs ys v.1 w)
 
-some_is : (a n : ℕ) → ◌≡◌ {A = Option ℕ} (Some a) (Some n) → a ≡ n
-some_is a n e = cc
-
 pub deep_within : (d : ℕ) (items : List PlainItem) (low high : ℕ) (spans : List SourceSpan) → Within low high spans → (n : ℕ) → deep_at d items spans ≡ Some n → (low ≤ n) × (n ≤ high)
 deep_within d [] low high spans w n e = cc
 deep_within d (Char c marks ∷ items) low high spans w n e = deep_within d items low high spans w n e
@@ -49,7 +47,7 @@ deep_within d (Opening kind head marks pre origin generated ∷ items) low high 
   where
     by : (b : Bool) → (if b then deep_at (suc d) items spans else Some span.from) ≡ Some n → (deep_at (suc d) items spans ≡ Some n → (low ≤ n) × (n ≤ high)) → (low ≤ n) × (n ≤ high)
     by true e rest = rest e
-    by false e rest = let same = some_is span.from n e in (omega (arith, same, w.0.0), omega (arith, same, w.0.1))
+    by false e rest = let same = some_same span.from n e in (omega (arith, same, w.0.0), omega (arith, same, w.0.1))
 
 -- ---- what is made from a place on
 
@@ -112,7 +110,7 @@ laid_before high w piece source added owners m p l =
       fits = omega (arith, none, room);
     }
 
-one_within : (w : Progress) (source : List ℕ) → Within w.at (w.at + length source) (source_span w source ∷ [])
+pub one_within : (w : Progress) (source : List ℕ) → Within w.at (w.at + length source) (source_span w source ∷ [])
 one_within w source = ((omega arith, omega arith), tt)
 
 laid_leaf : (high : ℕ) (w : Progress) (kind : Kind) (head : Head) (marks : List Mark) (source : List ℕ) (owners : List Owner) (m : Made) → Laid (w.at + length source) high m →

@@ -4,7 +4,11 @@ pub mod CountLemmas
 pub mod AttrLemmas
 pub mod BodyLemmas
 pub mod PageLemmas
-pub mod WithinLemmas
 mod CountExamples
+mod FirstExamples
 pub mod OrderLemmas
 pub mod LaidLemmas
+pub mod BoundLemmas
+pub mod ToldLemmas
+pub mod ItemLemmas
+pub mod WithinLemmas

@@ -1,7 +1,7 @@
 -- The first item over a limit, of pieces one after the other.
 use Rattle.std.specs.Option.{option_or}
 use Rattle.std.specs.Prelude.{nat_le, nat_lt, option_map}
-use Rattle.std.proofs.Common.{◌≡◌, ◌<◌, ◌≤◌, ℕ, suc, ◌+◌, ◌-◌, Bool, true, false, if◌then◌else◌, List, [], ◌∷◌, ◌++◌, length, map, take, drop, Option, Some, None, refl, sym, ap, ◌∙◌, subst, append_assoc, arith}
+use Rattle.std.proofs.Common.{◌≡◌, ◌<◌, ◌≤◌, ℕ, suc, ◌+◌, ◌-◌, Bool, true, false, if◌then◌else◌, List, [], ◌∷◌, ◌++◌, length, map, take, drop, Option, Some, None, refl, sym, ap, ◌∙◌, append_assoc, arith}
 use Rattle.std.proofs.lemmas.Bool.{le-ltb, lt-ltb}
 use Rattle.std.proofs.lemmas.List.{append-nil, length-drop, length-take-le, take-append-drop}
 use Rattle.ve_base.specs.Limits.{max_marks, max_open_kinds}
@@ -11,11 +11,11 @@ use Rattle.ve_kinds.specs.declared.kind.Kind.{Kind}
 use Rattle.model_items.specs.declared.plain_item.PlainItem.{PlainItem}
 use Rattle.model_items.specs.declared.plain_item.PlainItem.TheVariants.{Char, Closing, Opening}
 use Rattle.model_page.specs.Limits.{Limit, TooDeep, TooManyMarks, deep_at}
-use Rattle.model_page.specs.Pieces.{Piece, SourceSpan, chars_piece, items_after, joined_pieces, leaf, no_piece, node}
+use Rattle.model_page.specs.Pieces.{Piece, SourceSpan, chars_piece, items_after, joined_pieces, leaf, node}
 use Rattle.model_page_write.specs.Nodes.{Empty, Letter, Node, Nodes}
 use Rattle.model_page_law.proofs.ShapeLemmas as shape
 use Rattle.model_page_law.proofs.ShapeLemmas.{Shaped, plain}
-use Rattle.model_limit_law.specs.Exact.{OfKinds, OfMarks, Which, first_over, which}
+use Rattle.model_limit_law.specs.Items.{OfKinds, OfMarks, Which, first_over, which}
 use Rattle.model_limit_law.proofs.FirstLemmas.{one_limit}
 
 -- ---- options
@@ -43,12 +43,12 @@ over_plain (Letter c marks later) d ys = by (nat_le (length marks) max_marks) (o
     by false e = refl
 over_plain (Node s inside pre later) d ys =
     by (nat_le (length s.marks) max_marks) (nat_lt d max_open_kinds) (
-      ap (first_over (suc d)) (append_assoc (plain inside) (Closing s.kind pre ∷ plain later) ys)
-      ∙ over_plain inside (suc d) (Closing s.kind pre ∷ (plain later ++ ys))
-      ∙ ap (option_or (first_over (suc d) (plain inside))) (ap (λ n. first_over n (plain later ++ ys)) (less d) ∙ over_plain later d ys)
-      ∙ sym (which_assoc (first_over (suc d) (plain inside)) (first_over d (plain later)) (first_over d ys))
-      ∙ ap (λ o. option_or o (first_over d ys))
-      (ap (option_or (first_over (suc d) (plain inside))) (ap (λ n. first_over n (plain later)) (sym (less d))) ∙ sym (over_plain inside (suc d) (Closing s.kind pre ∷ plain later)))
+    ap (first_over (suc d)) (append_assoc (plain inside) (Closing s.kind pre ∷ plain later) ys)
+    ∙ over_plain inside (suc d) (Closing s.kind pre ∷ (plain later ++ ys))
+    ∙ ap (option_or (first_over (suc d) (plain inside))) (ap (λ n. first_over n (plain later ++ ys)) (less d) ∙ over_plain later d ys)
+    ∙ sym (which_assoc (first_over (suc d) (plain inside)) (first_over d (plain later)) (first_over d ys))
+    ∙ ap (λ o. option_or o (first_over d ys))
+    (ap (option_or (first_over (suc d) (plain inside))) (ap (λ n. first_over n (plain later)) (sym (less d))) ∙ sym (over_plain inside (suc d) (Closing s.kind pre ∷ plain later)))
     )
   where
     by : (b c : Bool) →
@@ -86,16 +86,16 @@ deep_plain (Node s inside pre later) d [] more ys e = cc
 deep_plain (Node s inside pre later) d (span ∷ spans) more ys e =
     let p = split (shape.openings inside) (shape.openings later) spans (omega (arith, e)) in
     by p (nat_lt d max_open_kinds) (
-      ap (λ ss. deep_at (suc d) ((plain inside ++ Closing s.kind pre ∷ plain later) ++ ys) (ss ++ more)) p.whole
-      ∙ (λ i. deep_at (suc d) (append_assoc (plain inside) (Closing s.kind pre ∷ plain later) ys i) (append_assoc p.before p.after more i))
-      ∙ deep_plain inside (suc d) p.before (p.after ++ more) (Closing s.kind pre ∷ (plain later ++ ys)) p.first
-      ∙ ap (option_or (deep_at (suc d) (plain inside) p.before)) (ap (λ n. deep_at n (plain later ++ ys) (p.after ++ more)) (less d) ∙ deep_plain later d p.after more ys p.rest)
-      ∙ sym (which_assoc (deep_at (suc d) (plain inside) p.before) (deep_at d (plain later) p.after) (deep_at d ys more))
-      ∙ ap (λ o. option_or o (deep_at d ys more)) (
-        ap (option_or (deep_at (suc d) (plain inside) p.before)) (ap (λ n. deep_at n (plain later) p.after) (sym (less d)))
-        ∙ sym (deep_plain inside (suc d) p.before p.after (Closing s.kind pre ∷ plain later) p.first)
-        ∙ ap (deep_at (suc d) (plain inside ++ Closing s.kind pre ∷ plain later)) (sym p.whole)
-      )
+    ap (λ ss. deep_at (suc d) ((plain inside ++ Closing s.kind pre ∷ plain later) ++ ys) (ss ++ more)) p.whole
+    ∙ (λ i. deep_at (suc d) (append_assoc (plain inside) (Closing s.kind pre ∷ plain later) ys i) (append_assoc p.before p.after more i))
+    ∙ deep_plain inside (suc d) p.before (p.after ++ more) (Closing s.kind pre ∷ (plain later ++ ys)) p.first
+    ∙ ap (option_or (deep_at (suc d) (plain inside) p.before)) (ap (λ n. deep_at n (plain later ++ ys) (p.after ++ more)) (less d) ∙ deep_plain later d p.after more ys p.rest)
+    ∙ sym (which_assoc (deep_at (suc d) (plain inside) p.before) (deep_at d (plain later) p.after) (deep_at d ys more))
+    ∙ ap (λ o. option_or o (deep_at d ys more)) (
+    ap (option_or (deep_at (suc d) (plain inside) p.before)) (ap (λ n. deep_at n (plain later) p.after) (sym (less d)))
+    ∙ sym (deep_plain inside (suc d) p.before p.after (Closing s.kind pre ∷ plain later) p.first)
+    ∙ ap (deep_at (suc d) (plain inside ++ Closing s.kind pre ∷ plain later)) (sym p.whole)
+    )
     )
   where
     by : Split (shape.openings inside) (shape.openings later) spans → (b : Bool) →
@@ -156,7 +156,7 @@ pub same_after : (d : ℕ) (white : List ℕ) (p : Piece) (marked : Option ℕ) 
 same_after d white p marked h =
     ap (λ o. option_map which (one_limit o marked)) (deep_after d white p.items p.spans) ∙ h ∙ sym (over_after d white p.items)
 
-which_or : (a b : Option Limit) → option_map which (option_or a b) ≡ option_or (option_map which a) (option_map which b)
+pub which_or : (a b : Option Limit) → option_map which (option_or a b) ≡ option_or (option_map which a) (option_map which b)
 which_or None b = refl
 which_or (Some l) b = refl
 

@@ -1,32 +1,37 @@
 -- A page is refused for its nesting or its marks exactly at the first thing over these limits.
 use Rattle.std.specs.Option.{option_or}
-use Rattle.std.specs.Prelude.{nat_lt, option_map, unwrap_or}
-use Rattle.std.proofs.Common.{◌≡◌, ◌≤◌, ◌⊎◌, inl, inr, ℕ, ◌-◌, Bool, true, false, if◌then◌else◌, List, [], ◌∷◌, length, Option, Some, None, Result, Ok, Err, IsUtf8, refl, sym, ap, ◌∙◌, subst, arith}
+use Rattle.std.specs.Prelude.{encode_utf8_all, nat_lt, option_map, unwrap_or}
+use Rattle.std.proofs.Common.{◌≡◌, inl, inr, ℕ, ◌-◌, Bool, true, false, if◌then◌else◌, List, [], ◌∷◌, length, Option, Some, None, Result, Ok, Err, IsUtf8, refl, sym, ap, ◌∙◌, subst, arith}
 use Rattle.std.proofs.lemmas.Bool.{le-ltb}
 use Rattle.ve_base.specs.Limits.{max_items, max_page, max_values}
 use Rattle.ve_kinds.specs.declared.kind.Kind.{Kind}
 use Rattle.ve_kinds.specs.declared.kind.Kind.TheVariants.{InternalItem, Root}
+use Rattle.model_spelling.specs.Faults as fault
 use Rattle.model_spelling.specs.Faults.{ForestFault, Scan, fault_of}
 use Rattle.model_spelling.specs.Forest.{Forest, is_forest, spelling}
 use Rattle.model_spelling.specs.Page.{body_at, fault_in_page}
 use Rattle.model_spelling.specs.Parsed.{forest_of}
 use Rattle.model_spelling.specs.declared.scan_fault.ScanFault.{ScanFault}
 use Rattle.model_spelling.proofs.Proved.{law_found, law_only, law_reads_right}
-use Rattle.model_page.specs.Fit.{Flow}
-use Rattle.model_page.specs.Limits.{Limit, body_limit, first_body_limit, limit_of, moved_to, page_limit}
+use Rattle.model_page.specs.Fit.{Flow, around_in}
+use Rattle.model_page.specs.Fragment.{context_of}
+use Rattle.model_page.specs.Limits.{Limit, TooDeep, TooManyMarks, first_body_limit, fragment_limit, limit_of, moved_to, page_limit}
 use Rattle.model_page.specs.OpenPage.{BadPage, OpenFault, OverLimit, PageTooLong, StoreFull, TooManyItems, if_small, if_within, limit_in, read_body, read_page, values_of}
 use Rattle.model_page.specs.PageItems.{Opened, body_made, opened_body, opened_forest, opened_page, or_nothing, page_made, page_opened, slice}
 use Rattle.model_page.specs.Parts.{Ended, Group, Note, Parent, Parts, Single, Words, parts_of}
-use Rattle.model_page.specs.Pieces.{Made, Owner, Progress, SourceSpan}
+use Rattle.model_page.specs.Pieces.{Made, Owner}
 use Rattle.model_page_law.proofs.BodyUtf8.{body_utf8}
 use Rattle.model_page_law.proofs.InlinedLemmas.{Faithful, Faithful-parts_of, characters-nonempty}
 use Rattle.model_page_law.proofs.MarkedLemmas.{Texted}
 use Rattle.model_page_law.proofs.PartsUtf8.{all_utf8}
 use Rattle.model_page_law.proofs.Premises.{AllUtf8}
+use Rattle.model_world.specs.Refusals.{limit_refusal, open_refusal, refused_as}
+use Rattle.model_world.specs.declared.refusal.Refusal.{Refusal}
+use Rattle.model_world.specs.declared.refusal.Refusal.TheVariants as refusal
 use Rattle.model_limit_law.specs.Counted.{mark_places, openings}
-use Rattle.model_limit_law.specs.First.{FirstIn, FirstInBodies, FirstInBody, FirstInOpened, FirstInPage, FirstIsRefused, RefusedIsFirst}
-use Rattle.model_limit_law.proofs.FirstLemmas.{deep_at-first, first_deep, first_is_limit, first_marked, limit_is_first, one_limit}
-use Rattle.model_limit_law.proofs.PlaceLemmas.{marked_at-places}
+use Rattle.model_limit_law.specs.First.{FirstIn, FirstInBodies, FirstInBody, FirstInOpened, FirstInPage, FirstIsRefused, FragmentsAtFirst, OpeningTellsLimits, RefusedIsFirst}
+use Rattle.model_limit_law.proofs.FirstLemmas.{deep_at-first, first_deep, first_is_limit, first_marked, limit_is_first, limit_same, marked_found, marked_only, one_limit}
+use Rattle.model_limit_law.proofs.PlaceLemmas.{even_in, marked_at-places}
 use Rattle.model_limit_law.proofs.BodyLemmas.{AllOwnUtf8, flow_owns}
 
 -- ---- texts have characters
@@ -49,13 +54,20 @@ body_texted html u = by (forest_of html) refl
     by None e = tt
     by (Some f) e = let s = law_reads_right html f e in forest_texted f s.1 (subst IsUtf8 (sym s.0) u)
 
+-- ---- fragments
+
+pub fragments_at_first : FragmentsAtFirst
+fragments_at_first stack f at h u =
+    let parts = parts_of f in
+    let kind = context_of parts stack in
+    let places = mark_places [] (around_in kind) parts 0 in
+    let same : fragment_limit stack f ≡ first_marked places = marked_at-places parts (forest_texted f h u) [] (around_in kind) 0 (even_in kind) (omega arith) in
+    (λ e. marked_found places at (sym same ∙ e), λ first. same ∙ marked_only places at first)
+
 -- ---- what stands in a flow parent
 
 no_limit : (a : Option Limit) (l : Limit) → a ≡ None → a ≡ Some l → ⊥
 no_limit a l e f = cc
-
-limit_same : (a b : Limit) → ◌≡◌ {A = Option Limit} (Some a) (Some b) → a ≡ b
-limit_same a b e = cc
 
 pub flow_limit : (depth : ℕ) (kind : Kind) (parts : Parts) (at : ℕ) (m : Made) → Texted parts →
     limit_of depth (Flow kind) parts at m ≡ one_limit (first_deep (openings depth m.later.items m.later.spans)) (first_marked (mark_places [] (Flow kind) parts at))
@@ -169,7 +181,7 @@ within_limit o = by (limit_in o)
     by (Some l) = refl
     by None = small_has_none o
 
-abbrev spanned : List ℕ → ℕ → ℕ → Forest → Opened
+abbrev pub spanned : List ℕ → ℕ → ℕ → Forest → Opened
 spanned page from to f = page_opened page (record { from = from; to = to }) (page_made from f)
 
 abbrev body_read : List ℕ → ℕ → ℕ → Option ForestFault → Read
@@ -241,3 +253,40 @@ body_refused page o l (Ok body) u b e first = forest_refused page body.0 body.1 
 pub first_is_refused : FirstIsRefused
 first_is_refused page o l u e short first =
     ap (page_read page) (le-ltb max_page (length page) short) ∙ body_refused page o l (body_at page) u refl e first
+
+-- ---- what the line is answered
+
+abbrev limit_told : Result Opened Refusal → Option Limit
+limit_told (Ok o) = None
+limit_told (Err (refusal.TooDeep at)) = Some (TooDeep at)
+limit_told (Err (refusal.TooManyMarks at)) = Some (TooManyMarks at)
+limit_told (Err _) = None
+
+told_back : (l : Limit) → limit_told (Err (limit_refusal l)) ≡ Some l
+told_back (TooDeep at) = refl
+told_back (TooManyMarks at) = refl
+
+told_of : (r : Read) → limit_told (refused_as open_refusal r) ≡ limit_of_read r
+told_of (Ok o) = refl
+told_of (Err (PageTooLong bytes)) = refl
+told_of (Err (BadPage (Scan f))) = refl
+told_of (Err (BadPage (fault.Mismatched at))) = refl
+told_of (Err (BadPage (fault.Unclosed at))) = refl
+told_of (Err (BadPage (fault.Stray at))) = refl
+told_of (Err (BadPage (fault.TooDeep at))) = refl
+told_of (Err (OverLimit l)) = told_back l
+told_of (Err (TooManyItems count)) = refl
+told_of (Err StoreFull) = refl
+
+read_back : (r : Read) (l : Limit) → limit_of_read r ≡ Some l → r ≡ over l
+read_back (Ok o) l e = cc
+read_back (Err (PageTooLong bytes)) l e = cc
+read_back (Err (BadPage f)) l e = cc
+read_back (Err (OverLimit m)) l e = ap over (limit_same m l e)
+read_back (Err (TooManyItems count)) l e = cc
+read_back (Err StoreFull) l e = cc
+
+pub opening_tells_limits : OpeningTellsLimits
+opening_tells_limits text l =
+    let r = read_page (encode_utf8_all text) in
+    (λ told. read_back r l (sym (told_of r) ∙ ap limit_told told ∙ told_back l), λ read. ap (refused_as open_refusal) read)

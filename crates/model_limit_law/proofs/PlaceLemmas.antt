@@ -61,7 +61,7 @@ added_at (x ∷ xs) (suc n) at e = added_at xs n at (omega (arith, e))
 -- ---- what an element becomes
 
 -- a mark has something in it
-abbrev MayMark : Parts → Fit → Type 0
+abbrev pub MayMark : Parts → Fit → Type 0
 MayMark children Annotation = has_child children ≡ true
 MayMark children _ = Unit {0}
 
@@ -76,7 +76,7 @@ block_marks parent children None = tt
 block_marks parent children (Some kind) =
     elim (may_hold parent kind && is_convertible kind children) as (λ b. MayMark children (if b then Branch kind else Whole AlienBlock)) [ true ↦ tt | false ↦ tt ]
 
-may_mark : (around : Around) (name : List ℕ) (children : Parts) → MayMark children (fit_of around name children)
+pub may_mark : (around : Around) (name : List ℕ) (children : Parts) → MayMark children (fit_of around name children)
 may_mark (Content marks) name children = content_marks children (fit_in_content name children (kind_of_tag name)) (FitsContent-kind name children (kind_of_tag name))
 may_mark (Flow parent) name children =
     elim (is_inline_tag name) as (λ b. MayMark children (if b then fit_in_content name children (kind_of_tag name) else fit_in_block parent children (kind_of_tag name))) [
@@ -87,7 +87,7 @@ may_mark (Structural parent) name children = block_marks parent children (kind_o
 
 -- ---- where 65 marks are open, the first part has them
 
-abbrev places_by : List ℕ → Around → List ℕ → List Spelled → Parts → Parts → ℕ → ℕ → ℕ → Fit → List (List ℕ)
+abbrev pub places_by : List ℕ → Around → List ℕ → List Spelled → Parts → Parts → ℕ → ℕ → ℕ → Fit → List (List ℕ)
 places_by outer around name attrs children later at inside end fit = elim fit [
   | Annotation ↦ mark_places (outer ++ at ∷ []) (marked_around around name attrs) children inside ++ mark_places outer around later end
   | Branch kind ↦ mark_places [] (around_in kind) children inside ++ mark_places outer around later end
@@ -140,7 +140,7 @@ even_more outer around name attrs at e =
     omega (arith, e, more, marks)
 
 -- the limit at an element, by what it becomes
-abbrev limit_by : Around → List ℕ → List Spelled → Parts → Parts → ℕ → ℕ → ℕ → Fit → Option ℕ
+abbrev pub limit_by : Around → List ℕ → List Spelled → Parts → Parts → ℕ → ℕ → ℕ → Fit → Option ℕ
 limit_by around name attrs children later at inside end fit = elim fit [
   | Annotation ↦
       if nat_lt (length (marks_at around)) max_marks
@@ -162,7 +162,6 @@ element_agrees : (outer : List ℕ) (around : Around) (name : List ℕ) (attrs :
     limit_by around name attrs children later at inside end fit ≡ first_marked (places_by outer around name attrs children later at inside end fit)
 element_agrees outer around name attrs children later at inside end Annotation f t e few inner rest = by (nat_lt (length (marks_at around)) max_marks) refl
   where
-
     by : (b : Bool) → nat_lt (length (marks_at around)) max_marks ≡ b →
         (if b then option_or (marked_at (marked_around around name attrs) children inside) (marked_at around later end) else Some at)
         ≡ first_marked (mark_places (outer ++ at ∷ []) (marked_around around name attrs) children inside ++ mark_places outer around later end)

@@ -1,5 +1,5 @@
 -- What the limits on nesting and marks count: the kinds that are open at each opening of a list, and the marks of each item.
-use Rattle.std.specs.Prelude.{ℕ, suc, ◌+◌, ◌-◌, false, nat_lt, List, [], ◌∷◌, ◌++◌, length, map, filter}
+use Rattle.std.specs.Prelude.{◌≡◌, ℕ, suc, ◌+◌, ◌-◌, false, nat_lt, List, [], ◌∷◌, ◌++◌, length, map, filter}
 use Rattle.ve_kinds.specs.declared.kind.Kind.{Kind}
 use Rattle.model_items.specs.declared.plain_item.PlainItem.{PlainItem}
 use Rattle.model_items.specs.declared.plain_item.PlainItem.TheVariants.{Char, Opening, Closing}
@@ -8,9 +8,9 @@ use Rattle.model_spelling.specs.Forest.{spelling}
 use Rattle.model_edit.specs.Marking.{item_marks}
 use Rattle.model_page.specs.Parts.{Parts, Ended, Words, Note, Group, Single, Parent}
 use Rattle.model_page.specs.Heads.{characters}
-use Rattle.model_page.specs.Fit.{Around, Annotation, Branch, around_in, fit_of}
-use Rattle.model_page.specs.Pieces.{SourceSpan}
-use Rattle.model_page.specs.Convert.{marked_around, element_source}
+use Rattle.model_page.specs.Fit.{Around, Flow, Annotation, Branch, around_in, fit_of}
+use Rattle.model_page.specs.Pieces.{SourceSpan, Progress}
+use Rattle.model_page.specs.Convert.{marked_around, element_source, in_flow}
 
 -- ---- nesting
 
@@ -56,3 +56,15 @@ place_counts places = filter (nat_lt 0) (map length places)
 -- how many marks each item has that is marked
 abbrev pub mark_counts : List PlainItem → List ℕ
 mark_counts items = filter (nat_lt 0) (map (λ item. length (item_marks item)) items)
+
+-- ---- what is counted is what the list has
+
+-- each opening of what stands in a flow parent is counted,
+abbrev pub OpeningsAreCounted : Type 0
+OpeningsAreCounted = (depth : ℕ) (kind : Kind) (parts : Parts) (w : Progress) → let made = in_flow kind parts w in
+    map (λ (o : ℕ × ℕ). o.0) (openings depth made.later.items made.later.spans) ≡ open_counts depth made.later.items
+
+-- and each item that is marked has as many places as marks.
+abbrev pub MarksHavePlaces : Type 0
+MarksHavePlaces = (kind : Kind) (parts : Parts) (w : Progress) →
+    mark_counts (in_flow kind parts w).later.items ≡ place_counts (mark_places [] (Flow kind) parts w.at)

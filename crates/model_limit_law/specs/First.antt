@@ -1,17 +1,20 @@
 -- The first thing of a page that is over the limits on nesting and marks, in the order of the page's bytes.
-use Rattle.std.specs.Prelude.{◌≡◌, ◌<◌, ◌≤◌, ◌⊎◌, ℕ, List, [], ◌∷◌, ◌++◌, length, Some, Err, slice_get, IsUtf8}
+use Rattle.std.specs.Prelude.{◌≡◌, ◌<◌, ◌≤◌, ◌⊎◌, ◌↔◌, ℕ, true, List, [], ◌∷◌, ◌++◌, length, Some, Err, slice_get, encode_utf8_all, IsUtf8}
 use Rattle.std.specs.List.{AllByRecursion}
-use Rattle.ve_base.specs.Limits.{max_open_kinds, max_marks, max_page}
+use Rattle.ve_base.specs.Limits.{max_open_elements, max_open_kinds, max_marks, max_page}
 use Rattle.ve_kinds.specs.declared.kind.Kind.{Kind}
 use Rattle.ve_kinds.specs.declared.kind.Kind.TheVariants.{Root, InternalItem}
-use Rattle.model_spelling.specs.Forest.{Forest}
+use Rattle.model_spelling.specs.Forest.{Forest, is_forest, spelling}
 use Rattle.model_spelling.specs.Parsed.{forest_of}
 use Rattle.model_page.specs.Parts.{Parts, parts_of}
-use Rattle.model_page.specs.Fit.{Flow}
+use Rattle.model_page.specs.Fit.{Flow, around_in}
 use Rattle.model_page.specs.Pieces.{Owner, Made}
 use Rattle.model_page.specs.PageItems.{Opened, opened_page, page_made, body_made, or_nothing, slice}
-use Rattle.model_page.specs.Limits.{Limit, TooDeep, TooManyMarks, moved_to}
+use Rattle.model_page.specs.Limits.{Limit, TooDeep, TooManyMarks, moved_to, fragment_limit}
+use Rattle.model_page.specs.Fragment.{context_of}
 use Rattle.model_page.specs.OpenPage.{OverLimit, read_page}
+use Rattle.model_world.specs.Opening.{open_page}
+use Rattle.model_world.specs.Refusals.{limit_refusal}
 use Rattle.model_limit_law.specs.Counted.{openings, mark_places}
 
 -- some opening stands inside of 100 kinds, and the source of the first such begins at this byte
@@ -72,3 +75,12 @@ RefusedIsFirst = (page : List ℕ) (l : Limit) → IsUtf8 page → read_page pag
 abbrev pub FirstIsRefused : Type 0
 FirstIsRefused = (page : List ℕ) (o : Opened) (l : Limit) → IsUtf8 page → opened_page page ≡ Some o → length page ≤ max_page →
     FirstInOpened o l → read_page page ≡ Err (OverLimit l)
+
+-- So is a fragment for its marks, where these kinds are open.
+abbrev pub FragmentsAtFirst : Type 0
+FragmentsAtFirst = (stack : List Kind) (f : Forest) (at : ℕ) → is_forest max_open_elements f ≡ true → IsUtf8 (spelling f) →
+    (fragment_limit stack f ≡ Some at) ↔ FirstMarked (mark_places [] (around_in (context_of (parts_of f) stack)) (parts_of f) 0) at
+
+-- The line that opens a page is answered so, and in no other case: `too_deep` and `too_many_marks` are told of the limits alone.
+abbrev pub OpeningTellsLimits : Type 0
+OpeningTellsLimits = (text : List ℕ) (l : Limit) → (open_page text ≡ Err (limit_refusal l)) ↔ (read_page (encode_utf8_all text) ≡ Err (OverLimit l))

@@ -1,3 +1,3 @@
 pub mod Counted
 pub mod First
-pub mod Exact
+pub mod Items
