@@ -5,3 +5,4 @@ pub mod WholeParts
 pub mod OwnSource
 pub mod RunParts
 pub mod SourceRows
+pub mod OriginalNodes
