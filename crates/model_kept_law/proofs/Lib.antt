@@ -6,3 +6,5 @@ pub mod OwnSource
 pub mod RunParts
 pub mod SourceRows
 pub mod OriginalNodes
+pub mod LevelTexts
+pub mod OwnContent
