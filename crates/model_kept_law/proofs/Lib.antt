@@ -8,3 +8,4 @@ pub mod SourceRows
 pub mod OriginalNodes
 pub mod LevelTexts
 pub mod OwnContent
+pub mod WrittenBlocks
