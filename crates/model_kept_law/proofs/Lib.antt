@@ -9,3 +9,4 @@ pub mod OriginalNodes
 pub mod LevelTexts
 pub mod OwnContent
 pub mod WrittenBlocks
+pub mod KeptBlocks
