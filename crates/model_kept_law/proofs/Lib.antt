@@ -10,3 +10,4 @@ pub mod LevelTexts
 pub mod OwnContent
 pub mod WrittenBlocks
 pub mod KeptBlocks
+pub mod KeptBackLemmas
