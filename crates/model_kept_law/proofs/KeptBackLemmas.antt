@@ -1,16 +1,15 @@
 -- The law: a page that is written with nodes kept in it is read back.
-use Rattle.std.proofs.Common.{◌≡◌, ℕ, Bool, true, false, not, ◌&&◌, if◌then◌else◌, suc, List, [], ◌∷◌, ◌++◌, map, Option, Some, None, refl, sym, ap, ◌∙◌, subst, append_assoc, ◌⊎◌, inl, inr}
+use Rattle.std.proofs.Common.{◌≡◌, ℕ, Bool, true, false, not, ◌&&◌, if◌then◌else◌, suc, List, [], ◌∷◌, ◌++◌, map, Option, Some, None, refl, sym, ap, ◌∙◌, subst, append_assoc, inl, inr}
 use Rattle.std.proofs.lemmas.List.{append-nil, map-append}
 use Rattle.std.specs.Prelude.{encode_utf8_all, unwrap_or}
-use Rattle.model_spelling.specs.Forest.{Forest, spelling, is_forest}
+use Rattle.model_spelling.specs.Forest.{Forest, spelling}
 use Rattle.model_spelling.specs.Grammar.{is_tag_name}
 use Rattle.ve_kinds.specs.declared.kind.Kind.{Kind}
-use Rattle.ve_kinds.specs.declared.kind.Kind.TheVariants.{P, Root, InternalList}
+use Rattle.ve_kinds.specs.declared.kind.Kind.TheVariants.{Root, InternalList}
 use Rattle.ve_kinds.specs.Table.{kind_same, is_content_branch, is_leaf}
 use Rattle.ve_base.specs.Empty.{empty_head}
 use Rattle.model_items.specs.declared.plain_item.PlainItem.{PlainItem}
 use Rattle.model_items.specs.declared.plain_item.PlainItem.TheVariants.{Char, Opening, Closing}
-use Rattle.model_items.specs.Law.{Lawful}
 use Rattle.model_page.specs.Tags.{tag_of}
 use Rattle.model_page.specs.Parts.{parts_of}
 use Rattle.model_page.specs.Fit.{Flow}
@@ -22,7 +21,6 @@ use Rattle.model_page.specs.PageItems.{with_origins, internal_list, items_of_pag
 use Rattle.model_page_write.specs.Nodes.{Carried, Start, Nodes, Empty, Letter, Node, node_list_items, carried_nodes, carried_items, carried_from, body_carried, node_items}
 use Rattle.model_page_write.specs.Written.{white_after, is_bare, Writer, fresh_text, original_of, content, blocks}
 use Rattle.model_page_write.specs.PageText.{page_writer}
-use Rattle.model_page_law.specs.Formed.{AreFormed}
 use Rattle.model_page_law.specs.ReadBack.{without_origin}
 use Rattle.model_page_law.proofs.FormedNodes.{IsSuch, IsList, AreBlocks, with_list}
 use Rattle.model_page_law.proofs.FormLemmas.{such_list}

@@ -2,31 +2,31 @@
 use Rattle.std.proofs.Common.{◌≡◌, ℕ, Bool, true, false, not, ◌&&◌, ◌||◌, if◌then◌else◌, List, [], ◌∷◌, ◌++◌, map, Option, Some, None, refl, sym, ap, ◌∙◌, subst, append_assoc, append-nil, ◌⊎◌, inl, inr}
 use Rattle.std.proofs.lemmas.Bool.{and_parts, cases_Bool}
 use Rattle.std.specs.Prelude.{encode_utf8_all, unwrap_or}
-use Rattle.model_spelling.specs.Grammar.{Attr as Spelled, start_text, end_text}
+use Rattle.model_spelling.specs.Grammar.{start_text, end_text}
 use Rattle.model_spelling.specs.Forest.{Forest, spelling}
 use Rattle.model_spelling.specs.Written.{canon_attrs, attr_bytes}
 use Rattle.ve_kinds.specs.declared.kind.Kind.{Kind}
-use Rattle.ve_kinds.specs.declared.kind.Kind.TheVariants.{P, Br, Img, InternalList}
+use Rattle.ve_kinds.specs.declared.kind.Kind.TheVariants.{P, InternalList}
 use Rattle.ve_kinds.specs.Table.{kind_same, is_among, is_content_branch, is_flow, is_leaf, structural_kinds, block_leaves, inline_leaves}
 use Rattle.ve_kinds.specs.Tags.{is_void}
 use Rattle.model_items.specs.declared.plain_item.PlainItem.{PlainItem}
 use Rattle.model_items.specs.declared.plain_item.PlainItem.TheVariants.{Char, Opening, Closing}
-use Rattle.model_page.specs.Elements.{is_white, is_held}
+use Rattle.model_page.specs.Elements.{is_white}
 use Rattle.model_page.specs.Tags.{tag_of}
 use Rattle.model_page.specs.Parts.{Parts, parts_of}
 use Rattle.model_page.specs.Fit.{Around, Flow, Structural, Content, around_in, has_blocks_alone, is_convertible}
 use Rattle.model_page.specs.Fragment.{item_unmade}
 use Rattle.model_page.specs.Pieces.{Progress}
 use Rattle.model_page.specs.Convert.{inside_piece, made_of}
-use Rattle.model_page_write.specs.Nodes.{Carried, Start, Nodes, Empty, Letter, Node, node_items}
+use Rattle.model_page_write.specs.Nodes.{Start, Nodes, Empty, Letter, Node, node_items}
 use Rattle.model_page_write.specs.Written.{white_after, is_bare, is_empty, has_content, all_stay_inline, Writer, element_text, fresh_text, original_of, content, blocks}
-use Rattle.model_page_law.proofs.FormedNodes.{MarksMean, IsLeaf, IsContent, IsBranch, AreBlocks}
+use Rattle.model_page_law.proofs.FormedNodes.{MarksMean, IsContent, IsBranch, AreBlocks}
 use Rattle.model_page_law.proofs.NeatForests.{Neat}
 use Rattle.model_page_law.proofs.EscapeLemmas.{pick_true, pick_false}
 use Rattle.model_page_law.proofs.TagLemmas.{BranchTag, branch_tag, leaf_kind}
-use Rattle.model_page_law.proofs.ContentLemmas.{Reads, content_items, leaf_items}
+use Rattle.model_page_law.proofs.ContentLemmas.{content_items, leaf_items}
 use Rattle.model_page_law.proofs.BlankLemmas.{content-not_white, Loose-pre}
-use Rattle.model_page_law.proofs.BlockClean.{IsBare, bare_is}
+use Rattle.model_page_law.proofs.BlockClean.{bare_is}
 use Rattle.model_page_law.proofs.CleanLemmas.{head_back, clean_tag}
 use Rattle.model_page_law.proofs.NodesRead.{said_items}
 use Rattle.model_kept_law.proofs.FitFacts.{Small}
@@ -69,14 +69,15 @@ content-whole (Node s inside pre later) c =
     ((λ l. c.0.kind), subst (λ n. NoWhole (said_items n ++ Closing s.kind pre ∷ said_items later)) (sym c.0.alone) (content-whole later c.2))
 
 inside-whole : (s : Start) (inside : Nodes) (pre : List ℕ) → (is_content_branch s.kind ≡ true → IsContent inside × (pre ≡ [])) → (is_content_branch s.kind ≡ false → NoWhole (said_items inside)) → NoWhole (said_items inside)
-inside-whole s inside pre f g = elim (cases_Bool (is_content_branch s.kind)) [ | inl e ↦ content-whole inside (f e).0 | inr e ↦ g e ]
+inside-whole s inside pre f g = elim (cases_Bool (is_content_branch s.kind)) [ inl e ↦ content-whole inside (f e).0 | inr e ↦ g e ]
 
 blocks-whole : (k : Kind) (n : Nodes) → AreBlocks k n → NoWhole (said_items n)
 blocks-whole k Empty b = tt
 blocks-whole k (Letter c marks later) b = absurd b
-blocks-whole k (Node s inside pre later) b =
-    (branch_stands s.kind b.0.branch,
-      NoWhole-append (said_items inside) (Closing s.kind pre ∷ said_items later) (inside-whole s inside pre b.1 (λ e. blocks-whole s.kind inside (b.2 e).0)) (blocks-whole k later b.3))
+blocks-whole k (Node s inside pre later) b = (
+  branch_stands s.kind b.0.branch,
+  NoWhole-append (said_items inside) (Closing s.kind pre ∷ said_items later) (inside-whole s inside pre b.1 (λ e. blocks-whole s.kind inside (b.2 e).0)) (blocks-whole k later b.3),
+)
 
 -- ---- kept leaves
 

@@ -1,5 +1,5 @@
 -- The text of levels whose marks are changed, as the writer's content is; and of levels that keep their leaves as they stood.
-use Rattle.std.proofs.Common.{◌≡◌, ℕ, zero, suc, ◌+◌, ◌≤◌, Bool, true, false, List, [], ◌∷◌, ◌++◌, length, take, drop, reverse, map, Option, Some, None, refl, sym, ap, ◌∙◌, append_assoc, arith}
+use Rattle.std.proofs.Common.{◌≡◌, ℕ, zero, suc, ◌+◌, ◌≤◌, Bool, false, List, [], ◌∷◌, ◌++◌, length, take, drop, reverse, map, refl, sym, ap, ◌∙◌, append_assoc, arith}
 use Rattle.std.proofs.lemmas.List.{append-nil, reverse-append}
 use Rattle.std.proofs.lemmas.List.Concat.{flat_map-append}
 use Rattle.std.specs.Prelude.{flat_map, unwrap_or}
@@ -11,7 +11,7 @@ use Rattle.model_page_write.specs.Nodes.{Start, Nodes, Empty, Letter, Node, node
 use Rattle.model_page_write.specs.Written.{letter, common_count, mark_start, mark_end, marks_changed, Writer, leaf_text, content}
 use Rattle.model_page.specs.Tags.{tag_of}
 use Rattle.model_page_law.proofs.ContentLemmas.{Levels, with_text, mark_element, wrapped, opens, closes, changes, Common-count, length-closes, drop-next}
-use Rattle.model_page_law.proofs.ContentText.{end_at, levels_text, OpenedText, LeafTexts}
+use Rattle.model_page_law.proofs.ContentText.{end_at, levels_text, OpenedText}
 use Rattle.model_page_law.proofs.FormedNodes.{MarksMean}
 
 -- a longer text before

@@ -11,3 +11,4 @@ pub mod OwnContent
 pub mod WrittenBlocks
 pub mod KeptBlocks
 pub mod KeptBackLemmas
+mod KeptExamples

@@ -1,17 +1,14 @@
 -- A node that is kept has the bytes of a node of the first page, whose source is known.
-use Rattle.std.proofs.Common.{◌≡◌, ℕ, zero, suc, ◌+◌, ◌-◌, ◌<◌, ◌≤◌, ◌==◌, Bool, true, false, ◌&&◌, if◌then◌else◌, List, [], ◌∷◌, ◌++◌, length, take, drop, map, Option, Some, None, Result, Ok, Err, refl, sym, ap, ◌∙◌, subst, append_assoc, append-nil, length-append, length-take-le, arith, ◌⊎◌, inl, inr, eqb-true}
+use Rattle.std.proofs.Common.{◌≡◌, ℕ, zero, suc, ◌+◌, ◌≤◌, ◌==◌, Bool, true, false, if◌then◌else◌, List, [], ◌∷◌, ◌++◌, length, take, drop, map, Option, Some, None, Result, Ok, Err, refl, sym, ap, ◌∙◌, subst, append_assoc, append-nil, length-append, length-take-le, arith, ◌⊎◌, inl, inr, eqb-true}
 use Rattle.std.proofs.lemmas.List.{map-append}
-use Rattle.std.proofs.lemmas.Bool.{and_parts, cases_Bool}
+use Rattle.std.proofs.lemmas.Bool.{and_parts}
 use Rattle.std.specs.Prelude.{slice_get, unwrap_or, flat_map}
 use Rattle.model_spelling.specs.declared.scan_fault.ScanFault.{ScanFault}
 use Rattle.model_spelling.specs.Forest.{Forest, spelling, is_forest}
 use Rattle.model_spelling.specs.Parsed.{forest_of}
 use Rattle.model_spelling.specs.Page.{body_at}
 use Rattle.model_spelling.proofs.Proved.{law_reads_right, law_body_inside}
-use Rattle.ve_kinds.specs.declared.kind.Kind.{Kind}
 use Rattle.ve_kinds.specs.declared.kind.Kind.TheVariants.{Root, InternalItem, InternalList}
-use Rattle.ve_base.specs.declared.head.Head.{Head}
-use Rattle.ve_base.specs.declared.marks.Mark.{Mark}
 use Rattle.model_items.specs.declared.plain_item.PlainItem.{PlainItem}
 use Rattle.model_items.specs.declared.plain_item.PlainItem.TheVariants.{Char, Opening, Closing}
 use Rattle.model_items.specs.Same.{list_same, option_same, item_same}
@@ -22,15 +19,15 @@ use Rattle.model_page.specs.Parts.{parts_of}
 use Rattle.model_page.specs.Pieces.{SourceSpan, Owner, Made, Progress}
 use Rattle.model_page.specs.PageItems.{slice, with_origins, body_made, or_nothing, internal_item, internal_list, items_of_page, Opened, page_opened, opened_forest, opened_body, opened_page, page_made}
 use Rattle.model_page_write.specs.Nodes.{Carried, body_carried, carried_from, carried_items, Start, Nodes, Empty, Letter, Node, carried_nodes, start_item, node_list_items, node_items}
-use Rattle.model_page_write.specs.PageText.{has_origin, node_from, node_with, without_pre, body_same, carried_same, is_kept, part_at, original_at}
-use Rattle.model_page_law.specs.Origins.{origin_before, origins_of}
+use Rattle.model_page_write.specs.PageText.{node_from, node_with, without_pre, body_same, carried_same, is_kept, part_at, original_at}
+use Rattle.model_page_law.specs.Origins.{origins_of}
 use Rattle.model_page_law.proofs.OriginLemmas.{origins_of-append}
 use Rattle.model_page_law.proofs.NestLemmas.{unplaced}
 use Rattle.model_page_law.proofs.LawfulLemmas.{flow_holds}
 use Rattle.model_page_law.proofs.OneLemmas.{spelled-Neat}
 use Rattle.model_page_law.proofs.SourceLemmas.{parts_of-source}
 use Rattle.model_page_law.proofs.ShapeLemmas.{plain, openings}
-use Rattle.model_page_law.proofs.PlaceLemmas.{with_origin, numbered_nodes, with_origins-nodes, with_body, bearing, carried_from-append, carried_from-plain, nodes_of-carried_items, has_origin-itself}
+use Rattle.model_page_law.proofs.PlaceLemmas.{with_origin, numbered_nodes, with_origins-nodes, with_body, bearing, carried_from-append, carried_from-plain, nodes_of-carried_items}
 use Rattle.model_page_law.proofs.KeptLemmas.{cut}
 use Rattle.model_page_law.proofs.NodesRead.{said_items}
 use Rattle.model_kept_law.proofs.ReadParts.{parts_read}

@@ -1,5 +1,5 @@
 -- Content in which leaves keep their tags as they stood is read as that content.
-use Rattle.std.proofs.Common.{◌≡◌, ℕ, zero, suc, ◌+◌, Bool, true, false, if◌then◌else◌, List, [], ◌∷◌, ◌++◌, drop, map, Option, Some, None, refl, sym, ap, ◌∙◌, subst}
+use Rattle.std.proofs.Common.{◌≡◌, ℕ, zero, suc, Bool, true, false, List, [], ◌∷◌, ◌++◌, drop, map, Option, Some, None, refl, sym, ap, ◌∙◌, subst}
 use Rattle.std.specs.Prelude.{chars, encode_utf8_all, unwrap_or}
 use Rattle.model_spelling.specs.Grammar.{Attr as Spelled, start_text}
 use Rattle.model_spelling.specs.Forest.{Forest, Nothing, Text, Remark, Void, RawElement, Element, spelling, starts_with_text}
@@ -8,28 +8,26 @@ use Rattle.ve_kinds.specs.declared.kind.Kind.{Kind}
 use Rattle.ve_kinds.specs.declared.kind.Kind.TheVariants.{P}
 use Rattle.ve_kinds.specs.Table.{is_inline_leaf}
 use Rattle.ve_base.specs.declared.marks.Mark.{Mark}
-use Rattle.ve_base.specs.declared.head.Head.{Head}
-use Rattle.model_items.specs.declared.plain_item.PlainItem.{PlainItem}
 use Rattle.model_items.specs.declared.plain_item.PlainItem.TheVariants.{Char, Opening, Closing}
 use Rattle.model_page.specs.Elements.{is_held}
 use Rattle.model_page.specs.Tags.{tag_of, is_annotation_tag}
 use Rattle.model_page.specs.Parts.{Ended, Single, Parent, parts_of}
 use Rattle.model_page.specs.Fit.{Around, Flow, Content, Annotation, Leaf, has_child, fit_of}
 use Rattle.model_page.specs.Heads.{characters, attrs_of, head_with}
-use Rattle.model_page.specs.Pieces.{Made, Progress, past}
+use Rattle.model_page.specs.Pieces.{Progress, past}
 use Rattle.model_page.specs.Convert.{marked_around, element_source, element_made, inside_of, made_of}
-use Rattle.model_page_write.specs.Nodes.{Carried, Start, Nodes, Empty, Letter, Node, node_items}
+use Rattle.model_page_write.specs.Nodes.{Start, Nodes, Empty, Letter, Node, node_items}
 use Rattle.model_page_write.specs.Written.{letter, common_count, Writer, leaf_text, content}
 use Rattle.model_page_law.specs.Formed.{IsPlainMark, ArePlainMarks}
 use Rattle.model_page_law.proofs.FormedNodes.{MarksMean, IsLeaf, IsContent}
 use Rattle.model_page_law.proofs.NeatForests.{NeatAttrs, NeatTag, Neat}
 use Rattle.model_page_law.proofs.EscapeLemmas.{letters_back}
 use Rattle.model_page_law.proofs.TagLemmas.{leaf_kind, mark_tag}
-use Rattle.model_page_law.proofs.ContentLemmas.{Levels, with_text, mark_element, wrapped, opens, closes, changes, leaf_element, content_levels, content_items, Reads, content-Reads, parts_if_false, child-text}
+use Rattle.model_page_law.proofs.ContentLemmas.{Levels, with_text, wrapped, opens, closes, changes, leaf_element, content_levels, content_items, Reads, content-Reads, parts_if_false, child-text}
 use Rattle.model_page_law.proofs.ContentText.{LeafTexts}
 use Rattle.model_page_law.proofs.BlockReads.{Loose, leaf_made-inline}
 use Rattle.model_page_law.proofs.CleanLemmas.{Clean, head_back, clean_tag, good_content, leaf_texts, content-Sound}
-use Rattle.model_kept_law.proofs.FitFacts.{Small, marks_content, marks_flow}
+use Rattle.model_kept_law.proofs.FitFacts.{marks_content, marks_flow}
 use Rattle.model_kept_law.proofs.ApartParts.{Apart}
 use Rattle.model_kept_law.proofs.OwnSource.{OwnLeaf}
 use Rattle.model_kept_law.proofs.LevelTexts.{Tag, canonical, Tags, own_element, own_levels, OwnTexts, own-spelling}
@@ -120,7 +118,7 @@ own_reads (Element name attrs children rest) l ms w v =
     let by : Progress = inside_of v name attrs in
     mark_items name attrs children rest ms w t.free (marks_content name (parts_of children) t.mark t.child ms)
     ∙ (λ i. own_reads children l.1 (ms ++ record { tag = chars name; attrs = attrs_of attrs } ∷ []) at by i
-        ++ own_reads rest l.2 ms (past w (element_source name attrs (parts_of children)) (made_of around (parts_of children) at).owners) (past v (element_source name attrs (parts_of (tidy children))) (made_of around (parts_of (tidy children)) by).owners) i)
+    ++ own_reads rest l.2 ms (past w (element_source name attrs (parts_of children)) (made_of around (parts_of children) at).owners) (past v (element_source name attrs (parts_of (tidy children))) (made_of around (parts_of (tidy children)) by).owners) i)
     ∙ sym (mark_items name attrs (tidy children) (tidy rest) ms v t.free (marks_content name (parts_of (tidy children)) t.mark (child_tidy children l.1 t.child) ms))
 
 own_loose : (f : Forest) → Leafy f → (k : Kind) → Loose k f

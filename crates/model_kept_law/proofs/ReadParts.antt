@@ -1,7 +1,6 @@
 -- Parts as they are formed of a forest that may be spelled.
-use Rattle.std.proofs.Common.{◌≡◌, ℕ, Bool, true, false, if◌then◌else◌, ◌&&◌, List, [], ◌∷◌, ◌++◌, Option, refl, sym, ap, ◌∙◌, inl, inr}
-use Rattle.std.proofs.lemmas.Bool.{cases_Bool}
-use Rattle.model_spelling.specs.Grammar.{Attr as Spelled, start_text, end_text}
+use Rattle.std.proofs.Common.{◌≡◌, ℕ, Bool, true, false, if◌then◌else◌, ◌&&◌, List, ◌∷◌, Option, refl}
+use Rattle.model_spelling.specs.Grammar.{Attr as Spelled, start_text}
 use Rattle.model_spelling.specs.Forest.{Forest, Nothing, Text, Remark, Void, RawElement, Element, spelling, starts_with_text}
 use Rattle.ve_kinds.specs.Tags.{is_void}
 use Rattle.model_page.specs.Elements.{is_white, about_of, is_held}

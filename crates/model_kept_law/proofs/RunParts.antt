@@ -1,22 +1,19 @@
 -- A run without leaves that are kept whole is the content that a forest makes, wherever that stands.
-use Rattle.std.proofs.Common.{◌≡◌, ℕ, Bool, true, false, if◌then◌else◌, List, [], ◌∷◌, ◌++◌, map, Option, Some, None, refl, sym, ap, ◌∙◌, subst, append_assoc, inl, inr}
+use Rattle.std.proofs.Common.{◌≡◌, ℕ, Bool, true, false, if◌then◌else◌, List, [], ◌∷◌, ◌++◌, map, Option, Some, None, refl, sym, ap, ◌∙◌, subst, inl, inr}
 use Rattle.std.specs.Prelude.{chars}
 use Rattle.model_spelling.specs.Grammar.{Attr as Spelled, Comment, token_text, start_text, end_text}
 use Rattle.model_spelling.specs.Forest.{Forest, Nothing, Text, Void, Element, spelling, starts_with_text}
 use Rattle.ve_kinds.specs.Tags.{is_raw, kind_of_tag}
 use Rattle.model_spelling.specs.Grammar.{is_tag_name}
 use Rattle.ve_kinds.specs.declared.kind.Kind.{Kind}
-use Rattle.ve_kinds.specs.declared.kind.Kind.TheVariants.{Ref, AlienInline, AlienBlock}
-use Rattle.ve_kinds.specs.Table.{is_inline_leaf}
-use Rattle.ve_base.specs.declared.marks.Mark.{Mark}
+use Rattle.ve_kinds.specs.declared.kind.Kind.TheVariants.{AlienInline, AlienBlock}
 use Rattle.ve_base.specs.declared.head.Head.{Head}
-use Rattle.model_items.specs.declared.plain_item.PlainItem.{PlainItem}
-use Rattle.model_items.specs.declared.plain_item.PlainItem.TheVariants.{Char, Opening, Closing}
+use Rattle.model_items.specs.declared.plain_item.PlainItem.TheVariants.{Char}
 use Rattle.model_page.specs.Elements.{is_white, is_held}
 use Rattle.model_page.specs.Tags.{tag_of, is_annotation_tag}
-use Rattle.model_page.specs.Parts.{Parts, Ended, Words, Note, Group, Single, Parent, source_of, parts_of}
-use Rattle.model_page.specs.Fit.{Around, Flow, Structural, Content, Fit, Annotation, Leaf, Branch, Whole, around_in, has_child, fit_of, whole_kind, is_generated, has_inline_tags, is_inline_at, group_kind, note_kind}
-use Rattle.model_page.specs.Heads.{characters, attrs_of, head_with, whole_head}
+use Rattle.model_page.specs.Parts.{Parts, Ended, Words, Note, Group, Single, Parent, parts_of}
+use Rattle.model_page.specs.Fit.{Around, Flow, Content, Fit, Annotation, Leaf, Branch, Whole, around_in, has_child, fit_of, whole_kind, is_generated, has_inline_tags}
+use Rattle.model_page.specs.Heads.{characters, head_with, whole_head}
 use Rattle.model_page.specs.Pieces.{Owner, Made, Piece, Progress, past, source_span, leaf, node, chars_piece, with_white, run_dropped, paragraph_before, run_ended, in_run, before_run, leaf_before}
 use Rattle.model_page.specs.ReferenceNodes.{RefNode, ref_of}
 use Rattle.model_page.specs.Convert.{marked_around, element_source, inside_of, inside_piece, group_made, leaf_made, element_made, made_of}
@@ -195,5 +192,5 @@ run_of (Parent name attrs children later) r parent w h =
     let p = r.0 in
     subst (λ c. IsRead c → NoWhole (made_of (Flow parent) (Parent name attrs c later) w).run.items → RunForest false (made_of (Flow parent) (Parent name attrs c later) w)) (sym p.are)
     (λ read g. parent_run parent name attrs p.inner (made_of (Flow parent) later) w (fit_of (Flow parent) name (parts_of p.inner)) (fit_facts (Flow parent) name (parts_of p.inner)) p.free p.tag p.neat read
-        (no_leaf (Flow parent) name (parts_of p.inner) p.tag.void_is) (λ q x. (is_words later, run_of later r.2 parent q x)) g)
+    (no_leaf (Flow parent) name (parts_of p.inner) p.tag.void_is) (λ q x. (is_words later, run_of later r.2 parent q x)) g)
     r.1 h

@@ -4,7 +4,7 @@ use Rattle.std.proofs.lemmas.List.{take_at, drop_at}
 use Rattle.std.specs.Prelude.{chars, encode_utf8_all, take}
 use Rattle.model_spelling.specs.Grammar.{Attr as Spelled, Comment, token_text, start_text, end_text}
 use Rattle.model_spelling.specs.Forest.{Forest, spelling}
-use Rattle.ve_kinds.specs.Tags.{is_void, kind_of_tag}
+use Rattle.ve_kinds.specs.Tags.{kind_of_tag}
 use Rattle.ve_kinds.specs.declared.kind.Kind.{Kind}
 use Rattle.ve_kinds.specs.declared.kind.Kind.TheVariants.{P, Ref, AlienInline, AlienBlock}
 use Rattle.ve_kinds.specs.Table.{is_inline_leaf}
@@ -13,9 +13,9 @@ use Rattle.ve_base.specs.declared.head.Head.{Head}
 use Rattle.ve_base.specs.Empty.{empty_head}
 use Rattle.model_items.specs.declared.plain_item.PlainItem.{PlainItem}
 use Rattle.model_items.specs.declared.plain_item.PlainItem.TheVariants.{Char, Opening, Closing}
-use Rattle.model_page.specs.Elements.{is_white, is_held}
+use Rattle.model_page.specs.Elements.{is_white}
 use Rattle.model_page.specs.Tags.{tag_of}
-use Rattle.model_page.specs.Parts.{Parts, Ended, Words, Note, Group, Single, Parent, source_of, parts_of}
+use Rattle.model_page.specs.Parts.{Parts, Ended, Words, Note, Group, Single, Parent, source_of}
 use Rattle.model_page.specs.Fit.{Around, Flow, Structural, Content, Fit, Annotation, Leaf, Branch, Whole, around_in, is_convertible, fit_of, whole_kind, is_generated, has_inline_tags, is_inline_at, group_kind, note_kind}
 use Rattle.model_page.specs.Heads.{characters, head_with, whole_head}
 use Rattle.model_page.specs.Pieces.{SourceSpan, Owner, Made, Piece, Progress, past, source_span, no_piece, joined_pieces, leaf, node, chars_piece, items_after, with_white, run_dropped, paragraph_before, run_ended, run_closed, in_run, before_run, leaf_before}
@@ -27,7 +27,7 @@ use Rattle.model_page_law.proofs.SourceLemmas.{parts_of-source}
 use Rattle.model_page_law.proofs.NeatForests.{NeatTag}
 use Rattle.model_page_law.proofs.NodesLemmas.{followed}
 use Rattle.model_page_law.proofs.ShapeLemmas.{plain, plain-followed, letters, whitened, items_after-plain}
-use Rattle.model_page_law.proofs.TileLemmas.{Tiled, Tiled-made_of}
+use Rattle.model_page_law.proofs.TileLemmas.{Tiled-made_of}
 use Rattle.model_page_law.proofs.KindFits.{Sane, FitStands, fit_stands}
 use Rattle.model_page_law.proofs.NestLemmas.{Meets-made_of}
 use Rattle.model_kept_law.proofs.FitFacts.{Small, HoldsBlocks, IsAlien, FitFacts, fit_facts, tag_is}
@@ -35,7 +35,7 @@ use Rattle.model_kept_law.proofs.ReadParts.{SingleRead, ParentRead, IsRead}
 use Rattle.model_kept_law.proofs.ApartParts.{Apart, Same, Same-inside_piece, apart_same}
 use Rattle.model_kept_law.proofs.WholeParts.{MayStand, NoWhole, note_alien, leaf_void, no_leaf, inside_apart}
 use Rattle.model_kept_law.proofs.OwnSource.{OwnLeaf, OwnBlock, OwnRun}
-use Rattle.model_kept_law.proofs.RunParts.{RunForest, run_of}
+use Rattle.model_kept_law.proofs.RunParts.{run_of}
 
 -- ---- a text stands at a place of the page
 

@@ -1,7 +1,7 @@
 -- Where no leaf is kept whole, no group stands among the parts.
 use Rattle.std.proofs.Common.{◌≡◌, ℕ, Bool, true, false, if◌then◌else◌, List, [], ◌∷◌, ◌++◌, map, Option, Some, None, refl, sym, ap, ◌∙◌, subst, inl, inr}
 use Rattle.std.specs.Prelude.{chars}
-use Rattle.model_spelling.specs.Grammar.{Attr as Spelled, Comment, token_text, start_text}
+use Rattle.model_spelling.specs.Grammar.{Attr as Spelled, Comment, token_text}
 use Rattle.model_spelling.specs.Forest.{Forest, spelling}
 use Rattle.ve_kinds.specs.declared.kind.Kind.{Kind}
 use Rattle.ve_kinds.specs.declared.kind.Kind.TheVariants.{Ref, AlienInline, AlienBlock}
@@ -12,7 +12,7 @@ use Rattle.ve_base.specs.declared.head.Head.{Head}
 use Rattle.model_items.specs.declared.plain_item.PlainItem.{PlainItem}
 use Rattle.model_items.specs.declared.plain_item.PlainItem.TheVariants.{Char, Opening, Closing}
 use Rattle.model_page.specs.Elements.{is_white}
-use Rattle.model_page.specs.Parts.{Parts, Ended, Words, Note, Group, Single, Parent, source_of}
+use Rattle.model_page.specs.Parts.{Parts, Ended, Words, Note, Group, Single, Parent}
 use Rattle.model_page.specs.Fit.{Around, Flow, Structural, Content, Fit, Annotation, Leaf, Branch, Whole, around_in, fit_of, whole_kind, is_generated, has_inline_tags, is_inline_at, group_kind, note_kind}
 use Rattle.model_page.specs.Heads.{characters, head_with, whole_head}
 use Rattle.model_page.specs.Pieces.{Owner, Made, Piece, Progress, past, source_span, leaf, node, chars_piece, items_after, with_white, run_dropped, paragraph_before, run_ended, in_run, before_run, leaf_before}
@@ -23,7 +23,7 @@ use Rattle.model_page_law.proofs.TagLemmas.{leaf_kind}
 use Rattle.model_page_law.proofs.KindFits.{Sane, FitStands, fit_stands}
 use Rattle.model_page_law.proofs.NestLemmas.{Unsourced, Meets-made_of}
 use Rattle.model_kept_law.proofs.FitFacts.{Small, HoldsBlocks, IsAlien, FitFacts, fit_facts, tag_is}
-use Rattle.model_kept_law.proofs.ReadParts.{Angled, SingleRead, IsRead}
+use Rattle.model_kept_law.proofs.ReadParts.{Angled, IsRead}
 use Rattle.model_kept_law.proofs.ApartParts.{Apart}
 
 -- ---- items without leaves that are kept whole
@@ -269,9 +269,9 @@ sound_apart (Single name attrs source later) r around a w s =
     sound_apart later r.1 around a (past w source []) (leaf_sound around name Ended attrs source (made_of around later) w (fit_of around name Ended) (fit_facts around name Ended) s)
 sound_apart (Parent name attrs children later) r around a w s =
     let e = element_sound around name children attrs (element_source name attrs children) (λ x. made_of x children) (made_of around later) w (fit_of around name children)
-        (fit_facts around name children) (fit_stands around a name children)
-        (record { calm_are = calm children r.1; unsourced = λ x p t. (Meets-made_of x t children p).source; apart = λ x p t. sound_apart children r.1 x t p })
-        (calm later r.2 around) (no_leaf around name children r.0.tag.void_is) s in
+    (fit_facts around name children) (fit_stands around a name children)
+    (record { calm_are = calm children r.1; unsourced = λ x p t. (Meets-made_of x t children p).source; apart = λ x p t. sound_apart children r.1 x t p })
+    (calm later r.2 around) (no_leaf around name children r.0.tag.void_is) s in
     (e.0, sound_apart later r.2 around a e.1.0 e.1.1)
 
 -- what a branch holds

@@ -1,28 +1,27 @@
 -- Blocks that are written are read as these blocks, whether they are kept or written afresh: one block before others.
-use Rattle.std.proofs.Common.{◌≡◌, ℕ, Bool, true, false, not, ◌&&◌, ◌||◌, ◌==◌, if◌then◌else◌, List, [], ◌∷◌, ◌++◌, map, Option, Some, None, refl, sym, ap, ◌∙◌, subst, append_assoc, append-nil, arith, ◌⊎◌, inl, inr}
-use Rattle.std.proofs.lemmas.Bool.{and_parts, and_from, cases_Bool}
+use Rattle.std.proofs.Common.{◌≡◌, ℕ, Bool, true, false, not, ◌&&◌, ◌==◌, if◌then◌else◌, List, [], ◌∷◌, ◌++◌, map, None, refl, sym, ap, ◌∙◌, subst, append_assoc, append-nil, arith}
+use Rattle.std.proofs.lemmas.Bool.{and_parts, and_from}
 use Rattle.std.proofs.lemmas.Grind.{common_steps}
 use Rattle.std.proofs.lemmas.List.{map-append}
-use Rattle.std.specs.Prelude.{chars, encode_utf8_all, unwrap_or}
+use Rattle.std.specs.Prelude.{chars, encode_utf8_all}
 use Rattle.model_spelling.specs.Grammar.{Attr as Spelled, Comment, token_text, start_text, end_text}
 use Rattle.model_spelling.specs.Forest.{Forest, Nothing, Text, Remark, Void, RawElement, Element, spelling, starts_with_text}
 use Rattle.ve_kinds.specs.declared.kind.Kind.{Kind}
 use Rattle.ve_kinds.specs.declared.kind.Kind.TheVariants.{P}
 use Rattle.ve_kinds.specs.Table.{may_hold, is_among, structural_kinds}
 use Rattle.ve_kinds.specs.Tags.{kind_of_tag}
-use Rattle.ve_base.specs.declared.head.Head.{Head}
 use Rattle.ve_base.specs.Empty.{empty_head}
 use Rattle.model_items.specs.declared.plain_item.PlainItem.{PlainItem}
-use Rattle.model_items.specs.declared.plain_item.PlainItem.TheVariants.{Char, Opening, Closing}
+use Rattle.model_items.specs.declared.plain_item.PlainItem.TheVariants.{Opening, Closing}
 use Rattle.model_page.specs.Elements.{is_white_char, is_white, is_held}
 use Rattle.model_page.specs.Tags.{tag_of, is_inline_tag}
 use Rattle.model_page.specs.Parts.{Parts, Single, Parent, parts_of}
-use Rattle.model_page.specs.Fit.{Around, Flow, Structural, Content, Branch, around_in, has_blocks_alone, is_convertible, fit_in_block, fit_of}
+use Rattle.model_page.specs.Fit.{Around, Flow, Structural, Branch, around_in, has_blocks_alone, is_convertible, fit_in_block, fit_of}
 use Rattle.model_page.specs.Fragment.{item_unmade}
 use Rattle.model_page.specs.Heads.{head_with}
 use Rattle.model_page.specs.Pieces.{Made, Progress, past, source_span, node, with_white, run_dropped, paragraph_before, run_ended, run_closed, before_run}
 use Rattle.model_page.specs.Convert.{element_source, element_made, inside_of, inside_piece, made_of}
-use Rattle.model_page_write.specs.Nodes.{Start, Nodes, Empty, Letter, Node}
+use Rattle.model_page_write.specs.Nodes.{Start, Nodes, Empty, Node}
 use Rattle.model_page_write.specs.Written.{is_empty, white_after, is_bare, Writer, blocks}
 use Rattle.model_page_law.specs.Formed.{IsHead}
 use Rattle.model_page_law.proofs.NeatForests.{without, NeatTag, Neat}
