@@ -1,0 +1,192 @@
+-- The law: a page that is written with nodes kept in it is read back.
+use Rattle.std.proofs.Common.{◌≡◌, ℕ, Bool, true, false, not, ◌&&◌, if◌then◌else◌, suc, List, [], ◌∷◌, ◌++◌, map, Option, Some, None, refl, sym, ap, ◌∙◌, subst, append_assoc, inl, inr}
+use Rattle.std.proofs.lemmas.List.{append-nil, map-append}
+use Rattle.std.specs.Prelude.{encode_utf8_all, unwrap_or}
+use Rattle.model_spelling.specs.Forest.{Forest, spelling}
+use Rattle.model_spelling.specs.Grammar.{is_tag_name}
+use Rattle.ve_kinds.specs.declared.kind.Kind.{Kind}
+use Rattle.ve_kinds.specs.declared.kind.Kind.TheVariants.{Root, InternalList}
+use Rattle.ve_kinds.specs.Table.{kind_same, is_content_branch, is_leaf}
+use Rattle.ve_base.specs.Empty.{empty_head}
+use Rattle.model_items.specs.declared.plain_item.PlainItem.{PlainItem}
+use Rattle.model_items.specs.declared.plain_item.PlainItem.TheVariants.{Char, Opening, Closing}
+use Rattle.model_page.specs.Tags.{tag_of}
+use Rattle.model_page.specs.Parts.{parts_of}
+use Rattle.model_page.specs.Fit.{Flow}
+use Rattle.model_page.specs.Fragment.{item_unmade}
+use Rattle.model_page.specs.References.{Body}
+use Rattle.model_page.specs.Pieces.{Made, Progress}
+use Rattle.model_page.specs.Convert.{made_of}
+use Rattle.model_page.specs.PageItems.{with_origins, internal_list, items_of_page as items_read, page_made, Opened, opened_page}
+use Rattle.model_page_write.specs.Nodes.{Carried, Start, Nodes, Empty, Letter, Node, node_list_items, carried_nodes, carried_items, carried_from, body_carried, node_items}
+use Rattle.model_page_write.specs.Written.{white_after, is_bare, Writer, fresh_text, original_of, content, blocks}
+use Rattle.model_page_write.specs.PageText.{page_writer}
+use Rattle.model_page_law.specs.ReadBack.{without_origin}
+use Rattle.model_page_law.proofs.FormedNodes.{IsSuch, IsList, AreBlocks, with_list}
+use Rattle.model_page_law.proofs.FormLemmas.{such_list}
+use Rattle.model_page_law.proofs.NodesLemmas.{nodes_of-items_of}
+use Rattle.model_page_law.proofs.BlockText.{pick_true}
+use Rattle.model_page_law.proofs.BlockReads.{Closes}
+use Rattle.model_page_law.proofs.BlankLemmas.{run_ended-owners}
+use Rattle.model_page_law.proofs.OneLemmas.{one_forest}
+use Rattle.model_page_law.proofs.SameLemmas.{marks_mean}
+use Rattle.model_page_law.proofs.NodesRead.{said_items}
+use Rattle.model_page_law.proofs.BodyReplaced.{written_opens}
+use Rattle.model_kept_law.specs.KeptBack.{KeptIsReadBack}
+use Rattle.model_kept_law.proofs.FitFacts.{Small}
+use Rattle.model_kept_law.proofs.ApartParts.{apart_owners}
+use Rattle.model_kept_law.proofs.WholeParts.{NoWhole}
+use Rattle.model_kept_law.proofs.SourceRows.{Own}
+use Rattle.model_kept_law.proofs.OriginalNodes.{kept_source}
+use Rattle.model_kept_law.proofs.WrittenBlocks.{Written}
+use Rattle.model_kept_law.proofs.KeptBlocks.{Known, written}
+
+-- ---- the internal list is written as the whitespace before it
+
+opposite : (b : Bool) → b ≡ true → b ≡ false → ⊥
+opposite b e f = cc
+
+-- it is never kept
+no_list : (s : Start) (items : List PlainItem) (part : List ℕ) → s.kind ≡ InternalList → Own s.kind s.head s.generated items [] part → ⊥
+no_list s items part k (inl l) = let f : false ≡ true = subst Small k l.small in cc
+no_list s items part k (inr (inl b)) = let f : false ≡ true = ap (λ x. is_tag_name (tag_of x)) (sym k) ∙ b.1.tag.name_is in cc
+no_list s items part k (inr (inr r)) = let f : true ≡ false = ap is_content_branch (sym r.1) ∙ ap is_content_branch k in cc
+
+NoWhole-nothing : (items : List PlainItem) → map item_unmade items ≡ [] → NoWhole items
+NoWhole-nothing [] e = tt
+NoWhole-nothing (x ∷ xs) e = cc
+
+list_text : (w : Writer) → Known w → (bare : Bool) (list : Start) → list.kind ≡ InternalList → (text : List ℕ) (o : Option (List ℕ)) → original_of w bare list (node_items list Empty []) ≡ o →
+    unwrap_or o (fresh_text w bare list text []) ≡ []
+list_text w known bare list k text None e = pick_true (kind_same list.kind InternalList) _ _ (ap (λ x. kind_same x InternalList) k)
+list_text w known bare list k text (Some part) e =
+    let kept = known list Empty [] part (taken (list.generated) bare (w.original list (node_items list Empty [])) e) in
+    absurd (no_list list kept.items part k (kept.own (λ l. absurd (opposite (is_leaf list.kind) l (ap is_leaf k))) (NoWhole-nothing kept.items kept.said)))
+  where
+    taken : (generated bare : Bool) (o : Option (List ℕ)) → (if generated && not bare then None else o) ≡ Some part → o ≡ Some part
+    taken true true o e = e
+    taken true false o e = cc
+    taken false bare o e = e
+
+white_after-list : (n : Nodes) (list : Start) → white_after (with_list n list) [] ≡ white_after n list.pre
+white_after-list Empty list = refl
+white_after-list (Letter c marks later) list = refl
+white_after-list (Node s inside pre later) list = refl
+
+list_written : (w : Writer) → Known w → (before : Bool) (list : Start) → list.kind ≡ InternalList → blocks w before [] (Node list Empty [] Empty) ≡ encode_utf8_all list.pre
+list_written w known before list k =
+    let bare : Bool = is_bare before list Empty [] in
+    let text : List ℕ = if is_content_branch list.kind then content w [] Empty else blocks w false [] Empty in
+    ap (λ t. encode_utf8_all list.pre ++ t ++ []) (list_text w known bare list k text (original_of w bare list (node_items list Empty [])) refl)
+    ∙ append-nil (encode_utf8_all list.pre ++ [])
+    ∙ append-nil (encode_utf8_all list.pre)
+
+blocks-with_list : (w : Writer) → Known w → (n : Nodes) (before : Bool) (k : Kind) (list : Start) → list.kind ≡ InternalList → AreBlocks k n →
+    blocks w before [] (with_list n list) ≡ blocks w before list.pre n ++ encode_utf8_all list.pre
+blocks-with_list w known Empty before k list e b = list_written w known before list e
+blocks-with_list w known (Letter c marks later) before k list e b = absurd b
+blocks-with_list w known (Node s inside pre later) before k list e b =
+    let bare : Bool = is_bare before s inside (white_after later list.pre) in
+    let text : List ℕ = if is_content_branch s.kind then content w [] inside else blocks w false pre inside in
+    let own : List ℕ = unwrap_or (original_of w bare s (node_items s inside pre)) (fresh_text w bare s text pre) in
+    ap (λ a. node_text w before s inside pre a (λ x. blocks w x [] (with_list later list))) (white_after-list later list)
+    ∙ ap (λ t. encode_utf8_all s.pre ++ own ++ t) (blocks-with_list w known later bare k list e b.3)
+    ∙ sym (append_assoc (encode_utf8_all s.pre ++ own) (blocks w bare list.pre later) (encode_utf8_all list.pre))
+  where
+    node_text : Writer → Bool → Start → Nodes → List ℕ → List ℕ → (Bool → List ℕ) → List ℕ
+    node_text w before s inside pre after later =
+        let bare = is_bare before s inside after in
+        let text = if is_content_branch s.kind then content w [] inside else blocks w false pre inside in
+        encode_utf8_all s.pre ++ unwrap_or (original_of w bare s (node_items s inside pre)) (fresh_text w bare s text pre) ++ later bare
+
+-- ---- up to origins and the flag
+
+settled-with_origins : (items : List PlainItem) (k : ℕ) → map without_origin (with_origins k items) ≡ map without_origin items
+settled-with_origins [] k = refl
+settled-with_origins (Opening kind head marks pre origin generated ∷ items) k = ap (λ xs. Opening kind head marks pre None false ∷ xs) (settled-with_origins items (suc k))
+settled-with_origins (Closing kind pre ∷ items) k = ap (λ xs. Closing kind pre ∷ xs) (settled-with_origins items k)
+settled-with_origins (Char c marks ∷ items) k = ap (λ xs. Char c marks ∷ xs) (settled-with_origins items k)
+
+settled-unmade : (items : List PlainItem) → map without_origin items ≡ map without_origin (map item_unmade items)
+settled-unmade [] = refl
+settled-unmade (Opening kind head marks pre origin generated ∷ items) = ap (λ xs. Opening kind head marks pre None false ∷ xs) (settled-unmade items)
+settled-unmade (Closing kind pre ∷ items) = ap (λ xs. Closing kind pre ∷ xs) (settled-unmade items)
+settled-unmade (Char c marks ∷ items) = ap (λ xs. Char c marks ∷ xs) (settled-unmade items)
+
+settled-said : (n : Nodes) → map without_origin (said_items n) ≡ said_items n
+settled-said Empty = refl
+settled-said (Letter c marks later) = ap (λ xs. Char c marks ∷ xs) (settled-said later)
+settled-said (Node s inside pre later) =
+    ap (λ xs. Opening s.kind s.head s.marks s.pre None false ∷ xs)
+    (map-append without_origin (said_items inside) (Closing s.kind pre ∷ said_items later) ∙ (λ i. settled-said inside i ++ Closing s.kind pre ∷ settled-said later i))
+
+abbrev plain : List Carried → List PlainItem
+plain items = map (λ c. c.item) items
+
+settled-items_of : (n : Nodes) → map without_origin (plain (node_list_items n)) ≡ said_items n
+settled-items_of Empty = refl
+settled-items_of (Letter c marks later) = ap (λ xs. Char c marks ∷ xs) (settled-items_of later)
+settled-items_of (Node s inside pre later) =
+    ap (λ xs. Opening s.kind s.head s.marks s.pre None false ∷ map without_origin xs) (map-append (λ c. c.item) (node_list_items inside) (record { item = Closing s.kind pre; body = None } ∷ node_list_items later))
+    ∙ ap (λ xs. Opening s.kind s.head s.marks s.pre None false ∷ xs)
+    (map-append without_origin (plain (node_list_items inside)) (Closing s.kind pre ∷ plain (node_list_items later)) ∙ (λ i. settled-items_of inside i ++ Closing s.kind pre ∷ settled-items_of later i))
+
+plain-carried : (bodies : ℕ → Option Body) (at : ℕ) (items : List PlainItem) → plain (carried_from bodies at items) ≡ items
+plain-carried bodies at [] = refl
+plain-carried bodies at (Opening kind head marks pre origin generated ∷ items) = ap (λ xs. Opening kind head marks pre origin generated ∷ xs) (plain-carried bodies (suc at) items)
+plain-carried bodies at (Closing kind pre ∷ items) = ap (λ xs. Closing kind pre ∷ xs) (plain-carried bodies (suc at) items)
+plain-carried bodies at (Char c marks ∷ items) = ap (λ xs. Char c marks ∷ xs) (plain-carried bodies (suc at) items)
+
+said-with_list : (n : Nodes) (list : Start) → IsList list → said_items (with_list n list) ≡ said_items n ++ Opening InternalList empty_head [] list.pre None false ∷ Closing InternalList [] ∷ []
+said-with_list Empty list l = (λ i. Opening (l.kind i) (l.head i) (l.marks i) list.pre None false ∷ Closing (l.kind i) [] ∷ [])
+said-with_list (Letter c marks later) list l = ap (λ xs. Char c marks ∷ xs) (said-with_list later list l)
+said-with_list (Node s inside pre later) list l =
+    ap (λ xs. Opening s.kind s.head s.marks s.pre None false ∷ said_items inside ++ Closing s.kind pre ∷ xs) (said-with_list later list l)
+    ∙ ap (λ xs. Opening s.kind s.head s.marks s.pre None false ∷ xs) (sym (append_assoc (said_items inside) (Closing s.kind pre ∷ said_items later) (Opening InternalList empty_head [] list.pre None false ∷ Closing InternalList [] ∷ [])))
+
+page_settled : (at : ℕ) (f : Forest) (xs : List PlainItem) (pre : List ℕ) → Closes (Flow Root) f xs pre → map without_origin xs ≡ xs → (page_made at f).owners ≡ [] →
+    map without_origin (items_read (page_made at f)) ≡ xs ++ Opening InternalList empty_head [] pre None false ∷ Closing InternalList [] ∷ []
+page_settled at f xs pre c same none =
+    let w : Progress = record { at = at; owners = []; editable = true } in
+    let m : Made = page_made at f in
+    map-append without_origin (with_origins 0 m.later.items) (internal_list m.pre m.owners)
+    ∙ (λ i. settled-with_origins m.later.items 0 i ++ map without_origin (internal_list (c.white w i) (none i)))
+    ∙ ap (λ ys. ys ++ Opening InternalList empty_head [] pre None false ∷ Closing InternalList [] ∷ []) (settled-unmade m.later.items ∙ ap (map without_origin) (c.later w) ∙ same)
+
+-- ---- the law
+
+-- the forest of what a writer writes of such a list
+pub list_forest : (w : Writer) → Known w → (items : List PlainItem) (such : IsSuch items) → Written w Root false such.list.pre such.nodes
+list_forest w known items such = written marks_mean w known such.nodes Root false such.list.pre such.blocks such.last.before
+
+pub list_spelled : (w : Writer) (known : Known w) (items : List PlainItem) (such : IsSuch items) → blocks w false [] (carried_nodes (carried_items items)) ≡ spelling (list_forest w known items such).forest
+list_spelled w known items such =
+    ap (λ x. blocks w false [] (carried_nodes x)) such.are
+    ∙ ap (blocks w false []) (nodes_of-items_of (with_list such.nodes such.list))
+    ∙ blocks-with_list w known such.nodes false Root such.list such.last.kind such.blocks
+    ∙ sym (list_forest w known items such).spells
+
+pub list_read : (w : Writer) (known : Known w) (items : List PlainItem) (such : IsSuch items) (at : ℕ) →
+    map without_origin (items_read (page_made at (list_forest w known items such).forest)) ≡ map without_origin items
+list_read w known items such at =
+    let n : Nodes = such.nodes in
+    let list : Start = such.list in
+    let r = list_forest w known items such in
+    let u : Progress = record { at = at; owners = []; editable = true } in
+    let m : Made = made_of (Flow Root) (parts_of r.forest) u in
+    let owners : (page_made at r.forest).owners ≡ [] = run_ended-owners m.source u m ∙ apart_owners (parts_of r.forest) r.apart (Flow Root) u in
+    let meant : map without_origin items ≡ said_items (with_list n list) =
+    ap (map without_origin) (sym (plain-carried (body_carried items) 0 items)) ∙ ap (λ x. map without_origin (plain x)) such.are ∙ settled-items_of (with_list n list) in
+    page_settled at r.forest (said_items n) list.pre r.reads.closes (settled-said n) owners ∙ sym (said-with_list n list such.last) ∙ sym meant
+
+pub page_known : (page : List ℕ) (o : Opened) → opened_page page ≡ Some o → Known (page_writer o)
+page_known page o h s inside pre part e = kept_source page o h s inside pre part e
+
+pub kept_is_read_back : KeptIsReadBack
+kept_is_read_back page o items f h lawful formed g e =
+    let w : Writer = page_writer o in
+    let known : Known w = page_known page o h in
+    let such = such_list items lawful formed in
+    let r = list_forest w known items such in
+    let is : f ≡ r.forest = one_forest f r.forest g r.neat (e ∙ list_spelled w known items such) in
+    (written_opens page o items f h g e, ap (λ x. map without_origin (items_read (page_made o.body.from x))) is ∙ list_read w known items such o.body.from)

@@ -1,0 +1,14 @@
+pub mod FitFacts
+pub mod ReadParts
+pub mod ApartParts
+pub mod WholeParts
+pub mod OwnSource
+pub mod RunParts
+pub mod SourceRows
+pub mod OriginalNodes
+pub mod LevelTexts
+pub mod OwnContent
+pub mod WrittenBlocks
+pub mod KeptBlocks
+pub mod KeptBackLemmas
+mod KeptExamples

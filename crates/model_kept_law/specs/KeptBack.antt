@@ -1,0 +1,20 @@
+-- A page that is written with nodes kept in it, by the bytes that they had, is read back as the list that it was written from.
+use Rattle.std.specs.Prelude.{◌≡◌, true, false, List, ℕ, [], map, Some}
+use Rattle.model_spelling.specs.Forest.{Forest, spelling, is_forest}
+use Rattle.model_items.specs.declared.plain_item.PlainItem.{PlainItem}
+use Rattle.model_items.specs.Law.{Lawful}
+use Rattle.model_page.specs.PageItems.{Opened, opened_page}
+use Rattle.model_page_write.specs.Nodes.{carried_nodes, carried_items}
+use Rattle.model_page_write.specs.Written.{blocks}
+use Rattle.model_page_write.specs.PageText.{page_writer, write}
+use Rattle.model_page_law.specs.Formed.{AreFormed}
+use Rattle.model_page_law.specs.ReadBack.{without_origin}
+use Rattle.model_page_law.specs.Replaced.{opened_again}
+use Rattle.ve_base.specs.Limits.{max_open_elements}
+
+-- A lawful list of the form, of which any nodes are kept, at any depth: where a forest spells the body that is written, the page opens with what that forest is converted
+-- to, and its items are those of the list, up to origins and the flag generated.
+abbrev pub KeptIsReadBack : Type 0
+KeptIsReadBack = (page : List ℕ) (o : Opened) (items : List PlainItem) (f : Forest) → opened_page page ≡ Some o → Lawful items → AreFormed items →
+    is_forest max_open_elements f ≡ true → spelling f ≡ blocks (page_writer o) false [] (carried_nodes (carried_items items)) →
+    (opened_page (write o items) ≡ Some (opened_again o f)) × (map without_origin (opened_again o f).items ≡ map without_origin items)
