@@ -1,15 +1,12 @@
 -- Why an edit is not made: the model's first cause, from what each call says.
 use Rattle.std.specs.Option.{option_or}
-use Rattle.std.specs.Prelude.{option_map, nat_lt}
-use Rattle.std.proofs.Common.{◌≡◌, ◌≤◌, ◌<◌, ℕ, ◌+◌, Bool, true, false, ◌==◌, if◌then◌else◌, List, [], length, Option, Some, None, refl, sym, ap, ◌∙◌, subst, arith}
-use Rattle.std.proofs.lemmas.Bool.{lt-ltb, le-ltb}
+use Rattle.std.specs.Prelude.{option_map}
+use Rattle.std.proofs.Common.{◌≡◌, ℕ, Result, Ok, Err, OnOk, IfErr, Bool, true, false, ◌==◌, if◌then◌else◌, List, [], length, Option, Some, None, refl, sym, ap, ◌∙◌, subst}
 use Rattle.std.proofs.lemmas.List.{length-map}
-use Rattle.ve_base.specs.Limits.{max_items, max_values}
 use Rattle.ve_base.specs.declared.value.Value.{Value}
 use Rattle.model_items.specs.declared.item.Item.{Item}
 use Rattle.model_items.specs.declared.plain_item.PlainItem.{PlainItem}
 use Rattle.model_items.specs.declared.law_fault.LawFault.{LawFault}
-use Rattle.model_items.specs.declared.law_fault.LawFault.TheVariants as law
 use Rattle.model_items.specs.Law.{verdict}
 use Rattle.model_items.specs.Plain.{plain, plain_list}
 use Rattle.model_items.proofs.VerdictLemmas.{verdict_reads_no_values}
@@ -19,19 +16,14 @@ use Rattle.model_change.specs.Fault.{Applies, fault, mismatch_at, bad_attribute_
 use Rattle.model_change.specs.Store.{fill, brought}
 use Rattle.model_change.specs.Transaction.{Transaction, edited, old_length}
 use Rattle.model_site.specs.declared.edit_fault.EditFault.{EditFault}
-use Rattle.model_site.specs.declared.edit_fault.EditFault.TheVariants.{TooManyItems, StoreFull}
-use Rattle.model_site.specs.Causes.{EditCause, BadLength, Mismatch, BadAttr, edit_fault}
-use Rattle.model_site.specs.Causes as cause
+use Rattle.model_site.specs.Causes.{EditCause, BadLength, Mismatch, BadAttr}
 use Rattle.model_site.specs.Refused.{law_cause, items_cause, store_cause, edit_cause}
 use Rattle.model_site.specs.Replica.{Replica}
 use Rattle.ve_lawful.specs.Uncited as uncited
 use Rattle.ve_tx.specs.Changed.{IsRefusal}
 use Rattle.ve_tx.specs.Operation.{Operation}
-use Rattle.ve_tx.specs.Spliced.{LieBetween, come_count, gone_count, spliced_by}
-use Rattle.ve_tx.specs.declared.splice.Splice.{Splice}
-use Rattle.ve_tx.proofs.SplicedLemmas.{spliced-length}
-use Rattle.ve_repair.specs.Change.{new_list}
-use Rattle.ve_editor.specs.Refusal.{IsEditRefusal, fault_of_tx, fault_of_law, list_cause}
+use Rattle.ve_repair.specs.Change.{LawfulAfter, FailsAfter, new_list}
+use Rattle.ve_editor.specs.Refusal.{IsEditRefusal, fault_of_tx, list_cause}
 
 abbrev first_fault : Bool → (m a : Option ℕ) (has needs : ℕ) → Option TxFault
 first_fault b m a has needs =
@@ -81,49 +73,14 @@ pub refused_as : (one other : Option EditCause) (why : EditFault) → one ≡ ot
 refused_as one other why e h = subst (λ c. IsEditRefusal c why) (sym e) h
 
 -- the law reads no value, and so says of the list that a change makes what it says of the transaction's
-pub verdict_after : (values : List Value) (tx : List Operation) (items made : List Item) (o : Option LawFault) → plain_list values made ≡ new_list values tx items →
-    verdict (new_list values tx items) ≡ o → uncited.verdict made ≡ o
-verdict_after values tx items made o e h = sym (verdict_reads_no_values values [] made) ∙ ap verdict e ∙ h
+module _ (values : List Value) (tx : List Operation) (items made : List Item) (same : plain_list values made ≡ new_list values tx items) where
+  verdict_same : uncited.verdict made ≡ verdict (new_list values tx items)
+  verdict_same = sym (verdict_reads_no_values values [] made) ∙ ap verdict same
 
--- that list is as long as the change says
-pub length_is : (items : List Item) (splices : List Splice) (len count : ℕ) → LieBetween 0 (length items) splices → len ≡ length items → count + gone_count splices ≡ len + come_count splices →
-    count ≡ length (spliced_by items splices)
-length_is items splices len count lie same e = let all = spliced-length 0 (length items) items splices lie (omega arith) in omega arith
+  pub lawful_made : {A : Type 0} (r : Result A LawFault) → OnOk r (LawfulAfter tx items) → OnOk r (uncited.verdict made ≡ None)
+  lawful_made (Ok x) h = verdict_same ∙ h values
+  lawful_made (Err f) h = tt
 
-module _ (items : List Item) (values : ℕ) where
-  -- where the list isn't lawful
-  pub refused_by_law : (f : LawFault) → uncited.verdict items ≡ Some f → IsEditRefusal (list_cause items values) (fault_of_law f)
-  refused_by_law f h =
-      let rest = option_or (items_cause (length items)) (store_cause values) in
-      subst (λ v. IsEditRefusal (option_or (law_cause v) rest) (fault_of_law f)) (sym h) (by f)
-    where
-      by : (g : LawFault) → IsEditRefusal (option_or (law_cause (Some g)) (option_or (items_cause (length items)) (store_cause values))) (fault_of_law g)
-      by (law.Unlawful at) = refl
-      by (law.TooDeep at) = refl
-
-  module _ (lawful : uncited.verdict items ≡ None) where
-    past_law : list_cause items values ≡ option_or (items_cause (length items)) (store_cause values)
-    past_law = ap (λ v. option_or (law_cause v) (option_or (items_cause (length items)) (store_cause values))) lawful
-
-    pub refused_by_items : (count : ℕ) → count ≡ length items → max_items < count → option_map edit_fault (list_cause items values) ≡ Some (TooManyItems count)
-    refused_by_items count same over =
-        let test : nat_lt max_items count ≡ true = lt-ltb max_items count over in
-        let many : items_cause count ≡ Some (cause.TooManyItems count) = ap (λ b. if b then Some (cause.TooManyItems count) else None) test in
-        ap (option_map edit_fault) (past_law ∙ ap (λ n. option_or (items_cause n) (store_cause values)) (sym same) ∙ ap (λ o. option_or o (store_cause values)) many)
-
-    module _ (few : length items ≤ max_items) where
-      past_items : list_cause items values ≡ store_cause values
-      past_items =
-          let test : nat_lt max_items (length items) ≡ false = le-ltb max_items (length items) few in
-          let none : items_cause (length items) ≡ None = ap (λ b. if b then Some (cause.TooManyItems (length items)) else None) test in
-          past_law ∙ ap (λ o. option_or o (store_cause values)) none
-
-      pub refused_by_values : max_values < values → option_map edit_fault (list_cause items values) ≡ Some StoreFull
-      refused_by_values over =
-          let test : nat_lt max_values values ≡ true = lt-ltb max_values values over in
-          ap (option_map edit_fault) (past_items ∙ ap (λ b. if b then Some cause.StoreFull else None) test)
-
-      pub allowed : values ≤ max_values → list_cause items values ≡ None
-      allowed within =
-          let test : nat_lt max_values values ≡ false = le-ltb max_values values within in
-          past_items ∙ ap (λ b. if b then Some cause.StoreFull else None) test
+  pub unlawful_made : {A : Type 0} (r : Result A LawFault) → IfErr r (FailsAfter tx items) → IfErr r (λ f. uncited.verdict made ≡ Some f)
+  unlawful_made (Ok x) h = tt
+  unlawful_made (Err f) h = verdict_same ∙ h values
