@@ -33,6 +33,7 @@ use Rattle.model_page_law.proofs.SameLemmas.{marks_mean}
 use Rattle.model_page_law.proofs.NodesRead.{said_items}
 use Rattle.model_page_law.proofs.BodyReplaced.{written_opens}
 use Rattle.model_kept_law.specs.KeptBack.{KeptIsReadBack}
+use Rattle.model_kept_law.specs.Left.{has_references}
 use Rattle.model_kept_law.proofs.FitFacts.{Small}
 use Rattle.model_kept_law.proofs.ApartParts.{apart_owners}
 use Rattle.model_kept_law.proofs.WholeParts.{NoWhole}
@@ -56,10 +57,10 @@ NoWhole-nothing : (items : List PlainItem) → map item_unmade items ≡ [] → 
 NoWhole-nothing [] e = tt
 NoWhole-nothing (x ∷ xs) e = cc
 
-list_text : (w : Writer) → Known w → (bare : Bool) (list : Start) → list.kind ≡ InternalList → (text : List ℕ) (o : Option (List ℕ)) → original_of w bare list (node_items list Empty []) ≡ o →
+list_text : (refers : Bool) (w : Writer) → Known refers w → (bare : Bool) (list : Start) → list.kind ≡ InternalList → (text : List ℕ) (o : Option (List ℕ)) → original_of w bare list (node_items list Empty []) ≡ o →
     unwrap_or o (fresh_text w bare list text []) ≡ []
-list_text w known bare list k text None e = pick_true (kind_same list.kind InternalList) _ _ (ap (λ x. kind_same x InternalList) k)
-list_text w known bare list k text (Some part) e =
+list_text refers w known bare list k text None e = pick_true (kind_same list.kind InternalList) _ _ (ap (λ x. kind_same x InternalList) k)
+list_text refers w known bare list k text (Some part) e =
     let kept = known list Empty [] part (taken (list.generated) bare (w.original list (node_items list Empty [])) e) in
     absurd (no_list list kept.items part k (kept.own (λ l. absurd (opposite (is_leaf list.kind) l (ap is_leaf k))) (NoWhole-nothing kept.items kept.said)))
   where
@@ -73,24 +74,24 @@ white_after-list Empty list = refl
 white_after-list (Letter c marks later) list = refl
 white_after-list (Node s inside pre later) list = refl
 
-list_written : (w : Writer) → Known w → (before : Bool) (list : Start) → list.kind ≡ InternalList → blocks w before [] (Node list Empty [] Empty) ≡ encode_utf8_all list.pre
-list_written w known before list k =
+list_written : (refers : Bool) (w : Writer) → Known refers w → (before : Bool) (list : Start) → list.kind ≡ InternalList → blocks w before [] (Node list Empty [] Empty) ≡ encode_utf8_all list.pre
+list_written refers w known before list k =
     let bare : Bool = is_bare before list Empty [] in
     let text : List ℕ = if is_content_branch list.kind then content w [] Empty else blocks w false [] Empty in
-    ap (λ t. encode_utf8_all list.pre ++ t ++ []) (list_text w known bare list k text (original_of w bare list (node_items list Empty [])) refl)
+    ap (λ t. encode_utf8_all list.pre ++ t ++ []) (list_text refers w known bare list k text (original_of w bare list (node_items list Empty [])) refl)
     ∙ append-nil (encode_utf8_all list.pre ++ [])
     ∙ append-nil (encode_utf8_all list.pre)
 
-blocks-with_list : (w : Writer) → Known w → (n : Nodes) (before : Bool) (k : Kind) (list : Start) → list.kind ≡ InternalList → AreBlocks k n →
+blocks-with_list : (refers : Bool) (w : Writer) → Known refers w → (n : Nodes) (before : Bool) (k : Kind) (list : Start) → list.kind ≡ InternalList → AreBlocks k n →
     blocks w before [] (with_list n list) ≡ blocks w before list.pre n ++ encode_utf8_all list.pre
-blocks-with_list w known Empty before k list e b = list_written w known before list e
-blocks-with_list w known (Letter c marks later) before k list e b = absurd b
-blocks-with_list w known (Node s inside pre later) before k list e b =
+blocks-with_list refers w known Empty before k list e b = list_written refers w known before list e
+blocks-with_list refers w known (Letter c marks later) before k list e b = absurd b
+blocks-with_list refers w known (Node s inside pre later) before k list e b =
     let bare : Bool = is_bare before s inside (white_after later list.pre) in
     let text : List ℕ = if is_content_branch s.kind then content w [] inside else blocks w false pre inside in
     let own : List ℕ = unwrap_or (original_of w bare s (node_items s inside pre)) (fresh_text w bare s text pre) in
     ap (λ a. node_text w before s inside pre a (λ x. blocks w x [] (with_list later list))) (white_after-list later list)
-    ∙ ap (λ t. encode_utf8_all s.pre ++ own ++ t) (blocks-with_list w known later bare k list e b.3)
+    ∙ ap (λ t. encode_utf8_all s.pre ++ own ++ t) (blocks-with_list refers w known later bare k list e b.3)
     ∙ sym (append_assoc (encode_utf8_all s.pre ++ own) (blocks w bare list.pre later) (encode_utf8_all list.pre))
   where
     node_text : Writer → Bool → Start → Nodes → List ℕ → List ℕ → (Bool → List ℕ) → List ℕ
@@ -156,22 +157,22 @@ page_settled at f xs pre c same none =
 -- ---- the law
 
 -- the forest of what a writer writes of such a list
-pub list_forest : (w : Writer) → Known w → (items : List PlainItem) (such : IsSuch items) → Written w Root false such.list.pre such.nodes
-list_forest w known items such = written marks_mean w known such.nodes Root false such.list.pre such.blocks such.last.before
+pub list_forest : (refers : Bool) (w : Writer) → Known refers w → (items : List PlainItem) (such : IsSuch items) → Written w Root false such.list.pre such.nodes
+list_forest refers w known items such = written marks_mean refers w known such.nodes Root false such.list.pre such.blocks such.last.before
 
-pub list_spelled : (w : Writer) (known : Known w) (items : List PlainItem) (such : IsSuch items) → blocks w false [] (carried_nodes (carried_items items)) ≡ spelling (list_forest w known items such).forest
-list_spelled w known items such =
+pub list_spelled : (refers : Bool) (w : Writer) (known : Known refers w) (items : List PlainItem) (such : IsSuch items) → blocks w false [] (carried_nodes (carried_items items)) ≡ spelling (list_forest refers w known items such).forest
+list_spelled refers w known items such =
     ap (λ x. blocks w false [] (carried_nodes x)) such.are
     ∙ ap (blocks w false []) (nodes_of-items_of (with_list such.nodes such.list))
-    ∙ blocks-with_list w known such.nodes false Root such.list such.last.kind such.blocks
-    ∙ sym (list_forest w known items such).spells
+    ∙ blocks-with_list refers w known such.nodes false Root such.list such.last.kind such.blocks
+    ∙ sym (list_forest refers w known items such).spells
 
-pub list_read : (w : Writer) (known : Known w) (items : List PlainItem) (such : IsSuch items) (at : ℕ) →
-    map without_origin (items_read (page_made at (list_forest w known items such).forest)) ≡ map without_origin items
-list_read w known items such at =
+pub list_read : (refers : Bool) (w : Writer) (known : Known refers w) (items : List PlainItem) (such : IsSuch items) (at : ℕ) →
+    map without_origin (items_read (page_made at (list_forest refers w known items such).forest)) ≡ map without_origin items
+list_read refers w known items such at =
     let n : Nodes = such.nodes in
     let list : Start = such.list in
-    let r = list_forest w known items such in
+    let r = list_forest refers w known items such in
     let u : Progress = record { at = at; owners = []; editable = true } in
     let m : Made = made_of (Flow Root) (parts_of r.forest) u in
     let owners : (page_made at r.forest).owners ≡ [] = run_ended-owners m.source u m ∙ apart_owners (parts_of r.forest) r.apart (Flow Root) u in
@@ -179,14 +180,15 @@ list_read w known items such at =
     ap (map without_origin) (sym (plain-carried (body_carried items) 0 items)) ∙ ap (λ x. map without_origin (plain x)) such.are ∙ settled-items_of (with_list n list) in
     page_settled at r.forest (said_items n) list.pre r.reads.closes (settled-said n) owners ∙ sym (said-with_list n list such.last) ∙ sym meant
 
-pub page_known : (page : List ℕ) (o : Opened) → opened_page page ≡ Some o → Known (page_writer o)
+pub page_known : (page : List ℕ) (o : Opened) → opened_page page ≡ Some o → Known (has_references o) (page_writer o)
 page_known page o h s inside pre part e = kept_source page o h s inside pre part e
 
 pub kept_is_read_back : KeptIsReadBack
 kept_is_read_back page o items f h lawful formed g e =
     let w : Writer = page_writer o in
-    let known : Known w = page_known page o h in
+    let refers : Bool = has_references o in
+    let known : Known refers w = page_known page o h in
     let such = such_list items lawful formed in
-    let r = list_forest w known items such in
-    let is : f ≡ r.forest = one_forest f r.forest g r.neat (e ∙ list_spelled w known items such) in
-    (written_opens page o items f h g e, ap (λ x. map without_origin (items_read (page_made o.body.from x))) is ∙ list_read w known items such o.body.from)
+    let r = list_forest refers w known items such in
+    let is : f ≡ r.forest = one_forest f r.forest g r.neat (e ∙ list_spelled refers w known items such) in
+    (written_opens page o items f h g e, ap (λ x. map without_origin (items_read (page_made o.body.from x))) is ∙ list_read refers w known items such o.body.from)

@@ -29,7 +29,7 @@ use Rattle.model_page_law.proofs.BlankLemmas.{content-not_white, Loose-pre}
 use Rattle.model_page_law.proofs.BlockClean.{bare_is}
 use Rattle.model_page_law.proofs.CleanLemmas.{head_back, clean_tag}
 use Rattle.model_page_law.proofs.NodesRead.{said_items}
-use Rattle.model_kept_law.proofs.FitFacts.{Small}
+use Rattle.model_kept_law.proofs.FitFacts.{Small, small_leaf}
 use Rattle.model_kept_law.proofs.ApartParts.{Apart}
 use Rattle.model_kept_law.proofs.WholeParts.{MayStand, NoWhole}
 use Rattle.model_kept_law.proofs.OwnSource.{OwnLeaf, OwnBlock, OwnRun}
@@ -39,8 +39,8 @@ use Rattle.model_kept_law.proofs.OwnContent.{ContentWritten, LeavesKnown, conten
 use Rattle.model_kept_law.proofs.WrittenBlocks.{ElementChunk, RunChunk, Written, written_empty, element_written, run_written}
 
 -- the source of what is kept is known
-abbrev pub Known : Writer → Type 0
-Known w = (s : Start) (inside : Nodes) (pre part : List ℕ) → w.original s (node_items s inside pre) ≡ Some part → Kept s inside pre part
+abbrev pub Known : Bool → Writer → Type 0
+Known refers w = (s : Start) (inside : Nodes) (pre part : List ℕ) → w.original s (node_items s inside pre) ≡ Some part → Kept refers s inside pre part
 
 opposite : (b : Bool) → b ≡ true → b ≡ false → ⊥
 opposite b e f = cc
@@ -92,8 +92,8 @@ leaf_of s inside pre part items h (inl l) = l
 leaf_of s inside pre part items h (inr (inl b)) = absurd (no_block_leaf s.kind h b.1.tag.void_is)
 leaf_of s inside pre part items h (inr (inr r)) = absurd (no_paragraph_leaf s.kind h r.1)
 
-pub leaves_known : (w : Writer) → Known w → LeavesKnown w
-leaves_known w known s inside pre part l e =
+pub leaves_known : (refers : Bool) (w : Writer) → Known refers w → LeavesKnown w
+leaves_known refers w known s inside pre part l e =
     let k = known s inside pre part e in
     let none : NoWhole k.items = NoWhole-unmade k.items (subst NoWhole (sym k.said) (subst (λ n. NoWhole (said_items n)) (sym l.alone) tt)) in
     leaf_of s inside pre part k.items l.kind (k.own (λ i. l.kind) none)
@@ -137,13 +137,6 @@ must_be_bare : (generated bare : Bool) → generated ≡ true → (generated && 
 must_be_bare true true g e = refl
 must_be_bare true false g e = cc
 must_be_bare false bare g e = cc
-
-small_leaf : (k : Kind) → Small k → is_leaf k ≡ true
-small_leaf k h = or_right (is_among block_leaves k) (is_among inline_leaves k) (leaf_kind k h).inline
-  where
-    or_right : (a b : Bool) → b ≡ true → (a || b) ≡ true
-    or_right true b e = refl
-    or_right false b e = e
 
 kept_chunk : (before : Bool) (s : Start) (inside : Nodes) (pre after part : List ℕ) (items : List PlainItem) → is_leaf s.kind ≡ false → (s.generated && not (is_bare before s inside after)) ≡ false →
     map item_unmade items ≡ said_items inside → Own s.kind s.head s.generated items pre part → Chunk (is_bare before s inside after) s inside pre part
@@ -288,10 +281,10 @@ taken : (c : Bool) (o : Option (List ℕ)) (part : List ℕ) → (if c then None
 taken true o part e = cc
 taken false o part e = (refl, e)
 
-chosen : (w : Writer) → Known w → (k : Kind) (before : Bool) (s : Start) (inside : Nodes) (pre after : List ℕ) → IsBranch k s → NoWhole (said_items inside) →
+chosen : (refers : Bool) (w : Writer) → Known refers w → (k : Kind) (before : Bool) (s : Start) (inside : Nodes) (pre after : List ℕ) → IsBranch k s → NoWhole (said_items inside) →
     (is_content_branch s.kind ≡ true → IsContent inside × (pre ≡ [])) → (IsContent inside → ContentWritten w inside) → Inner w s inside pre →
     (o : Option (List ℕ)) → original_of w (is_bare before s inside after) s (node_items s inside pre) ≡ o → Chosen w (is_bare before s inside after) s inside pre
-chosen w known k before s inside pre after b none f g i None e =
+chosen refers w known k before s inside pre after b none f g i None e =
     let bare : Bool = is_bare before s inside after in
     let t = branch_tag s.kind b.element b.branch in
     let text : List ℕ = if is_content_branch s.kind then content w [] inside else blocks w false pre inside in
@@ -302,7 +295,7 @@ chosen w known k before s inside pre after b none f g i None e =
           ∙ pick_false (kind_same s.kind InternalList) _ _ t.other ∙ pick_false (is_leaf s.kind) _ _ b.branch;
       chunk = fresh_chunk w k before s inside pre after bare refl b t f g i;
     }
-chosen w known k before s inside pre after b none f g i (Some part) e =
+chosen refers w known k before s inside pre after b none f g i (Some part) e =
     let bare : Bool = is_bare before s inside after in
     let text : List ℕ = if is_content_branch s.kind then content w [] inside else blocks w false pre inside in
     let o = taken (s.generated && not bare) (w.original s (node_items s inside pre)) part e in
@@ -332,19 +325,19 @@ block_written w k before s inside later pre closing b f c r =
 
 -- ---- all blocks
 
-pub written : MarksMean → (w : Writer) → Known w → (n : Nodes) (k : Kind) (before : Bool) (closing : List ℕ) → AreBlocks k n → is_white closing ≡ true → Written w k before closing n
-written mean w known Empty k before closing b h = written_empty w k before closing h
-written mean w known (Letter c marks later) k before closing b h = absurd b
-written mean w known (Node s inside pre later) k before closing b h =
+pub written : MarksMean → (refers : Bool) (w : Writer) → Known refers w → (n : Nodes) (k : Kind) (before : Bool) (closing : List ℕ) → AreBlocks k n → is_white closing ≡ true → Written w k before closing n
+written mean refers w known Empty k before closing b h = written_empty w k before closing h
+written mean refers w known (Letter c marks later) k before closing b h = absurd b
+written mean refers w known (Node s inside pre later) k before closing b h =
     let after : List ℕ = white_after later closing in
     let bare : Bool = is_bare before s inside after in
     let t = branch_tag s.kind b.0.element b.0.branch in
-    let content_is : IsContent inside → ContentWritten w inside = λ c. content_written mean w (leaves_known w known) inside c in
+    let content_is : IsContent inside → ContentWritten w inside = λ c. content_written mean w (leaves_known refers w known) inside c in
     let inner : Inner w s inside pre = elim (cases_Bool (is_content_branch s.kind)) [
       | inl e ↦ inner_content w s inside pre t e (b.1 e).0 (b.1 e).1 (content_is (b.1 e).0)
-      | inr e ↦ inner_blocks w s inside pre t e (written mean w known inside s.kind false pre (b.2 e).0 (b.2 e).1)
+      | inr e ↦ inner_blocks w s inside pre t e (written mean refers w known inside s.kind false pre (b.2 e).0 (b.2 e).1)
     ] in
     let none : NoWhole (said_items inside) = inside-whole s inside pre b.1 (λ e. blocks-whole s.kind inside (b.2 e).0) in
     block_written w k before s inside later pre closing b.0 b.1
-    (chosen w known k before s inside pre after b.0 none b.1 content_is inner (original_of w bare s (node_items s inside pre)) refl)
-    (written mean w known later k bare closing b.3 h)
+    (chosen refers w known k before s inside pre after b.0 none b.1 content_is inner (original_of w bare s (node_items s inside pre)) refl)
+    (written mean refers w known later k bare closing b.3 h)

@@ -1,6 +1,7 @@
 pub mod FitFacts
 pub mod ReadParts
 pub mod ApartParts
+pub mod Unreferred
 pub mod WholeParts
 pub mod OwnSource
 pub mod RunParts

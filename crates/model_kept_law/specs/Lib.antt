@@ -1,1 +1,2 @@
 pub mod KeptBack
+pub mod Left
