@@ -2,9 +2,8 @@
 use Rattle.std.proofs.Common.{◌≡◌, ℕ, Bool, true, false, not, ◌&&◌, if◌then◌else◌, suc, List, [], ◌∷◌, ◌++◌, map, Option, Some, None, refl, sym, ap, ◌∙◌, subst, append_assoc, inl, inr}
 use Rattle.std.proofs.lemmas.List.{append-nil, map-append}
 use Rattle.std.specs.Prelude.{encode_utf8_all, unwrap_or}
-use Rattle.model_spelling.specs.Forest.{Forest, spelling}
+use Rattle.model_spelling.specs.Forest.{Forest, spelling, is_forest}
 use Rattle.model_spelling.specs.Grammar.{is_tag_name}
-use Rattle.ve_kinds.specs.declared.kind.Kind.{Kind}
 use Rattle.ve_kinds.specs.declared.kind.Kind.TheVariants.{Root, InternalList}
 use Rattle.ve_kinds.specs.Table.{kind_same, is_content_branch, is_leaf}
 use Rattle.ve_base.specs.Empty.{empty_head}
@@ -19,10 +18,12 @@ use Rattle.model_page.specs.Pieces.{Made, Progress}
 use Rattle.model_page.specs.Convert.{made_of}
 use Rattle.model_page.specs.PageItems.{with_origins, internal_list, items_of_page as items_read, page_made, Opened, opened_page}
 use Rattle.model_page_write.specs.Nodes.{Carried, Start, Nodes, Empty, Letter, Node, node_list_items, carried_nodes, carried_items, carried_from, body_carried, node_items}
-use Rattle.model_page_write.specs.Written.{white_after, is_bare, Writer, fresh_text, original_of, content, blocks}
-use Rattle.model_page_write.specs.PageText.{page_writer}
+use Rattle.model_page_write.specs.Written.{letter, white_after, is_bare, Writer, fresh_text, original_of, content, blocks}
+use Rattle.model_page_write.specs.PageText.{page_writer, write}
 use Rattle.model_page_law.specs.ReadBack.{without_origin}
-use Rattle.model_page_law.proofs.FormedNodes.{IsSuch, IsList, AreBlocks, with_list}
+use Rattle.model_page_law.specs.Replaced.{opened_again}
+use Rattle.ve_base.specs.Limits.{max_open_elements}
+use Rattle.model_page_law.proofs.FormedNodes.{IsList, with_list}
 use Rattle.model_page_law.proofs.FormLemmas.{such_list}
 use Rattle.model_page_law.proofs.NodesLemmas.{nodes_of-items_of}
 use Rattle.model_page_law.proofs.BlockText.{pick_true}
@@ -32,7 +33,7 @@ use Rattle.model_page_law.proofs.OneLemmas.{one_forest}
 use Rattle.model_page_law.proofs.SameLemmas.{marks_mean}
 use Rattle.model_page_law.proofs.NodesRead.{said_items}
 use Rattle.model_page_law.proofs.BodyReplaced.{written_opens}
-use Rattle.model_kept_law.specs.KeptBack.{KeptIsReadBack}
+use Rattle.model_kept_law.specs.KeptBack.{KeptIsReadBack, KeptBlocksAreReadBack}
 use Rattle.model_kept_law.specs.Left.{has_references}
 use Rattle.model_kept_law.proofs.FitFacts.{Small}
 use Rattle.model_kept_law.proofs.ApartParts.{apart_owners}
@@ -41,6 +42,7 @@ use Rattle.model_kept_law.proofs.SourceRows.{Own}
 use Rattle.model_kept_law.proofs.OriginalNodes.{kept_source}
 use Rattle.model_kept_law.proofs.WrittenBlocks.{Written}
 use Rattle.model_kept_law.proofs.KeptBlocks.{Known, written}
+use Rattle.model_kept_law.proofs.StandingBlocks.{standing_list, standing_written}
 
 -- ---- the internal list is written as the whitespace before it
 
@@ -82,16 +84,17 @@ list_written refers w known before list k =
     ∙ append-nil (encode_utf8_all list.pre ++ [])
     ∙ append-nil (encode_utf8_all list.pre)
 
-blocks-with_list : (refers : Bool) (w : Writer) → Known refers w → (n : Nodes) (before : Bool) (k : Kind) (list : Start) → list.kind ≡ InternalList → AreBlocks k n →
+blocks-with_list : (refers : Bool) (w : Writer) → Known refers w → (n : Nodes) (before : Bool) (list : Start) → list.kind ≡ InternalList →
     blocks w before [] (with_list n list) ≡ blocks w before list.pre n ++ encode_utf8_all list.pre
-blocks-with_list refers w known Empty before k list e b = list_written refers w known before list e
-blocks-with_list refers w known (Letter c marks later) before k list e b = absurd b
-blocks-with_list refers w known (Node s inside pre later) before k list e b =
+blocks-with_list refers w known Empty before list e = list_written refers w known before list e
+blocks-with_list refers w known (Letter c marks later) before list e =
+    ap (λ t. letter c ++ t) (blocks-with_list refers w known later false list e) ∙ sym (append_assoc (letter c) (blocks w false list.pre later) (encode_utf8_all list.pre))
+blocks-with_list refers w known (Node s inside pre later) before list e =
     let bare : Bool = is_bare before s inside (white_after later list.pre) in
     let text : List ℕ = if is_content_branch s.kind then content w [] inside else blocks w false pre inside in
     let own : List ℕ = unwrap_or (original_of w bare s (node_items s inside pre)) (fresh_text w bare s text pre) in
     ap (λ a. node_text w before s inside pre a (λ x. blocks w x [] (with_list later list))) (white_after-list later list)
-    ∙ ap (λ t. encode_utf8_all s.pre ++ own ++ t) (blocks-with_list refers w known later bare k list e b.3)
+    ∙ ap (λ t. encode_utf8_all s.pre ++ own ++ t) (blocks-with_list refers w known later bare list e)
     ∙ sym (append_assoc (encode_utf8_all s.pre ++ own) (blocks w bare list.pre later) (encode_utf8_all list.pre))
   where
     node_text : Writer → Bool → Start → Nodes → List ℕ → List ℕ → (Bool → List ℕ) → List ℕ
@@ -156,23 +159,26 @@ page_settled at f xs pre c same none =
 
 -- ---- the law
 
--- the forest of what a writer writes of such a list
-pub list_forest : (refers : Bool) (w : Writer) → Known refers w → (items : List PlainItem) (such : IsSuch items) → Written w Root false such.list.pre such.nodes
-list_forest refers w known items such = written marks_mean refers w known such.nodes Root false such.list.pre such.blocks such.last.before
+-- a list of nodes, and then the empty internal list, and the forest of what a writer writes of it
+record WrittenList (w : Writer) (items : List PlainItem) : Type 0 where
+  nodes : Nodes
+  list : Start
+  are : carried_items items ≡ node_list_items (with_list nodes list)
+  last : IsList list
+  body : Written w Root false list.pre nodes
 
-pub list_spelled : (refers : Bool) (w : Writer) (known : Known refers w) (items : List PlainItem) (such : IsSuch items) → blocks w false [] (carried_nodes (carried_items items)) ≡ spelling (list_forest refers w known items such).forest
+list_spelled : (refers : Bool) (w : Writer) → Known refers w → (items : List PlainItem) (such : WrittenList w items) → blocks w false [] (carried_nodes (carried_items items)) ≡ spelling such.body.forest
 list_spelled refers w known items such =
     ap (λ x. blocks w false [] (carried_nodes x)) such.are
     ∙ ap (blocks w false []) (nodes_of-items_of (with_list such.nodes such.list))
-    ∙ blocks-with_list refers w known such.nodes false Root such.list such.last.kind such.blocks
-    ∙ sym (list_forest refers w known items such).spells
+    ∙ blocks-with_list refers w known such.nodes false such.list such.last.kind
+    ∙ sym such.body.spells
 
-pub list_read : (refers : Bool) (w : Writer) (known : Known refers w) (items : List PlainItem) (such : IsSuch items) (at : ℕ) →
-    map without_origin (items_read (page_made at (list_forest refers w known items such).forest)) ≡ map without_origin items
-list_read refers w known items such at =
+list_read : (w : Writer) (items : List PlainItem) (such : WrittenList w items) (at : ℕ) → map without_origin (items_read (page_made at such.body.forest)) ≡ map without_origin items
+list_read w items such at =
     let n : Nodes = such.nodes in
     let list : Start = such.list in
-    let r = list_forest refers w known items such in
+    let r = such.body in
     let u : Progress = record { at = at; owners = []; editable = true } in
     let m : Made = made_of (Flow Root) (parts_of r.forest) u in
     let owners : (page_made at r.forest).owners ≡ [] = run_ended-owners m.source u m ∙ apart_owners (parts_of r.forest) r.apart (Flow Root) u in
@@ -180,15 +186,40 @@ list_read refers w known items such at =
     ap (map without_origin) (sym (plain-carried (body_carried items) 0 items)) ∙ ap (λ x. map without_origin (plain x)) such.are ∙ settled-items_of (with_list n list) in
     page_settled at r.forest (said_items n) list.pre r.reads.closes (settled-said n) owners ∙ sym (said-with_list n list such.last) ∙ sym meant
 
-pub page_known : (page : List ℕ) (o : Opened) → opened_page page ≡ Some o → Known (has_references o) (page_writer o)
+page_known : (page : List ℕ) (o : Opened) → opened_page page ≡ Some o → Known (has_references o) (page_writer o)
 page_known page o h s inside pre part e = kept_source page o h s inside pre part e
 
+page_read : (page : List ℕ) (o : Opened) (items : List PlainItem) (f : Forest) → opened_page page ≡ Some o → WrittenList (page_writer o) items → is_forest max_open_elements f ≡ true →
+    spelling f ≡ blocks (page_writer o) false [] (carried_nodes (carried_items items)) →
+    (opened_page (write o items) ≡ Some (opened_again o f)) × (map without_origin (opened_again o f).items ≡ map without_origin items)
+page_read page o items f h such g e =
+    let w : Writer = page_writer o in
+    let is : f ≡ such.body.forest = one_forest f such.body.forest g such.body.neat (e ∙ list_spelled (has_references o) w (page_known page o h) items such) in
+    (written_opens page o items f h g e, ap (λ x. map without_origin (items_read (page_made o.body.from x))) is ∙ list_read w items such o.body.from)
+
+-- nothing is kept whole
 pub kept_is_read_back : KeptIsReadBack
 kept_is_read_back page o items f h lawful formed g e =
     let w : Writer = page_writer o in
-    let refers : Bool = has_references o in
-    let known : Known refers w = page_known page o h in
     let such = such_list items lawful formed in
-    let r = list_forest refers w known items such in
-    let is : f ≡ r.forest = one_forest f r.forest g r.neat (e ∙ list_spelled refers w known items such) in
-    (written_opens page o items f h g e, ap (λ x. map without_origin (items_read (page_made o.body.from x))) is ∙ list_read refers w known items such o.body.from)
+    page_read page o items f h (record {
+      nodes = such.nodes;
+      list = such.list;
+      are = such.are;
+      last = such.last;
+      body = written marks_mean (has_references o) w (page_known page o h) such.nodes Root false such.list.pre such.blocks such.last.before;
+    }) g e
+
+-- what stands in kept blocks may be
+pub kept_blocks_are_read_back : KeptBlocksAreReadBack
+kept_blocks_are_read_back page o items f h calm lawful left g e =
+    let w : Writer = page_writer o in
+    let known = page_known page o h in
+    let such = standing_list (has_references o) w known calm items lawful left in
+    page_read page o items f h (record {
+      nodes = such.nodes;
+      list = such.list;
+      are = such.are;
+      last = such.last;
+      body = standing_written marks_mean (has_references o) w known calm such.nodes Root false such.list.pre such.blocks such.last.before;
+    }) g e

@@ -7,7 +7,7 @@ use Rattle.model_spelling.specs.Forest.{Forest, spelling}
 use Rattle.model_spelling.specs.Written.{canon_attrs, attr_bytes}
 use Rattle.ve_kinds.specs.declared.kind.Kind.{Kind}
 use Rattle.ve_kinds.specs.declared.kind.Kind.TheVariants.{P, InternalList}
-use Rattle.ve_kinds.specs.Table.{kind_same, is_among, is_content_branch, is_flow, is_leaf, structural_kinds, block_leaves, inline_leaves}
+use Rattle.ve_kinds.specs.Table.{kind_same, is_among, is_content_branch, is_flow, is_leaf, structural_kinds}
 use Rattle.ve_kinds.specs.Tags.{is_void}
 use Rattle.model_items.specs.declared.plain_item.PlainItem.{PlainItem}
 use Rattle.model_items.specs.declared.plain_item.PlainItem.TheVariants.{Char, Opening, Closing}
@@ -36,18 +36,18 @@ use Rattle.model_kept_law.proofs.OwnSource.{OwnLeaf, OwnBlock, OwnRun}
 use Rattle.model_kept_law.proofs.SourceRows.{Own}
 use Rattle.model_kept_law.proofs.OriginalNodes.{Kept}
 use Rattle.model_kept_law.proofs.OwnContent.{ContentWritten, LeavesKnown, content_written}
-use Rattle.model_kept_law.proofs.WrittenBlocks.{ElementChunk, RunChunk, Written, written_empty, element_written, run_written}
+use Rattle.model_kept_law.proofs.WrittenBlocks.{placed, ElementChunk, RunChunk, Written, written_empty, element_written, run_written}
 
 -- the source of what is kept is known
 abbrev pub Known : Bool → Writer → Type 0
 Known refers w = (s : Start) (inside : Nodes) (pre part : List ℕ) → w.original s (node_items s inside pre) ≡ Some part → Kept refers s inside pre part
 
-opposite : (b : Bool) → b ≡ true → b ≡ false → ⊥
+pub opposite : (b : Bool) → b ≡ true → b ≡ false → ⊥
 opposite b e f = cc
 
 -- ---- nothing is kept whole
 
-NoWhole-unmade : (xs : List PlainItem) → NoWhole (map item_unmade xs) → NoWhole xs
+pub NoWhole-unmade : (xs : List PlainItem) → NoWhole (map item_unmade xs) → NoWhole xs
 NoWhole-unmade [] h = h
 NoWhole-unmade (Char c marks ∷ xs) h = NoWhole-unmade xs h
 NoWhole-unmade (Closing kind pre ∷ xs) h = NoWhole-unmade xs h
@@ -59,10 +59,10 @@ NoWhole-append (Char c marks ∷ xs) ys h g = NoWhole-append xs ys h g
 NoWhole-append (Closing kind pre ∷ xs) ys h g = NoWhole-append xs ys h g
 NoWhole-append (Opening kind head marks pre origin generated ∷ xs) ys h g = (h.0, NoWhole-append xs ys h.1 g)
 
-branch_stands : (k : Kind) → is_leaf k ≡ false → MayStand k
+pub branch_stands : (k : Kind) → is_leaf k ≡ false → MayStand k
 branch_stands k b l = absurd (opposite (is_leaf k) l b)
 
-content-whole : (n : Nodes) → IsContent n → NoWhole (said_items n)
+pub content-whole : (n : Nodes) → IsContent n → NoWhole (said_items n)
 content-whole Empty c = tt
 content-whole (Letter ch marks later) c = content-whole later c.2
 content-whole (Node s inside pre later) c =
@@ -104,7 +104,7 @@ leaves_known refers w known s inside pre part l e =
 abbrev pub Chunk : Bool → Start → Nodes → List ℕ → List ℕ → Type 0
 Chunk bare s inside pre text = ((bare ≡ false) × ElementChunk s inside pre text) ⊎ ((bare ≡ true) × RunChunk inside text)
 
-element_of : (s : Start) (inside : Nodes) (pre part : List ℕ) (items : List PlainItem) → map item_unmade items ≡ said_items inside → OwnBlock s.kind s.head items pre part → ElementChunk s inside pre part
+pub element_of : (s : Start) (inside : Nodes) (pre part : List ℕ) (items : List PlainItem) → map item_unmade items ≡ said_items inside → OwnBlock s.kind s.head items pre part → ElementChunk s inside pre part
 element_of s inside pre part items said b = record {
   attrs = b.attrs;
   inner = b.inner;
@@ -129,11 +129,11 @@ bare_generated before s inside after h =
     (and_parts _ _ (and_parts _ _ (and_parts _ _ (and_parts _ _ (and_parts _ _
     (and_parts (kind_same s.kind P && s.generated && is_empty s.head.attrs && is_empty s.pre && has_content inside && all_stay_inline inside && is_empty after) (not before) h).0).0).0).0).0).0).1
 
-not_bare : (before : Bool) (s : Start) (inside : Nodes) (after : List ℕ) (c : Bool) → is_bare before s inside after ≡ c → s.generated ≡ false → c ≡ false
+pub not_bare : (before : Bool) (s : Start) (inside : Nodes) (after : List ℕ) (c : Bool) → is_bare before s inside after ≡ c → s.generated ≡ false → c ≡ false
 not_bare before s inside after true e g = absurd (opposite s.generated (bare_generated before s inside after e) g)
 not_bare before s inside after false e g = refl
 
-must_be_bare : (generated bare : Bool) → generated ≡ true → (generated && not bare) ≡ false → bare ≡ true
+pub must_be_bare : (generated bare : Bool) → generated ≡ true → (generated && not bare) ≡ false → bare ≡ true
 must_be_bare true true g e = refl
 must_be_bare true false g e = cc
 must_be_bare false bare g e = cc
@@ -281,10 +281,14 @@ taken : (c : Bool) (o : Option (List ℕ)) (part : List ℕ) → (if c then None
 taken true o part e = cc
 taken false o part e = (refl, e)
 
-chosen : (refers : Bool) (w : Writer) → Known refers w → (k : Kind) (before : Bool) (s : Start) (inside : Nodes) (pre after : List ℕ) → IsBranch k s → NoWhole (said_items inside) →
-    (is_content_branch s.kind ≡ true → IsContent inside × (pre ≡ [])) → (IsContent inside → ContentWritten w inside) → Inner w s inside pre →
-    (o : Option (List ℕ)) → original_of w (is_bare before s inside after) s (node_items s inside pre) ≡ o → Chosen w (is_bare before s inside after) s inside pre
-chosen refers w known k before s inside pre after b none f g i None e =
+-- what is kept of a block reads as the block
+abbrev pub Keeps : Writer → Bool → Start → Nodes → List ℕ → Type 0
+Keeps w bare s inside pre = (part : List ℕ) → w.original s (node_items s inside pre) ≡ Some part → (s.generated && not bare) ≡ false → Chunk bare s inside pre part
+
+chosen : (w : Writer) (k : Kind) (before : Bool) (s : Start) (inside : Nodes) (pre after : List ℕ) → IsBranch k s → Keeps w (is_bare before s inside after) s inside pre →
+    (is_content_branch s.kind ≡ true → IsContent inside × (pre ≡ [])) → (IsContent inside → ContentWritten w inside) → Inner w s inside pre → (o : Option (List ℕ)) →
+    original_of w (is_bare before s inside after) s (node_items s inside pre) ≡ o → Chosen w (is_bare before s inside after) s inside pre
+chosen w k before s inside pre after b keeps f g i None e =
     let bare : Bool = is_bare before s inside after in
     let t = branch_tag s.kind b.element b.branch in
     let text : List ℕ = if is_content_branch s.kind then content w [] inside else blocks w false pre inside in
@@ -292,20 +296,23 @@ chosen refers w known k before s inside pre after b none f g i None e =
       part = if bare then text else element_text s text pre;
       is =
           ap (λ x. unwrap_or x (fresh_text w bare s text pre)) e
-          ∙ pick_false (kind_same s.kind InternalList) _ _ t.other ∙ pick_false (is_leaf s.kind) _ _ b.branch;
+          ∙ pick_false (kind_same s.kind InternalList) _ _ t.other
+          ∙ pick_false (is_leaf s.kind) _ _ b.branch;
       chunk = fresh_chunk w k before s inside pre after bare refl b t f g i;
     }
-chosen refers w known k before s inside pre after b none f g i (Some part) e =
+chosen w k before s inside pre after b keeps f g i (Some part) e =
     let bare : Bool = is_bare before s inside after in
     let text : List ℕ = if is_content_branch s.kind then content w [] inside else blocks w false pre inside in
     let o = taken (s.generated && not bare) (w.original s (node_items s inside pre)) part e in
-    let kept = known s inside pre part o.1 in
-    let own = kept.own (branch_stands s.kind b.branch) (NoWhole-unmade kept.items (subst NoWhole (sym kept.said) none)) in
-    record {
-      part = part;
-      is = ap (λ x. unwrap_or x (fresh_text w bare s text pre)) e;
-      chunk = kept_chunk before s inside pre after part kept.items b.branch o.0 kept.said own;
-    }
+    record { part = part; is = ap (λ x. unwrap_or x (fresh_text w bare s text pre)) e; chunk = keeps part o.1 o.0 }
+
+-- where nothing in it is kept whole
+pub keeps_plain : (refers : Bool) (w : Writer) → Known refers w → (before : Bool) (s : Start) (inside : Nodes) (pre after : List ℕ) → is_leaf s.kind ≡ false → NoWhole (said_items inside) →
+    Keeps w (is_bare before s inside after) s inside pre
+keeps_plain refers w known before s inside pre after b none part e g =
+    let kept = known s inside pre part e in
+    let own = kept.own (branch_stands s.kind b) (NoWhole-unmade kept.items (subst NoWhole (sym kept.said) none)) in
+    kept_chunk before s inside pre after part kept.items b g kept.said own
 
 block_written : (w : Writer) (k : Kind) (before : Bool) (s : Start) (inside later : Nodes) (pre closing : List ℕ) → IsBranch k s → (is_content_branch s.kind ≡ true → IsContent inside × (pre ≡ [])) →
     (c : Chosen w (is_bare before s inside (white_after later closing)) s inside pre) → Written w k (is_bare before s inside (white_after later closing)) closing later →
@@ -315,13 +322,32 @@ block_written w k before s inside later pre closing b f c r =
     let is : blocks w before closing (Node s inside pre later) ≡ encode_utf8_all s.pre ++ c.part ++ blocks w bare closing later = ap (λ x. encode_utf8_all s.pre ++ x ++ blocks w bare closing later) c.is in
     elim c.chunk [
       | inl p ↦
-          element_written w k before s inside later pre closing c.part b p.1 (subst (λ x. Written w k x closing later) p.0 r)
+          element_written w k before s inside later pre closing c.part (placed k s b) p.1 (subst (λ x. Written w k x closing later) p.0 r)
           (is ∙ ap (λ x. encode_utf8_all s.pre ++ c.part ++ blocks w x closing later) p.0)
       | inr p ↦
           let h : is_content_branch s.kind ≡ true = ap is_content_branch (bare_is before s inside (white_after later closing) p.0).kind in
           run_written w k before s inside later pre closing c.part b p.0 (f h).1 p.1 (subst (λ x. Written w k x closing later) p.0 r)
           (is ∙ ap (λ x. encode_utf8_all s.pre ++ c.part ++ blocks w x closing later) p.0)
     ]
+
+-- what stands inside, by the parent
+inner_written : MarksMean → (refers : Bool) (w : Writer) → Known refers w → (s : Start) (inside : Nodes) (pre : List ℕ) → BranchTag s.kind → (is_content_branch s.kind ≡ true → IsContent inside × (pre ≡ [])) →
+    (is_content_branch s.kind ≡ false → Written w s.kind false pre inside) → Inner w s inside pre
+inner_written mean refers w known s inside pre t f g = elim (cases_Bool (is_content_branch s.kind)) [
+  | inl e ↦ inner_content w s inside pre t e (f e).0 (f e).1 (content_written mean w (leaves_known refers w known) inside (f e).0)
+  | inr e ↦ inner_blocks w s inside pre t e (g e)
+]
+
+-- a block of the form
+pub formed_written : MarksMean → (refers : Bool) (w : Writer) → Known refers w → (k : Kind) (before : Bool) (s : Start) (inside later : Nodes) (pre closing : List ℕ) → IsBranch k s →
+    Keeps w (is_bare before s inside (white_after later closing)) s inside pre → (is_content_branch s.kind ≡ true → IsContent inside × (pre ≡ [])) →
+    (is_content_branch s.kind ≡ false → Written w s.kind false pre inside) → Written w k (is_bare before s inside (white_after later closing)) closing later → Written w k before closing (Node s inside pre later)
+formed_written mean refers w known k before s inside later pre closing b keeps f g r =
+    let after : List ℕ = white_after later closing in
+    let t = branch_tag s.kind b.element b.branch in
+    let content_is : IsContent inside → ContentWritten w inside = λ c. content_written mean w (leaves_known refers w known) inside c in
+    block_written w k before s inside later pre closing b f
+    (chosen w k before s inside pre after b keeps f content_is (inner_written mean refers w known s inside pre t f g) (original_of w (is_bare before s inside after) s (node_items s inside pre)) refl) r
 
 -- ---- all blocks
 
@@ -331,13 +357,7 @@ written mean refers w known (Letter c marks later) k before closing b h = absurd
 written mean refers w known (Node s inside pre later) k before closing b h =
     let after : List ℕ = white_after later closing in
     let bare : Bool = is_bare before s inside after in
-    let t = branch_tag s.kind b.0.element b.0.branch in
-    let content_is : IsContent inside → ContentWritten w inside = λ c. content_written mean w (leaves_known refers w known) inside c in
-    let inner : Inner w s inside pre = elim (cases_Bool (is_content_branch s.kind)) [
-      | inl e ↦ inner_content w s inside pre t e (b.1 e).0 (b.1 e).1 (content_is (b.1 e).0)
-      | inr e ↦ inner_blocks w s inside pre t e (written mean refers w known inside s.kind false pre (b.2 e).0 (b.2 e).1)
-    ] in
     let none : NoWhole (said_items inside) = inside-whole s inside pre b.1 (λ e. blocks-whole s.kind inside (b.2 e).0) in
-    block_written w k before s inside later pre closing b.0 b.1
-    (chosen refers w known k before s inside pre after b.0 none b.1 content_is inner (original_of w bare s (node_items s inside pre)) refl)
+    formed_written mean refers w known k before s inside later pre closing b.0 (keeps_plain refers w known before s inside pre after b.0.branch none) b.1
+    (λ e. written mean refers w known inside s.kind false pre (b.2 e).0 (b.2 e).1)
     (written mean refers w known later k bare closing b.3 h)

@@ -11,5 +11,7 @@ pub mod LevelTexts
 pub mod OwnContent
 pub mod WrittenBlocks
 pub mod KeptBlocks
+pub mod NestedNodes
+pub mod StandingBlocks
 pub mod KeptBackLemmas
 mod KeptExamples

@@ -364,9 +364,9 @@ kept_by o k s inside pre part true e (inr x) h =
           let own = x.block calm (sym a.generated ∙ made) (ap is_leaf (sym a.kind) ∙ branch) in (
             a.marks ∙ own.0,
             subst (λ y. OwnBlock s.kind s.head x.first pre y) bytes
-            (subst (λ y. OwnBlock s.kind s.head x.first y x.source) (sym a.closes)
-            (subst (λ y. OwnBlock s.kind y x.first x.pre x.source) (sym a.head)
-            (subst (λ y. OwnBlock y x.start.head x.first x.pre x.source) (sym a.kind) own.1))),
+                (subst (λ y. OwnBlock s.kind s.head x.first y x.source) (sym a.closes)
+                (subst (λ y. OwnBlock s.kind y x.first x.pre x.source) (sym a.head)
+                (subst (λ y. OwnBlock y x.start.head x.first x.pre x.source) (sym a.kind) own.1))),
           );
     }
 

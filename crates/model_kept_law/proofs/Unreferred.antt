@@ -1,14 +1,12 @@
 -- Where no element of a forest is of the type of references, none of its groups is one.
-use Rattle.std.proofs.Common.{◌≡◌, ℕ, Bool, true, false, not, ◌&&◌, ◌||◌, if◌then◌else◌, List, [], Option, Some, None, refl, sym, ap, ◌∙◌}
-use Rattle.std.specs.Prelude.{codes}
+use Rattle.std.proofs.Common.{◌≡◌, ℕ, Bool, true, false, ◌&&◌, ◌||◌, if◌then◌else◌, List, Option, None, refl, ap}
 use Rattle.model_spelling.specs.Grammar.{Attr as Spelled}
 use Rattle.model_spelling.specs.Forest.{Forest, Nothing, Text, Remark, Void, RawElement, Element}
-use Rattle.ve_kinds.specs.Tags.{is_one_of}
-use Rattle.model_page.specs.Elements.{is_white, about_of, is_held, has_type, is_transclusion, is_reference_type}
+use Rattle.model_page.specs.Elements.{is_white, about_of, is_held, has_type, is_reference_type}
 use Rattle.model_page.specs.Parts.{Parts, Ended, Words, Note, Group, Single, Parent, about_in, is_shared, with_held, parts_of}
 use Rattle.model_page.specs.Fit.{Around, Flow, Structural, Content}
 use Rattle.model_page.specs.Pieces.{Progress}
-use Rattle.model_page.specs.ReferenceNodes.{RefNode, may_be_reference, ref_of}
+use Rattle.model_page.specs.ReferenceNodes.{RefNode, may_be_reference}
 use Rattle.model_kept_law.specs.Left.{names_reference}
 use Rattle.model_kept_law.proofs.ApartParts.{Unreferred, Apart}
 

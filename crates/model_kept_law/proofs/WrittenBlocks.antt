@@ -8,7 +8,7 @@ use Rattle.model_spelling.specs.Grammar.{Attr as Spelled, Comment, token_text, s
 use Rattle.model_spelling.specs.Forest.{Forest, Nothing, Text, Remark, Void, RawElement, Element, spelling, starts_with_text}
 use Rattle.ve_kinds.specs.declared.kind.Kind.{Kind}
 use Rattle.ve_kinds.specs.declared.kind.Kind.TheVariants.{P}
-use Rattle.ve_kinds.specs.Table.{may_hold, is_among, structural_kinds}
+use Rattle.ve_kinds.specs.Table.{may_hold, is_among, is_element, is_leaf, structural_kinds}
 use Rattle.ve_kinds.specs.Tags.{kind_of_tag}
 use Rattle.ve_base.specs.Empty.{empty_head}
 use Rattle.model_items.specs.declared.plain_item.PlainItem.{PlainItem}
@@ -35,6 +35,18 @@ use Rattle.model_page_law.proofs.BlockReads.{Loose, AtBlock, Closes, Closes-AtBl
 use Rattle.model_page_law.proofs.BlockClean.{is_empty-nil, IsBare, bare_is, never_bare}
 use Rattle.model_page_law.proofs.NodesRead.{said_items, BlocksRead}
 use Rattle.model_kept_law.proofs.ApartParts.{Apart}
+
+-- ---- a block that its parent may hold
+
+pub record IsPlaced (parent : Kind) (s : Start) : Type 0 where
+  pub held : may_hold parent s.kind ≡ true
+  pub element : is_element s.kind ≡ true
+  pub branch : is_leaf s.kind ≡ false
+  pub marks : s.marks ≡ []
+  pub before : is_white s.pre ≡ true
+
+pub placed : (parent : Kind) (s : Start) → IsBranch parent s → IsPlaced parent s
+placed parent s b = record { held = b.held; element = b.element; branch = b.branch; marks = b.marks; before = b.before }
 
 -- ---- how one block is spelled
 
@@ -192,7 +204,7 @@ with_pre s xs m = (λ i. Opening s.kind s.head (sym m i) (append-nil s.pre i) No
 without_pre : (s : Start) (xs : List PlainItem) → s.marks ≡ [] → s.pre ≡ [] → Opening s.kind s.head [] [] None false ∷ xs ≡ Opening s.kind s.head s.marks s.pre None false ∷ xs
 without_pre s xs m p = (λ i. Opening s.kind s.head (sym m i) (sym p i) None false ∷ xs)
 
-element_read : (k : Kind) (before : Bool) (s : Start) (inside : Nodes) (rest : Forest) (ys : List PlainItem) (pre text closing : List ℕ) (c : ElementChunk s inside pre text) → IsBranch k s → BranchTag s.kind →
+element_read : (k : Kind) (before : Bool) (s : Start) (inside : Nodes) (rest : Forest) (ys : List PlainItem) (pre text closing : List ℕ) (c : ElementChunk s inside pre text) → IsPlaced k s → BranchTag s.kind →
     Closes (Flow k) rest ys closing → (is_among structural_kinds k ≡ true → Closes (Structural k) rest ys closing) →
     BlocksRead k before closing s.pre (white_before s.pre (Element (tag_of s.kind) c.attrs c.inner rest)) (Opening s.kind s.head s.marks s.pre None false ∷ said_items inside ++ Closing s.kind pre ∷ ys)
 element_read k before s inside rest ys pre text closing c b t r st =
@@ -216,7 +228,7 @@ spelled_before : (white part own rest closing : List ℕ) (f : Forest) → spell
 spelled_before white part own rest closing f e is =
     ap (λ x. white ++ (part ++ x)) e ∙ sym (append_assoc white part (rest ++ closing)) ∙ sym (append_assoc (white ++ part) rest closing) ∙ ap (λ x. x ++ closing) (sym is)
 
-pub element_written : (w : Writer) (k : Kind) (before : Bool) (s : Start) (inside later : Nodes) (pre closing text : List ℕ) → IsBranch k s → ElementChunk s inside pre text → Written w k false closing later →
+pub element_written : (w : Writer) (k : Kind) (before : Bool) (s : Start) (inside later : Nodes) (pre closing text : List ℕ) → IsPlaced k s → ElementChunk s inside pre text → Written w k false closing later →
     blocks w before closing (Node s inside pre later) ≡ encode_utf8_all s.pre ++ text ++ blocks w false closing later → Written w k before closing (Node s inside pre later)
 element_written w k before s inside later pre closing text b c r is =
     let f : Forest = Element (tag_of s.kind) c.attrs c.inner r.forest in

@@ -1,2 +1,2 @@
-pub mod KeptBack
 pub mod Left
+pub mod KeptBack
