@@ -184,7 +184,7 @@ list_read w items such at =
     let owners : (page_made at r.forest).owners ≡ [] = run_ended-owners m.source u m ∙ apart_owners (parts_of r.forest) r.apart (Flow Root) u in
     let meant : map without_origin items ≡ said_items (with_list n list) =
     ap (map without_origin) (sym (plain-carried (body_carried items) 0 items)) ∙ ap (λ x. map without_origin (plain x)) such.are ∙ settled-items_of (with_list n list) in
-    page_settled at r.forest (said_items n) list.pre r.reads.closes (settled-said n) owners ∙ sym (said-with_list n list such.last) ∙ sym meant
+    page_settled at r.forest (said_items n) list.pre (r.reads.closes refl) (settled-said n) owners ∙ sym (said-with_list n list such.last) ∙ sym meant
 
 page_known : (page : List ℕ) (o : Opened) → opened_page page ≡ Some o → Known (has_references o) (page_writer o)
 page_known page o h s inside pre part e = kept_source page o h s inside pre part e
@@ -221,5 +221,5 @@ kept_blocks_are_read_back page o items f h calm lawful left g e =
       list = such.list;
       are = such.are;
       last = such.last;
-      body = standing_written marks_mean (has_references o) w known calm such.nodes Root false such.list.pre such.blocks such.last.before;
+      body = standing_written marks_mean (has_references o) w known calm such.nodes Root false such.list.pre refl such.blocks such.last.before;
     }) g e

@@ -203,7 +203,7 @@ inner_blocks w s inside pre t e r =
     let at : around_in s.kind ≡ (if is_flow s.kind then Flow s.kind else Structural s.kind) = pick_false (is_content_branch s.kind) (Content []) (if is_flow s.kind then Flow s.kind else Structural s.kind) e in
     let i : InsideAt (around_in s.kind) r.forest inside pre = subst (λ a. InsideAt a r.forest inside pre) (sym at)
     (elim (cases_Bool (is_flow s.kind)) [
-      | inl h ↦ subst (λ a. InsideAt a r.forest inside pre) (sym (pick_true (is_flow s.kind) (Flow s.kind) (Structural s.kind) h)) (r.reads.closes.later, r.reads.closes.white)
+      | inl h ↦ subst (λ a. InsideAt a r.forest inside pre) (sym (pick_true (is_flow s.kind) (Flow s.kind) (Structural s.kind) h)) ((r.reads.closes h).later, (r.reads.closes h).white)
       | inr h ↦
           let b = r.reads.structural (t.class e h) in
           subst (λ a. InsideAt a r.forest inside pre) (sym (pick_false (is_flow s.kind) (Flow s.kind) (Structural s.kind) h)) (b.later, b.white)

@@ -10,6 +10,8 @@ pub mod OriginalNodes
 pub mod LevelTexts
 pub mod OwnContent
 pub mod WrittenBlocks
+pub mod JoinedParts
+pub mod LeafParts
 pub mod KeptBlocks
 pub mod NestedNodes
 pub mod StandingBlocks

@@ -1,6 +1,7 @@
 -- A page that is written with nodes kept in it, by the bytes that they had, is read back as the list that it was written from.
 use Rattle.std.specs.Prelude.{◌≡◌, true, false, List, ℕ, [], map, Some}
 use Rattle.model_spelling.specs.Forest.{Forest, spelling, is_forest}
+use Rattle.ve_kinds.specs.declared.kind.Kind.TheVariants.{Root}
 use Rattle.model_items.specs.declared.plain_item.PlainItem.{PlainItem}
 use Rattle.model_items.specs.Law.{Lawful}
 use Rattle.model_page.specs.PageItems.{Opened, opened_page}
@@ -23,6 +24,6 @@ KeptIsReadBack = (page : List ℕ) (o : Opened) (items : List PlainItem) (f : Fo
 -- The same where a block that is kept may hold anything, leaves that are kept whole too, if no element of the first page is of the type of references.
 abbrev pub KeptBlocksAreReadBack : Type 0
 KeptBlocksAreReadBack = (page : List ℕ) (o : Opened) (items : List PlainItem) (f : Forest) → opened_page page ≡ Some o → has_references o ≡ false → Lawful items →
-    IsLeft (page_writer o) (carried_nodes (carried_items items)) →
+    IsLeft (page_writer o) Root (carried_nodes (carried_items items)) →
     is_forest max_open_elements f ≡ true → spelling f ≡ blocks (page_writer o) false [] (carried_nodes (carried_items items)) →
     (opened_page (write o items) ≡ Some (opened_again o f)) × (map without_origin (opened_again o f).items ≡ map without_origin items)
