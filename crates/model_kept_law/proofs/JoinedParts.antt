@@ -1,14 +1,14 @@
 -- The parts of two forests, one after the other, where no group of the one joins a group of the other.
-use Rattle.std.proofs.Common.{◌≡◌, ℕ, Bool, true, false, not, ◌&&◌, ◌||◌, if◌then◌else◌, List, [], ◌∷◌, ◌++◌, Option, Some, None, refl, sym, ap, ◌∙◌, subst, inl, inr}
-use Rattle.model_spelling.specs.Grammar.{Attr as Spelled, start_text, end_text}
-use Rattle.model_spelling.specs.Forest.{Forest, Nothing, Text, Remark, Void, RawElement, Element, spelling, starts_with_text}
+use Rattle.std.proofs.Common.{◌≡◌, ℕ, Bool, true, false, not, ◌&&◌, ◌||◌, if◌then◌else◌, List, ◌++◌, Option, None, refl, sym, ap, ◌∙◌}
+use Rattle.model_spelling.specs.Grammar.{start_text, end_text}
+use Rattle.model_spelling.specs.Forest.{Forest, Nothing, Text, Remark, Void, RawElement, Element, starts_with_text}
 use Rattle.model_page.specs.Elements.{is_white, about_of, is_held}
 use Rattle.model_page.specs.Parts.{Parts, Ended, Words, Note, Group, Single, Parent, about_in, is_shared, with_held, parts_of}
 use Rattle.model_page.specs.Fit.{has_blocks_alone, some_element}
 use Rattle.model_page.specs.Tags.{is_inline_tag}
 use Rattle.model_page_law.proofs.NeatForests.{Neat}
 use Rattle.model_page_law.proofs.BlockText.{followed_by}
-use Rattle.model_kept_law.specs.Left.{is_one_part, shares_about}
+use Rattle.model_kept_law.specs.Readable.{is_one_part, shares_about}
 use Rattle.model_kept_law.proofs.ApartParts.{Apart}
 
 abbrev pub joined : Parts → Parts → Parts

@@ -33,8 +33,8 @@ use Rattle.model_page_law.proofs.OneLemmas.{one_forest}
 use Rattle.model_page_law.proofs.SameLemmas.{marks_mean}
 use Rattle.model_page_law.proofs.NodesRead.{said_items}
 use Rattle.model_page_law.proofs.BodyReplaced.{written_opens}
-use Rattle.model_kept_law.specs.KeptBack.{KeptIsReadBack, KeptBlocksAreReadBack}
-use Rattle.model_kept_law.specs.Left.{has_references}
+use Rattle.model_kept_law.specs.KeptBack.{KeptIsReadBack, ReadableIsReadBack}
+use Rattle.model_kept_law.specs.Readable.{has_references}
 use Rattle.model_kept_law.proofs.FitFacts.{Small}
 use Rattle.model_kept_law.proofs.ApartParts.{apart_owners}
 use Rattle.model_kept_law.proofs.WholeParts.{NoWhole}
@@ -211,8 +211,8 @@ kept_is_read_back page o items f h lawful formed g e =
     }) g e
 
 -- what stands in kept blocks may be
-pub kept_blocks_are_read_back : KeptBlocksAreReadBack
-kept_blocks_are_read_back page o items f h calm lawful left g e =
+pub readable_is_read_back : ReadableIsReadBack
+readable_is_read_back page o items f h calm lawful left g e =
     let w : Writer = page_writer o in
     let known = page_known page o h in
     let such = standing_list (has_references o) w known calm items lawful left in

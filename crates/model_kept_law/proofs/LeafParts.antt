@@ -1,5 +1,5 @@
 -- One part that by itself reads as a leaf reads so before others.
-use Rattle.std.proofs.Common.{◌≡◌, ℕ, Bool, true, false, ◌||◌, if◌then◌else◌, List, [], ◌∷◌, ◌++◌, map, Option, Some, None, refl, sym, ap, ◌∙◌, subst, inl, inr}
+use Rattle.std.proofs.Common.{◌≡◌, ℕ, Bool, true, false, ◌||◌, if◌then◌else◌, List, [], ◌∷◌, ◌++◌, map, Some, None, refl, sym, ap, ◌∙◌, subst, inl, inr}
 use Rattle.std.proofs.lemmas.Bool.{cases_Bool}
 use Rattle.std.specs.Prelude.{chars}
 use Rattle.model_spelling.specs.Grammar.{Attr as Spelled, Comment, token_text}
@@ -12,7 +12,6 @@ use Rattle.ve_kinds.specs.Tags.{kind_of_tag}
 use Rattle.ve_kinds.specs.Table.{kind_same, is_element, is_block_leaf, is_inline_leaf}
 use Rattle.ve_base.specs.declared.marks.Mark.{Mark}
 use Rattle.ve_base.specs.declared.head.Head.{Head}
-use Rattle.ve_base.specs.Empty.{empty_head}
 use Rattle.model_items.specs.declared.plain_item.PlainItem.{PlainItem}
 use Rattle.model_items.specs.declared.plain_item.PlainItem.TheVariants.{Char, Opening, Closing}
 use Rattle.model_page.specs.Elements.{is_white}
@@ -21,12 +20,11 @@ use Rattle.model_page.specs.Fit.{Around, Flow, Structural, Content, Fit, Annotat
 use Rattle.model_page.specs.Fragment.{item_unmade}
 use Rattle.model_page.specs.Heads.{head_with, whole_head}
 use Rattle.model_page.specs.Pieces.{Owner, Made, Piece, Progress, past, source_span, no_piece, leaf, node, with_white, run_dropped, paragraph_before, run_ended, run_closed, in_run, before_run, leaf_before}
-use Rattle.model_page.specs.ReferenceNodes.{ref_of}
 use Rattle.model_page.specs.Convert.{marks_at, marked_around, element_source, inside_of, inside_piece, group_made, leaf_made, element_made, made_of}
 use Rattle.model_page_law.proofs.BlockText.{followed_by}
 use Rattle.model_page_law.proofs.BlockReads.{AtBlock, Closes}
 use Rattle.model_page_law.proofs.TileLemmas.{run_ended-source}
-use Rattle.model_kept_law.specs.Left.{is_one_part}
+use Rattle.model_kept_law.specs.Readable.{is_one_part}
 use Rattle.model_kept_law.proofs.FitFacts.{HoldsBlocks, FitFacts, fit_facts, tag_element}
 use Rattle.model_kept_law.proofs.ApartParts.{Apart}
 use Rattle.model_kept_law.proofs.JoinedParts.{joined}

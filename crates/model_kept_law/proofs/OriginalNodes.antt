@@ -31,7 +31,7 @@ use Rattle.model_page_law.proofs.ShapeLemmas.{plain, openings}
 use Rattle.model_page_law.proofs.PlaceLemmas.{with_origin, numbered_nodes, with_origins-nodes, with_body, bearing, carried_from-append, carried_from-plain, nodes_of-carried_items}
 use Rattle.model_page_law.proofs.KeptLemmas.{cut}
 use Rattle.model_page_law.proofs.NodesRead.{said_items}
-use Rattle.model_kept_law.specs.Left.{names_reference, has_references}
+use Rattle.model_kept_law.specs.Readable.{names_reference, has_references}
 use Rattle.model_kept_law.proofs.ApartParts.{Apart}
 use Rattle.model_kept_law.proofs.Unreferred.{unreferred_apart}
 use Rattle.model_kept_law.proofs.OwnSource.{OwnBlock}

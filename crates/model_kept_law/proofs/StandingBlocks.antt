@@ -19,7 +19,7 @@ use Rattle.model_page_law.proofs.FormKinds.{content_holds, no_br, no_img, no_roo
 use Rattle.model_page_law.proofs.NodesLemmas.{followed, nodes_of-items_of}
 use Rattle.model_page_law.proofs.BlockClean.{bare_is}
 use Rattle.model_spelling.specs.Forest.{Forest}
-use Rattle.model_kept_law.specs.Left.{leaf_forest, is_apart, IsKeptBlock, IsWholeLeaf, IsLeft}
+use Rattle.model_kept_law.specs.Readable.{leaf_forest, is_apart, IsKeptBlock, IsWholeLeaf, AreReadable}
 use Rattle.model_kept_law.proofs.LeafParts.{block_leaf, block_leaf_inline}
 use Rattle.model_kept_law.proofs.OriginalNodes.{Kept}
 use Rattle.model_kept_law.proofs.WrittenBlocks.{IsPlaced, ElementChunk, Written, written_empty, element_written, leaf_not_bare, whole_written}
@@ -32,7 +32,7 @@ AreStanding w parent Empty = Unit {0}
 AreStanding w parent (Letter c marks later) = ⊥
 AreStanding w parent (Node s inside pre later) =
     (((may_hold parent s.kind ≡ true) × IsKeptBlock w s inside pre)
-        ⊎ (((inside ≡ Empty) × IsWholeLeaf w parent s inside pre later) ⊎ (IsBranch parent s × (is_content_branch s.kind ≡ true → IsContent inside × (pre ≡ [])) × (is_content_branch s.kind ≡ false → AreStanding w s.kind inside × (is_white pre ≡ true)))))
+    ⊎ (((inside ≡ Empty) × IsWholeLeaf w parent s inside pre later) ⊎ (IsBranch parent s × (is_content_branch s.kind ≡ true → IsContent inside × (pre ≡ [])) × (is_content_branch s.kind ≡ false → AreStanding w s.kind inside × (is_white pre ≡ true)))))
     × AreStanding w parent later
 
 -- ---- nodes that nest
@@ -73,7 +73,7 @@ leaf_empty k (Node s inside pre later) l n = absurd (true_false (may_hold k s.ki
 content_leaf : (k : Kind) (s : Start) → is_content_branch k ≡ true → may_hold k s.kind ≡ true → is_leaf s.kind ≡ true
 content_leaf k s c h = later_of (is_among block_leaves s.kind) (is_among inline_leaves s.kind) (content_holds k s.kind c h)
 
-content_of : (w : Writer) (k : Kind) (n : Nodes) → is_content_branch k ≡ true → Nested k n → IsLeft w k n → IsContent n
+content_of : (w : Writer) (k : Kind) (n : Nodes) → is_content_branch k ≡ true → Nested k n → AreReadable w k n → IsContent n
 content_of w k Empty c n l = tt
 content_of w k (Letter ch marks later) c n l = (l.0.0, l.0.1, content_of w k later c n.1 l.1)
 content_of w k (Node s inside pre later) c n l = elim l.0 [
@@ -110,19 +110,21 @@ branch_of k s c h l f =
     let root : kind_same s.kind Root ≡ false = false_of (kind_same s.kind Root) (λ e. true_false (may_hold k s.kind) h (ap (may_hold k) (same_true the_type tt s.kind Root e) ∙ no_root k)) in
     record { held = h; element = element_or s.kind leaf l f.item root; branch = leaf; head = f.head; marks = f.branch leaf; before = f.white }
 
-standing : (w : Writer) (k : Kind) (n : Nodes) → is_content_branch k ≡ false → Nested k n → IsLeft w k n → AreStanding w k n
+standing : (w : Writer) (k : Kind) (n : Nodes) → is_content_branch k ≡ false → Nested k n → AreReadable w k n → AreStanding w k n
 standing w k Empty c n l = tt
 standing w k (Letter ch marks later) c n l = absurd (true_false (is_content_branch k) n.0 c)
-standing w k (Node s inside pre later) c n l =
-    (elim l.0 [
-      | inl kept ↦ inl (n.0, kept)
-      | inr (inl whole) ↦ inr (inl (leaf_empty s.kind inside (block_leaf (λ j. is_leaf j ≡ true) s.kind whole.leaf refl refl) n.2, whole))
-      | inr (inr f) ↦ inr (inr (
-        branch_of k s c n.0 n.1 f.0,
-        (λ e. (content_of w s.kind inside e n.2 f.2, f.1.none (second_of (is_leaf s.kind) (is_content_branch s.kind) (kind_same s.kind InternalList) e))),
-        (λ e. (standing w s.kind inside e n.2 f.2, f.1.white)),
-      ))
-    ], standing w k later c n.3 l.1)
+standing w k (Node s inside pre later) c n l = (
+  elim l.0 [
+    | inl kept ↦ inl (n.0, kept)
+    | inr (inl whole) ↦ inr (inl (leaf_empty s.kind inside (block_leaf (λ j. is_leaf j ≡ true) s.kind whole.leaf refl refl) n.2, whole))
+    | inr (inr f) ↦ inr (inr (
+      branch_of k s c n.0 n.1 f.0,
+      (λ e. (content_of w s.kind inside e n.2 f.2, f.1.none (second_of (is_leaf s.kind) (is_content_branch s.kind) (kind_same s.kind InternalList) e))),
+      (λ e. (standing w s.kind inside e n.2 f.2, f.1.white)),
+    ))
+  ],
+  standing w k later c n.3 l.1,
+)
 
 -- ---- a block that is kept
 
@@ -197,15 +199,21 @@ leaf_before w k s inside later m pre l = record {
   apart = apart_before w (leaf_forest w s inside pre) later m l.apart;
 }
 
-left_parts : (w : Writer) (k : Kind) (n m : Nodes) → IsLeft w k (followed n m) → IsLeft w k n × IsLeft w k m
-left_parts w k Empty m l = (tt, l)
-left_parts w k (Letter c marks later) m l = let p = left_parts w k later m l.1 in ((l.0, p.0), p.1)
-left_parts w k (Node s inside pre later) m l =
-    let p = left_parts w k later m l.1 in ((elim l.0 [
-      | inl kept ↦ inl kept
-      | inr (inl whole) ↦ inr (inl (leaf_before w k s inside later m pre whole))
-      | inr (inr f) ↦ inr (inr f)
-    ], p.0), p.1)
+readable_parts : (w : Writer) (k : Kind) (n m : Nodes) → AreReadable w k (followed n m) → AreReadable w k n × AreReadable w k m
+readable_parts w k Empty m l = (tt, l)
+readable_parts w k (Letter c marks later) m l = let p = readable_parts w k later m l.1 in ((l.0, p.0), p.1)
+readable_parts w k (Node s inside pre later) m l =
+    let p = readable_parts w k later m l.1 in (
+      (
+        elim l.0 [
+          | inl kept ↦ inl kept
+          | inr (inl whole) ↦ inr (inl (leaf_before w k s inside later m pre whole))
+          | inr (inr f) ↦ inr (inr f)
+        ],
+        p.0,
+      ),
+      p.1,
+    )
 
 no_leaf_list : (w : Writer) (k : Kind) (s : Start) (inside later : Nodes) (pre : List ℕ) → IsWholeLeaf w k s inside pre later → is_block_leaf s.kind ≡ false → ⊥
 no_leaf_list w k s inside later pre l e = true_false (is_block_leaf s.kind) l.leaf e
@@ -222,7 +230,7 @@ only_items c h = sym (same_true the_type tt InternalItem c (or_nothing (kind_sam
     or_nothing true e = refl
     or_nothing false e = cc
 
-empty_inside : (refers : Bool) (w : Writer) → Known refers w → refers ≡ false → (n : Nodes) → Nested InternalList n → IsLeft w InternalList n → n ≡ Empty
+empty_inside : (refers : Bool) (w : Writer) → Known refers w → refers ≡ false → (n : Nodes) → Nested InternalList n → AreReadable w InternalList n → n ≡ Empty
 empty_inside refers w known calm Empty n l = refl
 empty_inside refers w known calm (Letter c marks later) n l = absurd (let f : false ≡ true = n.0 in cc)
 empty_inside refers w known calm (Node s inside pre later) n l =
@@ -251,16 +259,16 @@ list_is s k f =
     let head : s.head ≡ empty_head = f.head.alone ∙ ap (λ a. record { tag = []; attrs = a; raw = []; reference = None; owner = false }) (f.list (ap (λ x. kind_same x InternalList) k)) in
     record { kind = k; head = head; marks = f.branch (ap is_leaf k); before = f.white }
 
-pub standing_list : (refers : Bool) (w : Writer) → Known refers w → refers ≡ false → (items : List PlainItem) → Lawful items → IsLeft w Root (carried_nodes (carried_items items)) → StandingList w items
+pub standing_list : (refers : Bool) (w : Writer) → Known refers w → refers ≡ false → (items : List PlainItem) → Lawful items → AreReadable w Root (carried_nodes (carried_items items)) → StandingList w items
 standing_list refers w known calm items h left =
     let n = nested_list items h in
     let all : Nodes = followed n.nodes (Node n.list n.inside n.pre Empty) in
-    let p = left_parts w Root n.nodes (Node n.list n.inside n.pre Empty) (subst (IsLeft w Root) (ap carried_nodes n.are ∙ nodes_of-items_of all) left) in
+    let p = readable_parts w Root n.nodes (Node n.list n.inside n.pre Empty) (subst (AreReadable w Root) (ap carried_nodes n.are ∙ nodes_of-items_of all) left) in
     elim p.1.0 [
       | inl b ↦ absurd (no_element refers w known calm n.list n.inside n.pre b (ap is_element n.kind))
       | inr (inl x) ↦ absurd (no_leaf_list w Root n.list n.inside Empty n.pre x (ap is_block_leaf n.kind))
       | inr (inr f) ↦
-          let inside : n.inside ≡ Empty = empty_inside refers w known calm n.inside n.within (subst (λ k. IsLeft w k n.inside) n.kind f.2) in
+          let inside : n.inside ≡ Empty = empty_inside refers w known calm n.inside n.within (subst (λ k. AreReadable w k n.inside) n.kind f.2) in
           let pre : n.pre ≡ [] = f.1.none (third_of (is_leaf n.list.kind) (is_content_branch n.list.kind) (kind_same n.list.kind InternalList) (ap (λ x. kind_same x InternalList) n.kind)) in
           record {
             nodes = n.nodes;

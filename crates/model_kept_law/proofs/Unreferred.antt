@@ -7,7 +7,7 @@ use Rattle.model_page.specs.Parts.{Parts, Ended, Words, Note, Group, Single, Par
 use Rattle.model_page.specs.Fit.{Around, Flow, Structural, Content}
 use Rattle.model_page.specs.Pieces.{Progress}
 use Rattle.model_page.specs.ReferenceNodes.{RefNode, may_be_reference}
-use Rattle.model_kept_law.specs.Left.{names_reference}
+use Rattle.model_kept_law.specs.Readable.{names_reference}
 use Rattle.model_kept_law.proofs.ApartParts.{Unreferred, Apart}
 
 or_left : (a b : Bool) → (a || b) ≡ false → a ≡ false

@@ -21,7 +21,7 @@ use Rattle.model_page.specs.Fragment.{item_unmade}
 use Rattle.model_page.specs.Heads.{head_with}
 use Rattle.model_page.specs.Pieces.{Made, Progress, past, source_span, node, with_white, run_dropped, paragraph_before, run_ended, run_closed, before_run}
 use Rattle.model_page.specs.Convert.{element_source, element_made, inside_of, inside_piece, made_of}
-use Rattle.model_page_write.specs.Nodes.{Start, Nodes, Empty, Letter, Node, node_items}
+use Rattle.model_page_write.specs.Nodes.{Start, Nodes, Empty, Node, node_items}
 use Rattle.model_page_write.specs.Written.{is_empty, white_after, is_bare, Writer, leaf_text, fresh_text, original_of, content, blocks}
 use Rattle.model_page_law.specs.Formed.{IsHead}
 use Rattle.model_page_law.proofs.NeatForests.{without, NeatTag, Neat}
@@ -36,7 +36,7 @@ use Rattle.model_page_law.proofs.BlockClean.{is_empty-nil, IsBare, bare_is, neve
 use Rattle.model_page_law.proofs.NodesRead.{said_items}
 use Rattle.model_spelling.proofs.Proved.{law_reads_right}
 use Rattle.model_page_law.proofs.OneLemmas.{spelled-Neat}
-use Rattle.model_kept_law.specs.Left.{leaf_source, leaf_forest, shares_about, is_apart, IsWholeLeaf}
+use Rattle.model_kept_law.specs.Readable.{leaf_source, leaf_forest, shares_about, is_apart, IsWholeLeaf}
 use Rattle.model_kept_law.proofs.FitFacts.{HoldsBlocks}
 use Rattle.model_kept_law.proofs.ApartParts.{Apart}
 use Rattle.model_kept_law.proofs.Unreferred.{unreferred_apart}
@@ -460,8 +460,8 @@ whole_written w k before s inside later pre closing c none l r =
     let more : List PlainItem = Closing s.kind [] ∷ said_items later in
     let at : Progress = record { at = 0; owners = []; editable = false } in
     let part : (around : Around) → HoldsBlocks around → around_in k ≡ around → LeafPart around (parts_of f) s.kind s.head = λ around b e.
-        leaf_part around b at (parts_of f) s.kind s.head l.part apart l.leaf
-        (ap (λ a. (inside_piece a at (made_of a (parts_of f) at)).later.items) (sym e) ∙ l.reads) in
+    leaf_part around b at (parts_of f) s.kind s.head l.part apart l.leaf
+    (ap (λ a. (inside_piece a at (made_of a (parts_of f) at)).later.items) (sym e) ∙ l.reads) in
     let flow : is_flow k ≡ true → around_in k ≡ Flow k = λ h. pick_false (is_content_branch k) _ _ c ∙ pick_true (is_flow k) _ _ h in
     let structural : is_among structural_kinds k ≡ true → around_in k ≡ Structural k = λ h. pick_false (is_content_branch k) _ _ c ∙ pick_false (is_flow k) _ _ (structural_flow k h) in
     let same : Opening s.kind s.head s.marks s.pre None false ∷ more ≡ said_items (Node s inside pre later) =
@@ -472,14 +472,14 @@ whole_written w k before s inside later pre closing c none l r =
           spelling-white_before s.pre all
           ∙ ap (λ x. encode_utf8_all s.pre ++ x) (spelling-followed_by f r.forest)
           ∙ spelled_before (encode_utf8_all s.pre) (spelling f) (blocks w before closing (Node s inside pre later)) (blocks w false closing later) (encode_utf8_all closing) r.forest r.spells
-              (leaf_written w k before s inside later pre closing l ∙ ap (λ x. encode_utf8_all s.pre ++ x ++ blocks w false closing later) (sym spells.0));
+          (leaf_written w k before s inside later pre closing l ∙ ap (λ x. encode_utf8_all s.pre ++ x ++ blocks w false closing later) (sym spells.0));
       neat = Neat-white_before s.pre all l.before start (one_neat f r.forest l.part (spelled-Neat f 200 spells.1) r.neat);
       starts = λ h e. starts-white_before s.pre all e start;
       reads = subst (λ xs. BlocksAre k before closing s.pre (white_before s.pre all) xs) same
           (placed_reads k before s all more closing l.marks l.before
           (λ h. leaf_block (Flow k) tt f r.forest s.kind s.head (said_items later) closing (part (Flow k) tt (flow h)) l.leaf together (r.reads.closes h))
           (λ h. leaf_block (Structural k) tt f r.forest s.kind s.head (said_items later) closing (part (Structural k) tt (structural h)) l.leaf together
-              (Closes-AtBlock (Structural k) r.forest (said_items later) closing (r.reads.structural h))));
+          (Closes-AtBlock (Structural k) r.forest (said_items later) closing (r.reads.structural h))));
       apart = Apart-white_before s.pre all (subst Apart (sym together) (joined_apart (parts_of f) (parts_of r.forest) apart r.apart));
       alone = λ h. alone-white_before s.pre all l.before
           (ap has_blocks_alone together ∙ joined_alone (parts_of f) (parts_of r.forest) ∙ and_from (has_blocks_alone (parts_of f)) (has_blocks_alone (parts_of r.forest)) (l.alone h) (r.alone h));

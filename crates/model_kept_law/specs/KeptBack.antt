@@ -11,7 +11,7 @@ use Rattle.model_page_write.specs.PageText.{page_writer, write}
 use Rattle.model_page_law.specs.Formed.{AreFormed}
 use Rattle.model_page_law.specs.ReadBack.{without_origin}
 use Rattle.model_page_law.specs.Replaced.{opened_again}
-use Rattle.model_kept_law.specs.Left.{has_references, IsLeft}
+use Rattle.model_kept_law.specs.Readable.{has_references, AreReadable}
 use Rattle.ve_base.specs.Limits.{max_open_elements}
 
 -- A lawful list of the form, of which any nodes are kept, at any depth: where a forest spells the body that is written, the page opens with what that forest is converted
@@ -21,9 +21,9 @@ KeptIsReadBack = (page : List ℕ) (o : Opened) (items : List PlainItem) (f : Fo
     is_forest max_open_elements f ≡ true → spelling f ≡ blocks (page_writer o) false [] (carried_nodes (carried_items items)) →
     (opened_page (write o items) ≡ Some (opened_again o f)) × (map without_origin (opened_again o f).items ≡ map without_origin items)
 
--- The same where a block that is kept may hold anything, leaves that are kept whole too, if no element of the first page is of the type of references.
-abbrev pub KeptBlocksAreReadBack : Type 0
-KeptBlocksAreReadBack = (page : List ℕ) (o : Opened) (items : List PlainItem) (f : Forest) → opened_page page ≡ Some o → has_references o ≡ false → Lawful items →
-    IsLeft (page_writer o) Root (carried_nodes (carried_items items)) →
+-- The same of lists in which leaves are kept whole, if no element of the first page is of the type of references.
+abbrev pub ReadableIsReadBack : Type 0
+ReadableIsReadBack = (page : List ℕ) (o : Opened) (items : List PlainItem) (f : Forest) → opened_page page ≡ Some o → has_references o ≡ false → Lawful items →
+    AreReadable (page_writer o) Root (carried_nodes (carried_items items)) →
     is_forest max_open_elements f ≡ true → spelling f ≡ blocks (page_writer o) false [] (carried_nodes (carried_items items)) →
     (opened_page (write o items) ≡ Some (opened_again o f)) × (map without_origin (opened_again o f).items ≡ map without_origin items)

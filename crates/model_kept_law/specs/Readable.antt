@@ -1,5 +1,5 @@
--- Lists of which all that stands outside of kept blocks is of the form that reads back, or a leaf that reads back by itself; what stands in a kept block
--- is as it was first read, whatever it is.
+-- Lists that read back though leaves are kept whole in them: what stands in a kept block is as it was first read, whatever it is; a leaf among blocks
+-- reads back by itself; and all else is of the form.
 use Rattle.std.specs.Prelude.{◌≡◌, true, false, Bool, ◌||◌, ◌&&◌, not, List, [], ◌∷◌, ℕ, Some, None, is_some, option_map, unwrap_or, encode_utf8_all, ◌⊎◌}
 use Rattle.model_spelling.specs.Forest.{Forest, Nothing, Text, Remark, Void, RawElement, Element}
 use Rattle.model_spelling.specs.Parsed.{forest_of}
@@ -7,7 +7,7 @@ use Rattle.ve_kinds.specs.declared.kind.Kind.{Kind}
 use Rattle.ve_kinds.specs.Table.{is_leaf, is_block_leaf, is_structural}
 use Rattle.model_items.specs.declared.plain_item.PlainItem.TheVariants.{Char, Opening, Closing}
 use Rattle.model_page.specs.Elements.{is_white, about_of, has_type, is_reference_type}
-use Rattle.model_page.specs.Parts.{Parts, Ended, Words, Note, Group, Single, Parent, about_in, is_shared, parts_of}
+use Rattle.model_page.specs.Parts.{Parts, Ended, Note, Group, Single, Parent, about_in, is_shared, parts_of}
 use Rattle.model_page.specs.Fit.{has_blocks_alone, some_element}
 use Rattle.model_page.specs.Fragment.{pieces_in}
 use Rattle.model_page.specs.PageItems.{slice, or_nothing, Opened}
@@ -76,13 +76,13 @@ pub record IsWholeLeaf (w : Writer) (parent : Kind) (s : Start) (inside : Nodes)
   pub alone : is_structural parent ≡ true → has_blocks_alone (parts_of (leaf_forest w s inside pre)) ≡ true
   pub apart : is_apart w (leaf_forest w s inside pre) later ≡ true
 
--- ---- what is left
+-- ---- lists
 
 -- each node is a kept block, a leaf that is kept whole, or of the form, and so is each that stands in one of the form
-abbrev pub IsLeft : Writer → Kind → Nodes → Type 0
-IsLeft w parent Empty = Unit {0}
-IsLeft w parent (Letter c marks later) = IsFormed (Char c marks) × IsLeft w parent later
-IsLeft w parent (Node s inside pre later) =
+abbrev pub AreReadable : Writer → Kind → Nodes → Type 0
+AreReadable w parent Empty = Unit {0}
+AreReadable w parent (Letter c marks later) = IsFormed (Char c marks) × AreReadable w parent later
+AreReadable w parent (Node s inside pre later) =
     (IsKeptBlock w s inside pre
-        ⊎ (IsWholeLeaf w parent s inside pre later ⊎ (IsFormedOpening s.kind s.head s.marks s.pre × IsFormedClosing s.kind pre × IsLeft w s.kind inside)))
-    × IsLeft w parent later
+    ⊎ (IsWholeLeaf w parent s inside pre later ⊎ (IsFormedOpening s.kind s.head s.marks s.pre × IsFormedClosing s.kind pre × AreReadable w s.kind inside)))
+    × AreReadable w parent later
