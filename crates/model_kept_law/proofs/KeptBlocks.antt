@@ -153,20 +153,20 @@ content-said (Node s inside pre later) c =
     let l = c.0 in
     (λ i. Opening s.kind s.head s.marks (sym l.before i) None false ∷ said_items (sym l.alone i) ++ Closing s.kind (sym l.closing i) ∷ content-said later c.2 i)
 
-content-unmade : (n : Nodes) → map item_unmade (content_items n) ≡ content_items n
+pub content-unmade : (n : Nodes) → map item_unmade (content_items n) ≡ content_items n
 content-unmade Empty = refl
 content-unmade (Letter ch marks later) = ap (λ xs. Char ch marks ∷ xs) (content-unmade later)
 content-unmade (Node s inside pre later) = ap (leaf_items s) (content-unmade later)
 
 -- what stands inside of a block, with its text before the closing
-record Inner (w : Writer) (s : Start) (inside : Nodes) (pre : List ℕ) : Type 0 where
-  forest : Forest
-  spells : spelling forest ≡ (if is_content_branch s.kind then content w [] inside else blocks w false pre inside) ++ encode_utf8_all pre
-  neat : Neat forest
-  apart : Apart (parts_of forest)
-  convertible : is_convertible s.kind (parts_of forest) ≡ true
-  items : (u : Progress) → map item_unmade (inside_piece (around_in s.kind) u (made_of (around_in s.kind) (parts_of forest) u)).later.items ≡ said_items inside
-  white : (u : Progress) → (inside_piece (around_in s.kind) u (made_of (around_in s.kind) (parts_of forest) u)).pre ≡ pre
+pub record Inner (w : Writer) (s : Start) (inside : Nodes) (pre : List ℕ) : Type 0 where
+  pub forest : Forest
+  pub spells : spelling forest ≡ (if is_content_branch s.kind then content w [] inside else blocks w false pre inside) ++ encode_utf8_all pre
+  pub neat : Neat forest
+  pub apart : Apart (parts_of forest)
+  pub convertible : is_convertible s.kind (parts_of forest) ≡ true
+  pub items : (u : Progress) → map item_unmade (inside_piece (around_in s.kind) u (made_of (around_in s.kind) (parts_of forest) u)).later.items ≡ said_items inside
+  pub white : (u : Progress) → (inside_piece (around_in s.kind) u (made_of (around_in s.kind) (parts_of forest) u)).pre ≡ pre
 
 abbrev InsideAt : Around → Forest → Nodes → List ℕ → Type 0
 InsideAt around f inside pre =
@@ -198,7 +198,7 @@ inner_content w s inside pre t e c none f =
       | inl y ↦ absurd (opposite (is_content_branch s.kind) e (t.structural y).0)
     ]
 
-inner_blocks : (w : Writer) (s : Start) (inside : Nodes) (pre : List ℕ) → BranchTag s.kind → is_content_branch s.kind ≡ false → Written w s.kind false pre inside → Inner w s inside pre
+pub inner_blocks : (w : Writer) (s : Start) (inside : Nodes) (pre : List ℕ) → BranchTag s.kind → is_content_branch s.kind ≡ false → Written w s.kind false pre inside → Inner w s inside pre
 inner_blocks w s inside pre t e r =
     let at : around_in s.kind ≡ (if is_flow s.kind then Flow s.kind else Structural s.kind) = pick_false (is_content_branch s.kind) (Content []) (if is_flow s.kind then Flow s.kind else Structural s.kind) e in
     let i : InsideAt (around_in s.kind) r.forest inside pre = subst (λ a. InsideAt a r.forest inside pre) (sym at)
@@ -222,7 +222,7 @@ inner_blocks w s inside pre t e r =
     }
 
 -- an element around it
-fresh_element : (w : Writer) (k : Kind) (s : Start) (inside : Nodes) (pre text : List ℕ) → IsBranch k s → BranchTag s.kind → (i : Inner w s inside pre) → spelling i.forest ≡ text ++ encode_utf8_all pre →
+pub fresh_element : (w : Writer) (k : Kind) (s : Start) (inside : Nodes) (pre text : List ℕ) → IsBranch k s → BranchTag s.kind → (i : Inner w s inside pre) → spelling i.forest ≡ text ++ encode_utf8_all pre →
     ElementChunk s inside pre (element_text s text pre)
 fresh_element w k s inside pre text b t i e =
     let attrs = canon_attrs (map attr_bytes s.head.attrs) in

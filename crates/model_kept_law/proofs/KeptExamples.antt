@@ -70,23 +70,24 @@ run_is_read_again : read_again run_page (run_items new) ≡ Some (map without_or
 unfolding page_on_literals
 run_is_read_again = refl
 
--- ---- leaves that are kept whole: a comment, a group, and another comment in a paragraph that is kept; the last paragraph is changed
+-- ---- leaves that are kept whole: a comment, a group, and comments in a paragraph that is kept and in one that is changed
 
 abbrev wiki : List ℕ
-wiki = codes "<!--c--><div about='#t' typeof='mw:Transclusion'>T</div><p>a<!--d--></p><p>b</p>"
+wiki = codes "<!--c--><div about='#t' typeof='mw:Transclusion'>T</div><p>a<!--d--></p><p>b<!--e--></p>"
 
 abbrev wiki_items : ℕ → List PlainItem
 wiki_items c =
     whole_ AlienBlock 0 [] (codes "<!--c-->")
     ++ whole_ TransBlock 1 [] (codes "<div about='#t' typeof='mw:Transclusion'>T</div>")
     ++ open_ P 2 ∷ Char 97 [] ∷ whole_ AlienInline 3 [] (codes "<!--d-->")
-    ++ close_ P ∷ open_ P 4 ∷ Char c [] ∷ close_ P ∷ empty_list
+    ++ close_ P ∷ open_ P 4 ∷ Char c [] ∷ whole_ AlienInline 5 [] (codes "<!--e-->")
+    ++ close_ P ∷ empty_list
 
 wiki_is_read : items_in wiki ≡ Some (wiki_items 98)
 unfolding page_on_literals
 wiki_is_read = refl
 
-wiki_is_written : written_at wiki (wiki_items 99) ≡ Some (codes "<!--c--><div about='#t' typeof='mw:Transclusion'>T</div><p>a<!--d--></p><p>c</p>")
+wiki_is_written : written_at wiki (wiki_items 99) ≡ Some (codes "<!--c--><div about='#t' typeof='mw:Transclusion'>T</div><p>a<!--d--></p><p>c<!--e--></p>")
 unfolding page_on_literals
 wiki_is_written = refl
 
@@ -115,14 +116,14 @@ plain_closing k = record { white = refl; none = λ e. refl }
 is_readable : AreReadable (page_writer first) Root (carried_nodes (carried_items (wiki_items 99)))
 unfolding page_on_literals
 is_readable = (
-  inr (inl (record { leaf = refl; marks = refl; tags = refl; before = refl; closing = refl; spelled = refl; calm = refl; part = refl; reads = refl; alone = λ e. cc; apart = refl })),
+  inr (inl (record { leaf = refl; tags = refl; inline = λ e. cc; block = λ e. (refl, refl); closing = refl; text = refl; spelled = refl; calm = refl; part = refl; reads = refl; alone = λ e. cc; apart = refl })),
   (
-    inr (inl (record { leaf = refl; marks = refl; tags = refl; before = refl; closing = refl; spelled = refl; calm = refl; part = refl; reads = refl; alone = λ e. cc; apart = refl })),
+    inr (inl (record { leaf = refl; tags = refl; inline = λ e. cc; block = λ e. (refl, refl); closing = refl; text = refl; spelled = refl; calm = refl; part = refl; reads = refl; alone = λ e. cc; apart = refl })),
     (
       inl (record { branch = refl; tags = refl; before = refl; kept = refl }),
       (
-        inr (inr (plain_opening, plain_closing P, ((refl, tt), tt))),
-        (inr (inr (list_opening, plain_closing InternalList, tt)), tt),
+        inr (inr (plain_opening, plain_closing P, refl, ((refl, tt), (inr (inl (record { leaf = refl; tags = refl; inline = λ e. (tt, refl); block = λ e. cc; closing = refl; text = refl; spelled = refl; calm = refl; part = refl; reads = refl; alone = λ e. cc; apart = refl })), tt)))),
+        (inr (inr (list_opening, plain_closing InternalList, refl, tt)), tt),
       ),
     ),
   ),

@@ -1,5 +1,5 @@
 -- One part that by itself reads as a leaf reads so before others.
-use Rattle.std.proofs.Common.{◌≡◌, ℕ, Bool, true, false, ◌||◌, if◌then◌else◌, List, [], ◌∷◌, ◌++◌, map, Some, None, refl, sym, ap, ◌∙◌, subst, inl, inr}
+use Rattle.std.proofs.Common.{◌≡◌, ℕ, Bool, true, false, not, ◌&&◌, ◌||◌, if◌then◌else◌, List, [], ◌∷◌, ◌++◌, map, Some, None, refl, sym, ap, ◌∙◌, subst, inl, inr}
 use Rattle.std.proofs.lemmas.Bool.{cases_Bool}
 use Rattle.std.specs.Prelude.{chars}
 use Rattle.model_spelling.specs.Grammar.{Attr as Spelled, Comment, token_text}
@@ -7,7 +7,7 @@ use Rattle.model_spelling.specs.Forest.{Forest, spelling}
 use denote.Enum.Bare.{same_true}
 use Rattle.ve_kinds.specs.contracts.kind.Kind.{the_type}
 use Rattle.ve_kinds.specs.declared.kind.Kind.{Kind}
-use Rattle.ve_kinds.specs.declared.kind.Kind.TheVariants.{P, TransBlock, AlienBlock}
+use Rattle.ve_kinds.specs.declared.kind.Kind.TheVariants.{P, TransBlock, AlienBlock, AlienInline}
 use Rattle.ve_kinds.specs.Tags.{kind_of_tag}
 use Rattle.ve_kinds.specs.Table.{kind_same, is_element, is_block_leaf, is_inline_leaf}
 use Rattle.ve_base.specs.declared.marks.Mark.{Mark}
@@ -16,7 +16,8 @@ use Rattle.model_items.specs.declared.plain_item.PlainItem.{PlainItem}
 use Rattle.model_items.specs.declared.plain_item.PlainItem.TheVariants.{Char, Opening, Closing}
 use Rattle.model_page.specs.Elements.{is_white}
 use Rattle.model_page.specs.Parts.{Parts, Ended, Words, Note, Group, Single, Parent, parts_of}
-use Rattle.model_page.specs.Fit.{Around, Flow, Structural, Content, Fit, Annotation, Leaf, Branch, Whole, around_in, fit_of, group_kind, note_kind}
+use Rattle.model_page.specs.Fit.{Around, Flow, Structural, Content, Fit, Annotation, Leaf, Branch, Whole, around_in, has_child, fit_of, group_kind, note_kind}
+use Rattle.model_page.specs.Tags.{is_annotation_tag}
 use Rattle.model_page.specs.Fragment.{item_unmade}
 use Rattle.model_page.specs.Heads.{head_with, whole_head}
 use Rattle.model_page.specs.Pieces.{Owner, Made, Piece, Progress, past, source_span, no_piece, leaf, node, with_white, run_dropped, paragraph_before, run_ended, run_closed, in_run, before_run, leaf_before}
@@ -227,10 +228,10 @@ ended_run (b ∷ bs) w m = chosen (is_white (b ∷ bs)) (with_white (chars (b �
     chosen true x y f g = f
     chosen false x y f g = g
 
-no_marks : (around : Around) → HoldsBlocks around → marks_at around ≡ []
-no_marks (Content marks) b = absurd b
-no_marks (Flow k) b = refl
-no_marks (Structural k) b = refl
+unmarked : (around : Around) → HoldsBlocks around → marks_at around ≡ []
+unmarked (Content marks) b = absurd b
+unmarked (Flow k) b = refl
+unmarked (Structural k) b = refl
 
 pub leaf_block : (around : Around) → HoldsBlocks around → (f rest : Forest) (kind : Kind) (head : Head) (ys : List PlainItem) (closing : List ℕ) → LeafPart around (parts_of f) kind head → is_block_leaf kind ≡ true →
     parts_of (followed_by f rest) ≡ joined (parts_of f) (parts_of rest) → Closes around rest ys closing → AtBlock around (followed_by f rest) (Opening kind head [] [] None false ∷ Closing kind [] ∷ ys) closing
@@ -240,7 +241,7 @@ leaf_block around b f rest kind head ys closing p l j c =
       run = λ w. ap (λ m. m.run.items) (is w) ∙ ended_run (later w).source (suffix w) (later w);
       later = λ w.
           ap (λ m. map item_unmade m.later.items) (is w)
-          ∙ (λ i. Opening kind head (no_marks around b i) [] None false ∷ Closing kind [] ∷ c.later (suffix w) i);
+          ∙ (λ i. Opening kind head (unmarked around b i) [] None false ∷ Closing kind [] ∷ c.later (suffix w) i);
       white = λ w. ap (λ m. m.pre) (is w) ∙ c.white (suffix w);
     }
   where
@@ -255,3 +256,118 @@ leaf_block around b f rest kind head ys closing p l j c =
         ap (λ x. made_of around x w) j
         ∙ p.made (parts_of rest) w
         ∙ made_if_false (is_inline_leaf kind) _ _ (block_leaf_inline kind l)
+
+-- ---- a leaf in content
+
+record Inlined (k : Kind) (h : Head) (kind : Kind) (head : Head) : Type 0 where
+  same : Leafed k h kind head
+  inline : is_inline_leaf k ≡ true
+
+inline_alone : (w : Progress) (k : Kind) (h : Head) (part : List ℕ) (kind : Kind) (head : Head) → (leaf_before w k h [] part [] nothing).run.items ≡ leaf_items kind head → Inlined k h kind head
+inline_alone w k h part kind head e = by (is_inline_leaf k) refl e
+  where
+    by : (c : Bool) → is_inline_leaf k ≡ c → (if c then in_run (leaf k h [] (source_span w part)) part [] nothing else before_run (past w part []) (leaf k h [] (source_span w part)) [] nothing).run.items ≡ leaf_items kind head → Inlined k h kind head
+    by true i e = record { same = record { kind_is = ap (λ xs. kind_in xs k) e; head_is = ap (λ xs. head_in xs h) e }; inline = i }
+    by false i e = cc
+
+-- inside of any marks
+pub record ContentPart (p : Parts) (kind : Kind) (head : Head) : Type 0 where
+  pub part : (marks : List Mark) → LeafPart (Content marks) p kind head
+  pub inline : is_inline_leaf kind ≡ true
+
+content_same : (p : Parts) (k kind : Kind) (h head : Head) → Inlined k h kind head → ((marks : List Mark) → LeafPart (Content marks) p k h) → ContentPart p kind head
+content_same p k kind h head i l = record { part = λ marks. leaf_same (Content marks) p k kind h head i.same (l marks); inline = ap is_inline_leaf (sym i.same.kind_is) ∙ i.inline }
+
+record ContentFitted (attrs : List Spelled) (source : List ℕ) (fit : Fit) : Type 0 where
+  kind : Kind
+  head : Head
+  is : (marks : List Mark) (later : Progress → Made) (w : Progress) → leaf_made (Content marks) attrs source later w fit ≡ leaf_before w kind head marks source [] (later (past w source []))
+
+content_fitted : (attrs : List Spelled) (source : List ℕ) (fit : Fit) → ContentFitted attrs source fit
+content_fitted attrs source (Leaf kind) = record { kind = kind; head = head_with attrs; is = λ marks later w. refl }
+content_fitted attrs source (Whole kind) = record { kind = kind; head = whole_head source; is = λ marks later w. refl }
+content_fitted attrs source Annotation = record { kind = AlienInline; head = whole_head source; is = λ marks later w. refl }
+content_fitted attrs source (Branch kind) = record { kind = AlienInline; head = whole_head source; is = λ marks later w. refl }
+
+fit_anywhere : (name : List ℕ) (children : Parts) (marks : List Mark) → fit_of (Content marks) name children ≡ fit_of (Content []) name children
+fit_anywhere name children marks = refl
+
+content_whole : (w : Progress) (name : List ℕ) (attrs : List Spelled) (children : Parts) (kind : Kind) (head : Head) → not (is_annotation_tag name && has_child children) ≡ true →
+    (fit : Fit) → fit_of (Content []) name children ≡ fit → FitFacts (Content []) name children fit →
+    (element_made (Content []) name attrs (element_source name attrs children) (λ a. made_of a children) (made_of (Content []) Ended) w fit).run.items ≡ leaf_items kind head →
+    ContentPart (Parent name attrs children Ended) kind head
+content_whole w name attrs children kind head n Annotation g t e = let m = t.marks refl in absurd (no_marks (is_annotation_tag name) (has_child children) m.0 m.1 n)
+  where
+    no_marks : (a b : Bool) → a ≡ true → b ≡ true → not (a && b) ≡ true → ⊥
+    no_marks true true x y e = cc
+    no_marks true false x y e = cc
+    no_marks false b x y e = cc
+content_whole w name attrs children kind head n (Branch k) g t e = absurd (t.branch k refl).2
+content_whole w name attrs children kind head n (Leaf k) g t e =
+    let part : List ℕ = element_source name attrs children in
+    content_same (Parent name attrs children Ended) k kind (head_with attrs) head (inline_alone w k (head_with attrs) part kind head e) (λ marks. record {
+      source = part;
+      made = λ q u. ap (element_made (Content marks) name attrs part (λ a. made_of a children) (made_of (Content marks) q) u) (fit_anywhere name children marks ∙ g);
+    })
+content_whole w name attrs children kind head n (Whole k) g t e =
+    let part : List ℕ = element_source name attrs children in
+    content_same (Parent name attrs children Ended) k kind (whole_head part) head (inline_alone w k (whole_head part) part kind head e) (λ marks. record {
+      source = part;
+      made = λ q u. ap (element_made (Content marks) name attrs part (λ a. made_of a children) (made_of (Content marks) q) u) (fit_anywhere name children marks ∙ g);
+    })
+
+pub content_part : (w : Progress) (p : Parts) (kind : Kind) (head : Head) → is_one_part p ≡ true → Apart p →
+    (made_of (Content []) p w).run.items ≡ Opening kind head [] [] None false ∷ Closing kind [] ∷ [] → ContentPart p kind head
+content_part w (Note text Ended) kind head h a e =
+    let part : List ℕ = token_text (Comment text) in
+    content_same (Note text Ended) AlienInline kind (whole_head part) head (inline_alone w AlienInline (whole_head part) part kind head e) (λ marks. record { source = part; made = λ q u. refl })
+content_part w (Group nodes Ended) kind head h a e =
+    let part : List ℕ = spelling nodes in
+    let k : Kind = group_kind (Content []) nodes in
+    let alone : (group_made (Content []) nodes (made_of (Content []) Ended) w None).run.items ≡ leaf_items kind head = ap (λ r. (group_made (Content []) nodes (made_of (Content []) Ended) w r).run.items) (sym (a.0 w (Content []))) ∙ e in
+    content_same (Group nodes Ended) k kind (whole_head part) head (inline_alone w k (whole_head part) part kind head alone)
+    (λ marks. record { source = part; made = λ q u. ap (group_made (Content marks) nodes (made_of (Content marks) q) u) (a.0 u (Content marks)) })
+content_part w (Single name attrs source Ended) kind head h a e =
+    let f = content_fitted attrs source (fit_of (Content []) name Ended) in
+    content_same (Single name attrs source Ended) f.kind kind f.head head
+    (inline_alone w f.kind f.head source kind head (ap (λ m. m.run.items) (sym (f.is [] (made_of (Content []) Ended) w)) ∙ e))
+    (λ marks. record { source = source; made = λ q u. f.is marks (made_of (Content marks) q) u })
+content_part w (Parent name attrs children Ended) kind head h a e = content_whole w name attrs children kind head h (fit_of (Content []) name children) refl (fit_facts (Content []) name children) e
+content_part w Ended kind head h a e = cc
+content_part w (Words text later) kind head h a e = cc
+content_part w (Note text (Words t later)) kind head h a e = cc
+content_part w (Note text (Note t later)) kind head h a e = cc
+content_part w (Note text (Group n later)) kind head h a e = cc
+content_part w (Note text (Single n al s later)) kind head h a e = cc
+content_part w (Note text (Parent n al c later)) kind head h a e = cc
+content_part w (Group nodes (Words t later)) kind head h a e = cc
+content_part w (Group nodes (Note t later)) kind head h a e = cc
+content_part w (Group nodes (Group n later)) kind head h a e = cc
+content_part w (Group nodes (Single n al s later)) kind head h a e = cc
+content_part w (Group nodes (Parent n al c later)) kind head h a e = cc
+content_part w (Single name attrs source (Words t later)) kind head h a e = cc
+content_part w (Single name attrs source (Note t later)) kind head h a e = cc
+content_part w (Single name attrs source (Group n later)) kind head h a e = cc
+content_part w (Single name attrs source (Single n al s later)) kind head h a e = cc
+content_part w (Single name attrs source (Parent n al c later)) kind head h a e = cc
+content_part w (Parent name attrs children (Words t later)) kind head h a e = cc
+content_part w (Parent name attrs children (Note t later)) kind head h a e = cc
+content_part w (Parent name attrs children (Group n later)) kind head h a e = cc
+content_part w (Parent name attrs children (Single n al s later)) kind head h a e = cc
+content_part w (Parent name attrs children (Parent n al c later)) kind head h a e = cc
+
+-- it reads before other content
+made_if_true : (c : Bool) (a b : Made) → c ≡ true → (if c then a else b) ≡ a
+made_if_true true a b e = refl
+made_if_true false a b e = cc
+
+pub content_leaf : (marks : List Mark) (f rest : Forest) (kind : Kind) (head : Head) (ys : List PlainItem) → ContentPart (parts_of f) kind head → parts_of (followed_by f rest) ≡ joined (parts_of f) (parts_of rest) →
+    ((w : Progress) → (made_of (Content marks) (parts_of rest) w).run.items ≡ ys) → (w : Progress) →
+    (made_of (Content marks) (parts_of (followed_by f rest)) w).run.items ≡ Opening kind head marks [] None false ∷ Closing kind [] ∷ ys
+content_leaf marks f rest kind head ys p j reads w =
+    let l = p.part marks in
+    let part : List ℕ = l.source in
+    ap (λ x. (made_of (Content marks) x w).run.items) j
+    ∙ ap (λ m. m.run.items) (l.made (parts_of rest) w)
+    ∙ ap (λ m. m.run.items) (made_if_true (is_inline_leaf kind) (in_run (leaf kind head marks (source_span w part)) part [] (made_of (Content marks) (parts_of rest) (past w part []))) _ p.inline)
+    ∙ ap (λ xs. Opening kind head marks [] None false ∷ Closing kind [] ∷ xs) (reads (past w part []))

@@ -12,7 +12,10 @@ pub mod OwnContent
 pub mod WrittenBlocks
 pub mod JoinedParts
 pub mod LeafParts
+pub mod MarkedLevels
+pub mod WholeContent
 pub mod KeptBlocks
+pub mod MixedContent
 pub mod NestedNodes
 pub mod StandingBlocks
 pub mod KeptBackLemmas

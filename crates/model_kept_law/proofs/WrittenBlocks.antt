@@ -36,12 +36,12 @@ use Rattle.model_page_law.proofs.BlockClean.{is_empty-nil, IsBare, bare_is, neve
 use Rattle.model_page_law.proofs.NodesRead.{said_items}
 use Rattle.model_spelling.proofs.Proved.{law_reads_right}
 use Rattle.model_page_law.proofs.OneLemmas.{spelled-Neat}
-use Rattle.model_kept_law.specs.Readable.{leaf_source, leaf_forest, shares_about, is_apart, IsWholeLeaf}
+use Rattle.model_kept_law.specs.Readable.{leaf_forest, shares_about, is_apart, IsWholeLeaf}
 use Rattle.model_kept_law.proofs.FitFacts.{HoldsBlocks}
 use Rattle.model_kept_law.proofs.ApartParts.{Apart}
 use Rattle.model_kept_law.proofs.Unreferred.{unreferred_apart}
 use Rattle.model_kept_law.proofs.JoinedParts.{joined, Clear, parts_followed, joined_apart, joined_alone, one_neat, one_starts, one_clear}
-use Rattle.model_kept_law.proofs.LeafParts.{block_leaf, no_paragraph, LeafPart, leaf_part, leaf_block}
+use Rattle.model_kept_law.proofs.LeafParts.{block_leaf, block_leaf_inline, no_paragraph, LeafPart, leaf_part, leaf_block}
 
 -- ---- a block that its parent may hold
 
@@ -99,7 +99,7 @@ pub record Written (w : Writer) (k : Kind) (before : Bool) (closing : List ℕ) 
   pub reads : BlocksAre k before closing (white_after n closing) forest (said_items n)
   pub apart : Apart (parts_of forest)
   pub alone : is_among structural_kinds k ≡ true → has_blocks_alone (parts_of forest) ≡ true
-  pub clear : (g : Forest) → is_apart w g n ≡ true → Clear g (parts_of forest)
+  pub clear : (g : Forest) → is_apart g n ≡ true → Clear g (parts_of forest)
 
 -- ---- whitespace before
 
@@ -274,7 +274,7 @@ element_written w k before s inside later pre closing text b c r is =
 
 -- ---- a run before
 
-spelling-followed_by : (a b : Forest) → spelling (followed_by a b) ≡ spelling a ++ spelling b
+pub spelling-followed_by : (a b : Forest) → spelling (followed_by a b) ≡ spelling a ++ spelling b
 spelling-followed_by Nothing b = refl
 spelling-followed_by (Text text rest) b = ap (λ s. text ++ s) (spelling-followed_by rest b) ∙ sym (append_assoc text (spelling rest) (spelling b))
 spelling-followed_by (Remark text rest) b =
@@ -392,18 +392,18 @@ not_true false h = refl
 pub leaf_not_bare : (before : Bool) (s : Start) (inside : Nodes) (after : List ℕ) → is_block_leaf s.kind ≡ true → is_bare before s inside after ≡ false
 leaf_not_bare before s inside after l = not_true (is_bare before s inside after) (λ e. no_paragraph s.kind l (sym (bare_is before s inside after e).kind))
 
-leaf_written : (w : Writer) (k : Kind) (before : Bool) (s : Start) (inside later : Nodes) (pre closing : List ℕ) → IsWholeLeaf w k s inside pre later →
-    blocks w before closing (Node s inside pre later) ≡ encode_utf8_all s.pre ++ leaf_source w s inside pre ++ blocks w false closing later
-leaf_written w k before s inside later pre closing l =
+leaf_written : (w : Writer) (k : Kind) (before : Bool) (s : Start) (inside later : Nodes) (pre closing : List ℕ) → is_block_leaf s.kind ≡ true → IsWholeLeaf w k s inside pre later →
+    blocks w before closing (Node s inside pre later) ≡ encode_utf8_all s.pre ++ encode_utf8_all s.head.raw ++ blocks w false closing later
+leaf_written w k before s inside later pre closing leaf l =
     let bare : Bool = is_bare before s inside (white_after later closing) in
     let text : List ℕ = if is_content_branch s.kind then content w [] inside else blocks w false pre inside in
-    let no_bare : bare ≡ false = leaf_not_bare before s inside (white_after later closing) l.leaf in
+    let no_bare : bare ≡ false = leaf_not_bare before s inside (white_after later closing) leaf in
     let original : original_of w bare s (node_items s inside pre) ≡ w.original s (node_items s inside pre) = ap (λ g. if g && not bare then None else w.original s (node_items s inside pre)) l.tags in
     let fresh : fresh_text w bare s text pre ≡ encode_utf8_all s.head.raw =
-    pick_false (kind_same s.kind InternalList) _ _ (block_leaf (λ j. kind_same j InternalList ≡ false) s.kind l.leaf refl refl)
-    ∙ pick_true (is_leaf s.kind) _ _ (block_leaf (λ j. is_leaf j ≡ true) s.kind l.leaf refl refl)
-    ∙ block_leaf (λ j. leaf_text w s j ≡ encode_utf8_all s.head.raw) s.kind l.leaf refl refl in
-    (λ i. encode_utf8_all s.pre ++ unwrap_or (original i) (fresh i) ++ blocks w (no_bare i) closing later)
+    pick_false (kind_same s.kind InternalList) _ _ (block_leaf (λ j. kind_same j InternalList ≡ false) s.kind leaf refl refl)
+    ∙ pick_true (is_leaf s.kind) _ _ (block_leaf (λ j. is_leaf j ≡ true) s.kind leaf refl refl)
+    ∙ block_leaf (λ j. leaf_text w s j ≡ encode_utf8_all s.head.raw) s.kind leaf refl refl in
+    (λ i. encode_utf8_all s.pre ++ unwrap_or (original i) (fresh i) ++ blocks w (no_bare i) closing later) ∙ ap (λ x. encode_utf8_all s.pre ++ x ++ blocks w false closing later) l.text
 
 structural_flow : (k : Kind) → is_among structural_kinds k ≡ true → is_flow k ≡ false
 structural_flow Root e = cc
@@ -448,19 +448,20 @@ not_shared true true e h = cc
 not_shared true false e h = refl
 not_shared false b e h = cc
 
-pub whole_written : (w : Writer) (k : Kind) (before : Bool) (s : Start) (inside later : Nodes) (pre closing : List ℕ) → is_content_branch k ≡ false → inside ≡ Empty → IsWholeLeaf w k s inside pre later →
+pub whole_written : (w : Writer) (k : Kind) (before : Bool) (s : Start) (inside later : Nodes) (pre closing : List ℕ) → is_content_branch k ≡ false → inside ≡ Empty → is_block_leaf s.kind ≡ true → IsWholeLeaf w k s inside pre later →
     Written w k false closing later → Written w k before closing (Node s inside pre later)
-whole_written w k before s inside later pre closing c none l r =
-    let f : Forest = leaf_forest w s inside pre in
+whole_written w k before s inside later pre closing c none leaf l r =
+    let f : Forest = leaf_forest s in
+    let stands = l.block (block_leaf_inline s.kind leaf) in
     let all : Forest = followed_by f r.forest in
-    let spells = law_reads_right (leaf_source w s inside pre) f l.spelled in
+    let spells = law_reads_right (encode_utf8_all s.head.raw) f l.spelled in
     let apart : Apart (parts_of f) = unreferred_apart f l.calm in
     let together : parts_of all ≡ joined (parts_of f) (parts_of r.forest) = parts_followed f r.forest (r.clear f l.apart) in
     let start : starts_with_text all ≡ false = one_starts f r.forest l.part in
     let more : List PlainItem = Closing s.kind [] ∷ said_items later in
     let at : Progress = record { at = 0; owners = []; editable = false } in
     let part : (around : Around) → HoldsBlocks around → around_in k ≡ around → LeafPart around (parts_of f) s.kind s.head = λ around b e.
-    leaf_part around b at (parts_of f) s.kind s.head l.part apart l.leaf
+    leaf_part around b at (parts_of f) s.kind s.head l.part apart leaf
     (ap (λ a. (inside_piece a at (made_of a (parts_of f) at)).later.items) (sym e) ∙ l.reads) in
     let flow : is_flow k ≡ true → around_in k ≡ Flow k = λ h. pick_false (is_content_branch k) _ _ c ∙ pick_true (is_flow k) _ _ h in
     let structural : is_among structural_kinds k ≡ true → around_in k ≡ Structural k = λ h. pick_false (is_content_branch k) _ _ c ∙ pick_false (is_flow k) _ _ (structural_flow k h) in
@@ -472,19 +473,19 @@ whole_written w k before s inside later pre closing c none l r =
           spelling-white_before s.pre all
           ∙ ap (λ x. encode_utf8_all s.pre ++ x) (spelling-followed_by f r.forest)
           ∙ spelled_before (encode_utf8_all s.pre) (spelling f) (blocks w before closing (Node s inside pre later)) (blocks w false closing later) (encode_utf8_all closing) r.forest r.spells
-          (leaf_written w k before s inside later pre closing l ∙ ap (λ x. encode_utf8_all s.pre ++ x ++ blocks w false closing later) (sym spells.0));
-      neat = Neat-white_before s.pre all l.before start (one_neat f r.forest l.part (spelled-Neat f 200 spells.1) r.neat);
+          (leaf_written w k before s inside later pre closing leaf l ∙ ap (λ x. encode_utf8_all s.pre ++ x ++ blocks w false closing later) (sym spells.0));
+      neat = Neat-white_before s.pre all stands.1 start (one_neat f r.forest l.part (spelled-Neat f 200 spells.1) r.neat);
       starts = λ h e. starts-white_before s.pre all e start;
       reads = subst (λ xs. BlocksAre k before closing s.pre (white_before s.pre all) xs) same
-          (placed_reads k before s all more closing l.marks l.before
-          (λ h. leaf_block (Flow k) tt f r.forest s.kind s.head (said_items later) closing (part (Flow k) tt (flow h)) l.leaf together (r.reads.closes h))
-          (λ h. leaf_block (Structural k) tt f r.forest s.kind s.head (said_items later) closing (part (Structural k) tt (structural h)) l.leaf together
+          (placed_reads k before s all more closing stands.0 stands.1
+          (λ h. leaf_block (Flow k) tt f r.forest s.kind s.head (said_items later) closing (part (Flow k) tt (flow h)) leaf together (r.reads.closes h))
+          (λ h. leaf_block (Structural k) tt f r.forest s.kind s.head (said_items later) closing (part (Structural k) tt (structural h)) leaf together
           (Closes-AtBlock (Structural k) r.forest (said_items later) closing (r.reads.structural h))));
       apart = Apart-white_before s.pre all (subst Apart (sym together) (joined_apart (parts_of f) (parts_of r.forest) apart r.apart));
-      alone = λ h. alone-white_before s.pre all l.before
+      alone = λ h. alone-white_before s.pre all stands.1
           (ap has_blocks_alone together ∙ joined_alone (parts_of f) (parts_of r.forest) ∙ and_from (has_blocks_alone (parts_of f)) (has_blocks_alone (parts_of r.forest)) (l.alone h) (r.alone h));
       clear = λ g e.
-          let no_share : shares_about g f ≡ false = not_shared (is_leaf s.kind) (shares_about g f) e (block_leaf (λ j. is_leaf j ≡ true) s.kind l.leaf refl refl) in
+          let no_share : shares_about g f ≡ false = not_shared (is_leaf s.kind) (shares_about g f) e (block_leaf (λ j. is_leaf j ≡ true) s.kind leaf refl refl) in
           let one = one_clear g f (parts_of r.forest) l.part no_share in
           clear_before g s.pre all (subst (Clear g) (sym together) (one []).0) (λ t. subst (λ x. Clear g (Words t x)) (sym together) (one t).1);
     }
