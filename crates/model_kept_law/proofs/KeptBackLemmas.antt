@@ -1,8 +1,12 @@
 -- The law: a page that is written with nodes kept in it is read back.
-use Rattle.std.proofs.Common.{◌≡◌, ℕ, Bool, true, false, not, ◌&&◌, if◌then◌else◌, suc, List, [], ◌∷◌, ◌++◌, map, Option, Some, None, refl, sym, ap, ◌∙◌, subst, append_assoc, inl, inr}
+use Rattle.std.proofs.Common.{◌≡◌, ℕ, ◌+◌, Bool, true, false, not, ◌&&◌, if◌then◌else◌, suc, List, [], ◌∷◌, ◌++◌, length, take, drop, map, Option, Some, None, Result, Ok, Err, arith, refl, sym, ap, ◌∙◌, subst, append_assoc, inl, inr}
 use Rattle.std.proofs.lemmas.List.{append-nil, map-append}
 use Rattle.std.specs.Prelude.{encode_utf8_all, unwrap_or}
-use Rattle.model_spelling.specs.Forest.{Forest, spelling, is_forest}
+use Rattle.model_spelling.specs.declared.scan_fault.ScanFault.{ScanFault}
+use Rattle.model_spelling.specs.Forest.{Forest, spelling}
+use Rattle.model_spelling.specs.Page.{is_whole, body_at}
+use Rattle.model_spelling.specs.Parsed.{forest_of}
+use Rattle.model_spelling.proofs.Proved.{law_reads_right, law_body_inside}
 use Rattle.model_spelling.specs.Grammar.{is_tag_name}
 use Rattle.ve_kinds.specs.declared.kind.Kind.TheVariants.{Root, InternalList}
 use Rattle.ve_kinds.specs.Table.{kind_same, is_content_branch, is_leaf}
@@ -14,15 +18,13 @@ use Rattle.model_page.specs.Parts.{parts_of}
 use Rattle.model_page.specs.Fit.{Flow}
 use Rattle.model_page.specs.Fragment.{item_unmade}
 use Rattle.model_page.specs.References.{Body}
-use Rattle.model_page.specs.Pieces.{Made, Progress}
+use Rattle.model_page.specs.Pieces.{SourceSpan, Made, Progress}
 use Rattle.model_page.specs.Convert.{made_of}
-use Rattle.model_page.specs.PageItems.{with_origins, internal_list, items_of_page as items_read, page_made, Opened, opened_page}
+use Rattle.model_page.specs.PageItems.{with_origins, internal_list, items_of_page as items_read, page_made, slice, Opened, page_opened, opened_forest, opened_body, opened_page}
 use Rattle.model_page_write.specs.Nodes.{Carried, Start, Nodes, Empty, Letter, Node, node_list_items, carried_nodes, carried_items, carried_from, body_carried, node_items}
 use Rattle.model_page_write.specs.Written.{letter, white_after, is_bare, Writer, fresh_text, original_of, content, blocks}
 use Rattle.model_page_write.specs.PageText.{page_writer, write}
 use Rattle.model_page_law.specs.ReadBack.{without_origin}
-use Rattle.model_page_law.specs.Replaced.{opened_again}
-use Rattle.ve_base.specs.Limits.{max_open_elements}
 use Rattle.model_page_law.proofs.FormedNodes.{IsList, with_list}
 use Rattle.model_page_law.proofs.FormLemmas.{such_list}
 use Rattle.model_page_law.proofs.NodesLemmas.{nodes_of-items_of}
@@ -32,7 +34,9 @@ use Rattle.model_page_law.proofs.BlankLemmas.{run_ended-owners}
 use Rattle.model_page_law.proofs.OneLemmas.{one_forest}
 use Rattle.model_page_law.proofs.SameLemmas.{marks_mean}
 use Rattle.model_page_law.proofs.NodesRead.{said_items}
-use Rattle.model_page_law.proofs.BodyReplaced.{written_opens}
+use Rattle.model_page_law.proofs.NeatForests.{Neat}
+use Rattle.model_page_law.proofs.FreshOpens.{not_whole}
+use Rattle.model_kept_law.proofs.BodyPlaces.{replaced-by, slice-new}
 use Rattle.model_kept_law.specs.KeptBack.{KeptIsReadBack, ReadableIsReadBack}
 use Rattle.model_kept_law.specs.Readable.{has_references}
 use Rattle.model_kept_law.proofs.FitFacts.{Small}
@@ -189,37 +193,78 @@ list_read w items such at =
 page_known : (page : List ℕ) (o : Opened) → opened_page page ≡ Some o → Known (has_references o) (page_writer o)
 page_known page o h s inside pre part e = kept_source page o h s inside pre part e
 
-page_read : (page : List ℕ) (o : Opened) (items : List PlainItem) (f : Forest) → opened_page page ≡ Some o → WrittenList (page_writer o) items → is_forest max_open_elements f ≡ true →
-    spelling f ≡ blocks (page_writer o) false [] (carried_nodes (carried_items items)) →
-    (opened_page (write o items) ≡ Some (opened_again o f)) × (map without_origin (opened_again o f).items ≡ map without_origin items)
-page_read page o items f h such g e =
+-- what a page opens as that has this text as its body
+opened_text : (page text : List ℕ) (from : ℕ) (g : Forest) (again : Opened) → body_at page ≡ Ok (from, from + length text) → slice page from (from + length text) ≡ text → spelling g ≡ text → Neat g →
+    opened_page page ≡ Some again → again.items ≡ items_read (page_made from g)
+opened_text page text from g again at is spells neat h =
+    let body : SourceSpan = record { from = from; to = from + length text } in
+    let opens : opened_forest page body (forest_of text) ≡ Some again = ap (λ t. opened_forest page body (forest_of t)) (sym is) ∙ sym (ap (opened_body page) at) ∙ h in
+    by (forest_of text) refl opens
+  where
+    by : (read : Option Forest) → forest_of text ≡ read → opened_forest page (record { from = from; to = from + length text }) read ≡ Some again → again.items ≡ items_read (page_made from g)
+    by None e x = cc
+    by (Some f) e x =
+        let r = law_reads_right text f e in
+        let first : Opened = page_opened page (record { from = from; to = from + length text }) (page_made from f) in
+        let same : first ≡ again = let p : ◌≡◌ {A = Option Opened} (Some first) (Some again) = x in ap (λ y. unwrap_or y first) p in
+        let forest : f ≡ g = one_forest f g r.1 neat (r.0 ∙ sym spells) in
+        ap (λ y. y.items) (sym same) ∙ ap (λ y. items_read (page_made from y)) forest
+
+-- where the body of an opened page stands
+record OpenedAt (page : List ℕ) (o : Opened) : Type 0 where
+  at : body_at page ≡ Ok (o.body.from, o.body.to)
+  page_is : o.page ≡ page
+
+opened_forest_at : (page : List ℕ) (body : ℕ × ℕ) → body_at page ≡ Ok body → (read : Option Forest) (o : Opened) → opened_forest page (record { from = body.0; to = body.1 }) read ≡ Some o → OpenedAt page o
+opened_forest_at page body e None o h = cc
+opened_forest_at page body e (Some f) o h =
+    let first : Opened = page_opened page (record { from = body.0; to = body.1 }) (page_made body.0 f) in
+    let is : first ≡ o = let p : ◌≡◌ {A = Option Opened} (Some first) (Some o) = h in ap (λ y. unwrap_or y first) p in
+    subst (OpenedAt page) is (record { at = e; page_is = refl })
+
+opened_at : (page : List ℕ) (read : Result (ℕ × ℕ) ScanFault) → body_at page ≡ read → (o : Opened) → opened_body page read ≡ Some o → OpenedAt page o
+opened_at page (Err x) e o h = cc
+opened_at page (Ok body) e o h = opened_forest_at page body e (forest_of (slice page body.0 body.1)) o h
+
+page_read : (page : List ℕ) (o again : Opened) (items : List PlainItem) → opened_page page ≡ Some o → WrittenList (page_writer o) items → opened_page (write o items) ≡ Some again →
+    map without_origin again.items ≡ map without_origin items
+page_read page o again items h such opens =
     let w : Writer = page_writer o in
-    let is : f ≡ such.body.forest = one_forest f such.body.forest g such.body.neat (e ∙ list_spelled (has_references o) w (page_known page o h) items such) in
-    (written_opens page o items f h g e, ap (λ x. map without_origin (items_read (page_made o.body.from x))) is ∙ list_read w items such o.body.from)
+    let text : List ℕ = blocks w false [] (carried_nodes (carried_items items)) in
+    let g : Forest = such.body.forest in
+    let spells : spelling g ≡ text = sym (list_spelled (has_references o) w (page_known page o h) items such) in
+    let p : OpenedAt page o = opened_at page (body_at page) refl o h in
+    let inside = law_body_inside page o.body.from o.body.to p.at in
+    let new : List ℕ = take o.body.from page ++ text ++ drop o.body.to page in
+    let whole : is_whole text ≡ false = ap is_whole (sym spells) ∙ not_whole g such.body.neat in
+    let at : body_at new ≡ Ok (o.body.from, o.body.from + length text) = replaced-by page o.body.from o.body.to text (is_whole page) refl p.at whole in
+    let part : slice new o.body.from (o.body.from + length text) ≡ text = slice-new page text o.body.from o.body.to (omega (arith, inside.0, inside.1)) in
+    let again_is : opened_page new ≡ Some again = ap (λ x. opened_page (take o.body.from x ++ text ++ drop o.body.to x)) (sym p.page_is) ∙ opens in
+    ap (map without_origin) (opened_text new text o.body.from g again at part spells such.body.neat again_is) ∙ list_read w items such o.body.from
 
 -- nothing is kept whole
 pub kept_is_read_back : KeptIsReadBack
-kept_is_read_back page o items f h lawful formed g e =
+kept_is_read_back page o again items h lawful formed opens =
     let w : Writer = page_writer o in
     let such = such_list items lawful formed in
-    page_read page o items f h (record {
+    page_read page o again items h (record {
       nodes = such.nodes;
       list = such.list;
       are = such.are;
       last = such.last;
       body = written marks_mean (has_references o) w (page_known page o h) such.nodes Root false such.list.pre such.blocks such.last.before;
-    }) g e
+    }) opens
 
--- what stands in kept blocks may be
+-- leaves are
 pub readable_is_read_back : ReadableIsReadBack
-readable_is_read_back page o items f h calm lawful left g e =
+readable_is_read_back page o again items h calm lawful readable opens =
     let w : Writer = page_writer o in
     let known = page_known page o h in
-    let such = standing_list (has_references o) w known calm items lawful left in
-    page_read page o items f h (record {
+    let such = standing_list (has_references o) w known calm items lawful readable in
+    page_read page o again items h (record {
       nodes = such.nodes;
       list = such.list;
       are = such.are;
       last = such.last;
       body = standing_written marks_mean (has_references o) w known calm such.nodes Root false such.list.pre refl such.blocks such.last.before;
-    }) g e
+    }) opens

@@ -18,5 +18,6 @@ pub mod KeptBlocks
 pub mod MixedContent
 pub mod NestedNodes
 pub mod StandingBlocks
+pub mod BodyPlaces
 pub mod KeptBackLemmas
 mod KeptExamples

@@ -5,7 +5,8 @@
 //!
 //! - `Readable`: which lists it speaks of where leaves are kept whole: what stands in a kept block may be anything, such a leaf elsewhere reads as
 //!   itself, and all else is of the form that reads back (`Formed` of `model_page_law`);
-//! - `KeptBack` (`kept_page_is_read_back`): whichever nodes are kept by their bytes, the page that a list gives is read back as the list.
+//! - `KeptBack` (`kept_page_is_read_back`): whichever nodes are kept by their bytes, the page that a list gives opens as the list, where it opens; that it
+//!   does where a forest spells its body is `model_page_law`'s.
 //!
 //! It says nothing of pages with references, nor of leaves that are kept whole in paragraphs that may be bare.
 //!
