@@ -1,7 +1,8 @@
--- Parts without groups make the same items wherever they stand, and have no owners.
-use Rattle.std.proofs.Common.{◌≡◌, ℕ, Bool, true, false, if◌then◌else◌, List, [], ◌∷◌, ◌++◌, None, refl, ap, ◌∙◌, subst}
+-- Parts without references make the same items wherever they stand, and have no owners.
+use Rattle.std.proofs.Common.{◌≡◌, ℕ, Bool, true, false, if◌then◌else◌, List, [], ◌∷◌, ◌++◌, None, refl, sym, ap, ◌∙◌, subst}
 use Rattle.std.specs.Prelude.{chars}
 use Rattle.model_spelling.specs.Grammar.{Attr as Spelled, Comment, token_text}
+use Rattle.model_spelling.specs.Forest.{Forest, spelling}
 use Rattle.ve_kinds.specs.declared.kind.Kind.{Kind}
 use Rattle.ve_kinds.specs.declared.kind.Kind.TheVariants.{P}
 use Rattle.ve_kinds.specs.Table.{is_inline_leaf}
@@ -11,18 +12,23 @@ use Rattle.ve_base.specs.Empty.{empty_head}
 use Rattle.model_items.specs.declared.plain_item.PlainItem.TheVariants.{Opening, Closing}
 use Rattle.model_page.specs.Elements.{is_white}
 use Rattle.model_page.specs.Parts.{Parts, Ended, Words, Note, Group, Single, Parent}
-use Rattle.model_page.specs.Fit.{Around, Flow, Structural, Content, Fit, Annotation, Leaf, Branch, Whole, around_in, fit_of, note_kind}
+use Rattle.model_page.specs.Fit.{Around, Flow, Structural, Content, Fit, Annotation, Leaf, Branch, Whole, around_in, fit_of, group_kind, note_kind}
 use Rattle.model_page.specs.Heads.{characters, head_with, whole_head}
 use Rattle.model_page.specs.Pieces.{SourceSpan, Piece, Owner, Made, Progress, past, source_span, leaf, node, chars_piece, items_after, white_left, with_white, run_dropped, paragraph_before, run_ended, run_closed, in_run, before_run, leaf_before}
-use Rattle.model_page.specs.Convert.{marks_at, marked_around, element_source, inside_of, inside_piece, words_before, leaf_made, element_made, made_of}
+use Rattle.model_page.specs.ReferenceNodes.{ref_of}
+use Rattle.model_page.specs.Convert.{marks_at, marked_around, element_source, inside_of, inside_piece, words_before, group_made, leaf_made, element_made, made_of}
 use Rattle.model_page_law.proofs.BlankLemmas.{run_ended-owners}
 
--- no group stands among the parts, at any depth
+-- nowhere is the group a reference
+abbrev pub Unreferred : Forest → Type 0
+Unreferred nodes = (place : Progress) (around : Around) → ref_of place around nodes ≡ None
+
+-- no group among the parts, at any depth, is one
 abbrev pub Apart : Parts → Type 0
 Apart Ended = Unit {0}
 Apart (Words text later) = Apart later
 Apart (Note text later) = Apart later
-Apart (Group nodes later) = ⊥
+Apart (Group nodes later) = Unreferred nodes × Apart later
 Apart (Single name attrs source later) = Apart later
 Apart (Parent name attrs children later) = Apart children × Apart later
 
@@ -116,7 +122,11 @@ pub apart_same : (parts : Parts) → Apart parts → (around : Around) (w v : Pr
 apart_same Ended a around w v = record { run = refl; source = refl; later = refl; pre = refl }
 apart_same (Words text later) a around w v = Same-words_before around text _ _ (apart_same later a around (past w text []) (past v text []))
 apart_same (Note text later) a around w v = Same-leaf_made around [] (token_text (Comment text)) (made_of around later) w v (Whole (note_kind around)) (apart_same later a around)
-apart_same (Group nodes later) a around w v = absurd a
+apart_same (Group nodes later) a around w v =
+    subst (λ r. Same (group_made around nodes (made_of around later) w r) (group_made around nodes (made_of around later) v (ref_of v around nodes))) (sym (a.0 w around))
+    (subst (λ r. Same (group_made around nodes (made_of around later) w None) (group_made around nodes (made_of around later) v r)) (sym (a.0 v around))
+    (Same-leaf_before w v (group_kind around nodes) (whole_head (spelling nodes)) (marks_at around) (spelling nodes) [] [] _ _
+    (apart_same later a.1 around (past w (spelling nodes) []) (past v (spelling nodes) []))))
 apart_same (Single name attrs source later) a around w v = Same-leaf_made around attrs source (made_of around later) w v (fit_of around name Ended) (apart_same later a around)
 apart_same (Parent name attrs children later) a around w v =
     Same-element_made around name attrs (element_source name attrs children) (λ x. made_of x children) (made_of around later) w v (fit_of around name children) (apart_same children a.0) (apart_same later a.1 around)
@@ -166,7 +176,10 @@ pub apart_owners : (parts : Parts) → Apart parts → (around : Around) (w : Pr
 apart_owners Ended a around w = refl
 apart_owners (Words text later) a around w = words_before-owners around text (made_of around later (past w text [])) ∙ apart_owners later a around (past w text [])
 apart_owners (Note text later) a around w = leaf_made-owners around [] (token_text (Comment text)) (made_of around later) w (Whole (note_kind around)) (apart_owners later a around)
-apart_owners (Group nodes later) a around w = absurd a
+apart_owners (Group nodes later) a around w =
+    ap (λ r. (group_made around nodes (made_of around later) w r).owners) (a.0 w around)
+    ∙ leaf_before-owners w (group_kind around nodes) (whole_head (spelling nodes)) (marks_at around) (spelling nodes) (made_of around later (past w (spelling nodes) []))
+    (apart_owners later a.1 around (past w (spelling nodes) []))
 apart_owners (Single name attrs source later) a around w = leaf_made-owners around attrs source (made_of around later) w (fit_of around name Ended) (apart_owners later a around)
 apart_owners (Parent name attrs children later) a around w =
     element_made-owners around name attrs (element_source name attrs children) (λ x. made_of x children) (made_of around later) w (fit_of around name children) (apart_owners children a.0) (apart_owners later a.1 around)

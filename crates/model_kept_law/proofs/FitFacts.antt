@@ -2,17 +2,18 @@
 use Rattle.std.proofs.Common.{◌≡◌, ℕ, Bool, true, false, ◌&&◌, ◌||◌, if◌then◌else◌, List, [], Option, Some, None, refl, sym, ap, ◌∙◌, subst, ◌⊎◌, inl, inr}
 use Rattle.std.proofs.lemmas.Bool.{and_parts}
 use Rattle.std.specs.Prelude.{unwrap_or, IfSome}
+use Rattle.std.specs.Option.{option_and_then}
 use Rattle.ve_kinds.specs.declared.kind.Kind.{Kind}
 use Rattle.ve_kinds.specs.declared.kind.Kind.TheVariants.{Root, P, H1, H2, H3, H4, H5, H6, Pre, Section, Li, Dt, Dd, Blockquote, Div, Td, Th, Caption, InternalItem, Ul, Ol, Dl, Table, Thead, Tbody, Tfoot, Tr, InternalList, TransBlock, AlienBlock, Br, Img, Ref, TransInline, AlienInline}
-use Rattle.ve_kinds.specs.Table.{kind_same, may_hold}
+use Rattle.ve_kinds.specs.Table.{kind_same, may_hold, is_element, is_leaf, is_among, block_leaves, inline_leaves}
 use Rattle.ve_kinds.specs.Tags.{kind_of_tag, tag_of_kind}
-use Rattle.ve_kinds.proofs.LawLemmas.{their_tags}
+use Rattle.ve_kinds.proofs.LawLemmas.{their_tags, tags_spell}
 use Rattle.ve_base.specs.declared.marks.Mark.{Mark}
 use Rattle.model_page.specs.Tags.{is_annotation_tag, is_inline_tag, tag_of}
 use Rattle.model_page.specs.Parts.{Parts}
 use Rattle.model_page.specs.Fit.{Around, Flow, Structural, Content, Fit, Annotation, Leaf, Branch, Whole, has_child, is_convertible, fit_in_content, fit_in_block, fit_of}
 use Rattle.model_page_law.proofs.EscapeLemmas.{pick_true, annotation-fits}
-use Rattle.model_page_law.proofs.TagLemmas.{mark_tag}
+use Rattle.model_page_law.proofs.TagLemmas.{mark_tag, leaf_kind}
 
 -- br or img
 abbrev pub Small : Kind → Type 0
@@ -189,3 +190,21 @@ if_some A o k e h = subst (λ x. IfSome x A) e h
 
 pub tag_is : (name : List ℕ) (kind : Kind) → kind_of_tag name ≡ Some kind → name ≡ tag_of kind
 tag_is name kind e = sym (ap (λ o. unwrap_or o []) (if_some (λ k. tag_of_kind k ≡ Some name) (kind_of_tag name) kind e (their_tags name)))
+
+-- so the kind is that of an element
+element_by : (c : Bool) (k : Kind) → (if c then Some k else None) ≡ Some k → c ≡ true
+element_by true k e = refl
+element_by false k e = cc
+
+pub tag_element : (name : List ℕ) (kind : Kind) → kind_of_tag name ≡ Some kind → is_element kind ≡ true
+tag_element name kind e =
+    let named : tag_of_kind kind ≡ Some name = if_some (λ k. tag_of_kind k ≡ Some name) (kind_of_tag name) kind e (their_tags name) in
+    element_by (is_element kind) kind (sym (tags_spell kind) ∙ ap (option_and_then kind_of_tag) named ∙ e)
+
+-- br and img are leaves
+pub small_leaf : (k : Kind) → Small k → is_leaf k ≡ true
+small_leaf k h = or_right (is_among block_leaves k) (is_among inline_leaves k) (leaf_kind k h).inline
+  where
+    or_right : (a b : Bool) → b ≡ true → (a || b) ≡ true
+    or_right true b e = refl
+    or_right false b e = e

@@ -7,7 +7,7 @@ use Rattle.model_spelling.specs.Forest.{Forest, spelling}
 use Rattle.model_spelling.specs.Written.{canon_attrs, attr_bytes}
 use Rattle.ve_kinds.specs.declared.kind.Kind.{Kind}
 use Rattle.ve_kinds.specs.declared.kind.Kind.TheVariants.{P, InternalList}
-use Rattle.ve_kinds.specs.Table.{kind_same, is_among, is_content_branch, is_flow, is_leaf, structural_kinds, block_leaves, inline_leaves}
+use Rattle.ve_kinds.specs.Table.{kind_same, is_among, is_content_branch, is_flow, is_leaf, structural_kinds}
 use Rattle.ve_kinds.specs.Tags.{is_void}
 use Rattle.model_items.specs.declared.plain_item.PlainItem.{PlainItem}
 use Rattle.model_items.specs.declared.plain_item.PlainItem.TheVariants.{Char, Opening, Closing}
@@ -29,25 +29,25 @@ use Rattle.model_page_law.proofs.BlankLemmas.{content-not_white, Loose-pre}
 use Rattle.model_page_law.proofs.BlockClean.{bare_is}
 use Rattle.model_page_law.proofs.CleanLemmas.{head_back, clean_tag}
 use Rattle.model_page_law.proofs.NodesRead.{said_items}
-use Rattle.model_kept_law.proofs.FitFacts.{Small}
+use Rattle.model_kept_law.proofs.FitFacts.{Small, small_leaf}
 use Rattle.model_kept_law.proofs.ApartParts.{Apart}
 use Rattle.model_kept_law.proofs.WholeParts.{MayStand, NoWhole}
 use Rattle.model_kept_law.proofs.OwnSource.{OwnLeaf, OwnBlock, OwnRun}
 use Rattle.model_kept_law.proofs.SourceRows.{Own}
 use Rattle.model_kept_law.proofs.OriginalNodes.{Kept}
 use Rattle.model_kept_law.proofs.OwnContent.{ContentWritten, LeavesKnown, content_written}
-use Rattle.model_kept_law.proofs.WrittenBlocks.{ElementChunk, RunChunk, Written, written_empty, element_written, run_written}
+use Rattle.model_kept_law.proofs.WrittenBlocks.{placed, ElementChunk, RunChunk, Written, written_empty, element_written, run_written}
 
 -- the source of what is kept is known
-abbrev pub Known : Writer → Type 0
-Known w = (s : Start) (inside : Nodes) (pre part : List ℕ) → w.original s (node_items s inside pre) ≡ Some part → Kept s inside pre part
+abbrev pub Known : Bool → Writer → Type 0
+Known refers w = (s : Start) (inside : Nodes) (pre part : List ℕ) → w.original s (node_items s inside pre) ≡ Some part → Kept refers s inside pre part
 
-opposite : (b : Bool) → b ≡ true → b ≡ false → ⊥
+pub opposite : (b : Bool) → b ≡ true → b ≡ false → ⊥
 opposite b e f = cc
 
 -- ---- nothing is kept whole
 
-NoWhole-unmade : (xs : List PlainItem) → NoWhole (map item_unmade xs) → NoWhole xs
+pub NoWhole-unmade : (xs : List PlainItem) → NoWhole (map item_unmade xs) → NoWhole xs
 NoWhole-unmade [] h = h
 NoWhole-unmade (Char c marks ∷ xs) h = NoWhole-unmade xs h
 NoWhole-unmade (Closing kind pre ∷ xs) h = NoWhole-unmade xs h
@@ -59,10 +59,10 @@ NoWhole-append (Char c marks ∷ xs) ys h g = NoWhole-append xs ys h g
 NoWhole-append (Closing kind pre ∷ xs) ys h g = NoWhole-append xs ys h g
 NoWhole-append (Opening kind head marks pre origin generated ∷ xs) ys h g = (h.0, NoWhole-append xs ys h.1 g)
 
-branch_stands : (k : Kind) → is_leaf k ≡ false → MayStand k
+pub branch_stands : (k : Kind) → is_leaf k ≡ false → MayStand k
 branch_stands k b l = absurd (opposite (is_leaf k) l b)
 
-content-whole : (n : Nodes) → IsContent n → NoWhole (said_items n)
+pub content-whole : (n : Nodes) → IsContent n → NoWhole (said_items n)
 content-whole Empty c = tt
 content-whole (Letter ch marks later) c = content-whole later c.2
 content-whole (Node s inside pre later) c =
@@ -92,8 +92,8 @@ leaf_of s inside pre part items h (inl l) = l
 leaf_of s inside pre part items h (inr (inl b)) = absurd (no_block_leaf s.kind h b.1.tag.void_is)
 leaf_of s inside pre part items h (inr (inr r)) = absurd (no_paragraph_leaf s.kind h r.1)
 
-pub leaves_known : (w : Writer) → Known w → LeavesKnown w
-leaves_known w known s inside pre part l e =
+pub leaves_known : (refers : Bool) (w : Writer) → Known refers w → LeavesKnown w
+leaves_known refers w known s inside pre part l e =
     let k = known s inside pre part e in
     let none : NoWhole k.items = NoWhole-unmade k.items (subst NoWhole (sym k.said) (subst (λ n. NoWhole (said_items n)) (sym l.alone) tt)) in
     leaf_of s inside pre part k.items l.kind (k.own (λ i. l.kind) none)
@@ -104,7 +104,7 @@ leaves_known w known s inside pre part l e =
 abbrev pub Chunk : Bool → Start → Nodes → List ℕ → List ℕ → Type 0
 Chunk bare s inside pre text = ((bare ≡ false) × ElementChunk s inside pre text) ⊎ ((bare ≡ true) × RunChunk inside text)
 
-element_of : (s : Start) (inside : Nodes) (pre part : List ℕ) (items : List PlainItem) → map item_unmade items ≡ said_items inside → OwnBlock s.kind s.head items pre part → ElementChunk s inside pre part
+pub element_of : (s : Start) (inside : Nodes) (pre part : List ℕ) (items : List PlainItem) → map item_unmade items ≡ said_items inside → OwnBlock s.kind s.head items pre part → ElementChunk s inside pre part
 element_of s inside pre part items said b = record {
   attrs = b.attrs;
   inner = b.inner;
@@ -129,21 +129,14 @@ bare_generated before s inside after h =
     (and_parts _ _ (and_parts _ _ (and_parts _ _ (and_parts _ _ (and_parts _ _
     (and_parts (kind_same s.kind P && s.generated && is_empty s.head.attrs && is_empty s.pre && has_content inside && all_stay_inline inside && is_empty after) (not before) h).0).0).0).0).0).0).1
 
-not_bare : (before : Bool) (s : Start) (inside : Nodes) (after : List ℕ) (c : Bool) → is_bare before s inside after ≡ c → s.generated ≡ false → c ≡ false
+pub not_bare : (before : Bool) (s : Start) (inside : Nodes) (after : List ℕ) (c : Bool) → is_bare before s inside after ≡ c → s.generated ≡ false → c ≡ false
 not_bare before s inside after true e g = absurd (opposite s.generated (bare_generated before s inside after e) g)
 not_bare before s inside after false e g = refl
 
-must_be_bare : (generated bare : Bool) → generated ≡ true → (generated && not bare) ≡ false → bare ≡ true
+pub must_be_bare : (generated bare : Bool) → generated ≡ true → (generated && not bare) ≡ false → bare ≡ true
 must_be_bare true true g e = refl
 must_be_bare true false g e = cc
 must_be_bare false bare g e = cc
-
-small_leaf : (k : Kind) → Small k → is_leaf k ≡ true
-small_leaf k h = or_right (is_among block_leaves k) (is_among inline_leaves k) (leaf_kind k h).inline
-  where
-    or_right : (a b : Bool) → b ≡ true → (a || b) ≡ true
-    or_right true b e = refl
-    or_right false b e = e
 
 kept_chunk : (before : Bool) (s : Start) (inside : Nodes) (pre after part : List ℕ) (items : List PlainItem) → is_leaf s.kind ≡ false → (s.generated && not (is_bare before s inside after)) ≡ false →
     map item_unmade items ≡ said_items inside → Own s.kind s.head s.generated items pre part → Chunk (is_bare before s inside after) s inside pre part
@@ -160,20 +153,20 @@ content-said (Node s inside pre later) c =
     let l = c.0 in
     (λ i. Opening s.kind s.head s.marks (sym l.before i) None false ∷ said_items (sym l.alone i) ++ Closing s.kind (sym l.closing i) ∷ content-said later c.2 i)
 
-content-unmade : (n : Nodes) → map item_unmade (content_items n) ≡ content_items n
+pub content-unmade : (n : Nodes) → map item_unmade (content_items n) ≡ content_items n
 content-unmade Empty = refl
 content-unmade (Letter ch marks later) = ap (λ xs. Char ch marks ∷ xs) (content-unmade later)
 content-unmade (Node s inside pre later) = ap (leaf_items s) (content-unmade later)
 
 -- what stands inside of a block, with its text before the closing
-record Inner (w : Writer) (s : Start) (inside : Nodes) (pre : List ℕ) : Type 0 where
-  forest : Forest
-  spells : spelling forest ≡ (if is_content_branch s.kind then content w [] inside else blocks w false pre inside) ++ encode_utf8_all pre
-  neat : Neat forest
-  apart : Apart (parts_of forest)
-  convertible : is_convertible s.kind (parts_of forest) ≡ true
-  items : (u : Progress) → map item_unmade (inside_piece (around_in s.kind) u (made_of (around_in s.kind) (parts_of forest) u)).later.items ≡ said_items inside
-  white : (u : Progress) → (inside_piece (around_in s.kind) u (made_of (around_in s.kind) (parts_of forest) u)).pre ≡ pre
+pub record Inner (w : Writer) (s : Start) (inside : Nodes) (pre : List ℕ) : Type 0 where
+  pub forest : Forest
+  pub spells : spelling forest ≡ (if is_content_branch s.kind then content w [] inside else blocks w false pre inside) ++ encode_utf8_all pre
+  pub neat : Neat forest
+  pub apart : Apart (parts_of forest)
+  pub convertible : is_convertible s.kind (parts_of forest) ≡ true
+  pub items : (u : Progress) → map item_unmade (inside_piece (around_in s.kind) u (made_of (around_in s.kind) (parts_of forest) u)).later.items ≡ said_items inside
+  pub white : (u : Progress) → (inside_piece (around_in s.kind) u (made_of (around_in s.kind) (parts_of forest) u)).pre ≡ pre
 
 abbrev InsideAt : Around → Forest → Nodes → List ℕ → Type 0
 InsideAt around f inside pre =
@@ -205,12 +198,12 @@ inner_content w s inside pre t e c none f =
       | inl y ↦ absurd (opposite (is_content_branch s.kind) e (t.structural y).0)
     ]
 
-inner_blocks : (w : Writer) (s : Start) (inside : Nodes) (pre : List ℕ) → BranchTag s.kind → is_content_branch s.kind ≡ false → Written w s.kind false pre inside → Inner w s inside pre
+pub inner_blocks : (w : Writer) (s : Start) (inside : Nodes) (pre : List ℕ) → BranchTag s.kind → is_content_branch s.kind ≡ false → Written w s.kind false pre inside → Inner w s inside pre
 inner_blocks w s inside pre t e r =
     let at : around_in s.kind ≡ (if is_flow s.kind then Flow s.kind else Structural s.kind) = pick_false (is_content_branch s.kind) (Content []) (if is_flow s.kind then Flow s.kind else Structural s.kind) e in
     let i : InsideAt (around_in s.kind) r.forest inside pre = subst (λ a. InsideAt a r.forest inside pre) (sym at)
     (elim (cases_Bool (is_flow s.kind)) [
-      | inl h ↦ subst (λ a. InsideAt a r.forest inside pre) (sym (pick_true (is_flow s.kind) (Flow s.kind) (Structural s.kind) h)) (r.reads.closes.later, r.reads.closes.white)
+      | inl h ↦ subst (λ a. InsideAt a r.forest inside pre) (sym (pick_true (is_flow s.kind) (Flow s.kind) (Structural s.kind) h)) ((r.reads.closes h).later, (r.reads.closes h).white)
       | inr h ↦
           let b = r.reads.structural (t.class e h) in
           subst (λ a. InsideAt a r.forest inside pre) (sym (pick_false (is_flow s.kind) (Flow s.kind) (Structural s.kind) h)) (b.later, b.white)
@@ -229,7 +222,7 @@ inner_blocks w s inside pre t e r =
     }
 
 -- an element around it
-fresh_element : (w : Writer) (k : Kind) (s : Start) (inside : Nodes) (pre text : List ℕ) → IsBranch k s → BranchTag s.kind → (i : Inner w s inside pre) → spelling i.forest ≡ text ++ encode_utf8_all pre →
+pub fresh_element : (w : Writer) (k : Kind) (s : Start) (inside : Nodes) (pre text : List ℕ) → IsBranch k s → BranchTag s.kind → (i : Inner w s inside pre) → spelling i.forest ≡ text ++ encode_utf8_all pre →
     ElementChunk s inside pre (element_text s text pre)
 fresh_element w k s inside pre text b t i e =
     let attrs = canon_attrs (map attr_bytes s.head.attrs) in
@@ -288,10 +281,14 @@ taken : (c : Bool) (o : Option (List ℕ)) (part : List ℕ) → (if c then None
 taken true o part e = cc
 taken false o part e = (refl, e)
 
-chosen : (w : Writer) → Known w → (k : Kind) (before : Bool) (s : Start) (inside : Nodes) (pre after : List ℕ) → IsBranch k s → NoWhole (said_items inside) →
-    (is_content_branch s.kind ≡ true → IsContent inside × (pre ≡ [])) → (IsContent inside → ContentWritten w inside) → Inner w s inside pre →
-    (o : Option (List ℕ)) → original_of w (is_bare before s inside after) s (node_items s inside pre) ≡ o → Chosen w (is_bare before s inside after) s inside pre
-chosen w known k before s inside pre after b none f g i None e =
+-- what is kept of a block reads as the block
+abbrev pub Keeps : Writer → Bool → Start → Nodes → List ℕ → Type 0
+Keeps w bare s inside pre = (part : List ℕ) → w.original s (node_items s inside pre) ≡ Some part → (s.generated && not bare) ≡ false → Chunk bare s inside pre part
+
+chosen : (w : Writer) (k : Kind) (before : Bool) (s : Start) (inside : Nodes) (pre after : List ℕ) → IsBranch k s → Keeps w (is_bare before s inside after) s inside pre →
+    (is_content_branch s.kind ≡ true → IsContent inside × (pre ≡ [])) → (IsContent inside → ContentWritten w inside) → Inner w s inside pre → (o : Option (List ℕ)) →
+    original_of w (is_bare before s inside after) s (node_items s inside pre) ≡ o → Chosen w (is_bare before s inside after) s inside pre
+chosen w k before s inside pre after b keeps f g i None e =
     let bare : Bool = is_bare before s inside after in
     let t = branch_tag s.kind b.element b.branch in
     let text : List ℕ = if is_content_branch s.kind then content w [] inside else blocks w false pre inside in
@@ -299,20 +296,23 @@ chosen w known k before s inside pre after b none f g i None e =
       part = if bare then text else element_text s text pre;
       is =
           ap (λ x. unwrap_or x (fresh_text w bare s text pre)) e
-          ∙ pick_false (kind_same s.kind InternalList) _ _ t.other ∙ pick_false (is_leaf s.kind) _ _ b.branch;
+          ∙ pick_false (kind_same s.kind InternalList) _ _ t.other
+          ∙ pick_false (is_leaf s.kind) _ _ b.branch;
       chunk = fresh_chunk w k before s inside pre after bare refl b t f g i;
     }
-chosen w known k before s inside pre after b none f g i (Some part) e =
+chosen w k before s inside pre after b keeps f g i (Some part) e =
     let bare : Bool = is_bare before s inside after in
     let text : List ℕ = if is_content_branch s.kind then content w [] inside else blocks w false pre inside in
     let o = taken (s.generated && not bare) (w.original s (node_items s inside pre)) part e in
-    let kept = known s inside pre part o.1 in
-    let own = kept.own (branch_stands s.kind b.branch) (NoWhole-unmade kept.items (subst NoWhole (sym kept.said) none)) in
-    record {
-      part = part;
-      is = ap (λ x. unwrap_or x (fresh_text w bare s text pre)) e;
-      chunk = kept_chunk before s inside pre after part kept.items b.branch o.0 kept.said own;
-    }
+    record { part = part; is = ap (λ x. unwrap_or x (fresh_text w bare s text pre)) e; chunk = keeps part o.1 o.0 }
+
+-- where nothing in it is kept whole
+pub keeps_plain : (refers : Bool) (w : Writer) → Known refers w → (before : Bool) (s : Start) (inside : Nodes) (pre after : List ℕ) → is_leaf s.kind ≡ false → NoWhole (said_items inside) →
+    Keeps w (is_bare before s inside after) s inside pre
+keeps_plain refers w known before s inside pre after b none part e g =
+    let kept = known s inside pre part e in
+    let own = kept.own (branch_stands s.kind b) (NoWhole-unmade kept.items (subst NoWhole (sym kept.said) none)) in
+    kept_chunk before s inside pre after part kept.items b g kept.said own
 
 block_written : (w : Writer) (k : Kind) (before : Bool) (s : Start) (inside later : Nodes) (pre closing : List ℕ) → IsBranch k s → (is_content_branch s.kind ≡ true → IsContent inside × (pre ≡ [])) →
     (c : Chosen w (is_bare before s inside (white_after later closing)) s inside pre) → Written w k (is_bare before s inside (white_after later closing)) closing later →
@@ -322,7 +322,7 @@ block_written w k before s inside later pre closing b f c r =
     let is : blocks w before closing (Node s inside pre later) ≡ encode_utf8_all s.pre ++ c.part ++ blocks w bare closing later = ap (λ x. encode_utf8_all s.pre ++ x ++ blocks w bare closing later) c.is in
     elim c.chunk [
       | inl p ↦
-          element_written w k before s inside later pre closing c.part b p.1 (subst (λ x. Written w k x closing later) p.0 r)
+          element_written w k before s inside later pre closing c.part (placed k s b) p.1 (subst (λ x. Written w k x closing later) p.0 r)
           (is ∙ ap (λ x. encode_utf8_all s.pre ++ c.part ++ blocks w x closing later) p.0)
       | inr p ↦
           let h : is_content_branch s.kind ≡ true = ap is_content_branch (bare_is before s inside (white_after later closing) p.0).kind in
@@ -330,21 +330,34 @@ block_written w k before s inside later pre closing b f c r =
           (is ∙ ap (λ x. encode_utf8_all s.pre ++ c.part ++ blocks w x closing later) p.0)
     ]
 
+-- what stands inside, by the parent
+inner_written : MarksMean → (refers : Bool) (w : Writer) → Known refers w → (s : Start) (inside : Nodes) (pre : List ℕ) → BranchTag s.kind → (is_content_branch s.kind ≡ true → IsContent inside × (pre ≡ [])) →
+    (is_content_branch s.kind ≡ false → Written w s.kind false pre inside) → Inner w s inside pre
+inner_written mean refers w known s inside pre t f g = elim (cases_Bool (is_content_branch s.kind)) [
+  | inl e ↦ inner_content w s inside pre t e (f e).0 (f e).1 (content_written mean w (leaves_known refers w known) inside (f e).0)
+  | inr e ↦ inner_blocks w s inside pre t e (g e)
+]
+
+-- a block of the form
+pub formed_written : MarksMean → (refers : Bool) (w : Writer) → Known refers w → (k : Kind) (before : Bool) (s : Start) (inside later : Nodes) (pre closing : List ℕ) → IsBranch k s →
+    Keeps w (is_bare before s inside (white_after later closing)) s inside pre → (is_content_branch s.kind ≡ true → IsContent inside × (pre ≡ [])) →
+    (is_content_branch s.kind ≡ false → Written w s.kind false pre inside) → Written w k (is_bare before s inside (white_after later closing)) closing later → Written w k before closing (Node s inside pre later)
+formed_written mean refers w known k before s inside later pre closing b keeps f g r =
+    let after : List ℕ = white_after later closing in
+    let t = branch_tag s.kind b.element b.branch in
+    let content_is : IsContent inside → ContentWritten w inside = λ c. content_written mean w (leaves_known refers w known) inside c in
+    block_written w k before s inside later pre closing b f
+    (chosen w k before s inside pre after b keeps f content_is (inner_written mean refers w known s inside pre t f g) (original_of w (is_bare before s inside after) s (node_items s inside pre)) refl) r
+
 -- ---- all blocks
 
-pub written : MarksMean → (w : Writer) → Known w → (n : Nodes) (k : Kind) (before : Bool) (closing : List ℕ) → AreBlocks k n → is_white closing ≡ true → Written w k before closing n
-written mean w known Empty k before closing b h = written_empty w k before closing h
-written mean w known (Letter c marks later) k before closing b h = absurd b
-written mean w known (Node s inside pre later) k before closing b h =
+pub written : MarksMean → (refers : Bool) (w : Writer) → Known refers w → (n : Nodes) (k : Kind) (before : Bool) (closing : List ℕ) → AreBlocks k n → is_white closing ≡ true → Written w k before closing n
+written mean refers w known Empty k before closing b h = written_empty w k before closing h
+written mean refers w known (Letter c marks later) k before closing b h = absurd b
+written mean refers w known (Node s inside pre later) k before closing b h =
     let after : List ℕ = white_after later closing in
     let bare : Bool = is_bare before s inside after in
-    let t = branch_tag s.kind b.0.element b.0.branch in
-    let content_is : IsContent inside → ContentWritten w inside = λ c. content_written mean w (leaves_known w known) inside c in
-    let inner : Inner w s inside pre = elim (cases_Bool (is_content_branch s.kind)) [
-      | inl e ↦ inner_content w s inside pre t e (b.1 e).0 (b.1 e).1 (content_is (b.1 e).0)
-      | inr e ↦ inner_blocks w s inside pre t e (written mean w known inside s.kind false pre (b.2 e).0 (b.2 e).1)
-    ] in
     let none : NoWhole (said_items inside) = inside-whole s inside pre b.1 (λ e. blocks-whole s.kind inside (b.2 e).0) in
-    block_written w k before s inside later pre closing b.0 b.1
-    (chosen w known k before s inside pre after b.0 none b.1 content_is inner (original_of w bare s (node_items s inside pre)) refl)
-    (written mean w known later k bare closing b.3 h)
+    formed_written mean refers w known k before s inside later pre closing b.0 (keeps_plain refers w known before s inside pre after b.0.branch none) b.1
+    (λ e. written mean refers w known inside s.kind false pre (b.2 e).0 (b.2 e).1)
+    (written mean refers w known later k bare closing b.3 h)

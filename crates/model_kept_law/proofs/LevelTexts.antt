@@ -15,12 +15,12 @@ use Rattle.model_page_law.proofs.ContentText.{end_at, levels_text, OpenedText}
 use Rattle.model_page_law.proofs.FormedNodes.{MarksMean}
 
 -- a longer text before
-prefix_text : (ms : List Mark) (a b : Forest) (outer : List Forest) (text : List ℕ) → spelling b ≡ text ++ spelling a → levels_text ms b outer ≡ text ++ levels_text ms a outer
+pub prefix_text : (ms : List Mark) (a b : Forest) (outer : List Forest) (text : List ℕ) → spelling b ≡ text ++ spelling a → levels_text ms b outer ≡ text ++ levels_text ms a outer
 prefix_text ms a b [] text e = e
 prefix_text ms a b (o ∷ outer) text e =
     ap (λ s. s ++ (end_at (length outer) ms ++ levels_text ms o outer)) e ∙ append_assoc text (spelling a) (end_at (length outer) ms ++ levels_text ms o outer)
 
-spelling-with_text : (text : List ℕ) (f : Forest) → spelling (with_text text f) ≡ text ++ spelling f
+pub spelling-with_text : (text : List ℕ) (f : Forest) → spelling (with_text text f) ≡ text ++ spelling f
 spelling-with_text text (Text t rest) = append_assoc text t (spelling rest)
 spelling-with_text text Nothing = refl
 spelling-with_text text (Remark t rest) = refl
@@ -64,7 +64,7 @@ ends-reverse : (c : Mark) (cs : List Mark) → flat_map mark_end (reverse (c ∷
 ends-reverse c cs =
     ap (flat_map mark_end) (reverse-append (c ∷ []) cs) ∙ flat_map-append mark_end (reverse cs) (c ∷ []) ∙ ap (λ s. flat_map mark_end (reverse cs) ++ s) (append-nil (mark_end c))
 
-closes-text : (cs M : List Mark) (k : ℕ) (e : Levels) → drop k M ≡ cs → length e.outer ≡ k → levels_text M (closes cs e).here (closes cs e).outer ≡ flat_map mark_end (reverse cs) ++ levels_text M e.here e.outer
+pub closes-text : (cs M : List Mark) (k : ℕ) (e : Levels) → drop k M ≡ cs → length e.outer ≡ k → levels_text M (closes cs e).here (closes cs e).outer ≡ flat_map mark_end (reverse cs) ++ levels_text M e.here e.outer
 closes-text [] M k e d l = refl
 closes-text (c ∷ cs) M k e d l =
     let n = drop-next k M c cs d in
@@ -88,7 +88,7 @@ same_text M N here (o ∷ outer) e =
         take_one (suc k) [] = refl
         take_one (suc k) (x ∷ M) = take_one k M
 
-changes-text : MarksMean → (opened marks : List Mark) (e : Levels) → length e.outer ≡ length marks →
+pub changes-text : MarksMean → (opened marks : List Mark) (e : Levels) → length e.outer ≡ length marks →
     levels_text opened (changes opened marks e).here (changes opened marks e).outer ≡ marks_changed opened marks ++ levels_text marks e.here e.outer
 changes-text mean opened marks e l =
     let n : ℕ = common_count opened marks in
@@ -100,7 +100,7 @@ changes-text mean opened marks e l =
     (sym (same_text marks opened inner.here inner.outer (λ k le. let m = o.level in c.prefix k (omega (arith, le, m)))) ∙ o.is)
     ∙ sym (append_assoc (flat_map mark_end (reverse (drop n opened))) (flat_map mark_start (drop n marks)) (levels_text marks e.here e.outer))
 
-changes-level : MarksMean → (opened marks : List Mark) (e : Levels) → length e.outer ≡ length marks → length (changes opened marks e).outer ≡ length opened
+pub changes-level : MarksMean → (opened marks : List Mark) (e : Levels) → length e.outer ≡ length marks → length (changes opened marks e).outer ≡ length opened
 changes-level mean opened marks e l =
     let n : ℕ = common_count opened marks in
     let c = Common-count mean opened marks in

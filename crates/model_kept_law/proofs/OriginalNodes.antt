@@ -2,12 +2,13 @@
 use Rattle.std.proofs.Common.{◌≡◌, ℕ, zero, suc, ◌+◌, ◌≤◌, ◌==◌, Bool, true, false, if◌then◌else◌, List, [], ◌∷◌, ◌++◌, length, take, drop, map, Option, Some, None, Result, Ok, Err, refl, sym, ap, ◌∙◌, subst, append_assoc, append-nil, length-append, length-take-le, arith, ◌⊎◌, inl, inr, eqb-true}
 use Rattle.std.proofs.lemmas.List.{map-append}
 use Rattle.std.proofs.lemmas.Bool.{and_parts}
-use Rattle.std.specs.Prelude.{slice_get, unwrap_or, flat_map}
+use Rattle.std.specs.Prelude.{slice_get, option_map, unwrap_or, flat_map}
 use Rattle.model_spelling.specs.declared.scan_fault.ScanFault.{ScanFault}
 use Rattle.model_spelling.specs.Forest.{Forest, spelling, is_forest}
 use Rattle.model_spelling.specs.Parsed.{forest_of}
 use Rattle.model_spelling.specs.Page.{body_at}
 use Rattle.model_spelling.proofs.Proved.{law_reads_right, law_body_inside}
+use Rattle.ve_kinds.specs.Table.{is_leaf}
 use Rattle.ve_kinds.specs.declared.kind.Kind.TheVariants.{Root, InternalItem, InternalList}
 use Rattle.model_items.specs.declared.plain_item.PlainItem.{PlainItem}
 use Rattle.model_items.specs.declared.plain_item.PlainItem.TheVariants.{Char, Opening, Closing}
@@ -30,14 +31,18 @@ use Rattle.model_page_law.proofs.ShapeLemmas.{plain, openings}
 use Rattle.model_page_law.proofs.PlaceLemmas.{with_origin, numbered_nodes, with_origins-nodes, with_body, bearing, carried_from-append, carried_from-plain, nodes_of-carried_items}
 use Rattle.model_page_law.proofs.KeptLemmas.{cut}
 use Rattle.model_page_law.proofs.NodesRead.{said_items}
+use Rattle.model_kept_law.specs.Readable.{names_reference, has_references}
+use Rattle.model_kept_law.proofs.ApartParts.{Apart}
+use Rattle.model_kept_law.proofs.Unreferred.{unreferred_apart}
+use Rattle.model_kept_law.proofs.OwnSource.{OwnBlock}
 use Rattle.model_kept_law.proofs.ReadParts.{parts_read}
 use Rattle.model_kept_law.proofs.WholeParts.{MayStand, NoWhole}
-use Rattle.model_kept_law.proofs.SourceRows.{In, Own, RowOf, Rows, Sourced, sourced_flow}
+use Rattle.model_kept_law.proofs.SourceRows.{In, Ground, Own, RowOf, Rows, Sourced, sourced_flow}
 
 -- ---- what is said of nodes
 
 -- the items but for origins and the flag, where no origin is
-said_numbered : (page : List ℕ) (spans : List SourceSpan) (bodies : ℕ → Option Body) (place k : ℕ) (n : Nodes) → Rows page spans n →
+said_numbered : (page : Ground) (spans : List SourceSpan) (bodies : ℕ → Option Body) (place k : ℕ) (n : Nodes) → Rows page spans n →
     said_items (bearing bodies place (numbered_nodes k n)) ≡ map item_unmade (plain n)
 said_numbered page spans bodies place k Empty r = refl
 said_numbered page spans bodies place k (Letter c marks later) r = ap (λ xs. Char c marks ∷ xs) (said_numbered page spans bodies (suc place) k later r)
@@ -52,7 +57,7 @@ said_bearing bodies place (Letter c marks later) = ap (λ xs. Char c marks ∷ x
 said_bearing bodies place (Node s inside pre later) =
     (λ i. Opening s.kind s.head s.marks s.pre None false ∷ said_bearing bodies (suc place) inside i ++ Closing s.kind pre ∷ said_bearing bodies (suc (suc place + length (plain inside))) later i)
 
-Rows-count : (page : List ℕ) (spans : List SourceSpan) (n : Nodes) → Rows page spans n → length spans ≡ openings n
+Rows-count : (page : Ground) (spans : List SourceSpan) (n : Nodes) → Rows page spans n → length spans ≡ openings n
 Rows-count page spans Empty r = ap length r
 Rows-count page spans (Letter c marks later) r = Rows-count page spans later r
 Rows-count page spans (Node s inside pre later) r =
@@ -105,7 +110,7 @@ list_if_false true xs ys e = cc
 list_if_false false xs ys e = refl
 
 -- a node of the first page, with its span and what is known of its source
-record Found (page : List ℕ) (all : List SourceSpan) (k : ℕ) (items : List Carried) : Type 0 where
+record Found (page : Ground) (all : List SourceSpan) (k : ℕ) (items : List Carried) : Type 0 where
   start : Start
   inside : Nodes
   pre : List ℕ
@@ -113,18 +118,19 @@ record Found (page : List ℕ) (all : List SourceSpan) (k : ℕ) (items : List C
   span : SourceSpan
   at : slice_get all k ≡ Some span
   source : List ℕ
-  is : slice page span.from span.to ≡ source
+  is : slice page.bytes span.from span.to ≡ source
   first : List PlainItem
   said : map item_unmade first ≡ said_items inside
   own : MayStand start.kind → NoWhole first → Own start.kind start.head start.generated first pre source
+  block : page.refers ≡ false → start.generated ≡ false → is_leaf start.kind ≡ false → (start.marks ≡ []) × OwnBlock start.kind start.head first pre source
 
-abbrev Search : List ℕ → List SourceSpan → ℕ → List Carried → List Carried → Type 0
+abbrev Search : Ground → List SourceSpan → ℕ → List Carried → List Carried → Type 0
 Search page all k items rest = (node_with k (items ++ rest) ≡ node_with k rest) ⊎ Found page all k (node_with k (items ++ rest))
 
-found_same : (page : List ℕ) (all : List SourceSpan) (k : ℕ) (xs ys : List Carried) → xs ≡ ys → Found page all k ys → Found page all k xs
+found_same : (page : Ground) (all : List SourceSpan) (k : ℕ) (xs ys : List Carried) → xs ≡ ys → Found page all k ys → Found page all k xs
 found_same page all k xs ys e f = subst (Found page all k) (sym e) f
 
-search_node : (page : List ℕ) (all : List SourceSpan) (bodies : ℕ → Option Body) (place k0 k : ℕ) (s : Start) (inside : Nodes) (pre : List ℕ) (outer rest : List Carried) (span : SourceSpan) (inner : List SourceSpan) (c : Bool) →
+search_node : (page : Ground) (all : List SourceSpan) (bodies : ℕ → Option Body) (place k0 k : ℕ) (s : Start) (inside : Nodes) (pre : List ℕ) (outer rest : List Carried) (span : SourceSpan) (inner : List SourceSpan) (c : Bool) →
     (k0 == k) ≡ c → slice_get all k0 ≡ Some span → RowOf page span s inside pre → Rows page inner inside →
     let s2 : Start = with_body (bodies place) (with_origin k0 s) in
     let inside2 : Nodes = bearing bodies (suc place) (numbered_nodes (suc k0) inside) in
@@ -152,6 +158,7 @@ search_node page all bodies place k0 k s inside pre outer rest span inner true e
       first = plain inside;
       said = sym (said_numbered page inner bodies (suc place) (suc k0) inside rows);
       own = row.own;
+      block = row.block;
     })
 search_node page all bodies place k0 k s inside pre outer rest span inner false e g row rows f h =
     let s2 : Start = with_body (bodies place) (with_origin k0 s) in
@@ -167,7 +174,7 @@ search_node page all bodies place k0 k s inside pre outer rest span inner false 
       ]
     ]
 
-search_nodes : (page : List ℕ) (all : List SourceSpan) (bodies : ℕ → Option Body) (k : ℕ) (n : Nodes) (spans : List SourceSpan) (place k0 : ℕ) → At all k0 spans → Rows page spans n → (rest : List Carried) →
+search_nodes : (page : Ground) (all : List SourceSpan) (bodies : ℕ → Option Body) (k : ℕ) (n : Nodes) (spans : List SourceSpan) (place k0 : ℕ) → At all k0 spans → Rows page spans n → (rest : List Carried) →
     Search page all k (node_list_items (bearing bodies place (numbered_nodes k0 n))) rest
 search_nodes page all bodies k Empty spans place k0 a r rest = inl refl
 search_nodes page all bodies k (Letter c marks later) spans place k0 a r rest = search_nodes page all bodies k later spans (suc place) k0 a r rest
@@ -207,14 +214,14 @@ items_unplaced (o ∷ owners) = origins_of-append (internal_item o) (flat_map in
 list_unplaced : (pre : List ℕ) (owners : List Owner) → origins_of (internal_list pre owners) ≡ []
 list_unplaced pre owners = origins_of-append (flat_map internal_item owners) (Closing InternalList [] ∷ []) ∙ append-nil (origins_of (flat_map internal_item owners)) ∙ items_unplaced owners
 
-abbrev Listed : List ℕ → List SourceSpan → ℕ → List Carried → Type 0
+abbrev Listed : Ground → List SourceSpan → ℕ → List Carried → Type 0
 Listed page all k items = (node_with k items ≡ []) ⊎ Found page all k (node_with k items)
 
-made_found : (page : List ℕ) (from : ℕ) (f : Forest) → is_forest 200 f ≡ true → In page from (spelling f) → (k : ℕ) → Listed page (page_made from f).later.spans k (carried_items (items_of_page (page_made from f)))
-made_found page from f h i k =
+made_found : (page : Ground) (from : ℕ) (f : Forest) → is_forest 200 f ≡ true → (page.refers ≡ false → Apart (parts_of f)) → In page.bytes from (spelling f) → (k : ℕ) → Listed page (page_made from f).later.spans k (carried_items (items_of_page (page_made from f)))
+made_found page from f h apart i k =
     let m : Made = page_made from f in
     let w : Progress = record { at = from; owners = []; editable = true } in
-    let src : Sourced page m.later = sourced_flow page (parts_of f) (parts_read f (spelled-Neat f 200 h)) Root (refl, refl, refl, refl) w (subst (In page from) (sym (parts_of-source f)) i) in
+    let src : Sourced page m.later = sourced_flow page (parts_of f) (parts_read f (spelled-Neat f 200 h)) apart Root (refl, refl, refl, refl) w (subst (In page.bytes from) (sym (parts_of-source f)) i) in
     let items : List PlainItem = items_of_page m in
     let bodies : ℕ → Option Body = body_carried items in
     let n : Nodes = numbered_nodes 0 src.nodes in
@@ -231,8 +238,11 @@ made_found page from f h i k =
       | inr x ↦ inr x
     ])
 
+abbrev pub ground : Opened → Ground
+ground o = record { bytes = o.page; refers = has_references o }
+
 forest_found : (page : List ℕ) (from to : ℕ) → from ≤ to → to ≤ length page → (read : Option Forest) → forest_of (slice page from to) ≡ read → (o : Opened) →
-    opened_forest page (record { from = from; to = to }) read ≡ Some o → (k : ℕ) → Listed o.page o.spans k (carried_items o.items)
+    opened_forest page (record { from = from; to = to }) read ≡ Some o → (k : ℕ) → Listed (ground o) o.spans k (carried_items o.items)
 forest_found page from to le fits None e o h k = cc
 forest_found page from to le fits (Some f) e o h k =
     let spells = law_reads_right (slice page from to) f e in
@@ -244,9 +254,10 @@ forest_found page from to le fits (Some f) e o h k =
       is = sym (cut page from to le) ∙ ap (λ s. take from page ++ (s ++ drop to page)) (sym spells.0);
       byte = length-take-le from page (omega (arith, le, fits));
     } in
-    subst (λ x. Listed x.page x.spans k (carried_items x.items)) is (made_found page from f spells.1 stands k)
+    let refers : has_references first ≡ names_reference f = ap (λ r. unwrap_or (option_map names_reference r) false) e in
+    subst (λ x. Listed (ground x) x.spans k (carried_items x.items)) is (made_found (ground first) from f spells.1 (λ c. unreferred_apart f (sym refers ∙ c)) stands k)
 
-body_found : (page : List ℕ) (read : Result (ℕ × ℕ) ScanFault) → body_at page ≡ read → (o : Opened) → opened_body page read ≡ Some o → (k : ℕ) → Listed o.page o.spans k (carried_items o.items)
+body_found : (page : List ℕ) (read : Result (ℕ × ℕ) ScanFault) → body_at page ≡ read → (o : Opened) → opened_body page read ≡ Some o → (k : ℕ) → Listed (ground o) o.spans k (carried_items o.items)
 body_found page (Err f) e o h k = cc
 body_found page (Ok body) e o h k = let p = law_body_inside page body.0 body.1 e in forest_found page body.0 body.1 p.0 p.1 (forest_of (slice page body.0 body.1)) refl o h k
 
@@ -297,6 +308,7 @@ pre_in (Letter c marks later) = []
 record Alike (s t : Start) (inside other : Nodes) (pre closing : List ℕ) : Type 0 where
   kind : s.kind ≡ t.kind
   head : s.head ≡ t.head
+  marks : s.marks ≡ t.marks
   generated : s.generated ≡ t.generated
   items : said_items inside ≡ said_items other
   closes : pre ≡ closing
@@ -311,22 +323,24 @@ alike s t inside other pre closing e =
     record {
       kind = ap (λ x. x.kind) start;
       head = ap (λ x. x.head) start;
+      marks = ap (λ x. x.marks) start;
       generated = ap (λ x. x.generated) start;
       items = sym (said_bearing nothing 1 inside) ∙ ap (λ n. said_items (inside_in n)) same ∙ said_bearing nothing 1 other;
       closes = ap pre_in same;
     }
 
 -- what is known of a node that has these original bytes
-pub record Kept (s : Start) (inside : Nodes) (pre part : List ℕ) : Type 0 where
+pub record Kept (refers : Bool) (s : Start) (inside : Nodes) (pre part : List ℕ) : Type 0 where
   pub items : List PlainItem
   pub said : map item_unmade items ≡ said_items inside
   pub own : MayStand s.kind → NoWhole items → Own s.kind s.head s.generated items pre part
+  pub block : refers ≡ false → s.generated ≡ false → is_leaf s.kind ≡ false → (s.marks ≡ []) × OwnBlock s.kind s.head items pre part
 
 some_same : (x y : List ℕ) → ◌≡◌ {A = Option (List ℕ)} (Some x) (Some y) → x ≡ y
 some_same x y e = ap (λ o. unwrap_or o x) e
 
-kept_by : (o : Opened) (k : ℕ) (s : Start) (inside : Nodes) (pre part : List ℕ) (c : Bool) → is_kept (carried_items o.items) k (node_items s inside pre) ≡ c → Listed o.page o.spans k (carried_items o.items) →
-    (if c then Some (part_at o.page (slice_get o.spans k)) else None) ≡ Some part → Kept s inside pre part
+kept_by : (o : Opened) (k : ℕ) (s : Start) (inside : Nodes) (pre part : List ℕ) (c : Bool) → is_kept (carried_items o.items) k (node_items s inside pre) ≡ c → Listed (ground o) o.spans k (carried_items o.items) →
+    (if c then Some (part_at o.page (slice_get o.spans k)) else None) ≡ Some part → Kept (has_references o) s inside pre part
 kept_by o k s inside pre part false e f h = cc
 kept_by o k s inside pre part true e (inl x) h = absurd (let g : false ≡ true = ap (λ ys. list_same carried_same (without_pre (node_items s inside pre)) (without_pre ys)) (sym x) ∙ e in cc)
 kept_by o k s inside pre part true e (inr x) h =
@@ -346,13 +360,21 @@ kept_by o k s inside pre part true e (inr x) h =
           (subst (λ y. Own s.kind s.head y x.first x.pre x.source) (sym a.generated)
           (subst (λ y. Own s.kind y x.start.generated x.first x.pre x.source) (sym a.head)
           (subst (λ y. Own y x.start.head x.start.generated x.first x.pre x.source) (sym a.kind) own))));
+      block = λ calm made branch.
+          let own = x.block calm (sym a.generated ∙ made) (ap is_leaf (sym a.kind) ∙ branch) in (
+            a.marks ∙ own.0,
+            subst (λ y. OwnBlock s.kind s.head x.first pre y) bytes
+                (subst (λ y. OwnBlock s.kind s.head x.first y x.source) (sym a.closes)
+                (subst (λ y. OwnBlock s.kind y x.first x.pre x.source) (sym a.head)
+                (subst (λ y. OwnBlock y x.start.head x.first x.pre x.source) (sym a.kind) own.1))),
+          );
     }
 
-kept_of : (o : Opened) → ((k : ℕ) → Listed o.page o.spans k (carried_items o.items)) → (origin : Option ℕ) (s : Start) (inside : Nodes) (pre part : List ℕ) →
-    original_at o (carried_items o.items) origin (node_items s inside pre) ≡ Some part → Kept s inside pre part
+kept_of : (o : Opened) → ((k : ℕ) → Listed (ground o) o.spans k (carried_items o.items)) → (origin : Option ℕ) (s : Start) (inside : Nodes) (pre part : List ℕ) →
+    original_at o (carried_items o.items) origin (node_items s inside pre) ≡ Some part → Kept (has_references o) s inside pre part
 kept_of o f None s inside pre part h = cc
 kept_of o f (Some k) s inside pre part h = kept_by o k s inside pre part (is_kept (carried_items o.items) k (node_items s inside pre)) refl (f k) h
 
 pub kept_source : (page : List ℕ) (o : Opened) → opened_page page ≡ Some o → (s : Start) (inside : Nodes) (pre part : List ℕ) →
-    original_at o (carried_items o.items) s.origin (node_items s inside pre) ≡ Some part → Kept s inside pre part
+    original_at o (carried_items o.items) s.origin (node_items s inside pre) ≡ Some part → Kept (has_references o) s inside pre part
 kept_source page o h s inside pre part e = kept_of o (λ k. body_found page (body_at page) refl o h k) s.origin s inside pre part e

@@ -242,10 +242,10 @@ leafy-changes opened marks e p o =
 -- ---- content
 
 -- the tag of a leaf says what the leaf does
-record OwnTag (s : Start) (tag : Tag) : Type 0 where
-  neat : NeatAttrs tag.attrs
-  free : is_held tag.attrs ≡ false
-  head_is : head_with tag.attrs ≡ s.head
+pub record OwnTag (s : Start) (tag : Tag) : Type 0 where
+  pub neat : NeatAttrs tag.attrs
+  pub free : is_held tag.attrs ≡ false
+  pub head_is : head_with tag.attrs ≡ s.head
 
 abbrev OwnTags : (n : Nodes) → Tags n → Type 0
 OwnTags Empty t = Unit {0}
@@ -326,12 +326,12 @@ abbrev pub LeavesKnown : Writer → Type 0
 LeavesKnown w = (s : Start) (inside : Nodes) (pre part : List ℕ) → IsLeaf s inside pre → w.original s (node_items s inside pre) ≡ Some part → OwnLeaf s.kind s.head part
 
 -- the tag of one leaf
-record Tagged (w : Writer) (s : Start) (inside : Nodes) (pre : List ℕ) : Type 0 where
-  tag : Tag
-  own : OwnTag s tag
-  text : unwrap_or (w.original s (node_items s inside pre)) (leaf_text w s s.kind) ≡ start_text (tag_of s.kind) tag.attrs tag.slash
+pub record Tagged (w : Writer) (s : Start) (inside : Nodes) (pre : List ℕ) : Type 0 where
+  pub tag : Tag
+  pub own : OwnTag s tag
+  pub text : unwrap_or (w.original s (node_items s inside pre)) (leaf_text w s s.kind) ≡ start_text (tag_of s.kind) tag.attrs tag.slash
 
-tagged : (w : Writer) → LeavesKnown w → (s : Start) (inside : Nodes) (pre : List ℕ) → IsLeaf s inside pre → leaf_text w s s.kind ≡ start_text (tag_of s.kind) (canon_attrs (map attr_bytes s.head.attrs)) false →
+pub tagged : (w : Writer) → LeavesKnown w → (s : Start) (inside : Nodes) (pre : List ℕ) → IsLeaf s inside pre → leaf_text w s s.kind ≡ start_text (tag_of s.kind) (canon_attrs (map attr_bytes s.head.attrs)) false →
     (o : Option (List ℕ)) → w.original s (node_items s inside pre) ≡ o → Tagged w s inside pre
 tagged w known s inside pre l text None e =
     let t = leaf_kind s.kind l.kind in

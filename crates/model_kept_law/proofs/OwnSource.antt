@@ -3,6 +3,7 @@ use Rattle.std.proofs.Common.{◌≡◌, ℕ, Bool, true, false, List, [], ◌++
 use Rattle.model_spelling.specs.Grammar.{Attr as Spelled, start_text, end_text}
 use Rattle.model_spelling.specs.Forest.{Forest, spelling}
 use Rattle.ve_kinds.specs.declared.kind.Kind.{Kind}
+use Rattle.ve_kinds.specs.Table.{is_element}
 use Rattle.ve_base.specs.declared.head.Head.{Head}
 use Rattle.model_items.specs.declared.plain_item.PlainItem.{PlainItem}
 use Rattle.model_page.specs.Elements.{is_white, is_held}
@@ -33,6 +34,7 @@ pub record OwnBlock (kind : Kind) (head : Head) (inside : List PlainItem) (pre s
   pub attrs : List Spelled
   pub inner : Forest
   pub is : source ≡ start_text (tag_of kind) attrs false ++ spelling inner ++ end_text (tag_of kind)
+  pub element : is_element kind ≡ true
   pub tag : NeatTag false (tag_of kind) attrs
   pub free : is_held attrs ≡ false
   pub head_is : head_with attrs ≡ head

@@ -3,26 +3,26 @@ use Rattle.std.proofs.Common.{◌≡◌, ℕ, Bool, true, false, not, ◌&&◌, 
 use Rattle.std.proofs.lemmas.Bool.{and_parts, and_from}
 use Rattle.std.proofs.lemmas.Grind.{common_steps}
 use Rattle.std.proofs.lemmas.List.{map-append}
-use Rattle.std.specs.Prelude.{chars, encode_utf8_all}
+use Rattle.std.specs.Prelude.{chars, encode_utf8_all, unwrap_or}
 use Rattle.model_spelling.specs.Grammar.{Attr as Spelled, Comment, token_text, start_text, end_text}
 use Rattle.model_spelling.specs.Forest.{Forest, Nothing, Text, Remark, Void, RawElement, Element, spelling, starts_with_text}
 use Rattle.ve_kinds.specs.declared.kind.Kind.{Kind}
-use Rattle.ve_kinds.specs.declared.kind.Kind.TheVariants.{P}
-use Rattle.ve_kinds.specs.Table.{may_hold, is_among, structural_kinds}
+use Rattle.ve_kinds.specs.declared.kind.Kind.TheVariants.{Root, P, H1, H2, H3, H4, H5, H6, Pre, Section, Li, Dt, Dd, Blockquote, Div, Td, Th, Caption, InternalItem, Ul, Ol, Dl, Table, Thead, Tbody, Tfoot, Tr, InternalList, TransBlock, AlienBlock, Br, Img, Ref, TransInline, AlienInline}
+use Rattle.ve_kinds.specs.Table.{kind_same, may_hold, is_among, is_content_branch, is_element, is_flow, is_leaf, is_block_leaf, structural_kinds}
 use Rattle.ve_kinds.specs.Tags.{kind_of_tag}
 use Rattle.ve_base.specs.Empty.{empty_head}
 use Rattle.model_items.specs.declared.plain_item.PlainItem.{PlainItem}
 use Rattle.model_items.specs.declared.plain_item.PlainItem.TheVariants.{Opening, Closing}
 use Rattle.model_page.specs.Elements.{is_white_char, is_white, is_held}
 use Rattle.model_page.specs.Tags.{tag_of, is_inline_tag}
-use Rattle.model_page.specs.Parts.{Parts, Single, Parent, parts_of}
+use Rattle.model_page.specs.Parts.{Parts, Ended, Words, Note, Group, Single, Parent, parts_of}
 use Rattle.model_page.specs.Fit.{Around, Flow, Structural, Branch, around_in, has_blocks_alone, is_convertible, fit_in_block, fit_of}
 use Rattle.model_page.specs.Fragment.{item_unmade}
 use Rattle.model_page.specs.Heads.{head_with}
 use Rattle.model_page.specs.Pieces.{Made, Progress, past, source_span, node, with_white, run_dropped, paragraph_before, run_ended, run_closed, before_run}
 use Rattle.model_page.specs.Convert.{element_source, element_made, inside_of, inside_piece, made_of}
-use Rattle.model_page_write.specs.Nodes.{Start, Nodes, Empty, Node}
-use Rattle.model_page_write.specs.Written.{is_empty, white_after, is_bare, Writer, blocks}
+use Rattle.model_page_write.specs.Nodes.{Start, Nodes, Empty, Node, node_items}
+use Rattle.model_page_write.specs.Written.{is_empty, white_after, is_bare, Writer, leaf_text, fresh_text, original_of, content, blocks}
 use Rattle.model_page_law.specs.Formed.{IsHead}
 use Rattle.model_page_law.proofs.NeatForests.{without, NeatTag, Neat}
 use Rattle.model_page_law.proofs.FormedNodes.{IsBranch}
@@ -33,8 +33,27 @@ use Rattle.model_page_law.proofs.TileLemmas.{run_ended-source}
 use Rattle.model_page_law.proofs.BlockText.{white_before, followed_by}
 use Rattle.model_page_law.proofs.BlockReads.{Loose, AtBlock, Closes, Closes-AtBlock, AtBlock-nothing, AtBlock-white, Closes-white, Closes-bare, white_bytes}
 use Rattle.model_page_law.proofs.BlockClean.{is_empty-nil, IsBare, bare_is, never_bare}
-use Rattle.model_page_law.proofs.NodesRead.{said_items, BlocksRead}
+use Rattle.model_page_law.proofs.NodesRead.{said_items}
+use Rattle.model_spelling.proofs.Proved.{law_reads_right}
+use Rattle.model_page_law.proofs.OneLemmas.{spelled-Neat}
+use Rattle.model_kept_law.specs.Readable.{leaf_forest, shares_about, is_apart, IsWholeLeaf}
+use Rattle.model_kept_law.proofs.FitFacts.{HoldsBlocks}
 use Rattle.model_kept_law.proofs.ApartParts.{Apart}
+use Rattle.model_kept_law.proofs.Unreferred.{unreferred_apart}
+use Rattle.model_kept_law.proofs.JoinedParts.{joined, Clear, parts_followed, joined_apart, joined_alone, one_neat, one_starts, one_clear}
+use Rattle.model_kept_law.proofs.LeafParts.{block_leaf, block_leaf_inline, no_paragraph, LeafPart, leaf_part, leaf_block}
+
+-- ---- a block that its parent may hold
+
+pub record IsPlaced (parent : Kind) (s : Start) : Type 0 where
+  pub held : may_hold parent s.kind ≡ true
+  pub element : is_element s.kind ≡ true
+  pub branch : is_leaf s.kind ≡ false
+  pub marks : s.marks ≡ []
+  pub before : is_white s.pre ≡ true
+
+pub placed : (parent : Kind) (s : Start) → IsBranch parent s → IsPlaced parent s
+placed parent s b = record { held = b.held; element = b.element; branch = b.branch; marks = b.marks; before = b.before }
 
 -- ---- how one block is spelled
 
@@ -66,14 +85,21 @@ pub record RunChunk (inside : Nodes) (text : List ℕ) : Type 0 where
 
 -- ---- blocks as they are written, with the whitespace after them
 
+-- what they are read as in a parent of this kind
+pub record BlocksAre (k : Kind) (before : Bool) (closing after : List ℕ) (f : Forest) (items : List PlainItem) : Type 0 where
+  pub closes : is_flow k ≡ true → Closes (Flow k) f items closing
+  pub stands : is_flow k ≡ true → before ≡ true → is_empty after ≡ true → AtBlock (Flow k) f items closing
+  pub structural : is_among structural_kinds k ≡ true → AtBlock (Structural k) f items closing
+
 pub record Written (w : Writer) (k : Kind) (before : Bool) (closing : List ℕ) (n : Nodes) : Type 0 where
   pub forest : Forest
   pub spells : spelling forest ≡ blocks w before closing n ++ encode_utf8_all closing
   pub neat : Neat forest
   pub starts : before ≡ true → is_empty (white_after n closing) ≡ true → starts_with_text forest ≡ false
-  pub reads : BlocksRead k before closing (white_after n closing) forest (said_items n)
+  pub reads : BlocksAre k before closing (white_after n closing) forest (said_items n)
   pub apart : Apart (parts_of forest)
   pub alone : is_among structural_kinds k ≡ true → has_blocks_alone (parts_of forest) ≡ true
+  pub clear : (g : Forest) → is_apart g n ≡ true → Clear g (parts_of forest)
 
 -- ---- whitespace before
 
@@ -104,6 +130,10 @@ alone-white_before : (white : List ℕ) (f : Forest) → is_white white ≡ true
 alone-white_before [] f h a = a
 alone-white_before (c ∷ cs) f h a = and_from (is_white (encode_utf8_all (c ∷ cs))) (has_blocks_alone (parts_of f)) (ap is_white (white_bytes (c ∷ cs) h) ∙ h) a
 
+clear_before : (g : Forest) (white : List ℕ) (f : Forest) → Clear g (parts_of f) → ((t : List ℕ) → Clear g (Words t (parts_of f))) → Clear g (parts_of (white_before white f))
+clear_before g [] f c d = c
+clear_before g (x ∷ xs) f c d = d (encode_utf8_all (x ∷ xs))
+
 white_nothing : (white : List ℕ) (f : Forest) → white ≡ [] → f ≡ white_before white f
 white_nothing white f e = ap (λ w. white_before w f) (sym e)
 
@@ -116,12 +146,13 @@ written_empty w k before closing h = record {
   neat = Neat-white_before closing Nothing h refl tt;
   starts = λ b e. starts-white_before closing Nothing e refl;
   reads = record {
-    closes = subst (λ c. Closes (Flow k) (white_before closing Nothing) [] c) (append-nil closing) (Closes-white k closing Nothing [] [] h (AtBlock-nothing (Flow k)));
-    stands = λ e empty. subst (λ c. AtBlock (Flow k) (white_before c Nothing) [] c) (sym (is_empty-nil closing empty)) (AtBlock-nothing (Flow k));
+    closes = λ n. subst (λ c. Closes (Flow k) (white_before closing Nothing) [] c) (append-nil closing) (Closes-white k closing Nothing [] [] h (AtBlock-nothing (Flow k)));
+    stands = λ n e empty. subst (λ c. AtBlock (Flow k) (white_before c Nothing) [] c) (sym (is_empty-nil closing empty)) (AtBlock-nothing (Flow k));
     structural = λ e. subst (λ c. AtBlock (Structural k) (white_before closing Nothing) [] c) (append-nil closing) (AtBlock-white k closing Nothing [] [] h (AtBlock-nothing (Structural k)));
   };
   apart = Apart-white_before closing Nothing tt;
   alone = λ e. alone-white_before closing Nothing h refl;
+  clear = λ g e. clear_before g closing Nothing tt (λ t. tt);
 }
 
 -- ---- an element before
@@ -192,31 +223,35 @@ with_pre s xs m = (λ i. Opening s.kind s.head (sym m i) (append-nil s.pre i) No
 without_pre : (s : Start) (xs : List PlainItem) → s.marks ≡ [] → s.pre ≡ [] → Opening s.kind s.head [] [] None false ∷ xs ≡ Opening s.kind s.head s.marks s.pre None false ∷ xs
 without_pre s xs m p = (λ i. Opening s.kind s.head (sym m i) (sym p i) None false ∷ xs)
 
-element_read : (k : Kind) (before : Bool) (s : Start) (inside : Nodes) (rest : Forest) (ys : List PlainItem) (pre text closing : List ℕ) (c : ElementChunk s inside pre text) → IsBranch k s → BranchTag s.kind →
-    Closes (Flow k) rest ys closing → (is_among structural_kinds k ≡ true → Closes (Structural k) rest ys closing) →
-    BlocksRead k before closing s.pre (white_before s.pre (Element (tag_of s.kind) c.attrs c.inner rest)) (Opening s.kind s.head s.marks s.pre None false ∷ said_items inside ++ Closing s.kind pre ∷ ys)
-element_read k before s inside rest ys pre text closing c b t r st =
-    let f : Forest = Element (tag_of s.kind) c.attrs c.inner rest in
-    let more : List PlainItem = said_items inside ++ Closing s.kind pre ∷ ys in
+-- a block with the whitespace before it
+placed_reads : (k : Kind) (before : Bool) (s : Start) (f : Forest) (more : List PlainItem) (closing : List ℕ) → s.marks ≡ [] → is_white s.pre ≡ true →
+    (is_flow k ≡ true → AtBlock (Flow k) f (Opening s.kind s.head [] [] None false ∷ more) closing) →
+    (is_among structural_kinds k ≡ true → AtBlock (Structural k) f (Opening s.kind s.head [] [] None false ∷ more) closing) →
+    BlocksAre k before closing s.pre (white_before s.pre f) (Opening s.kind s.head s.marks s.pre None false ∷ more)
+placed_reads k before s f more closing marks white flow structural =
     let first : List PlainItem = Opening s.kind s.head [] [] None false ∷ more in
-    let here : AtBlock (Flow k) f first closing = AtBlock-own (Flow k) s inside rest ys pre text closing c (fits_flow k s (parts_of c.inner) t b.held c.convertible) r in
     record {
-      closes = closes_same (Flow k) (white_before s.pre f) _ _ closing (with_pre s more b.marks) (Closes-white k s.pre f first closing b.before here);
-      stands = λ h empty.
+      closes = λ n. closes_same (Flow k) (white_before s.pre f) _ _ closing (with_pre s more marks) (Closes-white k s.pre f first closing white (flow n));
+      stands = λ n h empty.
           let no_white : s.pre ≡ [] = is_empty-nil s.pre empty in
-          subst (λ g. AtBlock (Flow k) g (Opening s.kind s.head s.marks s.pre None false ∷ more) closing) (white_nothing s.pre f no_white) (block_same (Flow k) f first _ closing (without_pre s more b.marks no_white) here);
-      structural = λ h.
-          block_same (Structural k) (white_before s.pre f) _ _ closing (with_pre s more b.marks)
-          (AtBlock-white k s.pre f first closing b.before
-          (AtBlock-own (Structural k) s inside rest ys pre text closing c (fits_block k s (parts_of c.inner) t b.held c.convertible) (st h)));
+          subst (λ g. AtBlock (Flow k) g (Opening s.kind s.head s.marks s.pre None false ∷ more) closing) (white_nothing s.pre f no_white) (block_same (Flow k) f first _ closing (without_pre s more marks no_white) (flow n));
+      structural = λ h. block_same (Structural k) (white_before s.pre f) _ _ closing (with_pre s more marks) (AtBlock-white k s.pre f first closing white (structural h));
     }
+
+element_read : (k : Kind) (before : Bool) (s : Start) (inside : Nodes) (rest : Forest) (ys : List PlainItem) (pre text closing : List ℕ) (c : ElementChunk s inside pre text) → IsPlaced k s → BranchTag s.kind →
+    (is_flow k ≡ true → Closes (Flow k) rest ys closing) → (is_among structural_kinds k ≡ true → Closes (Structural k) rest ys closing) →
+    BlocksAre k before closing s.pre (white_before s.pre (Element (tag_of s.kind) c.attrs c.inner rest)) (Opening s.kind s.head s.marks s.pre None false ∷ said_items inside ++ Closing s.kind pre ∷ ys)
+element_read k before s inside rest ys pre text closing c b t flow structural =
+    placed_reads k before s (Element (tag_of s.kind) c.attrs c.inner rest) (said_items inside ++ Closing s.kind pre ∷ ys) closing b.marks b.before
+    (λ n. AtBlock-own (Flow k) s inside rest ys pre text closing c (fits_flow k s (parts_of c.inner) t b.held c.convertible) (flow n))
+    (λ h. AtBlock-own (Structural k) s inside rest ys pre text closing c (fits_block k s (parts_of c.inner) t b.held c.convertible) (structural h))
 
 -- the text of a block before others
 spelled_before : (white part own rest closing : List ℕ) (f : Forest) → spelling f ≡ rest ++ closing → own ≡ white ++ part ++ rest → white ++ (part ++ spelling f) ≡ own ++ closing
 spelled_before white part own rest closing f e is =
     ap (λ x. white ++ (part ++ x)) e ∙ sym (append_assoc white part (rest ++ closing)) ∙ sym (append_assoc (white ++ part) rest closing) ∙ ap (λ x. x ++ closing) (sym is)
 
-pub element_written : (w : Writer) (k : Kind) (before : Bool) (s : Start) (inside later : Nodes) (pre closing text : List ℕ) → IsBranch k s → ElementChunk s inside pre text → Written w k false closing later →
+pub element_written : (w : Writer) (k : Kind) (before : Bool) (s : Start) (inside later : Nodes) (pre closing text : List ℕ) → IsPlaced k s → ElementChunk s inside pre text → Written w k false closing later →
     blocks w before closing (Node s inside pre later) ≡ encode_utf8_all s.pre ++ text ++ blocks w false closing later → Written w k before closing (Node s inside pre later)
 element_written w k before s inside later pre closing text b c r is =
     let f : Forest = Element (tag_of s.kind) c.attrs c.inner r.forest in
@@ -234,11 +269,12 @@ element_written w k before s inside later pre closing text b c r is =
       apart = Apart-white_before s.pre f (subst Apart (sym parts_are) (c.apart, r.apart));
       alone = λ h. alone-white_before s.pre f b.before
           (ap has_blocks_alone parts_are ∙ and_from (not (is_inline_tag (tag_of s.kind))) (has_blocks_alone (parts_of r.forest)) (ap not t.block) (r.alone h));
+      clear = λ g e. clear_before g s.pre f (subst (Clear g) (sym parts_are) tt) (λ u. subst (λ x. Clear g (Words u x)) (sym parts_are) tt);
     }
 
 -- ---- a run before
 
-spelling-followed_by : (a b : Forest) → spelling (followed_by a b) ≡ spelling a ++ spelling b
+pub spelling-followed_by : (a b : Forest) → spelling (followed_by a b) ≡ spelling a ++ spelling b
 spelling-followed_by Nothing b = refl
 spelling-followed_by (Text text rest) b = ap (λ s. text ++ s) (spelling-followed_by rest b) ∙ sym (append_assoc text (spelling rest) (spelling b))
 spelling-followed_by (Remark text rest) b =
@@ -289,6 +325,35 @@ run_items s inside xs ys pre kind attrs white marks closing head said =
 opposite : (b : Bool) → b ≡ true → b ≡ false → ⊥
 opposite b e f = cc
 
+single_is : (name : List ℕ) (attrs : List Spelled) (slash : Bool) (rest : Forest) → is_held attrs ≡ false → parts_of (Void name attrs slash rest) ≡ Single name attrs (start_text name attrs slash) (parts_of rest)
+single_is name attrs slash rest e = parts_if_false (is_held attrs) _ _ e
+
+parent_is : (name : List ℕ) (attrs : List Spelled) (children rest : Forest) → is_held attrs ≡ false → parts_of (Element name attrs children rest) ≡ Parent name attrs (parts_of children) (parts_of rest)
+parent_is name attrs children rest e = parts_if_false (is_held attrs) _ _ e
+
+-- words that are not white join nothing
+solid_clear : (g : Forest) (t : List ℕ) (q : Parts) → is_white t ≡ false → Clear g (Words t q)
+solid_clear g t Ended e = tt
+solid_clear g t (Words u later) e = tt
+solid_clear g t (Note u later) e = tt
+solid_clear g t (Group nodes later) e = ap (λ b. b && shares_about g nodes) e
+solid_clear g t (Single name attrs source later) e = tt
+solid_clear g t (Parent name attrs children later) e = tt
+
+-- nothing joins what a run begins with
+run_clear : (g : Forest) (k : Kind) (run rest : Forest) → Loose k run → Neat run → is_white (spelling run) ≡ false → Clear g (parts_of (followed_by run rest))
+run_clear g k Nothing rest l n e = cc
+run_clear g k (Text t Nothing) rest l n e = solid_clear g t (parts_of rest) (ap is_white (sym (append-nil t)) ∙ e)
+run_clear g k (Text t (Text u more)) rest l n e = absurd (let f : true ≡ false = n.2 in cc)
+run_clear g k (Text t (Remark u more)) rest l n e = absurd l
+run_clear g k (Text t (Void name attrs slash more)) rest l n e = subst (λ x. Clear g (Words t x)) (sym (single_is name attrs slash (followed_by more rest) l.0)) tt
+run_clear g k (Text t (RawElement name attrs u more)) rest l n e = absurd l
+run_clear g k (Text t (Element name attrs children more)) rest l n e = subst (λ x. Clear g (Words t x)) (sym (parent_is name attrs children (followed_by more rest) l.0)) tt
+run_clear g k (Remark t more) rest l n e = absurd l
+run_clear g k (Void name attrs slash more) rest l n e = subst (Clear g) (sym (single_is name attrs slash (followed_by more rest) l.0)) tt
+run_clear g k (RawElement name attrs t more) rest l n e = absurd l
+run_clear g k (Element name attrs children more) rest l n e = subst (Clear g) (sym (parent_is name attrs children (followed_by more rest) l.0)) tt
+
 pub run_written : (w : Writer) (k : Kind) (before : Bool) (s : Start) (inside later : Nodes) (pre closing text : List ℕ) → IsBranch k s → is_bare before s inside (white_after later closing) ≡ true → pre ≡ [] → RunChunk inside text →
     Written w k true closing later → blocks w before closing (Node s inside pre later) ≡ encode_utf8_all s.pre ++ text ++ blocks w true closing later → Written w k before closing (Node s inside pre later)
 run_written w k before s inside later pre closing text b bare none c r is =
@@ -306,13 +371,121 @@ run_written w k before s inside later pre closing text b bare none c r is =
       neat = subst Neat (white_nothing s.pre f i.white) (Neat-followed_by c.run r.forest c.neat r.neat next);
       starts = λ h e. absurd (opposite before h i.first);
       reads = record {
-        closes =
+        closes = λ n.
             subst (λ g. Closes (Flow k) g (Opening s.kind s.head s.marks s.pre None false ∷ said_items inside ++ Closing s.kind pre ∷ said_items later) closing) (white_nothing s.pre f i.white)
             (closes_same (Flow k) f _ _ closing (run_items s inside c.items (said_items later) pre i.kind i.attrs i.white b.marks none b.head c.said)
-            (Closes-bare k c.run r.forest c.items (said_items later) closing (c.loose k) (ap is_white (sym c.is) ∙ c.solid) c.reads (r.reads.stands refl i.after_is)));
-        stands = λ h e. absurd (opposite before h i.first);
+            (Closes-bare k c.run r.forest c.items (said_items later) closing (c.loose k) (ap is_white (sym c.is) ∙ c.solid) c.reads (r.reads.stands n refl i.after_is)));
+        stands = λ n h e. absurd (opposite before h i.first);
         structural = λ h. absurd (no_structure h);
       };
       apart = Apart-white_before s.pre f (Apart-followed_by k c.run r.forest (c.loose k) c.apart r.apart);
       alone = λ h. absurd (no_structure h);
+      clear = λ g e. subst (λ x. Clear g (parts_of x)) (white_nothing s.pre f i.white) (run_clear g k c.run r.forest (c.loose k) c.neat (ap is_white (sym c.is) ∙ c.solid));
+    }
+
+-- ---- a leaf that is kept whole, before others
+
+not_true : (b : Bool) → (b ≡ true → ⊥) → b ≡ false
+not_true true h = absurd (h refl)
+not_true false h = refl
+
+pub leaf_not_bare : (before : Bool) (s : Start) (inside : Nodes) (after : List ℕ) → is_block_leaf s.kind ≡ true → is_bare before s inside after ≡ false
+leaf_not_bare before s inside after l = not_true (is_bare before s inside after) (λ e. no_paragraph s.kind l (sym (bare_is before s inside after e).kind))
+
+leaf_written : (w : Writer) (k : Kind) (before : Bool) (s : Start) (inside later : Nodes) (pre closing : List ℕ) → is_block_leaf s.kind ≡ true → IsWholeLeaf w k s inside pre later →
+    blocks w before closing (Node s inside pre later) ≡ encode_utf8_all s.pre ++ encode_utf8_all s.head.raw ++ blocks w false closing later
+leaf_written w k before s inside later pre closing leaf l =
+    let bare : Bool = is_bare before s inside (white_after later closing) in
+    let text : List ℕ = if is_content_branch s.kind then content w [] inside else blocks w false pre inside in
+    let no_bare : bare ≡ false = leaf_not_bare before s inside (white_after later closing) leaf in
+    let original : original_of w bare s (node_items s inside pre) ≡ w.original s (node_items s inside pre) = ap (λ g. if g && not bare then None else w.original s (node_items s inside pre)) l.tags in
+    let fresh : fresh_text w bare s text pre ≡ encode_utf8_all s.head.raw =
+    pick_false (kind_same s.kind InternalList) _ _ (block_leaf (λ j. kind_same j InternalList ≡ false) s.kind leaf refl refl)
+    ∙ pick_true (is_leaf s.kind) _ _ (block_leaf (λ j. is_leaf j ≡ true) s.kind leaf refl refl)
+    ∙ block_leaf (λ j. leaf_text w s j ≡ encode_utf8_all s.head.raw) s.kind leaf refl refl in
+    (λ i. encode_utf8_all s.pre ++ unwrap_or (original i) (fresh i) ++ blocks w (no_bare i) closing later) ∙ ap (λ x. encode_utf8_all s.pre ++ x ++ blocks w false closing later) l.text
+
+structural_flow : (k : Kind) → is_among structural_kinds k ≡ true → is_flow k ≡ false
+structural_flow Root e = cc
+structural_flow P e = cc
+structural_flow H1 e = cc
+structural_flow H2 e = cc
+structural_flow H3 e = cc
+structural_flow H4 e = cc
+structural_flow H5 e = cc
+structural_flow H6 e = cc
+structural_flow Pre e = cc
+structural_flow Section e = cc
+structural_flow Li e = cc
+structural_flow Dt e = cc
+structural_flow Dd e = cc
+structural_flow Blockquote e = cc
+structural_flow Div e = cc
+structural_flow Td e = cc
+structural_flow Th e = cc
+structural_flow Caption e = cc
+structural_flow InternalItem e = cc
+structural_flow Ul e = refl
+structural_flow Ol e = refl
+structural_flow Dl e = refl
+structural_flow Table e = refl
+structural_flow Thead e = refl
+structural_flow Tbody e = refl
+structural_flow Tfoot e = refl
+structural_flow Tr e = refl
+structural_flow InternalList e = refl
+structural_flow TransBlock e = cc
+structural_flow AlienBlock e = cc
+structural_flow Br e = cc
+structural_flow Img e = cc
+structural_flow Ref e = cc
+structural_flow TransInline e = cc
+structural_flow AlienInline e = cc
+
+-- what is clear of what a leaf shares
+not_shared : (a b : Bool) → not (a && b) ≡ true → a ≡ true → b ≡ false
+not_shared true true e h = cc
+not_shared true false e h = refl
+not_shared false b e h = cc
+
+pub whole_written : (w : Writer) (k : Kind) (before : Bool) (s : Start) (inside later : Nodes) (pre closing : List ℕ) → is_content_branch k ≡ false → inside ≡ Empty → is_block_leaf s.kind ≡ true → IsWholeLeaf w k s inside pre later →
+    Written w k false closing later → Written w k before closing (Node s inside pre later)
+whole_written w k before s inside later pre closing c none leaf l r =
+    let f : Forest = leaf_forest s in
+    let stands = l.block (block_leaf_inline s.kind leaf) in
+    let all : Forest = followed_by f r.forest in
+    let spells = law_reads_right (encode_utf8_all s.head.raw) f l.spelled in
+    let apart : Apart (parts_of f) = unreferred_apart f l.calm in
+    let together : parts_of all ≡ joined (parts_of f) (parts_of r.forest) = parts_followed f r.forest (r.clear f l.apart) in
+    let start : starts_with_text all ≡ false = one_starts f r.forest l.part in
+    let more : List PlainItem = Closing s.kind [] ∷ said_items later in
+    let at : Progress = record { at = 0; owners = []; editable = false } in
+    let part : (around : Around) → HoldsBlocks around → around_in k ≡ around → LeafPart around (parts_of f) s.kind s.head = λ around b e.
+    leaf_part around b at (parts_of f) s.kind s.head l.part apart leaf
+    (ap (λ a. (inside_piece a at (made_of a (parts_of f) at)).later.items) (sym e) ∙ l.reads) in
+    let flow : is_flow k ≡ true → around_in k ≡ Flow k = λ h. pick_false (is_content_branch k) _ _ c ∙ pick_true (is_flow k) _ _ h in
+    let structural : is_among structural_kinds k ≡ true → around_in k ≡ Structural k = λ h. pick_false (is_content_branch k) _ _ c ∙ pick_false (is_flow k) _ _ (structural_flow k h) in
+    let same : Opening s.kind s.head s.marks s.pre None false ∷ more ≡ said_items (Node s inside pre later) =
+    (λ i. Opening s.kind s.head s.marks s.pre None false ∷ said_items (sym none i) ++ Closing s.kind (sym l.closing i) ∷ said_items later) in
+    record {
+      forest = white_before s.pre all;
+      spells =
+          spelling-white_before s.pre all
+          ∙ ap (λ x. encode_utf8_all s.pre ++ x) (spelling-followed_by f r.forest)
+          ∙ spelled_before (encode_utf8_all s.pre) (spelling f) (blocks w before closing (Node s inside pre later)) (blocks w false closing later) (encode_utf8_all closing) r.forest r.spells
+          (leaf_written w k before s inside later pre closing leaf l ∙ ap (λ x. encode_utf8_all s.pre ++ x ++ blocks w false closing later) (sym spells.0));
+      neat = Neat-white_before s.pre all stands.1 start (one_neat f r.forest l.part (spelled-Neat f 200 spells.1) r.neat);
+      starts = λ h e. starts-white_before s.pre all e start;
+      reads = subst (λ xs. BlocksAre k before closing s.pre (white_before s.pre all) xs) same
+          (placed_reads k before s all more closing stands.0 stands.1
+          (λ h. leaf_block (Flow k) tt f r.forest s.kind s.head (said_items later) closing (part (Flow k) tt (flow h)) leaf together (r.reads.closes h))
+          (λ h. leaf_block (Structural k) tt f r.forest s.kind s.head (said_items later) closing (part (Structural k) tt (structural h)) leaf together
+          (Closes-AtBlock (Structural k) r.forest (said_items later) closing (r.reads.structural h))));
+      apart = Apart-white_before s.pre all (subst Apart (sym together) (joined_apart (parts_of f) (parts_of r.forest) apart r.apart));
+      alone = λ h. alone-white_before s.pre all stands.1
+          (ap has_blocks_alone together ∙ joined_alone (parts_of f) (parts_of r.forest) ∙ and_from (has_blocks_alone (parts_of f)) (has_blocks_alone (parts_of r.forest)) (l.alone h) (r.alone h));
+      clear = λ g e.
+          let no_share : shares_about g f ≡ false = not_shared (is_leaf s.kind) (shares_about g f) e (block_leaf (λ j. is_leaf j ≡ true) s.kind leaf refl refl) in
+          let one = one_clear g f (parts_of r.forest) l.part no_share in
+          clear_before g s.pre all (subst (Clear g) (sym together) (one []).0) (λ t. subst (λ x. Clear g (Words t x)) (sym together) (one t).1);
     }

@@ -1,8 +1,10 @@
 // The laws of pages that are written with nodes kept in them, each the contract of a function that does nothing.
-ghost use Rattle.model_kept_law.specs.KeptBack.{KeptIsReadBack};
+ghost use Rattle.model_kept_law.specs.KeptBack.{KeptIsReadBack, ReadableIsReadBack};
 
 /// A page is opened, its list is edited, and the page is written: nodes that are as they were first read have the bytes that they had, and all others are
-/// written afresh. Where the list is of the form that reads back, the page opens again as that list, up to origins and the flag generated.
+/// written afresh. Where that page opens, and the list is of the form that reads back, it opens as the list, up to origins and the flag generated.
+/// So it does where the first page has no references, blocks that are kept hold anything else, and leaves that are kept whole stand elsewhere.
 pub fn kept_page_is_read_back()
-    ensures { KeptIsReadBack }
+    ensures plain { KeptIsReadBack }
+    ensures readable { ReadableIsReadBack }
 {}

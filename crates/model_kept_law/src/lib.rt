@@ -1,14 +1,19 @@
 //! Pages that are written with nodes kept in them, read again. It defines no writing and no reading: those are
 //! `model_page_write`'s and `model_page`'s.
 //!
-//! The law is the definition in specs/ and the contract of a function in `laws`:
+//! Each law is a definition in specs/ and a clause of the function in `laws`. In reading order:
 //!
-//! - `KeptBack` (`kept_page_is_read_back`): whichever nodes are kept by their bytes, the page that a list gives is read back as the list.
+//! - `Readable`: which lists it speaks of where leaves are kept whole: what stands in a kept block may be anything, such a leaf elsewhere reads as
+//!   itself, and all else is of the form that reads back (`Formed` of `model_page_law`);
+//! - `KeptBack` (`kept_page_is_read_back`): whichever nodes are kept by their bytes, the page that a list gives opens as the list, where it opens; that it
+//!   does where a forest spells its body is `model_page_law`'s.
 //!
-//! It asks for lists of the form that reads back (`Formed` of `model_page_law`), in which no leaf is kept whole. Its proof goes in three
-//! steps, each a few files in proofs/. At every depth the span of a node is its source (`SourceRows`). Where nothing in it is kept whole, that source
-//! makes the same items wherever it stands (`ApartParts`, `WholeParts`, `RunParts`). So a writer's text is spelled by a forest that is read as the
-//! list, with an original element, run or leaf in place of the canonical one (`OwnContent`, `KeptBlocks`).
+//! It says nothing of pages with references, nor of leaves that are kept whole in paragraphs that may be bare.
+//!
+//! The proof goes in three steps, each a few files in proofs/. At every depth the span of a node is its source (`SourceRows`). Where nothing in it is
+//! kept whole, or nothing is a reference, that source makes the same items wherever it stands (`ApartParts`, `WholeParts`, `RunParts`). So a
+//! writer's text is spelled by a forest that is read as the list, with an original element, run or leaf in place of the canonical one
+//! (`OwnContent`, `WholeContent`, `WrittenBlocks`, `KeptBlocks`, `StandingBlocks`).
 #![tactic(auto)]
 
 mod laws;
