@@ -1,12 +1,10 @@
 -- A transaction that was applied applies, and a tree of what it makes is one of the new list.
-use Rattle.std.proofs.Common.{◌≡◌, List, [], Option, Some, None, Result, Ok, map, refl, sym, ap, ◌∙◌, subst}
-use Rattle.ve_base.specs.declared.value.Value.{Value}
+use Rattle.std.proofs.Common.{◌≡◌, List, [], Option, Some, None, Ok, refl, subst}
 use Rattle.model_items.specs.declared.item.Item.{Item}
 use Rattle.model_items.specs.declared.plain_item.PlainItem.{PlainItem}
 use Rattle.model_items.specs.Plain.{plain_list}
 use Rattle.model_change.specs.declared.tx_fault.TxFault.{TxFault}
 use Rattle.model_change.specs.Fault.{apply_unless, fault}
-use Rattle.model_change.specs.Transaction.{edited}
 use Rattle.ve_tree.specs.IsTree.{unvalued}
 use Rattle.ve_tree.specs.TreeOf.{IsTreeOf}
 use Rattle.ve_tree.specs.declared.tree.Tree.{Tree}

@@ -1,6 +1,10 @@
 // One repair, seen from all sides, and then taken back.
+ghost use Rattle.std.specs.Prelude.{All, IfOk};
+ghost use Rattle.model_items.specs.Plain.{CitesWell};
 ghost use Rattle.ve_tree.specs.IsTree.{unvalued};
 ghost use Rattle.ve_tree.specs.TreeOf.{IsTreeOf};
+ghost use Rattle.ve_tx.specs.Cites.{TxCites};
+ghost use Rattle.ve_tx_samples.specs.NoValues.{ItemsCiteNothing, TxCitesNothing};
 ghost use Rattle.ve_repair_tests.specs.Makes.{Makes};
 
 use crate::signs::{Sign, keep_numbers, signs_of};
@@ -113,7 +117,7 @@ fn done_and_undone<L: Ledger>(
 }
 
 /// What comes of the repair of a list's tree after a transaction, and then after what takes it back.
-fn outcome_of<L: Ledger>(
+fn both_outcomes<L: Ledger>(
     alloc: Global,
     list: &Linear,
     new: &Linear,
@@ -143,6 +147,35 @@ fn outcome_of<L: Ledger>(
     }
 }
 
+/// The list that a transaction makes.
+fn made(alloc: Global, list: &Linear, tx: &Transaction, store: &mut Store) -> Result<Linear, Fail>
+    requires list { All (CitesWell store.old) list.now.items }
+    requires cites { TxCites store.old tx.now }
+    ensures makes { IfOk result (λ new. Makes tx.now list.now.items new.items) }
+    ensures cites { IfOk result (λ new. All (CitesWell store.new) new.items) }
+{
+    let mut new = list.copy(alloc)?;
+    tx.apply(alloc, &mut new, store)?;
+    Ok(new)
+}
+
+/// What comes of the repair of a list's tree after a transaction, neither of which cites a value.
+fn outcome_of<L: Ledger>(
+    alloc: Global,
+    list: &Linear,
+    tx: &Transaction,
+    steps: &mut Steps<L>,
+) -> Result<Outcome, Fail>
+    requires list { ItemsCiteNothing list.now.items }
+    requires tx { TxCitesNothing tx.now }
+{
+    let mut store = Store::new(alloc);
+    let new = made(alloc, list, tx, &mut store)?;
+    let back = tx.inverse(alloc)?;
+    let again = made(alloc, &new, &back, &mut store)?;
+    both_outcomes(alloc, list, &new, &again, tx, &back, steps)
+}
+
 /// What comes of the repair of a page's tree after the transaction that words spell.
 pub(crate) fn try_repair<L: Ledger>(
     alloc: Global,
@@ -152,11 +185,5 @@ pub(crate) fn try_repair<L: Ledger>(
 ) -> Result<Outcome, Fail> {
     let list = page(alloc, line)?;
     let tx = transaction(alloc, words)?;
-    let back = tx.inverse(alloc)?;
-    let mut store = Store::new(alloc);
-    let mut new = list.copy(alloc)?;
-    tx.apply(alloc, &mut new, &mut store)?;
-    let mut again = new.copy(alloc)?;
-    back.apply(alloc, &mut again, &mut store)?;
-    outcome_of(alloc, &list, &new, &again, &tx, &back, steps)
+    outcome_of(alloc, &list, &tx, steps)
 }

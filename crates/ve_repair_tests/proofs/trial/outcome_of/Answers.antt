@@ -1,12 +1,7 @@
-use Rattle.ve_tree.specs.IsTree.{unvalued}
-use Rattle.ve_repair_tests.proofs.AppliedLemmas.{can_apply, tree_after}
 use Rattle.ve_repair_tests.proofs.trial.outcome_of.Goals as goal
 
-pub repair-requires-clause-applies : goal.repair-requires-clause-applies
-repair-requires-clause-applies L c = can_apply c.args.tx.now c.args.list.now.items c.args.new.now.items c.requires.makes
+pub made-requires-clause-list : goal.made-requires-clause-list
+made-requires-clause-list L c = c.requires.list c.new-store.result
 
-pub done_and_undone-requires-clause-tree : goal.done_and_undone-requires-clause-tree
-done_and_undone-requires-clause-tree L c = tree_after c.repair.new.tree c.args.tx.now c.args.list.now.items c.args.new.now.items c.requires.makes c.in-Ok.ensures.tree
-
-pub refused-requires : goal.refused-requires
-refused-requires L c = record { tree = c.in-Err.ensures.kept (unvalued c.args.list.now.items) c.in_ok-tree.ensures.tree }
+pub made-requires-2-clause-cites : goal.made-requires-2-clause-cites
+made-requires-2-clause-cites L c = c.in_ok-back.ensures.cites c.made.new.store (c.requires.tx c.made.new.store)
