@@ -276,12 +276,12 @@ fn too_deep(at: usize) -> Outcome {
 /// The first change of a page that comes out otherwise.
 fn first_change<L: Ledger>(
     alloc: Global,
-    line: &String,
+    line: &str,
     changes: &[Change],
     steps: &mut Steps<L>,
 ) -> Result<Option<usize>, Fail> {
     for (k, (words, expected)) in changes.iter().enumerate() {
-        if try_repair(alloc, line.as_str(), words, steps)? != *expected {
+        if try_repair(alloc, line, words, steps)? != *expected {
             return Ok(Some(k));
         }
     }
@@ -322,7 +322,7 @@ fn on_the_deepest<L: Ledger>(rt: &HostRuntime, blank: Blank) -> Result<Option<us
         ("100 +<li></li> 103", unlawful(100)),
     ];
     let line = deepest(rt.alloc())?;
-    first_change(rt.alloc(), &line, changes.as_slice(), &mut steps)
+    first_change(rt.alloc(), line.as_str(), changes.as_slice(), &mut steps)
 }
 
 #[test]
@@ -361,7 +361,7 @@ fn on_the_long<L: Ledger>(rt: &HostRuntime, blank: Blank) -> Result<Option<usize
         ("1 +</p> 100 +<p> 5", unlawful(2)),
     ];
     let line = long(rt.alloc())?;
-    first_change(rt.alloc(), &line, changes.as_slice(), &mut steps)
+    first_change(rt.alloc(), line.as_str(), changes.as_slice(), &mut steps)
 }
 
 #[test]
