@@ -73,7 +73,6 @@ pub mod UnchangedLemmas
 pub mod MendingLemmas
 pub mod FreshLemmas
 mod ScriptExamples
-pub mod TestLemmas
 mod UndoneLemmas
 mod MayReadLemmas
 pub mod SceneLemmas

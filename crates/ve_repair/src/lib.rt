@@ -38,8 +38,6 @@ mod script;
 mod sizes;
 mod stack;
 mod start;
-#[cfg(test)]
-mod tests;
 mod write;
 
 pub use fault::RepairFault;
