@@ -1,7 +1,7 @@
 // Pairs of transactions that conflict, and that don't.
-use crate::conflict;
 use std::alloc::Global;
 use std::test::Fail;
+use ve_rebase::conflict;
 use ve_tx_samples::{LineFault, transaction};
 
 /// Whether two transactions conflict, either way round.

@@ -3,7 +3,7 @@ use Rattle.ve_base.specs.declared.value.Value.{Value}
 use Rattle.model_change.specs.Transaction.{old_length, new_length}
 use Rattle.ve_tx.specs.Operation.{Operation, by_value}
 use Rattle.ve_rebase.specs.Lists.{RunOnLength}
-use Rattle.ve_rebase.proofs.list_tests.joined.Goals as goal
+use Rattle.ve_people_tests.proofs.joined.joined.Goals as goal
 
 two_run : (values : List Value) (n : ℕ) (none first both : List (List Operation)) (t u : List Operation) → none ≡ [] → first ≡ none ++ t ∷ [] → both ≡ first ++ u ∷ [] →
     old_length (by_value values t) ≡ n → new_length (by_value values t) ≡ suc n → old_length (by_value values u) ≡ suc n → RunOnLength n (map (by_value values) both)

@@ -3,7 +3,7 @@ use Rattle.model_site.specs.Entries.{Parcel}
 use Rattle.model_site.specs.Session.{SiteFeed, accepted_of}
 use Rattle.ve_server.specs.Fed.{submission_of}
 use Rattle.ve_server.specs.Serving.{Serving, all_queued}
-use Rattle.ve_server.proofs.tests.serve.Goals as goal
+use Rattle.ve_people_tests.proofs.server.serve.Goals as goal
 
 as_many : (sender k : ℕ) (entries : List Parcel) (queues : List (List SiteFeed)) → length (all_queued sender k entries queues) ≡ length queues
 as_many sender k entries [] = refl

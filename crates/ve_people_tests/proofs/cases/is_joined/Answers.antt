@@ -1,4 +1,4 @@
-use Rattle.ve_rebase.proofs.case_tests.is_joined.Goals as goal
+use Rattle.ve_people_tests.proofs.cases.is_joined.Goals as goal
 
 pub leads_to-requires-clause-next : goal.leads_to-requires-clause-next
 leads_to-requires-clause-next c = λ values. c.in-Ok-Ok.ensures.second_cites values (c.in_ok-b.ensures values)

@@ -1,7 +1,7 @@
 use Rattle.std.proofs.Common.{◌≡◌, [], ◌∷◌}
 use Rattle.model_change.specs.Transaction.{Transaction, old_length}
 use Rattle.ve_rebase.specs.Lists.{RunFromOneLength}
-use Rattle.ve_rebase.proofs.list_tests.joined_entry.Goals as goal
+use Rattle.ve_people_tests.proofs.joined.joined_entry.Goals as goal
 
 runs : (a b : Transaction) → old_length a ≡ 5 → old_length b ≡ 5 → RunFromOneLength (a ∷ []) (b ∷ [])
 runs a b first second = record { length = 5; committed_run = (first, tt); mine_run = (second, tt) }

@@ -7,11 +7,11 @@ ghost use Rattle.ve_tx.specs.ByValue.{parcel_by_value, ParcelCites};
 ghost use Rattle.ve_tx.specs.Cites.{TxCites};
 ghost use Rattle.ve_tx.specs.Operation.{by_value};
 
-use crate::{Feed, Parcels, Server, Submit};
 use std::alloc::Global;
 use std::test::Fail;
 use ve_base::Memory;
 use ve_items::{Item, Items};
+use ve_server::{Feed, Parcels, Server, Submit};
 use ve_tx::{Entry, Op, OpList, Parcel, ParcelList, Transaction, TxList, ValueList};
 
 /// One character put before three items.

@@ -1,7 +1,7 @@
 use Rattle.std.proofs.Common.{[], ◌∷◌, ◌++◌, map, sym, ap, ◌∙◌, subst}
 use Rattle.ve_tx.specs.Operation.{by_value}
 use Rattle.ve_rebase.specs.Lists.{RunFromOneLength}
-use Rattle.ve_server.proofs.tests.entry.Goals as goal
+use Rattle.ve_people_tests.proofs.server.entry.Goals as goal
 
 pub returns-clause-run : goal.returns-clause-run
 returns-clause-run c =

@@ -4,12 +4,12 @@ ghost use Rattle.model_change.specs.Transaction.{old_length, new_length};
 ghost use Rattle.ve_tx.specs.Operation.{by_value};
 ghost use Rattle.ve_tx.specs.ByValue.{parcel_by_value};
 
-use crate::{JoinedEntries, RebaseFault, entries_over_list, entry_over_list, lists};
 use model_site::Clash;
 use std::alloc::Global;
 use std::test::Fail;
 use ve_base::Memory;
 use ve_items::{Item, Items};
+use ve_rebase::{JoinedEntries, RebaseFault, entries_over_list, entry_over_list, lists};
 use ve_tx::{Entry, Op, OpList, Parcel, ParcelList, Transaction, TxList, ValueList};
 
 fn letter(ch: char) -> Item {

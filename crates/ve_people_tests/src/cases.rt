@@ -1,12 +1,11 @@
 // One table of changes of a page, each applied, undone, rebuilt and joined with another. What is expected was written by hand.
-ghost use Rattle.std.specs.Prelude.{◌≡◌, All, IsTrue};
+ghost use Rattle.std.specs.Prelude.{◌≡◌, All, IfSome, IsTrue};
 ghost use Rattle.model_items.specs.Plain.{CitesWell};
 ghost use Rattle.model_change.specs.Transaction.{old_length};
+ghost use Rattle.ve_tx.specs.Checked.{old_size};
 ghost use Rattle.ve_tx.specs.Operation.{by_value};
 ghost use Rattle.ve_tx_samples.specs.NoValues.{TxCitesNothing};
 
-use crate::read::span_of;
-use crate::{RebaseFault, pair};
 use std::alloc::Global;
 use std::marker::Brand;
 use std::sync::ledger::{Blank, Ledger};
@@ -14,9 +13,10 @@ use std::test::Fail;
 use ve_base::Steps;
 use ve_items::Linear;
 use ve_lawful::check;
+use ve_rebase::{RebaseFault, pair};
 use ve_store::Store;
 use ve_tree::Tree;
-use ve_tx::Transaction;
+use ve_tx::{Op, Transaction};
 use ve_tx_samples::{page, page_line, transaction};
 
 /// Ten items: the two paragraphs and the empty internal list.
@@ -103,8 +103,8 @@ const CASES: [Case; 10] = [
     },
 ];
 
-/// Finds the list lawful, and builds its tree.
-fn rebuild<L: Ledger>(rt: &HostRuntime, blank: Blank, list: &Linear) -> Result<(), Fail>
+/// Finds the list lawful, and builds its tree with its steps counted in a ledger.
+fn counted_rebuild<L: Ledger>(rt: &HostRuntime, blank: Blank, list: &Linear) -> Result<(), Fail>
     requires name { blank.name ≡ L.name }
     requires parts { blank.parts ≡ L.parts }
     requires one { blank.parts ≡ 1 }
@@ -115,46 +115,43 @@ fn rebuild<L: Ledger>(rt: &HostRuntime, blank: Blank, list: &Linear) -> Result<(
     Ok(())
 }
 
+/// Finds the list lawful, and builds its tree.
+fn rebuild(rt: &HostRuntime, list: &Linear) -> Result<(), Fail> {
+    counted_rebuild::<Brand>(rt, Blank::new(1), list)
+}
+
 fn is_spelled(alloc: Global, list: &Linear, store: &Store, line: &str) -> Result<bool, Fail> {
     Ok(page_line(alloc, list, store)?.as_str() == line)
 }
 
 /// Whether the list is as it should be after the change, when its tree is rebuilt, and is the page again after what undoes it.
-fn is_there_and_back<L: Ledger>(
+fn is_there_and_back(
     rt: &HostRuntime,
-    blank: Blank,
     makes: &str,
     tx: &Transaction,
     back: &Transaction,
     list: &mut Linear,
     store: &mut Store,
 ) -> Result<bool, Fail>
-    requires name { blank.name ≡ L.name }
-    requires parts { blank.parts ≡ L.parts }
-    requires one { blank.parts ≡ 1 }
     requires list { All (CitesWell store.old) list.old.items }
     requires cites { TxCitesNothing tx.now }
     requires back_cites { TxCitesNothing back.now }
 {
     tx.apply(rt.alloc(), list, store)?;
     let done = is_spelled(rt.alloc(), list, store, makes)?;
-    rebuild::<L>(rt, blank, list)?;
+    rebuild(rt, list)?;
     back.apply(rt.alloc(), list, store)?;
     let undone = is_spelled(rt.alloc(), list, store, PAGE)?;
     Ok(done && undone)
 }
 
 /// Whether a change makes of the page what it should, which is rebuilt, and the page comes back when it is undone.
-fn is_done_and_undone<L: Ledger>(rt: &HostRuntime, blank: Blank, case: &Case) -> Result<bool, Fail>
-    requires name { blank.name ≡ L.name }
-    requires parts { blank.parts ≡ L.parts }
-    requires one { blank.parts ≡ 1 }
-{
+fn is_done_and_undone(rt: &HostRuntime, case: &Case) -> Result<bool, Fail> {
     let tx = transaction(rt.alloc(), case.change)?;
     let back = tx.inverse(rt.alloc())?;
     let mut list = page(rt.alloc(), PAGE)?;
     let mut store = Store::new(rt.alloc());
-    is_there_and_back::<L>(rt, blank, case.makes, &tx, &back, &mut list, &mut store)
+    is_there_and_back(rt, case.makes, &tx, &back, &mut list, &mut store)
 }
 
 /// Whether the page has this line after two changes.
@@ -169,11 +166,30 @@ fn leads_to(alloc: Global, one: &Transaction, next: &Transaction, line: &str) ->
     is_spelled(alloc, &list, &store, line)
 }
 
+/// How long the lists are that the operations apply to; none where no list is so long.
+fn old_length(ops: &[Op]) -> Option<usize>
+    ensures { IfSome result (λ length. length ≡ old_size ops.now) }
+{
+    let mut length: usize = 0;
+    for op in ops {
+        let passed = match op {
+            Op::Retain(count) => *count,
+            Op::Replace { removed, .. } => removed.as_slice().len(),
+            Op::Attribute { .. } => 0,
+        };
+        length = length.checked_add(passed)?;
+    }
+    Some(length)
+}
+
 /// Whether both are of lists of one length.
 fn same_old_length(a: &Transaction, b: &Transaction) -> bool
     ensures { IsTrue result → (values : _) → old_length (by_value values a.now) ≡ old_length (by_value values b.now) }
 {
-    span_of(a).old_size() == span_of(b).old_size()
+    match (old_length(a.ops()), old_length(b.ops())) {
+        (Some(one), Some(other)) => one == other,
+        _ => false,
+    }
 }
 
 /// Whether both changes, joined, make one page of it either way round, or aren't joined for the reason that is expected.
@@ -195,7 +211,7 @@ fn is_joined(alloc: Global, case: &Case) -> Result<bool, Fail> {
 #[test]
 fn changes_are_applied_undone_rebuilt_and_joined(rt: HostRuntime) -> Result<(), Fail> {
     for case in CASES.iter() {
-        let done = is_done_and_undone::<Brand>(&rt, Blank::new(1), case)?;
+        let done = is_done_and_undone(&rt, case)?;
         let joined = is_joined(rt.alloc(), case)?;
         assert!(rt; done && joined, "{} with {}", case.change, case.other);
     }
