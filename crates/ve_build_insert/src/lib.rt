@@ -19,8 +19,6 @@ mod pieces;
 mod place;
 mod reopen;
 mod splits;
-#[cfg(test)]
-mod tests;
 mod text;
 
 pub use inserts::insertion;

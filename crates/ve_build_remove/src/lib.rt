@@ -13,7 +13,5 @@
 
 mod join;
 mod remove;
-#[cfg(test)]
-mod tests;
 
 pub use remove::removal;

@@ -15,8 +15,6 @@ mod attributes;
 mod kinds;
 mod mark;
 mod remark;
-#[cfg(test)]
-mod tests;
 
 pub use attributes::attribute;
 pub use kinds::convert;

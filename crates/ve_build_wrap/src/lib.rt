@@ -15,8 +15,6 @@
 mod claims;
 mod nodes;
 mod shapes;
-#[cfg(test)]
-mod tests;
 mod wraps;
 
 pub use wraps::wrap;

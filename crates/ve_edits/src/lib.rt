@@ -19,8 +19,6 @@ mod edits;
 mod laws;
 mod openings;
 mod spans;
-#[cfg(test)]
-mod tests;
 
 pub use attributes::present_value;
 pub use brackets::{is_unmatched, opening_round, partner, range_round, same_kind};

@@ -14,8 +14,6 @@
 mod brackets;
 mod deeper;
 mod outward;
-#[cfg(test)]
-mod tests;
 
 pub use deeper::indent;
 pub use outward::outdent;

@@ -22,21 +22,15 @@
 //! bound of 2^60 where the list with all that both sides insert is within it.
 #![tactic(auto)]
 
-#[cfg(test)]
-mod case_tests;
 mod entries;
 mod fault;
 mod join;
 mod join_lists;
 mod laws;
-#[cfg(test)]
-mod list_tests;
 mod places;
 mod read;
 mod shifted;
 mod span;
-#[cfg(test)]
-mod tests;
 mod totals;
 mod under;
 mod until;

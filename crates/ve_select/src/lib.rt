@@ -13,8 +13,6 @@
 mod beside;
 mod next;
 mod run;
-#[cfg(test)]
-mod tests;
 mod translate;
 
 pub use model_edit::{Bias, Dir, Selection};

@@ -19,8 +19,6 @@ mod laws;
 mod parcels;
 mod queue;
 mod server;
-#[cfg(test)]
-mod tests;
 
 pub use feed::{Feed, Submit};
 pub use laws::serving_is_turns;

@@ -25,8 +25,6 @@ mod row_edits;
 mod rows;
 mod spans;
 mod table;
-#[cfg(test)]
-mod tests;
 
 pub use column_edits::{col_in, col_out};
 pub use row_edits::{row_in, row_out};
