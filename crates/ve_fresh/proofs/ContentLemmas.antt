@@ -1,8 +1,9 @@
 -- One step in content.
-use Rattle.std.proofs.Common.{◌≡◌, ℕ, ◌+◌, Bool, true, List, [], ◌∷◌, ◌++◌, drop, sym, ap, ◌∙◌, subst, append_assoc, Option, Some}
+use Rattle.std.proofs.Common.{◌≡◌, ℕ, ◌+◌, ◌≤◌, ◌<◌, Bool, true, List, [], ◌∷◌, ◌++◌, length, get_or, drop, refl, sym, ap, ◌∙◌, subst, arith, append_assoc, Option, Some}
 use Rattle.std.specs.Prelude.{zero, suc, unwrap_or}
-use Rattle.std.specs.List.{slice_get}
+use Rattle.std.specs.List.{slice_get, slice_range}
 use Rattle.std.proofs.lemmas.Bool.{and_parts}
+use Rattle.std.proofs.lemmas.Option.{slice_get-get_or}
 use Rattle.ve_base.specs.declared.marks.Mark.{Mark}
 use Rattle.ve_base.specs.declared.value.Value.{Value}
 use Rattle.ve_base.specs.declared.value.ValueId.{ValueId}
@@ -13,10 +14,11 @@ use Rattle.model_items.specs.Plain.{value_at, head_in, marks_in, plain, plain_li
 use Rattle.model_page.specs.Editable.{all_refer, head_refers, item_refers}
 use Rattle.model_page_write.specs.Nodes.{NodesEnding, Start, first_outer, node_items}
 use Rattle.model_page_write.specs.Written.{Writer, content, marks_changed, letter, leaf_text}
-use Rattle.ve_nodes.specs.Siblings.{View, ending_at, Ends, is_end}
+use Rattle.ve_nodes.specs.Siblings.{View, ending_at, Ends, SameOuter, is_end}
 use Rattle.ve_nodes.specs.After.{Follows}
 use Rattle.ve_nodes.specs.declared.ends.After.{After}
-use Rattle.ve_nodes.proofs.SiblingLemmas.{found_at, char_here, opening_here, start_of, node_later, none_here}
+use Rattle.ve_nodes.proofs.DepthLemmas.{piece_stands}
+use Rattle.ve_nodes.proofs.SiblingLemmas.{found_at, char_here, char_outer, outer_on, opening_here, start_of, node_later, none_here}
 use Rattle.ve_node_text.specs.Leaves.{leaf_of}
 use Rattle.ve_node_text.proofs.LeafLemmas.{leaf_is}
 use Rattle.ve_fresh.specs.Originals.{original_in}
@@ -58,6 +60,27 @@ char_put k at ch opened marks old mid new found e f w bodies told =
     let v : View = view_of k bodies in
     three old mid new (content_at w v items (marks_in (value_at values marks)) (at + 1)) _ _ e f
     ∙ sym (ap (λ (x : NodesEnding). old ++ content w (marks_in (value_at values opened)) x.here) (char_here v items at ch marks (found_at items at _ found)))
+
+-- ---- a character of a lent piece
+
+pub letter_in : (items piece : List Item) (at n : ℕ) (item : Item) (ch : ℕ) (marks : Option ValueId) → piece ≡ slice_range items at (at + length piece) → at + length piece ≤ length items →
+    n < length piece → get_or piece n item ≡ Char ch marks → slice_get items (at + n) ≡ Some (Char ch marks)
+letter_in items piece at n item ch marks lent within less is = piece_stands items piece at lent within n (Char ch marks) (slice_get-get_or piece n item less ∙ ap Some is)
+
+pub letter_outer : (items : List Item) (at n ch : ℕ) (marks : Option ValueId) → slice_get items (at + n) ≡ Some (Char ch marks) → SameOuter items at (at + n) → SameOuter items at (at + (n + 1))
+letter_outer items at n ch marks found same =
+    let next : at + n + 1 ≡ at + (n + 1) = omega arith in
+    outer_on items at (at + n) (at + (n + 1)) same (subst (SameOuter items (at + n)) next (char_outer items (at + n) (Char ch marks) ch marks found refl))
+
+pub letter_put : (k : Known) (at n ch : ℕ) (first opened marks : Option ValueId) (old now mid new : List ℕ) → slice_get k.items (at + n) ≡ Some (Char ch marks) →
+    GoesOn k old now (λ w v. content_at w v k.items (marks_in (value_at k.values first)) at) (λ w v. content_at w v k.items (marks_in (value_at k.values opened)) (at + n)) →
+    mid ≡ now ++ marks_changed (marks_in (value_at k.values opened)) (marks_in (value_at k.values marks)) → new ≡ mid ++ letter ch →
+    GoesOn k old new (λ w v. content_at w v k.items (marks_in (value_at k.values first)) at) (λ w v. content_at w v k.items (marks_in (value_at k.values marks)) (at + (n + 1)))
+letter_put k at n ch first opened marks old now mid new found so e f =
+    let next : at + n + 1 ≡ at + (n + 1) = omega arith in
+    let text : Option ValueId → ℕ → Writer → View → List ℕ = λ m p w v. content_at w v k.items (marks_in (value_at k.values m)) p in
+    goes_on k old now new (text first at) (text opened (at + n)) (text marks (at + (n + 1))) so
+    (subst (λ p. GoesOn k now new (text opened (at + n)) (text marks p)) next (char_put k (at + n) ch opened marks now mid new found e f))
 
 -- ---- a leaf
 

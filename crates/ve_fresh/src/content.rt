@@ -127,6 +127,48 @@ fn put_inline(
     }
 }
 
+/// Appends the characters that stand from a place on, as far as a lent piece goes, where these marks are open.
+fn put_letters(
+    alloc: Global,
+    out: &mut Bytes,
+    page: Page<'_, '_>,
+    at: usize,
+    opened: Option<ValueId>,
+) -> Result<Step, Memory>
+    requires cites { AllCite page.store.now page.list.now.items }
+    requires opened { CitesMarks page.store.now opened }
+    requires within { at ≤ length page.list.now.items }
+    ensures opened { IfOk result (λ step. CitesMarks page.entry.store.now step.opened) }
+    ensures more { IfOk result (λ step. at ≤ step.at) }
+    ensures within { IfOk result (λ step. step.at ≤ length page.entry.list.now.items) }
+    ensures outer { IfOk result (λ step. SameOuter page.entry.list.now.items at step.at) }
+    ensures text { IfOk result (λ step. GoesOn (known_of page.entry) out.old out.new
+        (λ w v. content_at w v page.entry.list.now.items (marks_in (value_at page.entry.store.now opened)) at)
+        (λ w v. content_at w v page.entry.list.now.items (marks_in (value_at page.entry.store.now step.opened)) step.at)) }
+    ensures utf8 { OnOk result (IsUtf8 out.old → IsUtf8 out.new) }
+{
+    let len = page.list.len();
+    if at == len {
+        return Ok(Step { at, opened });
+    }
+    let piece = page.list.piece(at, len);
+    let mut opened = opened;
+    let mut count = 0;
+    while count < piece.len() {
+        let Item::Char { ch, marks } = piece[count] else {
+            break;
+        };
+        change_cited(alloc, out, page.store, opened, marks)?;
+        put_letter(out, ch)?;
+        opened = marks;
+        count += 1;
+    }
+    Ok(Step {
+        at: at + count,
+        opened,
+    })
+}
+
 /// Appends the content that begins at a place, and says where it ends.
 pub fn put_content(
     alloc: Global,
@@ -150,7 +192,8 @@ pub fn put_content(
     let mut at = from;
     let mut opened = None;
     while !ends_at(page.list, at) {
-        let step = put_inline(alloc, out, page, at, opened)?;
+        let first = put_inline(alloc, out, page, at, opened)?;
+        let step = put_letters(alloc, out, page, first.at, first.opened)?;
         at = step.at;
         opened = step.opened;
     }

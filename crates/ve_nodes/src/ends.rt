@@ -1,9 +1,10 @@
 // Where siblings end, and what follows the node that they stand in.
-ghost use Rattle.std.specs.Prelude.{List, true, ◌≡◌, ◌≤◌, length, drop};
+ghost use Rattle.std.specs.Prelude.{List, true, ◌≡◌, ◌≤◌, ◌<◌, ◌+◌, ◌^◌, length, drop};
 ghost use Rattle.ve_base.specs.declared.value.Value.{Value as Cited};
 ghost use Rattle.model_items.specs.Plain.{CitesWhite};
 ghost use Rattle.ve_nodes.specs.Siblings.{AllCite, Ends, is_end};
 ghost use Rattle.ve_nodes.specs.After.{Follows};
+ghost use Rattle.ve_nodes.specs.Passing.{Passes, IsClosed};
 
 use model_items::Item;
 use ve_base::ValueId;
@@ -24,7 +25,41 @@ pub fn ends_at(list: &Linear, at: usize) -> bool
     }
 }
 
-/// The end of the siblings that begin at a place: where their parent closes, or the list's end.
+/// How many items of a piece were passed, and how many nodes are open there. Where not all were, a closing follows
+/// that closes none of these nodes.
+#[derive(Clone, Copy, Debug)]
+struct Passed {
+    count: usize,
+    depth: usize,
+}
+
+/// Passes the items of a piece, where so many nodes are open before it, up to the closing of their parent.
+fn pass(items: &[Item], depth: usize) -> Passed
+    requires { depth + length items.now < 2 ^ 64 }
+    ensures inside { Passes items.now depth result }
+    ensures closed { result.count < length items.now → IsClosed items.now result }
+    ensures within { result.count ≤ length items.now }
+    ensures shallow { result.depth ≤ depth + result.count }
+{
+    let mut depth = depth;
+    let mut count = 0;
+    while count < items.len() {
+        match items[count] {
+            Item::Char { .. } => {}
+            Item::Opening { .. } => depth += 1,
+            Item::Closing { .. } => {
+                if depth == 0 {
+                    return Passed { count, depth };
+                }
+                depth -= 1;
+            }
+        }
+        count += 1;
+    }
+    Passed { count, depth }
+}
+
+/// The end of the siblings that begin at a place: where their parent closes, or the list's end. It goes over lent pieces.
 pub fn siblings_end(list: &Linear, from: usize) -> usize
     requires { from ≤ length list.now.items }
     ensures end { Ends list.now.items from result }
@@ -33,20 +68,16 @@ pub fn siblings_end(list: &Linear, from: usize) -> usize
     ensures within { result ≤ length list.now.items }
 {
     let len = list.len();
-    let mut depth: usize = 0;
+    let mut depth = 0;
     let mut at = from;
     while at < len {
-        match list.get(at) {
-            Item::Char { .. } => {}
-            Item::Opening { .. } => depth += 1,
-            Item::Closing { .. } => {
-                if depth == 0 {
-                    return at;
-                }
-                depth -= 1;
-            }
+        let piece = list.piece(at, len);
+        let passed = pass(piece, depth);
+        at += passed.count;
+        if passed.count < piece.len() {
+            return at;
         }
-        at += 1;
+        depth = passed.depth;
     }
     at
 }

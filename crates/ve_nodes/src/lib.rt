@@ -6,6 +6,7 @@
 //! - `Siblings` in specs/: `ending_at`, the siblings that begin at a place and what follows each node that
 //!   they stand in; `Ends`, the place where siblings end; `SameOuter`, two places among the same siblings;
 //! - `After`: what follows a node.
+//! `Passing` serves private functions: what is passed of a lent piece, wherever in a list it stands.
 //!
 //! No list has to be lawful: a closing that is missing is one without whitespace at the list's end. It knows
 //! no pages and writes nothing. There are no laws here. proofs/SiblingLemmas has what the item at a place

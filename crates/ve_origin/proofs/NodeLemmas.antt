@@ -4,7 +4,7 @@ use Rattle.std.specs.List.{slice_range, slice_get}
 use Rattle.std.proofs.lemmas.List.{drop_more}
 use Rattle.std.proofs.Math.Nat.{eq-or-lt_of_le}
 use Rattle.ve_origin.proofs.AlikeLemmas.{at_piece}
-use Rattle.std.proofs.lemmas.Option.{slice_get_within, get_or_from_slice_get}
+use Rattle.std.proofs.lemmas.Option.{slice_get_within, get_or_from_slice_get, slice_get_cases}
 use Rattle.ve_base.specs.declared.value.Value.{Value}
 use Rattle.model_items.specs.declared.item.Item.{Item}
 use Rattle.model_items.specs.declared.item.Item.TheVariants.{Char, Opening, Closing}
@@ -13,7 +13,7 @@ use Rattle.model_items.specs.Same.{list_same, item_same}
 use Rattle.model_items.proofs.SameLemmas.{Means-list_same, Means-item_same}
 use Rattle.model_items.proofs.PlainLemmas.{plain_tells_apart}
 use Rattle.model_page_write.specs.PageText.{item_without_pre}
-use Rattle.ve_origin.specs.Without.{without, first_without, first_plain}
+use Rattle.ve_origin.specs.Without.{without, first_without, first_plain, AreSameNodes}
 
 -- a range is its first item and the rest
 pub range_first : {A : Type 0} (xs : List A) (from count : ℕ) (x : A) → 0 < count → slice_get xs from ≡ Some x → slice_range xs from (from + count) ≡ x ∷ slice_range xs (from + 1) (from + 1 + (count - 1))
@@ -111,3 +111,24 @@ stops xs ys a b n k here there le differ same = elim (eq-or-lt_of_le le) [
   | inl e ↦ e
   | inr less ↦ absurd (differ less (range_get xs a n k less here ∙ ap (λ l. slice_get l k) same ∙ sym (range_get ys b n k less there)))
 ]
+
+rest_agrees : (xs ys : List Item) (from place count : ℕ) → 0 < count → from + count ≤ length xs → place + count ≤ length ys → AreSameNodes xs from ys place count →
+    slice_range xs (from + 1) (from + 1 + (count - 1)) ≡ slice_range ys (place + 1) (place + 1 + (count - 1))
+rest_agrees xs ys from place count some here there same = elim (slice_get_cases xs from).1 [
+  | inl p ↦ elim (slice_get_cases ys place).1 [
+    | inl q ↦ (parts_agree xs ys from place count p.0 q.0 some p.2 q.2 same).rest
+    | inr q ↦ absurd (omega (arith, some, there, q.0))
+  ]
+  | inr p ↦ absurd (omega (arith, some, here, p.0))
+]
+
+-- a comparison that passed the first items and stops before the end found a difference
+pub stops_later : (xs ys : List Item) (from place count k : ℕ) → 0 < k → from + count ≤ length xs → place + count ≤ length ys → k ≤ count →
+    (k < count → slice_get xs (from + k) ≢ slice_get ys (place + k)) → AreSameNodes xs from ys place count → k ≡ count
+stops_later xs ys from place count k some here there le differ same =
+    let a : from + k ≡ from + 1 + (k - 1) = omega (arith, some) in
+    let b : place + k ≡ place + 1 + (k - 1) = omega (arith, some) in
+    let rest = rest_agrees xs ys from place count (omega (arith, some, le)) here there same in
+    let end = stops xs ys (from + 1) (place + 1) (count - 1) (k - 1) (omega (arith, some, le, here)) (omega (arith, some, le, there)) (omega (arith, le))
+    (λ less e. differ (omega (arith, some, less)) (ap (slice_get xs) a ∙ e ∙ sym (ap (slice_get ys) b))) rest in
+    omega (arith, end, some, le)

@@ -31,7 +31,8 @@ fn without_pre(item: Item) -> Item
     }
 }
 
-/// Whether so many items from a place of each list are alike, where the whitespace before the first ones is left aside.
+/// Whether so many items from a place of each list are alike, where the whitespace before the first ones is left aside. The first ones
+/// are looked at alone only where they differ.
 pub fn same_node(now: &Linear, from: usize, first: &Linear, place: usize, count: usize) -> bool
     requires some { 0 < count }
     requires here { from + count ≤ length now.now.items }
@@ -40,6 +41,10 @@ pub fn same_node(now: &Linear, from: usize, first: &Linear, place: usize, count:
 {
     let _here = now.len();
     let _there = first.len();
+    let equal = alike(now, from, first, place, count);
+    if equal > 0 {
+        return equal == count;
+    }
     if !same_item(without_pre(now.get(from)), without_pre(first.get(place))) {
         return false;
     }

@@ -1,8 +1,9 @@
 -- Where the internal list opens, and which references stand in it.
-use Rattle.std.proofs.Common.{◌≡◌, ℕ, suc, ◌+◌, ◌<◌, ◌≤◌, ◌==◌, Bool, true, false, List, [], ◌∷◌, drop, refl, sym, ap, ◌∙◌, arith, eqb-true, ltb-true, ltb-false, Option, Some, None}
+use Rattle.std.proofs.Common.{◌≡◌, ℕ, suc, ◌+◌, ◌<◌, ◌≤◌, ◌==◌, Bool, true, false, List, [], ◌∷◌, ◌++◌, length, drop, drop-drop, refl, sym, ap, ◌∙◌, arith, eqb-true, ltb-true, ltb-false, Option, Some, None}
 use Rattle.std.specs.Prelude.{nat_lt, ◌||◌, if◌then◌else◌}
-use Rattle.std.specs.List.{slice_get}
+use Rattle.std.specs.List.{slice_get, slice_range}
 use Rattle.std.specs.Option.{option_or}
+use Rattle.std.proofs.lemmas.List.{take-append-drop, length-map, map-append}
 use Rattle.std.proofs.lemmas.List.Folds.{find-append}
 use Rattle.ve_base.specs.declared.head.RefKey.{RefKey}
 use Rattle.ve_base.specs.declared.value.Value.{Value}
@@ -15,6 +16,7 @@ use Rattle.model_items.specs.Plain.{plain, plain_list}
 use Rattle.model_page.specs.References.{RefAt, ref_at, refs_from}
 use Rattle.ve_nodes.proofs.SiblingLemmas.{found_at}
 use Rattle.ve_origin.specs.Kept.{opens_notes}
+use Rattle.ve_origin.proofs.AlikeLemmas.{piece_is}
 use Rattle.ve_origin.proofs.ReferLemmas.{inside_after, none_before, own_refs, ref_in, refs_first}
 use Rattle.ve_write.specs.BodyTexts.{notes_place}
 
@@ -35,6 +37,52 @@ found_later values items at x found h = ap (λ l. notes_place (plain_list values
 
 pub none_left : (values : List Value) (items : List Item) (at : ℕ) → drop at items ≡ [] → notes_place (plain_list values (drop at items)) ≡ 0
 none_left values items at e = ap (λ l. notes_place (plain_list values l)) e
+
+-- ---- in a list whose first items are a piece
+
+lent : (items piece : List Item) (at : ℕ) → piece ≡ slice_range items at (at + length piece) → drop at items ≡ piece ++ drop (at + length piece) items
+lent items piece at is =
+    sym (take-append-drop (length piece) (drop at items))
+    ∙ ap (λ l. l ++ drop (length piece) (drop at items)) (sym (piece_is items piece at is))
+    ∙ ap (λ l. piece ++ l) (drop-drop (length piece) at items)
+
+parted : (values : List Value) (items piece : List Item) (at : ℕ) → piece ≡ slice_range items at (at + length piece) →
+    notes_place (plain_list values (drop at items)) ≡ notes_place (plain_list values piece ++ plain_list values (drop (at + length piece) items))
+parted values items piece at is = ap (λ l. notes_place (plain_list values l)) (lent items piece at is) ∙ ap notes_place (map-append (plain values) piece (drop (at + length piece) items))
+
+first_in : (xs ys : List PlainItem) → notes_place xs < length xs → notes_place (xs ++ ys) ≡ notes_place xs
+first_in [] ys less = absurd (omega (arith, less))
+first_in (x ∷ xs) ys less = cases (opens_notes x) refl (first_in xs ys)
+  where
+    cases : (b : Bool) → opens_notes x ≡ b → (notes_place xs < length xs → notes_place (xs ++ ys) ≡ notes_place xs) → notes_place (x ∷ xs ++ ys) ≡ notes_place (x ∷ xs)
+    cases true h more = opens_here x (xs ++ ys) h ∙ sym (opens_here x xs h)
+    cases false h more = let one = opens_later x xs h in opens_later x (xs ++ ys) h ∙ ap (λ n. 1 + n) (more (omega (arith, one, less))) ∙ sym one
+
+none_in : (xs ys : List PlainItem) → length xs ≤ notes_place xs → notes_place (xs ++ ys) ≡ length xs + notes_place ys
+none_in [] ys all = omega arith
+none_in (x ∷ xs) ys all = cases (opens_notes x) refl (none_in xs ys)
+  where
+    cases : (b : Bool) → opens_notes x ≡ b → (length xs ≤ notes_place xs → notes_place (xs ++ ys) ≡ length xs + notes_place ys) → notes_place (x ∷ xs ++ ys) ≡ suc (length xs) + notes_place ys
+    cases true h more = let one = opens_here x xs h in absurd (omega (arith, one, all))
+    cases false h more =
+        let one = opens_later x xs h in
+        let both = opens_later x (xs ++ ys) h in
+        let rest = more (omega (arith, one, all)) in
+        omega (arith, both, rest)
+
+pub found_in : (values : List Value) (items piece : List Item) (at n : ℕ) → piece ≡ slice_range items at (at + length piece) → n ≡ notes_place (plain_list values piece) → n < length piece →
+    notes_place (plain_list values (drop at items)) ≡ n
+found_in values items piece at n is place less =
+    let count = length-map piece (plain values) in
+    parted values items piece at is ∙ first_in (plain_list values piece) (plain_list values (drop (at + length piece) items)) (omega (arith, place, less, count)) ∙ sym place
+
+pub not_found_in : (values : List Value) (items piece : List Item) (at n : ℕ) → piece ≡ slice_range items at (at + length piece) → n ≡ notes_place (plain_list values piece) → n ≡ length piece →
+    notes_place (plain_list values (drop at items)) ≡ n + notes_place (plain_list values (drop (at + n) items))
+not_found_in values items piece at n is place all =
+    let count = length-map piece (plain values) in
+    parted values items piece at is
+    ∙ none_in (plain_list values piece) (plain_list values (drop (at + length piece) items)) (omega (arith, place, all, count))
+    ∙ (λ i. (count ∙ sym all) i + notes_place (plain_list values (drop (at + sym all i) items)))
 
 -- ---- references in it
 

@@ -1,5 +1,5 @@
 // The texts of the bodies that references carry.
-ghost use Rattle.std.specs.Prelude.{◌≡◌, ◌<◌, ◌+◌, true, List, length, encode_utf8_all, IfOk};
+ghost use Rattle.std.specs.Prelude.{◌≡◌, ◌≤◌, ◌<◌, ◌+◌, true, List, length, encode_utf8_all, IfOk};
 ghost use Rattle.ve_base.specs.declared.value.Value.{Value as Cited};
 ghost use Rattle.model_items.specs.Plain.{plain, plain_list};
 ghost use Rattle.model_page.specs.Editable.{all_refer};
@@ -29,17 +29,31 @@ fn opens_notes(item: Item) -> bool
     }
 }
 
-/// Where the internal list opens, or the length of a list without one.
+/// Where the internal list opens in a piece, or the length of a piece without it.
+fn notes_in(items: &[Item]) -> usize
+    ensures place { (values : List Cited) → result ≡ notes_place (plain_list values items.now) }
+    ensures within { result ≤ length items.now }
+{
+    let mut at = 0;
+    while at < items.len() && !opens_notes(items[at]) {
+        at += 1;
+    }
+    at
+}
+
+/// Where the internal list opens, or the length of a list without one. It goes over lent pieces.
 fn notes_at(list: &Linear) -> usize
     ensures { (values : List Cited) → result ≡ notes_place (plain_list values list.now.items) }
 {
     let len = list.len();
     let mut at = 0;
     while at < len {
-        if opens_notes(list.get(at)) {
+        let piece = list.piece(at, len);
+        let passed = notes_in(piece);
+        at += passed;
+        if passed < piece.len() {
             return at;
         }
-        at += 1;
     }
     at
 }

@@ -1,5 +1,5 @@
 use Rattle.std.proofs.Common.{◌-◌, ◌≤◌}
-use Rattle.ve_nodes.proofs.DepthLemmas.{Inside}
+use Rattle.ve_nodes.specs.Passing.{Inside}
 use Rattle.ve_nodes.proofs.ends.siblings_end.Given as goal
 
 abbrev pub invariant-loop-at : goal.invariant-loop-at
