@@ -7,7 +7,7 @@ use Rattle.ve_base.specs.declared.value.ValueId.{ValueId}
 use Rattle.ve_base.specs.Names.{NamesApart}
 use Rattle.model_items.specs.declared.item.Item.{Item}
 use Rattle.model_items.specs.declared.item.Item.TheVariants.{Char, Opening, Closing}
-use Rattle.model_items.specs.Plain.{plain, plain_list, value_at, head_in, marks_in, white_in, CitesHead, CitesMarks, CitesWhite, CitesWell}
+use Rattle.model_items.specs.Plain.{plain, plain_list, value_at, head_in, CitesHead, CitesMarks, CitesWhite, CitesWell}
 use Rattle.model_change.specs.Attributes.{AllNamesApart, NamesApartIn}
 use Rattle.model_change.specs.Store.{cited, cited_by, fill}
 use Rattle.model_change.specs.Transaction.{all_inserted, InsertedApart}

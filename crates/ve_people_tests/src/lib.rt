@@ -1,9 +1,9 @@
 //! The tests of the crates of people, which are proved once as they stand here: a crate with tests would be proved twice.
-//! Nothing else stands in this crate, and none stands on it. Each module has the tests of one subject: `session` takes the
-//! turns of several sites, and `sessions` has schedules of such turns.
+//! Nothing else stands in this crate, and none stands on it. Each module has the tests of one subject: `turns` are those of
+//! several sites and their server on one page, and `schedules` has orders of such turns.
 #![tactic(auto)]
 
 #[cfg(test)]
-mod session;
+mod schedules;
 #[cfg(test)]
-mod sessions;
+mod turns;

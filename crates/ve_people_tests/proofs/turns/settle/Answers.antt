@@ -3,7 +3,7 @@ use Rattle.model_change.specs.Transaction.{InsertedApart}
 use Rattle.ve_editor.specs.Edited.{drafted, IsDraftOf}
 use Rattle.ve_site.specs.Settled.{Settles}
 use Rattle.ve_people_tests.proofs.PlainLemmas.{settles_one}
-use Rattle.ve_people_tests.proofs.session.settle.Goals as goal
+use Rattle.ve_people_tests.proofs.turns.settle.Goals as goal
 
 pub perform-requires : goal.perform-requires
 perform-requires g c =

@@ -1,7 +1,7 @@
 // Schedules of sites at work on one page, worked out by hand.
 ghost use Rattle.std.specs.Prelude.{◌≡◌};
 
-use crate::session::{Act, Answer, ask, opened, shows};
+use crate::turns::{Act, Answer, ask, opened, shows};
 use model_site::Clash;
 use std::alloc::Global;
 use std::marker::Brand;
