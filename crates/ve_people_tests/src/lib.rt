@@ -1,6 +1,7 @@
-//! The tests of the crates that join and serve what several people did, which are proved once as they stand here: a crate
-//! with tests would be proved twice. Nothing else stands in this crate, and none stands on it. `cases` changes and joins
-//! pages, `conflicts` and `joined` are of transactions and entries alone, and `server` feeds three sites.
+//! The tests of the crates of people, which are proved once as they stand here: a crate with tests would be proved twice.
+//! Nothing else stands in this crate, and none stands on it. Each module has the tests of one subject: `cases` changes and
+//! joins pages, `conflicts` and `joined` are of transactions and entries alone, `server` feeds three sites, `turns` are those
+//! of several sites and their server on one page, and `schedules` has orders of such turns.
 #![tactic(auto)]
 
 #[cfg(test)]
@@ -10,4 +11,8 @@ mod conflicts;
 #[cfg(test)]
 mod joined;
 #[cfg(test)]
+mod schedules;
+#[cfg(test)]
 mod server;
+#[cfg(test)]
+mod turns;
