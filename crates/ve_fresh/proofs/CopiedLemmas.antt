@@ -2,9 +2,11 @@
 use Rattle.std.proofs.Common.{◌≡◌, ◌≢◌, ℕ, ◌+◌, Bool, true, false, List, [], ◌++◌, drop, refl, sym, ap, ◌∙◌, Option, Some, None}
 use Rattle.std.specs.Prelude.{not, ◌&&◌, if◌then◌else◌, unwrap_or, encode_utf8_all}
 use Rattle.std.specs.List.{slice_get}
+use Rattle.ve_base.specs.declared.value.Value.{Value}
 use Rattle.ve_base.specs.declared.value.ValueId.{ValueId}
 use Rattle.ve_kinds.specs.declared.kind.Kind.{Kind}
-use Rattle.ve_kinds.specs.Table.{is_content_branch}
+use Rattle.ve_kinds.specs.declared.kind.Kind.TheVariants.{P}
+use Rattle.ve_kinds.specs.Table.{is_content_branch, kind_same}
 use Rattle.model_items.specs.declared.item.Item.{Item}
 use Rattle.model_items.specs.declared.item.Item.TheVariants.{Char, Opening, Closing}
 use Rattle.model_items.specs.Plain.{value_at, white_in}
@@ -15,10 +17,22 @@ use Rattle.ve_nodes.specs.After.{Follows}
 use Rattle.ve_nodes.specs.declared.ends.After.{After}
 use Rattle.ve_nodes.proofs.SiblingLemmas.{found_at, char_here, closing_here, opening_here, start_of, node_later, node_outer}
 use Rattle.ve_bare.specs.Bare.{bare_in, IsBareAt}
+use Rattle.ve_bare.proofs.BareLemmas.{plain_bare, plain_in}
 use Rattle.ve_fresh.specs.Originals.{original_in}
 use Rattle.ve_fresh.specs.Told.{blocks_at, copied_first, view_of, GoesOn, IsAfresh, Known}
 use Rattle.ve_fresh.proofs.BlockLemmas.{no_original}
 use Rattle.ve_fresh.proofs.ContentLemmas.{three}
+
+not_made : (k g a p : Bool) → g ≡ false → (k && g && a && p) ≡ false
+not_made false g a p made = refl
+not_made true false a p made = refl
+not_made true true a p made = cc
+
+-- a node that was not made for text has its tags
+pub made_bare : (values : List Value) (items : List Item) (at : ℕ) (kind : Kind) (generated : Bool) (head marks pre : Option ValueId) (origin : Option ℕ) (before : Bool) →
+    slice_get items at ≡ Some (Opening kind generated head marks pre origin) → generated ≡ false → IsBareAt values items before at false
+made_bare values items at kind generated head marks pre origin before found made =
+    plain_bare values items at kind generated head marks pre origin before (plain_in values kind generated head pre) found refl (not_made (kind_same kind P) generated _ _ made)
 
 pub kept_put : (k : Known) (at : ℕ) (kind : Kind) (generated : Bool) (head marks pre : Option ValueId) (origin : Option ℕ) (before bare : Bool) (part : List ℕ) (end : ℕ) (after : After) (o0 o1 o2 : List ℕ) →
     slice_get k.items at ≡ Some (Opening kind generated head marks pre origin) → k.originals at ≡ Some part → IsBareAt k.values k.items before at bare → (generated && not bare) ≡ false →

@@ -2,10 +2,12 @@
 ghost use Rattle.std.specs.Prelude.{◌≡◌, ◌≤◌, ◌<◌, ◌++◌, ◌&&◌, not, true, false, Bool, ℕ, Option, Some, OnOk, IfOk, IfSome, IfNone, length, drop, slice_get, IsUtf8};
 ghost use Rattle.ve_base.specs.declared.value.ValueId.{ValueId};
 ghost use Rattle.ve_kinds.specs.Table.{is_content_branch};
+ghost use Rattle.ve_kinds.specs.declared.kind.Kind.{Kind};
 ghost use Rattle.model_items.specs.declared.item.Item.TheVariants as item;
 ghost use Rattle.model_items.specs.Plain.{value_at, head_in, plain_list, CitesHead};
 ghost use Rattle.model_page.specs.Editable.{all_refer, head_refers};
 ghost use Rattle.ve_nodes.specs.Siblings.{is_end, AllCite, Ends, SameOuter};
+ghost use Rattle.ve_bare.specs.Bare.{IsBareAt};
 ghost use Rattle.ve_fresh.specs.Begun.{holds_blocks, nests, single};
 ghost use Rattle.ve_fresh.specs.Told.{blocks_at, known_of, text_of, GoesOn, IsAfresh, IsAppended, LendsFirst, StandsBefore};
 
@@ -70,6 +72,26 @@ fn needs_tags(generated: bool, bare: bool) -> bool
     generated && !bare
 }
 
+/// Whether the node that opens at a place is written without its tags: only one that was made for text is, as `generated` says.
+fn is_bare_at(
+    alloc: Global,
+    page: Page<'_, '_>,
+    at: usize,
+    generated: bool,
+    before: bool,
+) -> Result<bool, Memory>
+    requires cites { AllCite page.store.now page.list.now.items }
+    requires within { at < length page.list.now.items }
+    requires item { (kind : Kind) × (head : Option ValueId) × (marks : Option ValueId) × (pre : Option ValueId) × (origin : Option ℕ)
+        × (slice_get page.list.now.items at ≡ Some (item.Opening kind generated head marks pre origin)) }
+    ensures { IfOk result (IsBareAt page.entry.store.now page.entry.list.now.items before at) }
+{
+    if !generated {
+        return Ok(false);
+    }
+    is_bare(alloc, page.list, page.store, at, before)
+}
+
 /// Appends the block at a place by the bytes that it was, if it is kept, with the whitespace before it.
 fn put_kept(
     alloc: Global,
@@ -104,7 +126,7 @@ fn put_kept(
     let Some(text) = original_at(page, at, origin) else {
         return Ok(None);
     };
-    let bare = is_bare(alloc, page.list, page.store, at, before)?;
+    let bare = is_bare_at(alloc, page, at, generated, before)?;
     if needs_tags(generated, bare) {
         return Ok(None);
     }
