@@ -16,8 +16,6 @@ mod page;
 mod parts;
 mod place;
 mod table;
-#[cfg(test)]
-mod tests;
 mod words;
 
 pub use laws::replies_are_as_asked;

@@ -7,5 +7,4 @@ pub mod ParagraphLemmas
 pub mod UnitLemmas
 pub mod LoopLemmas
 pub mod BlockLemmas
-pub mod WholeLemmas
 mod BlockExamples

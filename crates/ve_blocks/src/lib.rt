@@ -22,6 +22,3 @@ mod units;
 pub use blocks::read_siblings;
 pub use laws::siblings_in_turn;
 pub use paragraph::read_paragraph;
-
-#[cfg(test)]
-mod tests;

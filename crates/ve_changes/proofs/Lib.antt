@@ -1,7 +1,6 @@
 pub mod StopLemmas
 pub mod CitedLemmas
 pub mod AppliedLemmas
-pub mod WrittenLemmas
 pub mod DraftLemmas
 pub mod DraftExamples
 pub mod MoveLemmas

@@ -18,8 +18,6 @@
 
 mod applied;
 mod built;
-#[cfg(test)]
-mod caret_tests;
 mod carets;
 mod cited;
 mod drafts;
@@ -28,8 +26,6 @@ mod html_faults;
 mod laws;
 mod moves;
 mod pasted;
-#[cfg(test)]
-mod tests;
 
 pub use carets::{carets_are_asked, erased_range, may_select, next_place};
 pub use drafts::change_draft;

@@ -17,8 +17,6 @@ mod line;
 mod members;
 mod operations;
 mod requests;
-#[cfg(test)]
-mod tests;
 mod values;
 mod words;
 

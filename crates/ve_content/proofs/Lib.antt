@@ -7,5 +7,4 @@ pub mod ReferenceLemmas
 pub mod LoopLemmas
 pub mod AnnotationLemmas
 pub mod LeafLemmas
-pub mod WholeLemmas
 mod ContentExamples

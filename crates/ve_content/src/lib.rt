@@ -20,6 +20,3 @@ mod references;
 
 pub use content::read_content;
 pub use laws::content_in_turn;
-
-#[cfg(test)]
-mod tests;

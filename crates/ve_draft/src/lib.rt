@@ -17,6 +17,3 @@ mod put;
 
 pub use draft::Draft;
 pub use opening::Opening;
-
-#[cfg(test)]
-mod tests;

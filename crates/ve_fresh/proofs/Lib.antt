@@ -6,5 +6,4 @@ pub mod BeforeLemmas
 pub mod OriginalLemmas
 pub mod BodyLemmas
 pub mod WholeLemmas
-pub mod SampleLemmas
 mod FreshExamples

@@ -28,6 +28,3 @@ mod whole;
 pub use blocks::put_blocks;
 pub use page::{First, Page};
 pub use whole::{put_body, put_list};
-
-#[cfg(test)]
-mod tests;

@@ -16,6 +16,3 @@ mod reference;
 
 pub use composed::compose;
 pub use reference::{RefRead, reference_of};
-
-#[cfg(test)]
-mod tests;

@@ -16,6 +16,3 @@ mod leaves;
 pub use heads::{attrs_of, element_head, mark_of, reference_head, whole_head};
 pub use laws::{leaves_are_pieces, tags_are_read};
 pub use leaves::{push_block_leaf, push_leaf, push_text};
-
-#[cfg(test)]
-mod tests;

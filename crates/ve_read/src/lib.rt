@@ -26,6 +26,3 @@ pub use fault::ReadFault;
 pub use fragments::{FragmentFault, fragment};
 pub use pages::{PageRead, page};
 pub use rows_law::rows_stand;
-
-#[cfg(test)]
-mod tests;

@@ -14,6 +14,3 @@ mod notes;
 mod rows;
 
 pub use rows::table;
-
-#[cfg(test)]
-mod tests;

@@ -20,8 +20,6 @@ mod refusals;
 mod rows;
 mod shown;
 mod spelling;
-#[cfg(test)]
-mod tests;
 mod words;
 
 pub use answer::{Answer, reply_text};

@@ -21,8 +21,6 @@ mod page;
 mod queues;
 mod selections;
 mod shown;
-#[cfg(test)]
-mod tests;
 mod turn;
 mod typing;
 mod world;

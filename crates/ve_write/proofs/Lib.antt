@@ -1,5 +1,4 @@
 pub mod NoteLemmas
 pub mod CarriedLemmas
 pub mod TextLemmas
-mod SampleLemmas
 mod BodyExamples

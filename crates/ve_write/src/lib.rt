@@ -15,6 +15,3 @@ mod page;
 
 pub use fresh::write_fresh;
 pub use page::write;
-
-#[cfg(test)]
-mod tests;
