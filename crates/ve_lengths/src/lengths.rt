@@ -88,14 +88,21 @@ impl Lengths {
         start
     }
 
-    /// The length that holds a place, counted over all of them, and how far it is from that length's start.
+    /// The length that holds a place, counted over all of them, and how far it is from that length's start. Its group is looked
+    /// for by halves, so the time hardly grows with their number.
     pub fn find(&self, at: usize) -> (usize, usize)
         requires { at < sum self.now.lens }
         ensures { Finds self.now.lens at result.0 result.1 }
     {
         let mut group = 0;
-        while group + 1 < self.starts.len() && self.starts[group + 1] <= at {
-            group += 1;
+        let mut end = self.starts.len();
+        'groups: while group + 1 < end {
+            let middle = group + (end - group) / 2;
+            if self.starts[middle] <= at {
+                group = middle;
+            } else {
+                end = middle;
+            }
         }
         let mut k = GROUP * group;
         let mut left = at - self.starts[group];
