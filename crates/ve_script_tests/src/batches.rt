@@ -9,7 +9,7 @@ use std::marker::Brand;
 use std::sync::ledger::{Blank, Ledger};
 use std::test::Fail;
 use ve_base::{Memory, Steps, Text};
-use ve_batches::{Batch, BatchStop, perform_all, type_text};
+use ve_batches::{Batch, BatchStop, Typed, perform_all, type_text};
 use ve_editor::Editor;
 use ve_lawful::check;
 use ve_samples::list;
@@ -25,31 +25,57 @@ fn opened<L: Ledger>(alloc: Global, line: &str, steps: &mut Steps<L>) -> Result<
     Ok(Editor::new(alloc, list, Store::new(alloc), steps)?)
 }
 
-/// Whether a batch has so many transactions, and its page is spelled so.
-fn is_made(alloc: Global, batch: &Batch, count: usize, line: &str) -> Result<bool, Memory> {
-    let doc = batch.editor.doc();
-    let spelled = page_line(alloc, doc.list, doc.store)?;
-    Ok(batch.entry.txs.as_slice().len() == count && spelled.as_str() == line)
+/// With the letters between two offsets selected, from the later one on.
+fn selecting(mut editor: Editor, from: usize, to: usize) -> Editor
+    requires { Sound editor.items }
+    ensures { Sound result.items }
+{
+    editor.select(Selection {
+        anchor: to,
+        focus: from,
+    });
+    editor
 }
 
-/// Whether a text that is typed over two letters stands in their place, with the caret after it.
+/// Whether a batch has two transactions, and its page is spelled so.
+fn shows(alloc: Global, batch: &Batch, line: &str) -> Result<bool, Memory> {
+    let doc = batch.editor.doc();
+    let spelled = page_line(alloc, doc.list, doc.store)?;
+    Ok(batch.entry.txs.as_slice().len() == 2 && spelled.as_str() == line)
+}
+
+/// Whether a text was typed, with the caret there, and the page is spelled so.
+fn stands(
+    alloc: Global,
+    typed: Result<Typed, BatchStop>,
+    caret: usize,
+    line: &str,
+) -> Result<bool, Memory> {
+    match typed {
+        Ok(typed) => Ok(typed.caret == caret && shows(alloc, &typed.batch, line)?),
+        Err(_) => Ok(false),
+    }
+}
+
+/// A text typed over two letters.
+fn type_over<L: Ledger>(
+    alloc: Global,
+    steps: &mut Steps<L>,
+) -> Result<Result<Typed, BatchStop>, Fail> {
+    let text = Text::from_str(alloc, "xyz")?;
+    let editor = selecting(opened(alloc, "<p>abcd</p>", steps)?, 2, 4);
+    Ok(type_text(alloc, &editor, &text, steps))
+}
+
+/// Whether it stands in their place, with the caret after it.
 fn is_typed<L: Ledger>(rt: &HostRuntime, blank: Blank) -> Result<bool, Fail>
     requires name { blank.name ≡ L.name }
     requires parts { blank.parts ≡ L.parts }
     requires one { blank.parts ≡ 1 }
 {
-    let alloc = rt.alloc();
     let mut steps = Steps::<L>::start(rt, blank);
-    let mut editor = opened(alloc, "<p>abcd</p>", &mut steps)?;
-    editor.select(Selection {
-        anchor: 4,
-        focus: 2,
-    });
-    let text = Text::from_str(alloc, "xyz")?;
-    match type_text(alloc, &editor, &text, &mut steps) {
-        Ok(typed) => Ok(typed.caret == 5 && is_made(alloc, &typed.batch, 2, "<p>axyzd</p>")?),
-        Err(_) => Ok(false),
-    }
+    let typed = type_over(rt.alloc(), &mut steps)?;
+    Ok(stands(rt.alloc(), typed, 5, "<p>axyzd</p>")?)
 }
 
 #[test]
@@ -66,12 +92,9 @@ const PAST_THE_LIST: BatchStop = BatchStop::Refused {
 /// A letter put in before the first one, and then a range taken out.
 fn perform<L: Ledger>(
     alloc: Global,
-    editor: &Editor,
     to: usize,
     steps: &mut Steps<L>,
-) -> Result<Batch, BatchStop>
-    requires { Sound editor.now.items }
-{
+) -> Result<Result<Batch, BatchStop>, Fail> {
     let changes = [
         Change::Text {
             at: 1,
@@ -80,7 +103,23 @@ fn perform<L: Ledger>(
         },
         Change::Remove { from: 2, to },
     ];
-    perform_all(alloc, editor, &changes, steps)
+    let editor = opened(alloc, "<p>ab</p>", steps)?;
+    Ok(perform_all(alloc, &editor, &changes, steps))
+}
+
+/// Whether changes were made, and the page is spelled so.
+fn is_made(alloc: Global, made: Result<Batch, BatchStop>, line: &str) -> Result<bool, Memory> {
+    match made {
+        Ok(batch) => shows(alloc, &batch, line),
+        Err(_) => Ok(false),
+    }
+}
+
+fn is_refused(made: Result<Batch, BatchStop>) -> bool {
+    match made {
+        Ok(_) => false,
+        Err(stop) => stop == PAST_THE_LIST,
+    }
 }
 
 /// Whether the second change is made on what the first one left, and refused where it reaches past that.
@@ -89,17 +128,9 @@ fn is_performed<L: Ledger>(rt: &HostRuntime, blank: Blank) -> Result<bool, Fail>
     requires parts { blank.parts ≡ L.parts }
     requires one { blank.parts ≡ 1 }
 {
-    let alloc = rt.alloc();
     let mut steps = Steps::<L>::start(rt, blank);
-    let editor = opened(alloc, "<p>ab</p>", &mut steps)?;
-    let made = match perform(alloc, &editor, 3, &mut steps) {
-        Ok(batch) => is_made(alloc, &batch, 2, "<p>xb</p>")?,
-        Err(_) => false,
-    };
-    let refused = match perform(alloc, &editor, 9, &mut steps) {
-        Ok(_) => false,
-        Err(stop) => stop == PAST_THE_LIST,
-    };
+    let made = is_made(rt.alloc(), perform(rt.alloc(), 3, &mut steps)?, "<p>xb</p>")?;
+    let refused = is_refused(perform(rt.alloc(), 9, &mut steps)?);
     Ok(made && refused)
 }
 
