@@ -130,6 +130,11 @@ abbrev pub RetainsPassed : List (Option ArenaNode) → Reading → Passed → Li
 RetainsPassed before was passed after is =
     (c : Course) (most : ℕ) → HasRead c before was → IsPassed before most c.spot passed → HasRead (with_stays passed.count c) after is
 
+-- what the cursor passed goes, wherever it is
+abbrev pub RemovesPassed : Reading → Passed → Reading → Type 0
+RemovesPassed was passed is =
+    (c : Course) (slots : List (Option ArenaNode)) (most : ℕ) → HasRead c slots was → IsPassed slots most c.spot passed → HasRead (with_gone passed.count c) slots is
+
 -- there is a place, so many items follow, and so many may come
 pub record IsReading (slots : List (Option ArenaNode)) (r : Reading) (count more : ℕ) : Type 0 where
   pub course : Course

@@ -1,11 +1,12 @@
 -- How many nodes a reader has made where it stops for want of memory.
 use Rattle.std.specs.Prelude.{◌≤◌, ℕ, ◌+◌, Option, Some, None, List, [], ◌++◌, length, map, replicate}
 use Rattle.ve_arena.specs.declared.node.NodeId.{NodeId}
+use Rattle.model_items.specs.declared.item.Item.{Item}
 use Rattle.ve_tx.specs.declared.op.Op.{Op}
 use Rattle.ve_tx.specs.Checked.{old_size}
 use Rattle.ve_repair.specs.declared.read.TextRun.{TextRun}
 use Rattle.ve_repair.specs.declared.script.Step.{Step}
-use Rattle.ve_repair.specs.Acts.{Act, Stay, Go, ComeLetter, ComeBegin, ComeEnd, marks, acts_of}
+use Rattle.ve_repair.specs.Acts.{Act, Stay, Go, ComeLetter, ComeBegin, ComeEnd, marks, come, acts_of}
 use Rattle.ve_repair.specs.Charged.{made_count}
 use Rattle.ve_repair.specs.declared.cursor.Passed.{Passed}
 use Rattle.ve_arena.specs.declared.node.ArenaNode.{ArenaNode}
@@ -36,6 +37,11 @@ IsPart c acts xs = (later : List Act) → made_count xs ≤ makes_of (c.acts ++ 
 abbrev pub StopsAtPassed : List (Option ArenaNode) → Reading → Passed → List Step → Type 0
 StopsAtPassed before was passed xs =
     (c : Course) (most : ℕ) → HasRead c before was → IsPassed before most c.spot passed → IsPart c (replicate passed.count Stay) xs
+
+-- so too where so many items go, and these come in their place
+abbrev pub StopsAtReplace : List (Option ArenaNode) → Reading → ℕ → List Item → List Step → Type 0
+StopsAtReplace before was removed inserted xs =
+    (c : Course) → HasRead c before was → removed ≤ items_in c.spot.rest → IsPart c (replicate removed Go ++ come inserted []) xs
 
 -- or than that of operations, up to the end of the text that they end in
 pub record IsPartEnd (ops : List Op) (c : Course) (xs : List Step) : Type 0 where

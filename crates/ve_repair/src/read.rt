@@ -5,13 +5,13 @@ ghost use Rattle.ve_tree.specs.Links.{number_of};
 ghost use Rattle.ve_tx.specs.Checked.{old_size};
 ghost use Rattle.ve_repair.specs.Frees.{node_of};
 ghost use Rattle.ve_repair.specs.Script.{is_seen};
-ghost use Rattle.ve_repair.specs.Cursors.{items_in, IsPassed};
+ghost use Rattle.ve_repair.specs.Cursors.{items_in};
 ghost use Rattle.ve_repair.specs.Reader.{Reading, letters_in, with_cursor, with_steps, put_step, run_ended, end_of, grown, kept_text, cut_steps};
-ghost use Rattle.ve_repair.specs.Reader.{Keeps, MakesOn, MakesSame, Slots, IsPaid, IsPaidOrOne, RunEnds};
-ghost use Rattle.ve_repair.specs.Acts.{Stay, Go, come, acts_of};
+ghost use Rattle.ve_repair.specs.Reader.{Keeps, MakesOn, MakesSame, IsPaid, IsPaidOrOne, RunEnds};
+ghost use Rattle.ve_repair.specs.Acts.{Stay, come, acts_of};
 ghost use Rattle.ve_repair.specs.Charged.{made_count};
-ghost use Rattle.ve_repair.specs.Partly.{IsPart, IsPartOut, StopsAtPassed, made_when_ended};
-ghost use Rattle.ve_repair.specs.Courses.{Course, HasRead, RetainsPassed, IsReading, HaveCome, AreDone, IsReadOut, AreReadOut, with_stays, with_gone, come_size};
+ghost use Rattle.ve_repair.specs.Partly.{IsPart, IsPartOut, StopsAtPassed, StopsAtReplace, made_when_ended};
+ghost use Rattle.ve_repair.specs.Courses.{Course, HasRead, RetainsPassed, RemovesPassed, IsReading, HaveCome, AreDone, IsReadOut, AreReadOut, with_stays, with_gone, come_size};
 
 use crate::cursor::{Ahead, Cursor, Passed};
 use crate::script::{How, Step};
@@ -343,7 +343,7 @@ impl Reader {
 
     /// What the cursor passes goes.
     fn remove_passed(&mut self, passed: Passed) -> Result<(), Memory>
-        ensures read { OnOk result ((c : Course) (slots : Slots) (most : ℕ) → HasRead c slots self.old → IsPassed slots most c.spot passed → HasRead (with_gone passed.count c) slots self.new) }
+        ensures read { OnOk result (RemovesPassed self.old passed self.new) }
         ensures same { MakesSame self.old.script self.new.script }
     {
         self.at = passed.at;
@@ -464,7 +464,7 @@ impl Reader {
         ensures made { MakesOn arena.old self.old.script arena.new self.new.script }
         ensures paid { OnOk result (IsPaid steps.old self.old.script steps.new self.new.script) }
         ensures at_most { OnErr result (IsPaidOrOne steps.old self.old.script steps.new self.new.script) }
-        ensures part { OnErr result ((c : Course) → HasRead c arena.old self.old → removed ≤ items_in c.spot.rest → IsPart c (replicate removed Go ++ come inserted.now []) self.new.script) }
+        ensures part { OnErr result (StopsAtReplace arena.old self.old removed inserted.now self.new.script) }
     {
         self.remove(arena, removed)?;
         self.insert(arena, inserted, steps)
