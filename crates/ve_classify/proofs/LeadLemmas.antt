@@ -1,7 +1,6 @@
 -- The nodes of a text that was read lead on, and its forest stands at the first of them.
-use Rattle.std.proofs.Common.{◌≡◌, ℕ, zero, suc, ◌+◌, ◌<◌, ◌≤◌, true, false, List, [], ◌∷◌, ◌++◌, length, drop, Some, refl, sym, ap, ◌∙◌, subst, arith, append-nil}
+use Rattle.std.proofs.Common.{◌≡◌, ℕ, zero, suc, ◌+◌, ◌<◌, ◌≤◌, true, false, List, [], ◌∷◌, ◌++◌, length, Some, sym, ap, subst, arith, append-nil}
 use Rattle.std.specs.Prelude.{slice_get}
-use Rattle.model_spelling.specs.Grammar as g
 use Rattle.model_spelling.specs.Grammar.{Comment, token_text, start_text, end_text}
 use Rattle.model_spelling.specs.Forest.{Forest, Nothing, Text, Remark, Void, RawElement, Element, spelling, is_forest}
 use Rattle.model_spelling.specs.ForestNodes.{ForestNode, forest_size, forest_nodes}

@@ -4,7 +4,7 @@ use Rattle.std.specs.Prelude.{slice_get}
 use Rattle.std.proofs.lemmas.List.{length-append, drop-drop}
 use Rattle.model_spelling.specs.Grammar as g
 use Rattle.model_spelling.specs.Grammar.{Attr, Comment, token_text, start_text, end_text, is_text, is_start, is_verbatim, comment_close}
-use Rattle.ve_kinds.specs.Tags.{is_void, is_raw}
+use Rattle.ve_kinds.specs.Tags.{is_void}
 use Rattle.model_spelling.specs.Forest.{Forest, Nothing, Text, Remark, Void, RawElement, Element, starts_with_text, spelling, is_forest, then_forest}
 use Rattle.model_spelling.specs.ForestNodes.{ForestNode, forest_size, single_node, forest_nodes}
 use Rattle.model_spelling.proofs.AttrReading.{and_right}

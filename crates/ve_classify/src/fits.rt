@@ -3,7 +3,7 @@ ghost use Rattle.std.specs.Prelude.{◌≡◌, ◌<◌, ◌≤◌, ◌+◌, leng
 ghost use Rattle.model_spelling.specs.Grammar as g;
 ghost use Rattle.model_page.specs.Parts.{Ended, parts_of};
 ghost use Rattle.model_page.specs.Fit as model;
-ghost use Rattle.ve_kinds.specs.Tags.{kind_of_tag as kind_spelled, is_raw};
+ghost use Rattle.ve_kinds.specs.Tags.{kind_of_tag as kind_spelled, inline_tags, is_one_of, is_raw};
 ghost use Rattle.ve_html_scan.specs.Shown.{ShowsToken};
 ghost use Rattle.ve_classify.specs.Standing.{LeadsOn};
 ghost use Rattle.ve_classify.specs.Fits as spec;
@@ -14,7 +14,9 @@ use crate::types::TypeTest;
 use crate::values::{has_type, is_held, is_white_text};
 use ve_html_scan::Token;
 use ve_html_tree::Forest;
-use ve_kinds::{Kind, is_annotation_tag, is_inline_tag, is_structural, kind_of_tag, may_hold};
+use ve_kinds::{
+    Kind, is_annotation_tag, is_inline_leaf, is_inline_tag, is_structural, kind_of_tag, may_hold,
+};
 
 /// What the elements of a group are asked for.
 #[derive(Clone, Copy, Debug, PartialEq, Eq)]
@@ -133,6 +135,16 @@ fn block_fit(forest: &Forest<'_>, n: usize, name: &str, parent: Kind) -> Fit
     }
 }
 
+/// Whether elements of this tag stand within a line. Tags of kinds are told first, since most elements have one, and the others are many.
+fn stands_in_line(name: &str) -> bool
+    ensures { result ≡ is_one_of inline_tags name.now }
+{
+    if let Some(kind) = kind_of_tag(name) {
+        return is_inline_leaf(kind);
+    }
+    is_inline_tag(name)
+}
+
 /// The fit of an element that isn't held.
 fn element_fit(forest: &Forest<'_>, n: usize, name: &str, around: Around) -> Fit
     requires within { n < length forest.now }
@@ -145,7 +157,7 @@ fn element_fit(forest: &Forest<'_>, n: usize, name: &str, around: Around) -> Fit
         Around::Content => content_fit(name, has_child),
         Around::Structural(parent) => block_fit(forest, n, name, parent),
         Around::Flow(parent) => {
-            if is_inline_tag(name) {
+            if stands_in_line(name) {
                 Fit::Inline
             } else {
                 block_fit(forest, n, name, parent)

@@ -74,5 +74,9 @@ pub fn marks_around(
     if known.is_some() {
         return Ok(known);
     }
+    // most characters have no marks, and need no call
+    if marks.is_empty() {
+        return Ok(None);
+    }
     cite_marks(alloc, store, marks)
 }

@@ -1,3 +1,4 @@
 mod Examples
 pub mod FindLemmas
+pub mod GroupLemmas
 pub mod StartLemmas

@@ -38,31 +38,31 @@ sum_shrunk_after xs k by n lt after within long =
     ∙ whole
 
 -- the starts of the groups after a length that grows
-pub starts_grown : (lens old new : List ℕ) (total k by : ℕ) → AreStarts lens old total → k < length lens → sum lens + by < 2 ^ 64 → RaisedFrom old new (k / 64 + 1) by →
+pub starts_grown : (lens old new : List ℕ) (total k by : ℕ) → AreStarts lens old total → k < length lens → sum lens + by < 2 ^ 64 → RaisedFrom old new (k / 16 + 1) by →
     AreStarts (slice_set lens k (get_or lens k 0 + by)) new (total + by)
 starts_grown lens old new total k by a lt small r = record {
   count = omega (arith, r.count, a.count, length-set lens k (get_or lens k 0 + by));
-  each = λ g within. elim (cases_lt g (k / 64 + 1)) [
-    | inl less ↦ r.before g less ∙ a.each g (omega (arith, within, r.count)) ∙ sym (sum_set_before lens k (get_or lens k 0 + by) (64 * g) (omega (arith, less)))
+  each = λ g within. elim (cases_lt g (k / 16 + 1)) [
+    | inl less ↦ r.before g less ∙ a.each g (omega (arith, within, r.count)) ∙ sym (sum_set_before lens k (get_or lens k 0 + by) (16 * g) (omega (arith, less)))
     | inr more ↦
         let here : g < length old = omega (arith, within, r.count) in
-        let inside : 64 * g ≤ length lens = omega (arith, here, a.count) in
-        r.after g more here ∙ ap (λ x. x + by) (a.each g here) ∙ sym (sum_grown_after lens k by (64 * g) lt (omega (arith, more)) inside)
+        let inside : 16 * g ≤ length lens = omega (arith, here, a.count) in
+        r.after g more here ∙ ap (λ x. x + by) (a.each g here) ∙ sym (sum_grown_after lens k by (16 * g) lt (omega (arith, more)) inside)
   ];
   total_is = ap (λ x. x + by) a.total_is ∙ sym (sum_grown lens k by lt);
   fits = omega (arith, small, a.total_is);
 }
 
 -- and of one that shrinks
-pub starts_shrunk : (lens old new : List ℕ) (total k by : ℕ) → AreStarts lens old total → k < length lens → by ≤ get_or lens k 0 → RaisedFrom new old (k / 64 + 1) by →
+pub starts_shrunk : (lens old new : List ℕ) (total k by : ℕ) → AreStarts lens old total → k < length lens → by ≤ get_or lens k 0 → RaisedFrom new old (k / 16 + 1) by →
     AreStarts (slice_set lens k (get_or lens k 0 - by)) new (total - by)
 starts_shrunk lens old new total k by a lt long r = record {
   count = omega (arith, r.count, a.count, length-set lens k (get_or lens k 0 - by));
-  each = λ g within. elim (cases_lt g (k / 64 + 1)) [
-    | inl less ↦ sym (r.before g less) ∙ a.each g (omega (arith, within, r.count)) ∙ sym (sum_set_before lens k (get_or lens k 0 - by) (64 * g) (omega (arith, less)))
+  each = λ g within. elim (cases_lt g (k / 16 + 1)) [
+    | inl less ↦ sym (r.before g less) ∙ a.each g (omega (arith, within, r.count)) ∙ sym (sum_set_before lens k (get_or lens k 0 - by) (16 * g) (omega (arith, less)))
     | inr more ↦
-        let inside : 64 * g ≤ length lens = omega (arith, within, r.count, a.count) in
-        omega (arith, r.after g more within, a.each g (omega (arith, within, r.count)), sum_shrunk_after lens k by (64 * g) lt (omega (arith, more)) inside long)
+        let inside : 16 * g ≤ length lens = omega (arith, within, r.count, a.count) in
+        omega (arith, r.after g more within, a.each g (omega (arith, within, r.count)), sum_shrunk_after lens k by (16 * g) lt (omega (arith, more)) inside long)
   ];
   total_is = omega (arith, a.total_is, sum_shrunk lens k by lt long);
   fits = omega (arith, a.fits);
@@ -70,7 +70,7 @@ starts_shrunk lens old new total k by a lt long r = record {
 
 -- a start is no more than the sum
 pub start_within : (lens starts : List ℕ) (total g : ℕ) → AreStarts lens starts total → g < length starts → get_or starts g 0 ≤ sum lens
-start_within lens starts total g a lt = omega (arith, a.each g lt, sum_by-take-le (λ x. x) lens (64 * g))
+start_within lens starts total g a lt = omega (arith, a.each g lt, sum_by-take-le (λ x. x) lens (16 * g))
 
 -- a place within the sum is before the end of the row
 pub before_end : (lens : List ℕ) (at k left : ℕ) → sum (take k lens) + left ≡ at → at < sum lens → k < length lens
@@ -93,28 +93,28 @@ written_back old new n all same =
 
 -- a table of starts after a length that was read has grown, and after it has shrunk
 pub grown_kept : (lens old lent new : List ℕ) (n total k by read : ℕ) → AreStarts lens old total → k < length lens → sum lens + by < 2 ^ 64 →
-    lent ≡ old → RaisedFrom lent new (k / 64 + 1) by → n ≡ length old → read ≡ get_or lens k read →
+    lent ≡ old → RaisedFrom lent new (k / 16 + 1) by → n ≡ length old → read ≡ get_or lens k read →
     AreStarts (slice_set lens k (read + by)) (take n (new ++ drop (length new) old)) (total + by)
 grown_kept lens old lent new n total k by read a lt small lends r all reads =
-    let from = subst (λ l. RaisedFrom l new (k / 64 + 1) by) lends r in
+    let from = subst (λ l. RaisedFrom l new (k / 16 + 1) by) lends r in
     subst (λ l. AreStarts (slice_set lens k (read + by)) l (total + by)) (sym (written_back old new n all from.count))
     (subst (λ x. AreStarts (slice_set lens k (x + by)) new (total + by)) (sym (read_at lens k read lt reads))
     (starts_grown lens old new total k by a lt small from))
 
 pub shrunk_kept : (lens old lent new : List ℕ) (n total k by read : ℕ) → AreStarts lens old total → k < length lens → by ≤ get_or lens k 0 →
-    lent ≡ old → RaisedFrom new lent (k / 64 + 1) by → n ≡ length old → read ≡ get_or lens k read →
+    lent ≡ old → RaisedFrom new lent (k / 16 + 1) by → n ≡ length old → read ≡ get_or lens k read →
     AreStarts (slice_set lens k (read - by)) (take n (new ++ drop (length new) old)) (total - by)
 shrunk_kept lens old lent new n total k by read a lt long lends r all reads =
-    let from = subst (λ l. RaisedFrom new l (k / 64 + 1) by) lends r in
+    let from = subst (λ l. RaisedFrom new l (k / 16 + 1) by) lends r in
     subst (λ l. AreStarts (slice_set lens k (read - by)) l (total - by)) (sym (written_back old new n all (sym from.count)))
     (subst (λ x. AreStarts (slice_set lens k (x - by)) new (total - by)) (sym (read_at lens k read lt reads))
     (starts_shrunk lens old new total k by a lt long from))
 
 -- a start after a length is no less than that length
-pub start_holds : (lens starts : List ℕ) (total k g : ℕ) → AreStarts lens starts total → k < length lens → k / 64 + 1 ≤ g → g < length starts →
+pub start_holds : (lens starts : List ℕ) (total k g : ℕ) → AreStarts lens starts total → k < length lens → k / 16 + 1 ≤ g → g < length starts →
     get_or lens k 0 ≤ get_or starts g 0
 start_holds lens starts total k g a lt after within =
-    omega (arith, a.each g within, sum_by_more (λ x. x) lens k 0 lt, sum_rises lens (k + 1) (64 * g) (omega (arith, after)))
+    omega (arith, a.each g within, sum_by_more (λ x. x) lens k 0 lt, sum_rises lens (k + 1) (16 * g) (omega (arith, after)))
 
 -- what is left when lengths go has no greater sum
 pub sum_left : (lens : List ℕ) (from to : ℕ) → from ≤ to → sum (take from lens ++ drop to lens) ≤ sum lens

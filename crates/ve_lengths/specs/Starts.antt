@@ -1,4 +1,4 @@
--- Lengths in groups of 64.
+-- Lengths in groups of 16.
 use Rattle.std.specs.Prelude.{ℕ, ◌≡◌, ◌≤◌, ◌+◌, ◌*◌, ◌/◌, ◌<◌, ◌^◌, List, length, take, slice_index, sum}
 
 -- the place lies so far after the start of that length, and before its end
@@ -9,15 +9,15 @@ pub record Finds (lens : List ℕ) (at k offset : ℕ) : Type 0 where
 
 -- beside each group stands the sum of the lengths before it, and beside all of them their sum
 pub record AreStarts (lens starts : List ℕ) (total : ℕ) : Type 0 where
-  pub count : length starts ≡ (length lens + 63) / 64
-  pub each : (g : ℕ) → g < length starts → slice_index starts g ≡ sum (take (64 * g) lens)
+  pub count : length starts ≡ (length lens + 15) / 16
+  pub each : (g : ℕ) → g < length starts → slice_index starts g ≡ sum (take (16 * g) lens)
   pub total_is : total ≡ sum lens
   pub fits : total < 2 ^ 64
 
 -- the memory of the lengths and of their starts serves so many lengths
 pub record HasRoom (room lens starts : ℕ) : Type 0 where
   pub among_lens : room ≤ lens
-  pub among_starts : (room + 63) / 64 ≤ starts
+  pub among_starts : (room + 15) / 16 ≤ starts
 
 -- the starts from one group on are greater by that much, and those before it stand
 pub record RaisedFrom (old new : List ℕ) (first by : ℕ) : Type 0 where

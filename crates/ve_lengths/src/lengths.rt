@@ -69,8 +69,8 @@ impl Lengths {
 
     /// The sum of the lengths before a group.
     fn group_start(&self, group: usize) -> usize
-        requires { group ≤ (length self.now.lens + 63) / 64 }
-        ensures { result ≡ sum (take (64 * group) self.now.lens) }
+        requires { group ≤ (length self.now.lens + 15) / 16 }
+        ensures { result ≡ sum (take (16 * group) self.now.lens) }
     {
         self.starts.get(group).copied().unwrap_or(self.total)
     }
@@ -88,24 +88,24 @@ impl Lengths {
         start
     }
 
-    /// The length that holds a place, counted over all of them, and how far it is from that length's start. Its group is looked
-    /// for by halves, so the time hardly grows with their number.
+    /// The first length of the last group that starts at a place or before it, and where that group starts. It is looked for by
+    /// halves, so the time hardly grows with the number of groups.
+    fn group_at(&self, at: usize) -> (usize, usize)
+        requires { at < sum self.now.lens }
+        ensures start { sum (take result.0 self.now.lens) ≡ result.1 }
+        ensures before { result.1 ≤ at }
+    {
+        let group = self.starts.partition_point(|start| *start <= at) - 1;
+        (GROUP * group, self.starts[group])
+    }
+
+    /// The length that holds a place, counted over all of them, and how far it is from that length's start.
     pub fn find(&self, at: usize) -> (usize, usize)
         requires { at < sum self.now.lens }
         ensures { Finds self.now.lens at result.0 result.1 }
     {
-        let mut group = 0;
-        let mut end = self.starts.len();
-        'groups: while group + 1 < end {
-            let middle = group + (end - group) / 2;
-            if self.starts[middle] <= at {
-                group = middle;
-            } else {
-                end = middle;
-            }
-        }
-        let mut k = GROUP * group;
-        let mut left = at - self.starts[group];
+        let (mut k, start) = self.group_at(at);
+        let mut left = at - start;
         while self.lens[k] <= left {
             left -= self.lens[k];
             k += 1;
@@ -192,13 +192,16 @@ impl Lengths {
         self.total = reckon(&self.lens, &mut self.starts, group, start);
     }
 
-    /// Takes the lengths from one up to another out.
+    /// Takes the lengths from one up to another out. Where that is none, no other is looked at.
     pub fn take_out(&mut self, from: usize, to: usize)
         requires order { from ≤ to }
         requires within { to ≤ length self.old.lens }
         ensures lens { self.new.lens ≡ take from self.old.lens ++ drop to self.old.lens }
         ensures room { self.new.room ≡ self.old.room }
     {
+        if from == to {
+            return;
+        }
         let group = from / GROUP;
         let start = self.group_start(group);
         cut_out(&mut self.lens, from, to);

@@ -3,15 +3,15 @@ ghost use Rattle.std.specs.Prelude.{◌≡◌, ℕ, ◌≤◌, ◌<◌, ◌+◌,
 ghost use Rattle.ve_lengths.specs.Starts.{AreStarts, RaisedFrom};
 
 /// How many lengths stand in a group.
-pub const GROUP: usize = 64;
+pub const GROUP: usize = 16;
 
 /// Reckons the starts anew from a group on, which starts at `start`; those before it stand. Gives the sum of all lengths. It takes no memory.
 pub fn reckon(lens: &[usize], starts: &mut Vec<usize>, group: usize, start: usize) -> usize
-    requires before { (g : ℕ) → g < group → slice_index starts.old.items g ≡ sum (take (64 * g) lens.now) }
-    requires start { start ≡ sum (take (64 * group) lens.now) }
+    requires before { (g : ℕ) → g < group → slice_index starts.old.items g ≡ sum (take (16 * g) lens.now) }
+    requires start { start ≡ sum (take (16 * group) lens.now) }
     requires among { group ≤ length starts.old.items }
-    requires within { 64 * group ≤ length lens.now }
-    requires room { (length lens.now + 63) / 64 ≤ vec_capacity starts.old }
+    requires within { 16 * group ≤ length lens.now }
+    requires room { (length lens.now + 15) / 16 ≤ vec_capacity starts.old }
     requires fits { sum lens.now < 2 ^ 64 }
     ensures starts { AreStarts lens.now starts.new.items result }
     ensures room { vec_capacity starts.old ≤ vec_capacity starts.new }

@@ -8,6 +8,7 @@
 //!   of an origin has to be). The places of values are compared in place of values, so its clause holds over
 //!   every list of distinct values. Rows.antt and Bodies.antt in specs/ say by which rows and items it is
 //!   found; Agree.antt and Without.antt serve private functions.
+//! - `Origins::is_first` tells whether a whole list is the one that was first read.
 //!
 //! It knows neither trees nor stores, and writes nothing. No call takes memory but `OriginTable::push`. There
 //! are no laws here: that the node of each origin stands at its range, before the internal list, is for

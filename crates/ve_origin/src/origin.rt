@@ -1,9 +1,10 @@
 // The page that was first read, and which nodes are still as they were.
-ghost use Rattle.std.specs.Prelude.{◌≡◌, ◌≤◌, ◌<◌, length, take, drop, slice_get, Some};
+ghost use Rattle.std.specs.Prelude.{◌≡◌, ◌≤◌, ◌<◌, ◌↔◌, IsTrue, length, take, drop, slice_get, Some};
 ghost use Rattle.model_page_write.specs.PageText.{part_at};
 ghost use Rattle.ve_origin.specs.Origins.{spans, first_read, FirstRead, IsCut, IsRow, AreRows, Keeps};
 
 use crate::carried::{Side, all_carry_same};
+use crate::compare::alike;
 use crate::node::same_node;
 use model_page::RefTable;
 use std::marker::Model;
@@ -84,6 +85,14 @@ impl<'a> Origins<'a> {
         ensures { result.now ≡ drop self.now.body.to self.now.page }
     {
         &self.page[self.body.to..]
+    }
+
+    /// Whether a list is the one that was first read. It stops at the first difference, and walks over lent pieces.
+    pub fn is_first(&self, now: &Linear) -> bool
+        ensures { IsTrue result ↔ (now.now.items ≡ self.now.items) }
+    {
+        let len = now.len();
+        len == self.first.len() && alike(now, 0, self.first, 0, len) == len
     }
 
     fn row(&self, k: u32) -> OriginRow

@@ -10,7 +10,7 @@ use Rattle.ve_origin.specs.Origins.{FirstRead}
 use Rattle.ve_tx.specs.Making.{Extends}
 use Rattle.ve_tx.proofs.ValuesLemmas as grown
 
-first_same : (old new : List Value) (o : FirstRead) → Extends old new → IsFirst old o → plain_list new o.items ≡ plain_list old o.items
+pub first_same : (old new : List Value) (o : FirstRead) → Extends old new → IsFirst old o → plain_list new o.items ≡ plain_list old o.items
 first_same old new o extends first = grown.list-extended old new extends o.items first.cites
 
 pub page_same : (old new : List Value) (o : FirstRead) → Extends old new → IsFirst old o → opened_over new o ≡ opened_over old o

@@ -1,12 +1,18 @@
 -- The page that a site's list gives is what `html` answers.
-use Rattle.std.proofs.Common.{◌≡◌, ◌<◌, ℕ, List, ap, sym, subst, ◌∙◌}
+use Rattle.std.proofs.Common.{◌≡◌, ◌<◌, ℕ, List, [], ap, sym, subst, ◌∙◌}
+use Rattle.std.specs.Prelude.{Some, chars, length, option_map, slice_get, slice_index_or}
+use Rattle.std.proofs.lemmas.Option.{slice_get-get_or}
 use Rattle.ve_base.specs.declared.value.Value.{Value}
+use Rattle.model_items.specs.declared.item.Item.{Item}
 use Rattle.model_items.specs.declared.plain_item.PlainItem.{PlainItem}
+use Rattle.model_items.specs.Plain.{plain_list}
 use Rattle.model_page.specs.PageItems.{Opened}
-use Rattle.model_site.specs.Session.{Session}
+use Rattle.model_site.specs.Session.{Member, Session, joining}
+use Rattle.model_site.specs.Site.{Site, pending}
 use Rattle.model_world.specs.declared.command.Command.TheVariants.{Ask}
 use Rattle.model_world.specs.declared.command.Request.TheVariants as request
 use Rattle.model_world.specs.declared.reply.Reply.{Reply}
+use Rattle.model_world.specs.declared.reply.Reply.TheVariants as reply
 use Rattle.model_world.specs.World.{World, Open}
 use Rattle.model_world_law.specs.Reached.{EverySiteHolds}
 use Rattle.ve_answers.specs.Asked.{HtmlIsAsked}
@@ -14,8 +20,9 @@ use Rattle.ve_answers.specs.Replies.{html_reply}
 use Rattle.ve_fresh.specs.Originals.{opened_over, IsFirst}
 use Rattle.ve_origin.specs.Origins.{FirstRead}
 use Rattle.ve_session.specs.Asked.{asker, kept_or_new, obeyed}
-use Rattle.ve_session.specs.Opened.{page_on, world_on, IsOpen}
-use Rattle.ve_session.proofs.FirstLemmas.{first_grown, page_same}
+use Rattle.ve_session.specs.Laws.{UneditedIsTold}
+use Rattle.ve_session.specs.Opened.{page_on, world_on, IsLed, IsOpen, OnPage}
+use Rattle.ve_session.proofs.FirstLemmas.{first_grown, first_same, page_same}
 use Rattle.ve_session.proofs.PageLemmas.{extends}
 use Rattle.ve_session.proofs.ShownLemmas.{stays}
 use Rattle.ve_session.proofs.WorldLemmas.{obeyed_is}
@@ -44,3 +51,38 @@ module _ (o : FirstRead) (s : Shared) (k : ℕ) (within : k < sites s) (is : IsO
       ∙ ap (λ (p : Opened). html_reply p items) (page_same s.session.base.store (site_at s k).replica.store o (extends o s k within is every) is.first)
       ∙ ap (λ (l : List PlainItem). html_reply (page_on o s.session).page l) as_items
       ∙ sym (ap (λ (x : Reply × World). x.0) (html_told law (page_on o s.session).page s k within))
+
+  -- where the list is the one that was first read, the items are the page's
+  pub first_again : (list : List Item) (items : List PlainItem) → list ≡ o.items → items ≡ plain_list store list → items ≡ (site_at s k).replica.items →
+      (site_at s k).replica.items ≡ (page_on o s.session).page.items
+  first_again list items first over as_items =
+      sym as_items ∙ over ∙ ap (plain_list store) first ∙ ap (λ (v : List Value). plain_list v o.items) same
+      ∙ first_same s.session.base.store (site_at s k).replica.store o (extends o s k within is every) is.first
+
+-- the items of the site at k, where they are the page's
+pub items_at : (s : Shared) (k : ℕ) (items : List PlainItem) → k < sites s → (site_at s k).replica.items ≡ items →
+    option_map (λ (m : Member). m.site.replica.items) (slice_get s.session.members k) ≡ Some items
+items_at s k items within e =
+    ap (option_map (λ (m : Member). m.site.replica.items)) (slice_get-get_or s.session.members k (joining s.session.base) within) ∙ ap Some e
+
+-- so the page is told as it was opened
+pub opened_told : UneditedIsTold → (p : OnPage) (k : ℕ) (text : List ℕ) → k < length p.session.members → IsLed (world_on p) →
+    option_map (λ (m : Member). m.site.replica.items) (slice_get p.session.members k) ≡ Some p.page.items → text ≡ p.page.page →
+    reply.Page (chars text) ≡ (obeyed (world_on p) (Ask request.Html k)).0
+opened_told law p k text within led unedited whole =
+    let m = slice_index_or p.session.members k (joining p.session.base) in
+    let there = slice_get-get_or p.session.members k (joining p.session.base) within in
+    let items : Some m.site.replica.items ≡ Some p.page.items = ap (option_map (λ (m : Member). m.site.replica.items)) (sym there) ∙ unedited in
+    let same : m.site.replica.items ≡ p.page.items = cc in
+    ap (λ (t : List ℕ). reply.Page (chars t)) whole ∙ sym (ap (λ (x : Reply × World). x.0) (law p k m led there same))
+
+-- so are those of a site that took nothing and has nothing pending
+pub untouched_at : EverySiteHolds → (p : OnPage) (k : ℕ) → k < length p.session.members → IsLed (world_on p) → (site : Site) →
+    site ≡ (slice_index_or p.session.members k (joining p.session.base)).site → (site.seen ≡ 0) × (pending site ≡ []) →
+    option_map (λ (m : Member). m.site.replica.items) (slice_get p.session.members k) ≡ Some p.page.items
+untouched_at law p k within led site same untouched =
+    let m = slice_index_or p.session.members k (joining p.session.base) in
+    let there = slice_get-get_or p.session.members k (joining p.session.base) within in
+    let holds = law led.lines p.page p.session k m led.leads there in
+    let first = holds.undone (ap (λ (s : Site). s.seen) (sym same) ∙ untouched.0) (ap pending (sym same) ∙ untouched.1) in
+    ap (option_map (λ (m : Member). m.site.replica.items)) there ∙ ap Some first.0

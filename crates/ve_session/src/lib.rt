@@ -9,7 +9,7 @@
 //! - `Opened`: what is always so of a page that is open; `Turning`: so what is so of a site that is asked;
 //! - `Cost`: how many steps a line takes at most, and the `meaning` of a world as a machine;
 //! - `Stopped`: how a refusal of the crates below is told;
-//! - `Laws`: `html` of a list that is as it was opened gives the page back ([`unedited_page_is_told`]).
+//! - `Laws`: `html` of a list that is as it was opened gives the page back ([`unedited_page_is_told`]); so it is answered without a walk.
 #![tactic(auto)]
 
 mod batches;

@@ -12,6 +12,7 @@ ghost use Rattle.ve_session.specs.Opened.{world_on, HasUtf8Page, IsLed, MayOpen}
 
 use crate::edits::doc_at;
 use crate::faults::of_page;
+use crate::laws::unedited_page_is_told;
 use crate::shown::{is_shown, shown};
 use crate::turn::turn;
 use model_page::RefTable;
@@ -28,6 +29,7 @@ use ve_json::{Request, reply_text};
 use ve_origin::{OriginTable, Origins};
 use ve_read::{PageRead, page, rows_stand};
 use ve_references::table;
+use ve_replies::Answer;
 use ve_turns::Session;
 
 /// A page that is open: its text, what was first read of it, and the sites that edit it.
@@ -134,7 +136,19 @@ impl OpenPage {
         self.session.site(k).editor()
     }
 
-    /// Appends the page that a site's list gives, as the reply to `html`.
+    /// Appends the page as it was opened, as the reply to `html`, where a site's list has the page's items.
+    fn show_opened(&self, alloc: Global, k: usize, out: &mut Bytes) -> Result<(), Memory>
+        requires site { k < length self.now.session.members }
+        requires unedited { option_map (λ m. m.site.replica.items) (slice_get self.now.session.members k) ≡ Some self.now.page.items }
+        ensures reply { OnOk result (out.new ≡ out.old ++ (reply_text (obeyed (world_on self.now) (Ask request.Html k)).0 ++ 10 ∷ [])) }
+        ensures err { OnErr result (out.new ≡ out.old) }
+    {
+        unedited_page_is_told();
+        let answer = Answer::Page(Text::from_str(alloc, self.text.as_str())?);
+        reply_text(alloc, &answer, out)
+    }
+
+    /// Appends the page that a site's list gives, as the reply to `html`. Where the list is as it was opened, no node of it is looked for.
     fn show_html(&self, alloc: Global, k: usize, out: &mut Bytes) -> Result<(), Memory>
         requires site { k < length self.now.session.members }
         ensures reply { OnOk result (out.new ≡ out.old ++ (reply_text (obeyed (world_on self.now) (Ask request.Html k)).0 ++ 10 ∷ [])) }
@@ -145,6 +159,10 @@ impl OpenPage {
         every_site_holds();
         every_item_stands();
         replies_are_as_asked();
+        // who took nothing and has nothing pending has the list that was opened
+        if self.session.site(k).is_untouched() {
+            return self.show_opened(alloc, k, out);
+        }
         let origins = Origins::new(
             self.text.as_str(),
             self.body,
@@ -152,7 +170,11 @@ impl OpenPage {
             self.session.first(),
             &self.first_refs,
         );
-        let answer = html(alloc, &origins, doc_at(&self.session, k))?;
+        let doc = doc_at(&self.session, k);
+        if origins.is_first(doc.list) {
+            return self.show_opened(alloc, k, out);
+        }
+        let answer = html(alloc, &origins, doc)?;
         reply_text(alloc, &answer, out)
     }
 

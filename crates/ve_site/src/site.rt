@@ -1,5 +1,5 @@
 // A site.
-ghost use Rattle.std.specs.Prelude.{◌≡◌, ◌≤◌, ◌+◌, ◌==◌, if◌then◌else◌, List, [], ◌∷◌, Ok, length, IfOk, IfErr, OnOk, OnErr};
+ghost use Rattle.std.specs.Prelude.{◌≡◌, ◌≤◌, ◌+◌, ◌==◌, if◌then◌else◌, List, [], ◌∷◌, Ok, length, ◌↔◌, IsTrue, IfOk, IfErr, OnOk, OnErr};
 ghost use Rattle.model_change.specs.Transaction.{Transaction, InsertedApart};
 ghost use Rattle.model_site.specs.Entries.{entry_of, parcels, reverted};
 ghost use Rattle.model_site.specs.Replica.{all_performed};
@@ -215,6 +215,19 @@ impl Site {
         let moved = self.history.move_up(entry).is_ok();
         prove!(moved);
         Ok(())
+    }
+
+    /// Whether it has taken nothing, and has nothing pending.
+    pub fn is_untouched(&self) -> bool
+        ensures { IsTrue result ↔ ((self.now.site.seen ≡ 0) × (pending self.now.site ≡ [])) }
+    {
+        if self.seen > 0 {
+            return false;
+        }
+        if !self.sent.is_empty() {
+            return false;
+        }
+        self.history.done().is_empty()
     }
 
     /// Its pending entries as they would travel: those that it sent, and then those that it has not sent.

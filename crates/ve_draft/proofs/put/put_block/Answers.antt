@@ -1,8 +1,7 @@
 use Rattle.std.specs.Str.{chars}
-use Rattle.std.proofs.Common.{false, refl}
-use Rattle.model_change.specs.Store.{head_cited, marks_cited, white_cited}
+use Rattle.model_change.specs.Store.{head_cited, white_cited}
 use Rattle.ve_tx.proofs.ValuesLemmas.{extends_on, extends_by_fill}
-use Rattle.ve_draft.proofs.ExtendLemmas.{extends_same, knows_on, more_block, more_leaf}
+use Rattle.ve_draft.proofs.ExtendLemmas.{extends_same, more_block}
 use Rattle.ve_draft.proofs.put.put_block.Goals as goal
 
 pub returns-in_err-head-clause-extends : goal.returns-in_err-head-clause-extends

@@ -1,6 +1,5 @@
 use Rattle.std.specs.Str.{chars}
-use Rattle.std.proofs.Common.{[], false, ap, ◌∙◌}
-use Rattle.model_items.specs.declared.plain_item.PlainItem.TheVariants as plain
+use Rattle.std.proofs.Common.{ap, ◌∙◌}
 use Rattle.model_change.specs.Store.{cited_by}
 use Rattle.ve_draft.specs.Drafted.{with_item, block_of}
 use Rattle.ve_tx.proofs.ValuesLemmas.{extends_by_fill}

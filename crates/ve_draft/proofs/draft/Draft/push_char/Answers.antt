@@ -1,11 +1,8 @@
-use Rattle.std.specs.Str.{chars}
-use Rattle.std.proofs.Common.{[], false, ap, ◌∙◌, subst}
+use Rattle.std.proofs.Common.{ap, ◌∙◌, subst}
 use Rattle.ve_draft.specs.Holding.{More, Knows}
 use Rattle.model_items.specs.declared.plain_item.PlainItem.TheVariants as plain
-use Rattle.model_change.specs.Store.{cited_by}
 use Rattle.ve_draft.specs.Drafted.{Drafted, with_item}
-use Rattle.ve_tx.proofs.ValuesLemmas.{extends_by_fill}
-use Rattle.ve_draft.proofs.ExtendLemmas.{knows_on, items_more, holds_more}
+use Rattle.ve_draft.proofs.ExtendLemmas.{items_more, holds_more}
 use Rattle.ve_draft.proofs.draft.Draft.push_char.Goals as goal
 
 pub invariant_of-self : goal.invariant_of-self

@@ -7,7 +7,7 @@ lower-requires c =
     let h = c.self.inside in
     let among : c.args.k < length h.lens.items = subst (λ r. c.args.k < length r.lens) (sym c.self.view_is) c.requires.among in
     let long : c.args.by ≤ get_or h.lens.items c.args.k 0 = subst (λ r. c.args.by ≤ get_or r.lens c.args.k 0) (sym c.self.view_is) c.requires.long in
-    subst (λ l. (g : ℕ) → c.args.k / 64 + 1 ≤ g → g < length l → c.args.by ≤ get_or l g 0) (sym c.deref_mut.ensures.value)
+    subst (λ l. (g : ℕ) → c.args.k / 16 + 1 ≤ g → g < length l → c.args.by ≤ get_or l g 0) (sym c.deref_mut.ensures.value)
     (λ g after within. omega (arith, long, start_holds h.lens.items h.starts.items h.total c.args.k g c.self.invariant.0 among after within))
 
 pub invariant_of-self : goal.invariant_of-self
