@@ -18,8 +18,6 @@ mod grid_cell;
 mod list_fault;
 mod selection;
 mod table_fault;
-#[cfg(test)]
-mod tests;
 mod wrap_plan;
 
 pub use build_fault::BuildFault;

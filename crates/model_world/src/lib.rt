@@ -22,8 +22,6 @@ mod names;
 mod refusal;
 mod reply;
 mod shown;
-#[cfg(test)]
-mod tests;
 
 pub use change::{Change, ChangeList, OpWordList, OpWords, TextMarks};
 pub use command::{Command, Request};

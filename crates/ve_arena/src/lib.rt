@@ -14,8 +14,6 @@
 
 mod arena;
 mod node;
-#[cfg(test)]
-mod tests;
 
 pub use arena::Arena;
 pub use node::{ArenaNode, NodeId, NodeWhat};

@@ -15,6 +15,3 @@ mod run;
 
 pub use bare::is_bare;
 pub use inline::reads_inline;
-
-#[cfg(test)]
-mod tests;

@@ -12,6 +12,3 @@ mod laws;
 
 pub use citations::cited_mw;
 pub use laws::references_are_cited;
-
-#[cfg(test)]
-mod tests;

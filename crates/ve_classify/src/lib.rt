@@ -23,6 +23,3 @@ pub use groups::group_end;
 pub use laws::read_stands;
 pub use types::TypeTest;
 pub use values::{has_type, is_held, is_white, is_white_text, spelled_value};
-
-#[cfg(test)]
-mod tests;

@@ -10,6 +10,3 @@
 mod context;
 
 pub use context::context_kind;
-
-#[cfg(test)]
-mod tests;

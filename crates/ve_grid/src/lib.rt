@@ -16,8 +16,6 @@ mod grid;
 mod laws;
 mod placing;
 mod spans;
-#[cfg(test)]
-mod tests;
 
 pub use grid::{Grid, GridCells};
 pub use laws::next_is_placed;

@@ -8,7 +8,5 @@
 #![tactic(auto)]
 
 mod history;
-#[cfg(test)]
-mod tests;
 
 pub use history::History;

@@ -29,6 +29,3 @@ pub use decode::{decoded, decoded_same};
 pub use model_spelling::{ScanFault, ScanWhat};
 pub use scanner::Scanner;
 pub use token::{Span, Token};
-
-#[cfg(test)]
-mod tests;

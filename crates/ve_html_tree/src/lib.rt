@@ -19,6 +19,3 @@ mod reader;
 pub use fault::HtmlFault;
 pub use node::{Forest, Node};
 pub use reader::read;
-
-#[cfg(test)]
-mod tests;

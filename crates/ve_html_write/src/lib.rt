@@ -18,6 +18,3 @@ mod texts;
 pub use escape::push_escaped;
 pub use tags::{push_attr, put_end, put_start};
 pub use texts::put_text;
-
-#[cfg(test)]
-mod tests;

@@ -20,8 +20,6 @@ mod room;
 mod same;
 mod stack;
 mod table;
-#[cfg(test)]
-mod tests;
 
 pub use items::Items;
 pub use linear::Linear;

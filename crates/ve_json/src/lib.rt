@@ -5,8 +5,5 @@
 //! What both mean stands in model_world: `Commands`, and `Spelled`.
 #![tactic(auto)]
 
-#[cfg(test)]
-mod tests;
-
 pub use ve_commands::{Change, Command, CommandFault, Field, Refusal, Request, command};
 pub use ve_replies::{Answer, reply_text};

@@ -13,8 +13,6 @@ mod laws;
 mod list;
 mod piece;
 mod state;
-#[cfg(test)]
-mod tests;
 
 pub use laws::values_are_not_read;
 pub use list::check;

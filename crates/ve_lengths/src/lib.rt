@@ -11,8 +11,6 @@
 mod laws;
 mod lengths;
 mod reckon;
-#[cfg(test)]
-mod tests;
 
 pub use laws::one_is_found;
 pub use lengths::Lengths;

@@ -22,6 +22,3 @@ pub use leaves::put_leaf;
 pub use letters::put_letter;
 pub use marking::change_marks;
 pub use tags::{put_end_tag, put_start_tag};
-
-#[cfg(test)]
-mod tests;

@@ -16,6 +16,3 @@
 mod ends;
 
 pub use ends::{After, after_siblings, ends_at, siblings_end};
-
-#[cfg(test)]
-mod tests;

@@ -21,8 +21,6 @@ mod nearest;
 mod range;
 mod reader;
 mod state;
-#[cfg(test)]
-mod tests;
 
 pub use class::{is_content, is_inside_leaf, is_structural};
 pub use doc::Doc;

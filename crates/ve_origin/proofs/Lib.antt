@@ -9,5 +9,4 @@ pub mod PlaceLemmas
 pub mod ReferLemmas
 pub mod RowLemmas
 pub mod SplitLemmas
-pub mod TestLemmas
 pub mod ValueLemmas

@@ -20,7 +20,5 @@ mod carried;
 mod compare;
 mod node;
 mod origin;
-#[cfg(test)]
-mod tests;
 
 pub use origin::{OriginRow, OriginTable, Origins};

@@ -1,3 +1,4 @@
 mod BodyLemmas
+mod RowLemmas
 mod SampleLemmas
 mod WholeLemmas

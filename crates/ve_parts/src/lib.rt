@@ -15,6 +15,3 @@ mod parts;
 
 pub use laws::parts_stand;
 pub use parts::{Part, part_at, part_source};
-
-#[cfg(test)]
-mod tests;

@@ -17,8 +17,6 @@ mod machine;
 mod script;
 mod status;
 mod stop;
-#[cfg(test)]
-mod tests;
 mod top;
 
 pub use machine::Machine;

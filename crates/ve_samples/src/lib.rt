@@ -11,8 +11,6 @@
 
 mod item;
 mod line;
-#[cfg(test)]
-mod tests;
 
 pub use item::{closing, letter, opening};
 pub use line::{MarkedPage, list, pieces, sample};

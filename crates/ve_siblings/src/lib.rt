@@ -18,6 +18,3 @@ mod runs;
 
 pub use laws::{marks_are_counted, siblings_split};
 pub use runs::{Run, is_in_run, run_at};
-
-#[cfg(test)]
-mod tests;

@@ -16,8 +16,6 @@ mod hashed;
 mod marks;
 mod new_values;
 mod store;
-#[cfg(test)]
-mod tests;
 
 pub use fault::StoreFault;
 pub use marks::{has_mark, same_mark, with_mark, without_mark};

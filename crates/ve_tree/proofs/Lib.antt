@@ -10,7 +10,6 @@ pub mod ReadsLemmas
 pub mod FitsLemmas
 pub mod DistinctLemmas
 pub mod NodesLemmas
-pub mod PageLemmas
 pub mod NearLemmas
 pub mod LandmarkLemmas
 pub mod GapLemmas

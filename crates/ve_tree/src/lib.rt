@@ -27,8 +27,6 @@ mod landmarks;
 mod laws;
 mod lookup;
 mod mark;
-#[cfg(test)]
-mod tests;
 mod tree;
 mod unread;
 
