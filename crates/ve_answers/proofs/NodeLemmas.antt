@@ -14,9 +14,9 @@ use Rattle.model_world.specs.declared.reply.Reply.{Reply}
 use Rattle.model_world.specs.declared.reply.Reply.TheVariants as reply
 use Rattle.ve_arena.specs.declared.node.NodeWhat.{NodeWhat}
 use Rattle.ve_arena.specs.declared.node.NodeWhat.TheVariants as what
-use Rattle.ve_replies.specs.declared.answer.Answer.{Answer}
-use Rattle.ve_replies.specs.declared.answer.Answer.TheVariants as answer
-use Rattle.ve_replies.specs.Answers.{reply_of}
+use Rattle.ve_json.specs.declared.answer.Answer.{Answer}
+use Rattle.ve_json.specs.declared.answer.Answer.TheVariants as answer
+use Rattle.ve_json.specs.Answers.{reply_of}
 use Rattle.ve_tree.specs.IsTree.{unvalued}
 use Rattle.ve_answers.specs.Replies.{node_reply}
 

@@ -3,15 +3,15 @@ ghost use Rattle.std.specs.Prelude.{◌≡◌, true, All, IfOk};
 ghost use Rattle.model_items.specs.Plain.{CitesWell};
 ghost use Rattle.model_page.specs.Editable.{all_refer};
 ghost use Rattle.ve_answers.specs.Replies.{html_reply};
-ghost use Rattle.ve_fresh.specs.Originals.{opened_over, IsFirst};
+ghost use Rattle.ve_write.specs.Originals.{opened_over, IsFirst};
 ghost use Rattle.ve_offsets.specs.Docs.{page_items, IsDoc};
-ghost use Rattle.ve_replies.specs.Answers.{reply_of, AnswerCites};
+ghost use Rattle.ve_json.specs.Answers.{reply_of, AnswerCites};
 
 use std::alloc::Global;
 use ve_base::{Bytes, Memory, Text};
+use ve_json::Answer;
 use ve_offsets::Doc;
 use ve_origin::Origins;
-use ve_replies::Answer;
 use ve_write::write;
 
 /// To `html`: the page that the list gives, after the one that was first read. What is written is UTF-8.

@@ -3,15 +3,15 @@ ghost use Rattle.std.specs.Prelude.{◌≡◌, length, unwrap_or, All, IfOk};
 ghost use Rattle.model_items.specs.Plain.{CitesWell};
 ghost use Rattle.ve_answers.specs.Replies.{caret_reply, items_reply, refs_reply};
 ghost use Rattle.ve_offsets.specs.Docs.{page_items};
-ghost use Rattle.ve_replies.specs.Answers.{reply_of, AnswerCites};
+ghost use Rattle.ve_json.specs.Answers.{reply_of, AnswerCites};
 
 use model_edit::Selection;
 use model_world::Refusal;
 use std::alloc::Global;
 use ve_base::Memory;
+use ve_internal::table;
+use ve_json::Answer;
 use ve_offsets::Doc;
-use ve_references::table;
-use ve_replies::Answer;
 
 /// To `data`: the items from one place up to another, up to the list's end where none is named; or the range is none of the
 /// list. They are lent.

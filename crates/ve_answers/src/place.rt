@@ -3,13 +3,13 @@ ghost use Rattle.std.specs.Prelude.{◌≡◌, ◌≤◌, length};
 ghost use Rattle.model_items.specs.Tree.{class_at, node_at};
 ghost use Rattle.ve_answers.specs.Replies.{node_reply};
 ghost use Rattle.ve_offsets.specs.Docs.{page_items, IsDoc};
-ghost use Rattle.ve_replies.specs.Answers.{reply_of, AnswerCites};
+ghost use Rattle.ve_json.specs.Answers.{reply_of, AnswerCites};
 ghost use Rattle.ve_tree.specs.IsTree.{unvalued};
 
 use model_items::OffsetClass;
 use model_world::Refusal;
+use ve_json::Answer;
 use ve_offsets::{Doc, is_content, is_inside_leaf};
-use ve_replies::Answer;
 
 /// What an offset is.
 fn class_at(doc: Doc<'_>, at: usize) -> OffsetClass

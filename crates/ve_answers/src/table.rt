@@ -4,14 +4,14 @@ ghost use Rattle.model_items.specs.Plain.{CitesWell};
 ghost use Rattle.ve_answers.specs.Faults.{refusal_by};
 ghost use Rattle.ve_answers.specs.Replies.{grid_reply};
 ghost use Rattle.ve_offsets.specs.Docs.{page_items, IsDoc};
-ghost use Rattle.ve_replies.specs.Answers.{reply_of, AnswerCites};
+ghost use Rattle.ve_json.specs.Answers.{reply_of, AnswerCites};
 
 use model_edit::GridCell;
 use model_world::{GridCells, Refusal};
 use std::alloc::Global;
 use ve_base::Memory;
+use ve_json::Answer;
 use ve_offsets::Doc;
-use ve_replies::Answer;
 use ve_tables::TableFault;
 
 /// The refusal that a table's fault is, and none for want of memory.

@@ -3,16 +3,16 @@ ghost use Rattle.std.specs.Prelude.{◌≡◌, ◌++◌, ◌∷◌, ◌≤◌, �
 ghost use Rattle.ve_answers.specs.Replies.{tree_reply};
 ghost use Rattle.ve_answers.specs.Words.{bracket_word, run_words, words_after, GoesOn};
 ghost use Rattle.ve_offsets.specs.Docs.{page_items, IsDoc};
-ghost use Rattle.ve_replies.specs.Answers.{reply_of, AnswerCites};
+ghost use Rattle.ve_json.specs.Answers.{reply_of, AnswerCites};
 
 use model_items::Item;
 use model_world::{TreeWord, TreeWords};
 use std::alloc::Global;
 use ve_base::Memory;
 use ve_items::Linear;
+use ve_json::Answer;
 use ve_kinds::Kind;
 use ve_offsets::Doc;
-use ve_replies::Answer;
 
 /// Appends a run of so many characters, where there are some.
 fn push_run(count: usize, words: &mut TreeWords) -> Result<(), Memory>

@@ -5,7 +5,7 @@ use Rattle.model_edit.specs.declared.build_fault.BuildFault.TheVariants as build
 use Rattle.model_edit.specs.declared.table_fault.TableFault.TheVariants as table
 use Rattle.model_world.specs.declared.command.Request.TheVariants as request
 use Rattle.model_world.specs.declared.refusal.Refusal.TheVariants as refusal
-use Rattle.ve_changes.specs.declared.faults.Stop.TheVariants as stop
+use Rattle.ve_changes.specs.declared.faults.ChangeStop.TheVariants as stop
 use Rattle.ve_changes.specs.Stops.{IsRefused, build_stop, table_stop}
 use Rattle.ve_changes.specs.Moves.{is_move, moved_by}
 

@@ -7,3 +7,7 @@ pub mod MoveLemmas
 pub mod CaretLemmas
 mod CaretExamples
 pub mod PastedLemmas
+pub mod BatchLemmas
+pub mod TypedCaretLemmas
+pub mod TypingLemmas
+mod BatchExamples

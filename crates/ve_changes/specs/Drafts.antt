@@ -5,7 +5,7 @@ use Rattle.model_change.specs.Transaction.{Transaction}
 use Rattle.model_world.specs.declared.refusal.Refusal.{Refusal}
 use Rattle.ve_tx.specs.declared.draft.Draft.{Draft}
 use Rattle.ve_editor.specs.Edited.{IsDraftOf, drafted}
-use Rattle.ve_changes.specs.declared.faults.Stop.{Stop}
+use Rattle.ve_changes.specs.declared.faults.ChangeStop.{ChangeStop}
 use Rattle.ve_changes.specs.Stops.{IsRefused}
 
 -- The draft is one over this store, and is this transaction.
@@ -14,5 +14,5 @@ pub record IsDrafted (store : List Value) (meant : Result Transaction Refusal) (
   pub same : meant ≡ Ok (drafted store d)
 
 -- A draft is what is meant; what stops it is the refusal that is meant, or want of memory.
-abbrev pub Drafts : List Value → Result Transaction Refusal → Result Draft Stop → Type 0
+abbrev pub Drafts : List Value → Result Transaction Refusal → Result Draft ChangeStop → Type 0
 Drafts store meant result = MatchResult result (IsDrafted store meant) (λ why. IsRefused why meant)

@@ -10,17 +10,17 @@ use Rattle.model_site.specs.declared.edit_fault.EditFault.{EditFault}
 use Rattle.model_site.specs.declared.edit_fault.EditFault.TheVariants as edit
 use Rattle.model_world.specs.declared.refusal.Refusal.{Refusal}
 use Rattle.model_world.specs.declared.refusal.Refusal.TheVariants as refusal
-use Rattle.ve_changes.specs.declared.faults.Stop.{Stop}
-use Rattle.ve_changes.specs.declared.faults.Stop.TheVariants as stop
+use Rattle.ve_changes.specs.declared.faults.ChangeStop.{ChangeStop}
+use Rattle.ve_changes.specs.declared.faults.ChangeStop.TheVariants as stop
 
 -- A refusal is the model's; memory may be wanting at any time.
-abbrev pub IsRefused : {A : Type 0} → Stop → Result A Refusal → Type 0
+abbrev pub IsRefused : {A : Type 0} → ChangeStop → Result A Refusal → Type 0
 IsRefused (stop.Refused refusal) meant = meant ≡ Err refusal
 IsRefused stop.Memory meant = Unit {0}
 
 -- ---- the fault of each builder as what stops it, and that of performing a transaction
 
-abbrev pub build_stop : BuildFault → Stop
+abbrev pub build_stop : BuildFault → ChangeStop
 build_stop (build.BadOffset at) = stop.Refused (refusal.BadOffset at)
 build_stop (build.NoPlace at) = stop.Refused (refusal.NoPlace at)
 build_stop (build.NotContent at) = stop.Refused (refusal.NotContent at)
@@ -34,7 +34,7 @@ build_stop (build.NotOpening at) = stop.Refused (refusal.NotOpening at)
 build_stop (build.BadAttr at) = stop.Refused (refusal.BadAttr at)
 build_stop build.Memory = stop.Memory
 
-abbrev pub table_stop : TableFault → Stop
+abbrev pub table_stop : TableFault → ChangeStop
 table_stop (table.NotTable at) = stop.Refused (refusal.NotTable at)
 table_stop (table.Crooked at) = stop.Refused (refusal.Crooked at)
 table_stop (table.BadRow row rows) = stop.Refused (refusal.BadRow row rows)
@@ -45,13 +45,13 @@ table_stop (table.Spanned at) = stop.Refused (refusal.Spanned at)
 table_stop (table.SpanFull at) = stop.Refused (refusal.SpanFull at)
 table_stop table.Memory = stop.Memory
 
-abbrev pub list_stop : ListFault → Stop
+abbrev pub list_stop : ListFault → ChangeStop
 list_stop (moved.NotListItem at) = stop.Refused (refusal.NotListItem at)
 list_stop (moved.NoSibling at) = stop.Refused (refusal.NoSibling at)
 list_stop (moved.NotNested at) = stop.Refused (refusal.NotNested at)
 list_stop moved.Memory = stop.Memory
 
-abbrev pub edit_stop : EditFault → Stop
+abbrev pub edit_stop : EditFault → ChangeStop
 edit_stop (edit.BadLength has needs) = stop.Refused (refusal.BadLength has needs)
 edit_stop (edit.Mismatch at) = stop.Refused refusal.StoreFull
 edit_stop (edit.BadAttr at) = stop.Refused (refusal.BadAttr at)

@@ -15,7 +15,7 @@ ghost use Rattle.ve_offsets.specs.Docs.{page_items};
 ghost use Rattle.ve_changes.specs.Applied as words;
 ghost use Rattle.ve_changes.specs.Drafts.{Drafts};
 
-use crate::Stop;
+use crate::ChangeStop;
 use crate::cited::cited_items;
 use model_world::{OpWords, Refusal};
 use std::alloc::Global;
@@ -128,7 +128,7 @@ fn ops_on(
 ///
 /// `BadLength` comes exactly where the items that they pass and remove aren't as many as the list has. Lengths that add up
 /// to more than 2^60, those of inserted items among them, are a want of memory like any other.
-pub fn applied_draft(alloc: Global, doc: Doc<'_>, ops: &[OpWords]) -> Result<Draft, Stop>
+pub fn applied_draft(alloc: Global, doc: Doc<'_>, ops: &[OpWords]) -> Result<Draft, ChangeStop>
     requires written { IsWritten (change.Apply ops.now) }
     requires page { IsPage doc.store.now doc.list.now.items doc.tree.now }
     ensures { Drafts doc.entry.store.now (model.applied (page_items doc.entry) ops.now) result }
@@ -136,12 +136,12 @@ pub fn applied_draft(alloc: Global, doc: Doc<'_>, ops: &[OpWords]) -> Result<Dra
     let has = doc.list.len();
     let needs = needs(ops)?;
     if needs != has {
-        return Err(Stop::Refused(Refusal::BadLength { has, needs }));
+        return Err(ChangeStop::Refused(Refusal::BadLength { has, needs }));
     }
     let mut values = NewValues::new(alloc, doc.store);
     let ops = ops_on(alloc, doc, &mut values, ops)?;
     match Transaction::from_ops(ops) {
         Ok(tx) => Ok(Draft { tx, values }),
-        Err(_) => Err(Stop::Memory),
+        Err(_) => Err(ChangeStop::Memory),
     }
 }

@@ -16,14 +16,13 @@ ghost use Rattle.ve_editor.specs.Page.{IsPage};
 ghost use Rattle.ve_offsets.specs.Docs.{page_items};
 ghost use Rattle.ve_changes.specs.Drafts.{Drafts};
 
-use crate::Stop;
+use crate::ChangeStop;
 use model_edit::WrapPlan;
 use std::alloc::Global;
 use ve_base::Mark;
 use ve_build_insert::{plain_text_insertion, split, text_insertion};
 use ve_build_remove::removal;
-use ve_build_shape::{attribute, convert, marking, unmarking};
-use ve_build_wrap::wrap;
+use ve_build_shape::{attribute, convert, marking, unmarking, wrap};
 use ve_kinds::Kind;
 use ve_offsets::Doc;
 use ve_store::NewValues;
@@ -40,7 +39,12 @@ pub fn over_store(alloc: Global, doc: Doc<'_>, tx: Transaction) -> Draft
 }
 
 /// A text put in with the marks of what stands to the left.
-pub fn text_like_left(alloc: Global, doc: Doc<'_>, at: usize, text: &str) -> Result<Draft, Stop>
+pub fn text_like_left(
+    alloc: Global,
+    doc: Doc<'_>,
+    at: usize,
+    text: &str,
+) -> Result<Draft, ChangeStop>
     requires page { IsPage doc.store.now doc.list.now.items doc.tree.now }
     ensures { Drafts doc.entry.store.now (built (text_meant doc.entry at text.now)) result }
 {
@@ -50,7 +54,7 @@ pub fn text_like_left(alloc: Global, doc: Doc<'_>, at: usize, text: &str) -> Res
 }
 
 /// A text put in without marks.
-pub fn plain_text(alloc: Global, doc: Doc<'_>, at: usize, text: &str) -> Result<Draft, Stop>
+pub fn plain_text(alloc: Global, doc: Doc<'_>, at: usize, text: &str) -> Result<Draft, ChangeStop>
     requires page { IsPage doc.store.now doc.list.now.items doc.tree.now }
     ensures { Drafts doc.entry.store.now (built (plain_text_meant doc.entry at text.now)) result }
 {
@@ -60,7 +64,12 @@ pub fn plain_text(alloc: Global, doc: Doc<'_>, at: usize, text: &str) -> Result<
 }
 
 /// Open nodes split at an offset.
-pub fn split_draft(alloc: Global, doc: Doc<'_>, at: usize, depth: usize) -> Result<Draft, Stop>
+pub fn split_draft(
+    alloc: Global,
+    doc: Doc<'_>,
+    at: usize,
+    depth: usize,
+) -> Result<Draft, ChangeStop>
     requires page { IsPage doc.store.now doc.list.now.items doc.tree.now }
     ensures { Drafts doc.entry.store.now (built (split (page_items doc.entry) at depth)) result }
 {
@@ -70,7 +79,12 @@ pub fn split_draft(alloc: Global, doc: Doc<'_>, at: usize, depth: usize) -> Resu
 }
 
 /// A range removed.
-pub fn removal_draft(alloc: Global, doc: Doc<'_>, from: usize, to: usize) -> Result<Draft, Stop>
+pub fn removal_draft(
+    alloc: Global,
+    doc: Doc<'_>,
+    from: usize,
+    to: usize,
+) -> Result<Draft, ChangeStop>
     requires page { IsPage doc.store.now doc.list.now.items doc.tree.now }
     ensures { Drafts doc.entry.store.now (built (removal (page_items doc.entry) from to)) result }
 {
@@ -85,7 +99,7 @@ pub fn marking_draft(
     from: usize,
     to: usize,
     mark: &Mark,
-) -> Result<Draft, Stop>
+) -> Result<Draft, ChangeStop>
     requires page { IsPage doc.store.now doc.list.now.items doc.tree.now }
     ensures { Drafts doc.entry.store.now (built (marking (page_items doc.entry) from to mark.now)) result }
 {
@@ -101,7 +115,7 @@ pub fn unmarking_draft(
     from: usize,
     to: usize,
     mark: &Mark,
-) -> Result<Draft, Stop>
+) -> Result<Draft, ChangeStop>
     requires page { IsPage doc.store.now doc.list.now.items doc.tree.now }
     ensures { Drafts doc.entry.store.now (built (unmarking (page_items doc.entry) from to mark.now)) result }
 {
@@ -117,7 +131,7 @@ pub fn wrap_draft(
     from: usize,
     to: usize,
     plan: &WrapPlan,
-) -> Result<Draft, Stop>
+) -> Result<Draft, ChangeStop>
     requires page { IsPage doc.store.now doc.list.now.items doc.tree.now }
     ensures { Drafts doc.entry.store.now (built (wrap (page_items doc.entry) from to plan.now)) result }
 {
@@ -127,7 +141,12 @@ pub fn wrap_draft(
 }
 
 /// A branch of content with another kind.
-pub fn conversion_draft(alloc: Global, doc: Doc<'_>, at: usize, kind: Kind) -> Result<Draft, Stop>
+pub fn conversion_draft(
+    alloc: Global,
+    doc: Doc<'_>,
+    at: usize,
+    kind: Kind,
+) -> Result<Draft, ChangeStop>
     requires page { IsPage doc.store.now doc.list.now.items doc.tree.now }
     ensures { Drafts doc.entry.store.now (built (convert (page_items doc.entry) at kind)) result }
 {
@@ -142,7 +161,7 @@ pub fn attribute_draft(
     at: usize,
     name: &str,
     to: Option<&str>,
-) -> Result<Draft, Stop>
+) -> Result<Draft, ChangeStop>
     requires page { IsPage doc.store.now doc.list.now.items doc.tree.now }
     ensures { Drafts doc.entry.store.now (built (attribute_spelled (page_items doc.entry) at name.now to.entry)) result }
 {

@@ -8,7 +8,7 @@ ghost use Rattle.ve_changes.specs.Carets.{range_to_erase, selection_between, Era
 ghost use Rattle.ve_changes.specs.Stops.{IsRefused};
 ghost use Rattle.ve_offsets.specs.Docs.{page_items, IsDoc};
 
-use crate::Stop;
+use crate::ChangeStop;
 use model_edit::{By, Dir, Selection};
 use model_world::Refusal;
 use std::alloc::Global;
@@ -77,7 +77,13 @@ fn place_by(
 
 /// Where a caret of a page goes, by one cluster or one word: a caret that stands at no content offset is refused, and so is
 /// one at the end of its content branch in that direction. A selection may end where it comes.
-pub fn next_place(alloc: Global, doc: Doc<'_>, at: usize, dir: Dir, by: By) -> Result<usize, Stop>
+pub fn next_place(
+    alloc: Global,
+    doc: Doc<'_>,
+    at: usize,
+    dir: Dir,
+    by: By,
+) -> Result<usize, ChangeStop>
     requires doc { IsDoc doc }
     requires within { at ≤ length doc.list.now.items }
     ensures ok { IfOk result (λ place. model.next_place (page_items doc.entry) at dir by ≡ Ok place) }
@@ -85,11 +91,11 @@ pub fn next_place(alloc: Global, doc: Doc<'_>, at: usize, dir: Dir, by: By) -> R
     ensures refused { IfErr result (λ why. IsRefused why (model.next_place (page_items doc.entry) at dir by)) }
 {
     if !holds_content(doc, at) {
-        return Err(Stop::Refused(Refusal::NotContent { at }));
+        return Err(ChangeStop::Refused(Refusal::NotContent { at }));
     }
     match place_by(alloc, doc, at, dir, by)? {
         Some(place) => Ok(place),
-        None => Err(Stop::Refused(Refusal::Edge { at })),
+        None => Err(ChangeStop::Refused(Refusal::Edge { at })),
     }
 }
 
@@ -101,7 +107,7 @@ pub fn erased_range(
     selection: Selection,
     dir: Dir,
     by: By,
-) -> Result<Selection, Stop>
+) -> Result<Selection, ChangeStop>
     requires doc { IsDoc doc }
     requires within { selection.focus ≤ length doc.list.now.items }
     ensures ok { IfOk result (λ range. range_to_erase (page_items doc.entry) selection dir by ≡ Ok range) }

@@ -9,7 +9,7 @@ ghost use Rattle.ve_offsets.specs.Docs.{page_items};
 ghost use Rattle.ve_changes.specs.Stops.{IsRefused};
 ghost use Rattle.ve_changes.specs.Drafts.{Drafts, IsDrafted};
 
-use crate::Stop;
+use crate::ChangeStop;
 use crate::applied::applied_draft;
 use crate::built::{
     attribute_draft, conversion_draft, marking_draft, plain_text, removal_draft, split_draft,
@@ -29,7 +29,7 @@ fn typed(
     at: usize,
     text: &Text,
     marks: TextMarks,
-) -> Result<Draft, Stop>
+) -> Result<Draft, ChangeStop>
     requires page { IsPage doc.store.now doc.list.now.items doc.tree.now }
     ensures { Drafts doc.entry.store.now (built (text_typed marks (page_items doc.entry) at text.now)) result }
 {
@@ -55,7 +55,7 @@ fn spelled(value: &Option<Text>) -> Option<&str>
 /// It is refused as the change's builder refuses, with the place, the range or the depth that the builder names; operations
 /// as they are written are refused with the lengths where these differ. It is asked that they are as a line that was read
 /// writes them, in normal form.
-pub fn change_draft(alloc: Global, doc: Doc<'_>, change: &Change) -> Result<Draft, Stop>
+pub fn change_draft(alloc: Global, doc: Doc<'_>, change: &Change) -> Result<Draft, ChangeStop>
     requires written { IsWritten change.now }
     requires page { IsPage doc.store.now doc.list.now.items doc.tree.now }
     ensures ok { IfOk result (IsDrafted doc.entry.store.now (change_of (page_items doc.entry) change.now)) }

@@ -7,7 +7,7 @@ use ve_base::Memory;
 
 /// Why what a line asks for isn't done: it is refused, or there is no memory for it.
 #[derive(Clone, Copy, Debug, PartialEq, Eq, Error)]
-pub enum Stop {
+pub enum ChangeStop {
     /// It is refused.
     #[error("it is refused")]
     Refused(Refusal),
@@ -16,18 +16,18 @@ pub enum Stop {
     Memory,
 }
 
-impl From<Memory> for Stop {
+impl From<Memory> for ChangeStop {
     ghost use Rattle.std.specs.Prelude.{◌≡◌};
-    ghost use Rattle.ve_changes.specs.declared.faults.Stop.TheVariants as stop;
+    ghost use Rattle.ve_changes.specs.declared.faults.ChangeStop.TheVariants as stop;
 
     ghost from_gives = { λ _ given. given ≡ stop.Memory };
 
     fn from(_: Memory) -> Self {
-        Stop::Memory
+        ChangeStop::Memory
     }
 }
 
-impl From<BuildFault> for Stop {
+impl From<BuildFault> for ChangeStop {
     ghost use Rattle.std.specs.Prelude.{◌≡◌};
     ghost use Rattle.ve_changes.specs.Stops.{build_stop};
 
@@ -35,23 +35,26 @@ impl From<BuildFault> for Stop {
 
     fn from(fault: BuildFault) -> Self {
         match fault {
-            BuildFault::BadOffset { at } => Stop::Refused(Refusal::BadOffset { at }),
-            BuildFault::NoPlace { at } => Stop::Refused(Refusal::NoPlace { at }),
-            BuildFault::NotContent { at } => Stop::Refused(Refusal::NotContent { at }),
-            BuildFault::BadDepth { depth } => Stop::Refused(Refusal::BadDepth { depth }),
-            BuildFault::BadRange { from, to } => Stop::Refused(Refusal::BadRange { from, to }),
-            BuildFault::BadMark => Stop::Refused(Refusal::BadMark),
-            BuildFault::TooManyMarks { at } => Stop::Refused(Refusal::TooManyMarks { at }),
-            BuildFault::NotWrapped { at } => Stop::Refused(Refusal::NotWrapped { at }),
-            BuildFault::NotBranch { at } => Stop::Refused(Refusal::NotBranch { at }),
-            BuildFault::NotOpening { at } => Stop::Refused(Refusal::NotOpening { at }),
-            BuildFault::BadAttr { at } => Stop::Refused(Refusal::BadAttr { at }),
-            BuildFault::Memory => Stop::Memory,
+            BuildFault::BadOffset { at } => ChangeStop::Refused(Refusal::BadOffset { at }),
+            BuildFault::NoPlace { at } => ChangeStop::Refused(Refusal::NoPlace { at }),
+            BuildFault::NotContent { at } => ChangeStop::Refused(Refusal::NotContent { at }),
+            BuildFault::BadDepth { depth } => ChangeStop::Refused(Refusal::BadDepth { depth }),
+            BuildFault::BadRange { from, to } => ChangeStop::Refused(Refusal::BadRange {
+                from,
+                to,
+            }),
+            BuildFault::BadMark => ChangeStop::Refused(Refusal::BadMark),
+            BuildFault::TooManyMarks { at } => ChangeStop::Refused(Refusal::TooManyMarks { at }),
+            BuildFault::NotWrapped { at } => ChangeStop::Refused(Refusal::NotWrapped { at }),
+            BuildFault::NotBranch { at } => ChangeStop::Refused(Refusal::NotBranch { at }),
+            BuildFault::NotOpening { at } => ChangeStop::Refused(Refusal::NotOpening { at }),
+            BuildFault::BadAttr { at } => ChangeStop::Refused(Refusal::BadAttr { at }),
+            BuildFault::Memory => ChangeStop::Memory,
         }
     }
 }
 
-impl From<TableFault> for Stop {
+impl From<TableFault> for ChangeStop {
     ghost use Rattle.std.specs.Prelude.{◌≡◌};
     ghost use Rattle.ve_changes.specs.Stops.{table_stop};
 
@@ -59,23 +62,23 @@ impl From<TableFault> for Stop {
 
     fn from(fault: TableFault) -> Self {
         match fault {
-            TableFault::NotTable { at } => Stop::Refused(Refusal::NotTable { at }),
-            TableFault::Crooked { at } => Stop::Refused(Refusal::Crooked { at }),
-            TableFault::BadRow { row, rows } => Stop::Refused(Refusal::BadRow { row, rows }),
-            TableFault::BadColumn { column, columns } => Stop::Refused(Refusal::BadColumn {
+            TableFault::NotTable { at } => ChangeStop::Refused(Refusal::NotTable { at }),
+            TableFault::Crooked { at } => ChangeStop::Refused(Refusal::Crooked { at }),
+            TableFault::BadRow { row, rows } => ChangeStop::Refused(Refusal::BadRow { row, rows }),
+            TableFault::BadColumn { column, columns } => ChangeStop::Refused(Refusal::BadColumn {
                 column,
                 columns,
             }),
-            TableFault::TooWide { columns } => Stop::Refused(Refusal::TooWide { columns }),
-            TableFault::Ragged { row } => Stop::Refused(Refusal::Ragged { row }),
-            TableFault::Spanned { at } => Stop::Refused(Refusal::Spanned { at }),
-            TableFault::SpanFull { at } => Stop::Refused(Refusal::SpanFull { at }),
-            TableFault::Memory => Stop::Memory,
+            TableFault::TooWide { columns } => ChangeStop::Refused(Refusal::TooWide { columns }),
+            TableFault::Ragged { row } => ChangeStop::Refused(Refusal::Ragged { row }),
+            TableFault::Spanned { at } => ChangeStop::Refused(Refusal::Spanned { at }),
+            TableFault::SpanFull { at } => ChangeStop::Refused(Refusal::SpanFull { at }),
+            TableFault::Memory => ChangeStop::Memory,
         }
     }
 }
 
-impl From<ListFault> for Stop {
+impl From<ListFault> for ChangeStop {
     ghost use Rattle.std.specs.Prelude.{◌≡◌};
     ghost use Rattle.ve_changes.specs.Stops.{list_stop};
 
@@ -83,17 +86,17 @@ impl From<ListFault> for Stop {
 
     fn from(fault: ListFault) -> Self {
         match fault {
-            ListFault::NotListItem { at } => Stop::Refused(Refusal::NotListItem { at }),
-            ListFault::NoSibling { at } => Stop::Refused(Refusal::NoSibling { at }),
-            ListFault::NotNested { at } => Stop::Refused(Refusal::NotNested { at }),
-            ListFault::Memory => Stop::Memory,
+            ListFault::NotListItem { at } => ChangeStop::Refused(Refusal::NotListItem { at }),
+            ListFault::NoSibling { at } => ChangeStop::Refused(Refusal::NoSibling { at }),
+            ListFault::NotNested { at } => ChangeStop::Refused(Refusal::NotNested { at }),
+            ListFault::Memory => ChangeStop::Memory,
         }
     }
 }
 
 /// That an item differs never comes of what a line asks, since what it takes out is the list's own; it would have the word of
 /// a full store.
-impl From<EditFault> for Stop {
+impl From<EditFault> for ChangeStop {
     ghost use Rattle.std.specs.Prelude.{◌≡◌};
     ghost use Rattle.ve_changes.specs.Stops.{edit_stop};
 
@@ -101,13 +104,20 @@ impl From<EditFault> for Stop {
 
     fn from(fault: EditFault) -> Self {
         match fault {
-            EditFault::BadLength { has, needs } => Stop::Refused(Refusal::BadLength { has, needs }),
-            EditFault::BadAttr { at } => Stop::Refused(Refusal::BadAttr { at }),
-            EditFault::Unlawful { at } => Stop::Refused(Refusal::Unlawful { at }),
-            EditFault::TooDeep { at } => Stop::Refused(Refusal::TooDeep { at }),
-            EditFault::TooManyItems { count } => Stop::Refused(Refusal::TooManyItems { count }),
-            EditFault::StoreFull | EditFault::Mismatch { .. } => Stop::Refused(Refusal::StoreFull),
-            EditFault::Memory => Stop::Memory,
+            EditFault::BadLength { has, needs } => ChangeStop::Refused(Refusal::BadLength {
+                has,
+                needs,
+            }),
+            EditFault::BadAttr { at } => ChangeStop::Refused(Refusal::BadAttr { at }),
+            EditFault::Unlawful { at } => ChangeStop::Refused(Refusal::Unlawful { at }),
+            EditFault::TooDeep { at } => ChangeStop::Refused(Refusal::TooDeep { at }),
+            EditFault::TooManyItems { count } => ChangeStop::Refused(Refusal::TooManyItems {
+                count,
+            }),
+            EditFault::StoreFull | EditFault::Mismatch { .. } => ChangeStop::Refused(
+                Refusal::StoreFull,
+            ),
+            EditFault::Memory => ChangeStop::Memory,
         }
     }
 }

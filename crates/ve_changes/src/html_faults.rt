@@ -1,18 +1,18 @@
 // Which refusal the fault of the text of a page or of a fragment is.
 ghost use Rattle.std.specs.Prelude.{◌≡◌};
 
-use crate::Stop;
+use crate::ChangeStop;
 use model_world::{HtmlWord, Refusal};
 use ve_html_tree::HtmlFault;
 use ve_read::FragmentFault;
 
-fn html_word(word: HtmlWord, at: usize) -> Stop
-    ensures { result ≡ Stop.Refused (Refusal.Html word at) }
+fn html_word(word: HtmlWord, at: usize) -> ChangeStop
+    ensures { result ≡ ChangeStop.Refused (Refusal.Html word at) }
 {
-    Stop::Refused(Refusal::Html { word, at })
+    ChangeStop::Refused(Refusal::Html { word, at })
 }
 
-impl From<HtmlFault> for Stop {
+impl From<HtmlFault> for ChangeStop {
     ghost use Rattle.std.specs.Prelude.{◌≡◌};
     ghost use Rattle.ve_changes.specs.HtmlStops.{html_stop};
 
@@ -25,12 +25,12 @@ impl From<HtmlFault> for Stop {
             HtmlFault::Unclosed { at } => html_word(HtmlWord::Unclosed, at),
             HtmlFault::Stray { at } => html_word(HtmlWord::Stray, at),
             HtmlFault::TooDeep { at } => html_word(HtmlWord::TooDeep, at),
-            HtmlFault::Memory => Stop::Memory,
+            HtmlFault::Memory => ChangeStop::Memory,
         }
     }
 }
 
-impl From<FragmentFault> for Stop {
+impl From<FragmentFault> for ChangeStop {
     ghost use Rattle.std.specs.Prelude.{◌≡◌};
     ghost use Rattle.ve_changes.specs.HtmlStops.{fragment_stop};
 
@@ -38,9 +38,9 @@ impl From<FragmentFault> for Stop {
 
     fn from(fault: FragmentFault) -> Self {
         match fault {
-            FragmentFault::Html(fault) => Stop::from(fault),
-            FragmentFault::TooManyMarks { at } => Stop::Refused(Refusal::TooManyMarks { at }),
-            FragmentFault::Memory => Stop::Memory,
+            FragmentFault::Html(fault) => ChangeStop::from(fault),
+            FragmentFault::TooManyMarks { at } => ChangeStop::Refused(Refusal::TooManyMarks { at }),
+            FragmentFault::Memory => ChangeStop::Memory,
         }
     }
 }

@@ -9,7 +9,7 @@ ghost use Rattle.ve_changes.specs.Stops.{IsRefused};
 ghost use Rattle.ve_changes.specs.Drafts.{Drafts, IsDrafted};
 ghost use Rattle.ve_changes.specs.Moves as model;
 
-use crate::Stop;
+use crate::ChangeStop;
 use crate::built::over_store;
 use model_world::Request;
 use std::alloc::Global;
@@ -32,7 +32,7 @@ pub fn is_move(request: &Request) -> bool
     )
 }
 
-fn row_in(alloc: Global, doc: Doc<'_>, at: usize, row: usize) -> Result<Draft, Stop>
+fn row_in(alloc: Global, doc: Doc<'_>, at: usize, row: usize) -> Result<Draft, ChangeStop>
     requires page { IsPage doc.store.now doc.list.now.items doc.tree.now }
     ensures { Drafts doc.entry.store.now (refused_as table_refusal (model_tables.row_in (page_items doc.entry) at row)) result }
 {
@@ -40,7 +40,7 @@ fn row_in(alloc: Global, doc: Doc<'_>, at: usize, row: usize) -> Result<Draft, S
     Ok(over_store(alloc, doc, tx))
 }
 
-fn row_out(alloc: Global, doc: Doc<'_>, at: usize, row: usize) -> Result<Draft, Stop>
+fn row_out(alloc: Global, doc: Doc<'_>, at: usize, row: usize) -> Result<Draft, ChangeStop>
     requires page { IsPage doc.store.now doc.list.now.items doc.tree.now }
     ensures { Drafts doc.entry.store.now (refused_as table_refusal (model_tables.row_out (page_items doc.entry) at row)) result }
 {
@@ -48,7 +48,7 @@ fn row_out(alloc: Global, doc: Doc<'_>, at: usize, row: usize) -> Result<Draft, 
     Ok(over_store(alloc, doc, tx))
 }
 
-fn col_in(alloc: Global, doc: Doc<'_>, at: usize, column: usize) -> Result<Draft, Stop>
+fn col_in(alloc: Global, doc: Doc<'_>, at: usize, column: usize) -> Result<Draft, ChangeStop>
     requires page { IsPage doc.store.now doc.list.now.items doc.tree.now }
     ensures { Drafts doc.entry.store.now (refused_as table_refusal (model_tables.col_in (page_items doc.entry) at column)) result }
 {
@@ -56,7 +56,7 @@ fn col_in(alloc: Global, doc: Doc<'_>, at: usize, column: usize) -> Result<Draft
     Ok(over_store(alloc, doc, tx))
 }
 
-fn col_out(alloc: Global, doc: Doc<'_>, at: usize, column: usize) -> Result<Draft, Stop>
+fn col_out(alloc: Global, doc: Doc<'_>, at: usize, column: usize) -> Result<Draft, ChangeStop>
     requires page { IsPage doc.store.now doc.list.now.items doc.tree.now }
     ensures { Drafts doc.entry.store.now (refused_as table_refusal (model_tables.col_out (page_items doc.entry) at column)) result }
 {
@@ -64,7 +64,7 @@ fn col_out(alloc: Global, doc: Doc<'_>, at: usize, column: usize) -> Result<Draf
     Ok(over_store(alloc, doc, tx))
 }
 
-fn indent(alloc: Global, doc: Doc<'_>, at: usize) -> Result<Draft, Stop>
+fn indent(alloc: Global, doc: Doc<'_>, at: usize) -> Result<Draft, ChangeStop>
     requires page { IsPage doc.store.now doc.list.now.items doc.tree.now }
     ensures { Drafts doc.entry.store.now (refused_as list_refusal (model_lists.indent (page_items doc.entry) at)) result }
 {
@@ -72,7 +72,7 @@ fn indent(alloc: Global, doc: Doc<'_>, at: usize) -> Result<Draft, Stop>
     Ok(over_store(alloc, doc, tx))
 }
 
-fn outdent(alloc: Global, doc: Doc<'_>, at: usize) -> Result<Draft, Stop>
+fn outdent(alloc: Global, doc: Doc<'_>, at: usize) -> Result<Draft, ChangeStop>
     requires page { IsPage doc.store.now doc.list.now.items doc.tree.now }
     ensures { Drafts doc.entry.store.now (refused_as list_refusal (model_lists.outdent (page_items doc.entry) at)) result }
 {
@@ -83,7 +83,7 @@ fn outdent(alloc: Global, doc: Doc<'_>, at: usize) -> Result<Draft, Stop>
 
 /// The draft that moves a row, a column or a list item of a page, over the page's store; its values are as those of
 /// `change_draft`. It is refused as the move's builder refuses, with the place or the number that the builder names.
-pub fn move_draft(alloc: Global, doc: Doc<'_>, request: &Request) -> Result<Draft, Stop>
+pub fn move_draft(alloc: Global, doc: Doc<'_>, request: &Request) -> Result<Draft, ChangeStop>
     requires moves { model.is_move request.now ≡ true }
     requires page { IsPage doc.store.now doc.list.now.items doc.tree.now }
     ensures ok { IfOk result (IsDrafted doc.entry.store.now (model.moved_by (page_items doc.entry) request.now)) }

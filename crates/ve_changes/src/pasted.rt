@@ -4,7 +4,7 @@ ghost use Rattle.ve_editor.specs.Page.{IsPage};
 ghost use Rattle.ve_offsets.specs.Docs.{page_items};
 ghost use Rattle.ve_changes.specs.Drafts.{Drafts};
 
-use crate::Stop;
+use crate::ChangeStop;
 use model_world::Refusal;
 use std::alloc::Global;
 use ve_base::Text;
@@ -16,12 +16,17 @@ use ve_tx::Draft;
 
 /// A fragment put in, as it is where the nodes at the offset are open. The offset is judged first, then the spelling, then
 /// the marks, and then where the fragment may stand.
-pub fn pasted_draft(alloc: Global, doc: Doc<'_>, at: usize, html: &Text) -> Result<Draft, Stop>
+pub fn pasted_draft(
+    alloc: Global,
+    doc: Doc<'_>,
+    at: usize,
+    html: &Text,
+) -> Result<Draft, ChangeStop>
     requires page { IsPage doc.store.now doc.list.now.items doc.tree.now }
     ensures { Drafts doc.entry.store.now (fragment_inserted (page_items doc.entry) at html.now) result }
 {
     let Some(state) = open_at(doc, at) else {
-        return Err(Stop::Refused(Refusal::BadOffset { at }));
+        return Err(ChangeStop::Refused(Refusal::BadOffset { at }));
     };
     let mut values = NewValues::new(alloc, doc.store);
     let pieces = fragment(alloc, html.as_str(), &state, doc.store, &mut values)?;

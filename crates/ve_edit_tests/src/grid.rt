@@ -1,6 +1,6 @@
 // What no clause says: that the calls succeed where there is memory.
 use std::test::Fail;
-use ve_grid::{GridCell, Placing};
+use ve_tables::{GridCell, Placing};
 
 /// Two rows: a cell of two rows beside one, and below that another.
 const CELLS: [GridCell; 3] = [

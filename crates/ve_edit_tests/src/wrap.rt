@@ -6,7 +6,7 @@ use model_edit::{BuildFault, Kinds, Shape, Shapes, WrapPlan};
 use std::alloc::Global;
 use std::test::Fail;
 use ve_base::{Attrs, Memory};
-use ve_build_wrap::wrap;
+use ve_build_shape::wrap;
 use ve_items::Linear;
 use ve_kinds::Kind;
 use ve_offsets::Doc;

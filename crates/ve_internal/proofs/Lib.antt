@@ -1,1 +1,4 @@
 pub mod Composing
+pub mod KeyLemmas
+pub mod ItemLemmas
+pub mod NoteLemmas

@@ -1,3 +1,12 @@
 pub use Rattle.model_world.specs.Commands
+pub use Rattle.model_world.specs.Names
+pub use Rattle.model_world.specs.Shown
 pub use Rattle.model_world.specs.Spelled
-pub use Rattle.ve_replies.specs.Answers
+pub mod Gives
+pub mod CommandWords
+pub mod Spelling
+pub mod Pieces
+pub mod ReplyWords
+pub mod ReplyMembers
+pub mod Runs
+pub mod Answers

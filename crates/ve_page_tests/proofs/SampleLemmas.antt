@@ -10,10 +10,10 @@ use Rattle.model_items.specs.Plain.{plain_list, CitesWell}
 use Rattle.model_page.specs.Editable.{all_refer}
 use Rattle.model_page.specs.declared.ref_table.RefRow.{RefRow}
 use Rattle.model_page.specs.References.{table}
-use Rattle.ve_fresh.specs.Originals.{origin_of, IsFirst}
-use Rattle.ve_fresh.proofs.OriginalLemmas.{all_cite}
+use Rattle.ve_write.specs.Originals.{origin_of, IsFirst}
+use Rattle.ve_write.proofs.OriginalLemmas.{all_cite}
 use Rattle.ve_html_scan.specs.declared.token.Span.{Span}
-use Rattle.ve_nodes.specs.Siblings.{AllCite}
+use Rattle.ve_write.specs.Siblings.{AllCite}
 use Rattle.ve_origin.specs.Kept.{IsNodeRange}
 use Rattle.ve_origin.specs.Origins.{first_read, FirstRead}
 use Rattle.ve_origin.specs.declared.origin.OriginRow.{OriginRow}

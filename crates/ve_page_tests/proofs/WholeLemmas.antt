@@ -6,10 +6,10 @@ use Rattle.model_spelling.proofs.ForestLaws.{length_forest_nodes}
 use Rattle.ve_html_tree.specs.Nodes.{ShowNodes}
 use Rattle.ve_html_tree.specs.declared.node.Node.{Node}
 use Rattle.ve_classify.proofs.StandLemmas.{shown_count}
-use Rattle.ve_parts.proofs.TextLemmas.{forest_stands}
-use Rattle.ve_parts.proofs.PartLemmas.{all_parts}
-use Rattle.ve_content.specs.Parts.{SomeParts}
-use Rattle.ve_blocks.specs.Places.{SomeSiblings}
+use Rattle.ve_classify.proofs.TextLemmas.{forest_stands}
+use Rattle.ve_classify.proofs.PartLemmas.{all_parts}
+use Rattle.ve_read.specs.ContentParts.{SomeParts}
+use Rattle.ve_read.specs.Places.{SomeSiblings}
 
 pub whole_parts : (text : List ℕ) (nodes : List Node) (f : Forest) → IsUtf8 text → Spells text f → ShowNodes nodes (forest_nodes 0 0 f) → SomeParts text nodes 0 (length nodes) (length text)
 whole_parts text nodes f u s shown =

@@ -1,8 +1,8 @@
 // What no clause says: how sources read by the tags of HTML's phrasing content.
 use std::alloc::Global;
 use std::test::*;
-use ve_bare::reads_inline;
 use ve_base::Memory;
+use ve_write::reads_inline;
 
 /// Sources, and whether they read as inline elements and whitespace alone.
 const SOURCES: [(&str, bool); 6] = [

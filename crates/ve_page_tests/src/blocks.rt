@@ -1,12 +1,10 @@
 use std::alloc::Global;
 use std::test::*;
-use ve_blocks::read_siblings;
-use ve_classify::read_stands;
+use ve_classify::{Part, parts_stand, read_stands};
 use ve_html_tree::read;
 use ve_kinds::Kind;
-use ve_leaves::tags_are_read;
-use ve_parts::{Part, parts_stand};
-use ve_reader::{Purpose, ReadStop, Reader};
+use ve_read::read_siblings;
+use ve_reader::{Purpose, ReadStop, Reader, tags_are_read};
 
 /// How many items the children of a node of the kind are that have this text, and how many bytes of whitespace stand after them.
 fn counts(alloc: Global, text: &str, kind: Kind) -> Result<(usize, usize), ReadStop> {

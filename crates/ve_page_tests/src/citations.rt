@@ -1,7 +1,6 @@
 use std::alloc::Global;
 use std::test::*;
-use ve_citations::cited_mw;
-use ve_classify::{group_end, read_stands};
+use ve_classify::{cited_mw, group_end, read_stands};
 use ve_html_tree::read;
 
 /// Whether the `data-mw` of the group that a page begins with is lent, and is this.

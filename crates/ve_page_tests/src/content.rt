@@ -1,11 +1,9 @@
 use std::alloc::Global;
 use std::test::*;
-use ve_classify::read_stands;
-use ve_content::read_content;
+use ve_classify::{Part, parts_stand, read_stands};
 use ve_html_tree::read;
-use ve_leaves::tags_are_read;
-use ve_parts::{Part, parts_stand};
-use ve_reader::{Purpose, ReadStop, Reader};
+use ve_read::read_content;
+use ve_reader::{Purpose, ReadStop, Reader, tags_are_read};
 
 /// How many owners and items the content of a page has that is this text.
 fn counts(alloc: Global, text: &str, purpose: Purpose) -> Result<(usize, usize), ReadStop> {

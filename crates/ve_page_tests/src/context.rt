@@ -1,7 +1,6 @@
 use std::alloc::Global;
 use std::test::*;
-use ve_classify::read_stands;
-use ve_context::context_kind;
+use ve_classify::{context_kind, read_stands};
 use ve_html_tree::read;
 use ve_items::Item;
 use ve_kinds::Kind;

@@ -1,9 +1,9 @@
 use std::alloc::Global;
 use std::test::*;
 use ve_base::{Attrs, Head, Mark, Memory, Text};
-use ve_draft::{Draft, Opening};
 use ve_items::{Item, Linear};
 use ve_kinds::Kind;
+use ve_reader::{ItemDraft, Opening};
 use ve_store::Store;
 
 /// The opening of a paragraph that was made for text.
@@ -33,7 +33,7 @@ fn bold(alloc: Global) -> Result<Mark, Memory> {
 }
 
 /// Three characters, the last two of them in `b`.
-fn put_characters(alloc: Global, draft: &mut Draft) -> Result<(), Memory> {
+fn put_characters(alloc: Global, draft: &mut ItemDraft) -> Result<(), Memory> {
     draft.push_char('a')?;
     draft.enter(bold(alloc)?)?;
     draft.push_char('b')?;
@@ -42,13 +42,13 @@ fn put_characters(alloc: Global, draft: &mut Draft) -> Result<(), Memory> {
     Ok(())
 }
 
-fn put_image(alloc: Global, draft: &mut Draft) -> Result<(), Memory> {
+fn put_image(alloc: Global, draft: &mut ItemDraft) -> Result<(), Memory> {
     draft.open_leaf(image(alloc))?;
     draft.close(Kind::Img, "")
 }
 
 /// A paragraph with three characters and an image after them, over whitespace.
-fn put_paragraph(alloc: Global, draft: &mut Draft) -> Result<(), Memory> {
+fn put_paragraph(alloc: Global, draft: &mut ItemDraft) -> Result<(), Memory> {
     draft.open(paragraph(alloc), "\n")?;
     put_characters(alloc, draft)?;
     put_image(alloc, draft)?;
@@ -56,7 +56,7 @@ fn put_paragraph(alloc: Global, draft: &mut Draft) -> Result<(), Memory> {
 }
 
 fn small(alloc: Global) -> Result<(Linear, Store), Memory> {
-    let mut draft = Draft::new(alloc);
+    let mut draft = ItemDraft::new(alloc);
     put_paragraph(alloc, &mut draft)?;
     draft.into_parts()
 }
@@ -82,7 +82,7 @@ fn items_cite_their_values_in_order(rt: HostRuntime) {
 
 /// So many characters.
 fn characters(alloc: Global, count: usize) -> Result<Linear, Memory> {
-    let mut draft = Draft::new(alloc);
+    let mut draft = ItemDraft::new(alloc);
     for _ in 0..count {
         draft.push_char('x')?;
     }

@@ -4,18 +4,18 @@ ghost use Rattle.model_items.specs.Law.{Lawful};
 ghost use Rattle.model_items.specs.Plain.{plain_list};
 ghost use Rattle.model_page.specs.Editable.{all_refer};
 ghost use Rattle.model_page_write.specs.Nodes.{body_carried};
-ghost use Rattle.ve_nodes.specs.Siblings.{AllCite};
+ghost use Rattle.ve_write.specs.Siblings.{AllCite};
 
 use indexmap::IndexMap;
 use model_page::RefTable;
 use std::alloc::Global;
 use std::test::*;
 use ve_base::{Bytes, Memory};
-use ve_fresh::{Page, put_body, put_list};
 use ve_items::Linear;
 use ve_kinds::Kind;
 use ve_samples::{closing, letter, opening};
 use ve_store::Store;
+use ve_write::{Page, put_body, put_list};
 
 /// A paragraph in a list item, and the internal list.
 fn list_of_one(alloc: Global) -> Result<Linear, Memory>

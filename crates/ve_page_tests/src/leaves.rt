@@ -1,13 +1,12 @@
 use std::alloc::Global;
 use std::test::*;
 use ve_base::{Attrs, Head, Key, Mark, Memory, RefKey, Text};
-use ve_draft::Draft;
 use ve_html_scan::Token;
 use ve_html_tree::read;
 use ve_kinds::Kind;
-use ve_leaves::{
-    element_head, mark_of, push_block_leaf, push_leaf, push_text, reference_head, tags_are_read,
-    whole_head,
+use ve_reader::{
+    ItemDraft, element_head, mark_of, push_block_leaf, push_leaf, push_text, reference_head,
+    tags_are_read, whole_head,
 };
 
 fn attr_is(attrs: &Attrs, k: usize, name: &str, value: &str) -> bool {
@@ -108,20 +107,20 @@ fn heads_and_marks(rt: HostRuntime) {
 }
 
 /// A text, an inline leaf, and a block with kept source.
-fn put_all(alloc: Global, draft: &mut Draft) -> Result<(), Memory> {
+fn put_all(alloc: Global, draft: &mut ItemDraft) -> Result<(), Memory> {
     push_text(alloc, draft, "a&lt;b")?;
     push_leaf(draft, Kind::Br, Head::empty(alloc), Some(0))?;
     put_block(alloc, draft)
 }
 
-fn put_block(alloc: Global, draft: &mut Draft) -> Result<(), Memory> {
+fn put_block(alloc: Global, draft: &mut ItemDraft) -> Result<(), Memory> {
     let source = whole_head(alloc, "<!--x-->")?;
     push_block_leaf(draft, Kind::AlienBlock, source, None, "\n")
 }
 
 /// How many items they are, and how many values they cite.
 fn counts(alloc: Global) -> Result<(usize, usize), Memory> {
-    let mut draft = Draft::new(alloc);
+    let mut draft = ItemDraft::new(alloc);
     put_all(alloc, &mut draft)?;
     let (list, values) = draft.into_parts()?;
     Ok((list.len(), values.len()))

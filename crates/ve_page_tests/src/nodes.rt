@@ -1,8 +1,8 @@
 // What no clause says: where the siblings of a page in markup end.
 use std::test::*;
 use ve_items::Linear;
-use ve_nodes::{after_siblings, ends_at, siblings_end};
 use ve_samples::list;
+use ve_write::{after_siblings, ends_at, siblings_end};
 
 /// A list item in a list, and a paragraph.
 const PAGE: &str = "<ul><li><p>ab</p></li></ul><p>c</p>";

@@ -1,8 +1,7 @@
 use std::alloc::Global;
 use std::test::*;
-use ve_classify::read_stands;
+use ve_classify::{part_at, read_stands};
 use ve_html_tree::read;
-use ve_parts::part_at;
 
 /// Where the first part of a page ends: the number of the node after it, and the byte.
 fn first_end(alloc: Global, page: &str) -> Option<(usize, usize)> {

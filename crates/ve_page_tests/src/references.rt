@@ -2,9 +2,9 @@ use model_page::{RefRow, RefTable};
 use std::alloc::Global;
 use std::test::*;
 use ve_base::{Attrs, Head, Key, Memory, RefKey, Text};
-use ve_draft::{Draft, Opening};
+use ve_internal::table;
 use ve_kinds::Kind;
-use ve_references::table;
+use ve_reader::{ItemDraft, Opening};
 
 fn opening(kind: Kind, head: Head) -> Opening {
     Opening {
@@ -29,21 +29,25 @@ fn head_of(alloc: Global, group: &str, name: &str, owner: bool) -> Result<Head, 
     })
 }
 
-fn put_reference(alloc: Global, draft: &mut Draft, says: (&str, &str, bool)) -> Result<(), Memory> {
+fn put_reference(
+    alloc: Global,
+    draft: &mut ItemDraft,
+    says: (&str, &str, bool),
+) -> Result<(), Memory> {
     let (group, name, owner) = says;
     let head = head_of(alloc, group, name, owner)?;
     draft.open_leaf(opening(Kind::Ref, head))?;
     draft.close(Kind::Ref, "")
 }
 
-fn put_body(alloc: Global, draft: &mut Draft, name: &str) -> Result<(), Memory> {
+fn put_body(alloc: Global, draft: &mut ItemDraft, name: &str) -> Result<(), Memory> {
     let head = head_of(alloc, "", name, false)?;
     draft.open(opening(Kind::InternalItem, head), "")?;
     draft.close(Kind::InternalItem, "")
 }
 
 /// Four references: `a` without a group, first reused and then owned, `b`, and `a` of the group `g`.
-fn put_references(alloc: Global, draft: &mut Draft) -> Result<(), Memory> {
+fn put_references(alloc: Global, draft: &mut ItemDraft) -> Result<(), Memory> {
     let all = [
         ("", "a", false),
         ("", "b", true),
@@ -57,14 +61,14 @@ fn put_references(alloc: Global, draft: &mut Draft) -> Result<(), Memory> {
 }
 
 /// The references, and the bodies of `a` and `b`.
-fn put_all(alloc: Global, draft: &mut Draft) -> Result<(), Memory> {
+fn put_all(alloc: Global, draft: &mut ItemDraft) -> Result<(), Memory> {
     put_references(alloc, draft)?;
     put_body(alloc, draft, "a")?;
     put_body(alloc, draft, "b")
 }
 
 fn rows(alloc: Global) -> Result<RefTable, Memory> {
-    let mut draft = Draft::new(alloc);
+    let mut draft = ItemDraft::new(alloc);
     put_all(alloc, &mut draft)?;
     let (list, store) = draft.into_parts()?;
     table(alloc, &list, &store)

@@ -1,8 +1,7 @@
 use std::alloc::Global;
 use std::test::*;
-use ve_classify::read_stands;
+use ve_classify::{is_in_run, read_stands, run_at};
 use ve_html_tree::read;
-use ve_siblings::{is_in_run, run_at};
 
 /// The run that a page begins with: the number of the node after it, the byte, and whether it is whitespace.
 fn first_run(alloc: Global, page: &str) -> Option<(usize, usize, bool)> {

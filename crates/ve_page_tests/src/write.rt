@@ -5,7 +5,7 @@ ghost use Rattle.ve_kinds.specs.declared.kind.Kind.TheVariants as kinds;
 ghost use Rattle.model_items.specs.Law.{Lawful};
 ghost use Rattle.model_items.specs.Plain.{plain_list};
 ghost use Rattle.model_page.specs.Editable.{all_refer};
-ghost use Rattle.ve_nodes.specs.Siblings.{AllCite};
+ghost use Rattle.ve_write.specs.Siblings.{AllCite};
 ghost use Rattle.ve_origin.specs.Origins.{IsRow};
 
 use model_items::Item;

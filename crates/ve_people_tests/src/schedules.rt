@@ -8,7 +8,7 @@ use std::marker::Brand;
 use std::sync::ledger::{Blank, Ledger};
 use std::test::Fail;
 use ve_base::Steps;
-use ve_turns::{EditFault, RedoFault, RevokeFault, SendFault, Session, UndoFault};
+use ve_sites::{EditFault, RedoFault, RevokeFault, SendFault, Sites, UndoFault};
 
 /// What the site at a place is asked, what it answers, and the list that it has then.
 type Turn = (usize, Act, Answer, &'static str);
@@ -24,7 +24,7 @@ struct Schedule {
 /// The number of the first turn that is answered otherwise, or leaves another list.
 fn first_wrong<L: Ledger>(
     alloc: Global,
-    session: &mut Session,
+    session: &mut Sites,
     turns: &[Turn],
     steps: &mut Steps<L>,
 ) -> Result<Option<usize>, Fail> {

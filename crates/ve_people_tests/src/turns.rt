@@ -2,7 +2,7 @@
 ghost use Rattle.std.specs.Prelude.{◌≡◌, ◌<◌, IfOk};
 ghost use Rattle.model_change.specs.Transaction.{InsertedApart};
 ghost use Rattle.ve_editor.specs.Edited.{drafted, IsDraftOf};
-ghost use Rattle.ve_turns.specs.Shared.{sites};
+ghost use Rattle.ve_sites.specs.Shared.{sites};
 
 use model_site::Clash;
 use model_site_law::events_keep;
@@ -11,8 +11,8 @@ use std::sync::ledger::Ledger;
 use std::test::Fail;
 use ve_base::{Memory, Steps};
 use ve_lawful::check;
+use ve_sites::{EditFault, RedoFault, RevokeFault, SendFault, Sites, Taken, UndoFault};
 use ve_store::{NewValues, Store};
-use ve_turns::{EditFault, RedoFault, RevokeFault, SendFault, Session, Taken, UndoFault};
 use ve_tx::Draft;
 use ve_tx_samples::{LineFault, page, page_line, transaction};
 
@@ -60,10 +60,10 @@ pub(crate) fn opened<L: Ledger>(
     line: &str,
     sites: u32,
     steps: &mut Steps<L>,
-) -> Result<Session, Fail> {
+) -> Result<Sites, Fail> {
     let list = page(alloc, line)?;
     check(&list)?;
-    Ok(Session::new(alloc, list, Store::new(alloc), sites, steps)?)
+    Ok(Sites::new(alloc, list, Store::new(alloc), sites, steps)?)
 }
 
 /// The transaction that a line spells, as a draft over any store.
@@ -80,7 +80,7 @@ fn draft_of(alloc: Global, line: &str, store: &Store) -> Result<Draft, LineFault
 
 fn edit<L: Ledger>(
     alloc: Global,
-    session: &mut Session,
+    session: &mut Sites,
     k: usize,
     line: &str,
     steps: &mut Steps<L>,
@@ -96,7 +96,7 @@ fn edit<L: Ledger>(
 
 fn settle<L: Ledger>(
     alloc: Global,
-    session: &mut Session,
+    session: &mut Sites,
     k: usize,
     line: &str,
     steps: &mut Steps<L>,
@@ -115,7 +115,7 @@ fn settle<L: Ledger>(
     Ok(Answer::Done)
 }
 
-fn undo<L: Ledger>(session: &mut Session, k: usize, steps: &mut Steps<L>) -> Answer
+fn undo<L: Ledger>(session: &mut Sites, k: usize, steps: &mut Steps<L>) -> Answer
     requires { k < sites session.old }
 {
     match session.undo(k, steps) {
@@ -124,7 +124,7 @@ fn undo<L: Ledger>(session: &mut Session, k: usize, steps: &mut Steps<L>) -> Ans
     }
 }
 
-fn redo<L: Ledger>(session: &mut Session, k: usize, steps: &mut Steps<L>) -> Answer
+fn redo<L: Ledger>(session: &mut Sites, k: usize, steps: &mut Steps<L>) -> Answer
     requires { k < sites session.old }
 {
     match session.redo(k, steps) {
@@ -133,7 +133,7 @@ fn redo<L: Ledger>(session: &mut Session, k: usize, steps: &mut Steps<L>) -> Ans
     }
 }
 
-fn revoke<L: Ledger>(session: &mut Session, k: usize, entry: usize, steps: &mut Steps<L>) -> Answer
+fn revoke<L: Ledger>(session: &mut Sites, k: usize, entry: usize, steps: &mut Steps<L>) -> Answer
     requires { k < sites session.old }
 {
     if entry >= session.site(k).seen() {
@@ -145,7 +145,7 @@ fn revoke<L: Ledger>(session: &mut Session, k: usize, entry: usize, steps: &mut 
     }
 }
 
-fn send(session: &mut Session, k: usize) -> Answer
+fn send(session: &mut Sites, k: usize) -> Answer
     requires { k < sites session.old }
 {
     match session.send(k) {
@@ -154,7 +154,7 @@ fn send(session: &mut Session, k: usize) -> Answer
     }
 }
 
-fn serve(session: &mut Session, k: usize) -> Result<Answer, Memory>
+fn serve(session: &mut Sites, k: usize) -> Result<Answer, Memory>
     requires { k < sites session.old }
 {
     match session.serve(k)? {
@@ -163,7 +163,7 @@ fn serve(session: &mut Session, k: usize) -> Result<Answer, Memory>
     }
 }
 
-fn take<L: Ledger>(session: &mut Session, k: usize, steps: &mut Steps<L>) -> Result<Answer, Memory>
+fn take<L: Ledger>(session: &mut Sites, k: usize, steps: &mut Steps<L>) -> Result<Answer, Memory>
     requires { k < sites session.old }
 {
     match session.take(k, steps)? {
@@ -176,7 +176,7 @@ fn take<L: Ledger>(session: &mut Session, k: usize, steps: &mut Steps<L>) -> Res
 /// What the site at a place answers.
 pub(crate) fn ask<L: Ledger>(
     alloc: Global,
-    session: &mut Session,
+    session: &mut Sites,
     k: usize,
     act: Act,
     steps: &mut Steps<L>,
@@ -197,12 +197,7 @@ pub(crate) fn ask<L: Ledger>(
 }
 
 /// Whether a line spells the list of the site at a place.
-pub(crate) fn shows(
-    alloc: Global,
-    session: &Session,
-    k: usize,
-    line: &str,
-) -> Result<bool, Memory> {
+pub(crate) fn shows(alloc: Global, session: &Sites, k: usize, line: &str) -> Result<bool, Memory> {
     if k >= session.len() {
         return Ok(false);
     }

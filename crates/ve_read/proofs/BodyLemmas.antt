@@ -19,7 +19,7 @@ use Rattle.ve_origin.specs.declared.origin.OriginRow.{OriginRow}
 use Rattle.ve_reader.specs.declared.purpose.Purpose.TheVariants as purpose
 use Rattle.ve_reader.specs.declared.reader.OpenNode.{OpenNode}
 use Rattle.ve_reader.specs.ReadSoFar.{ReadSoFar, with_opening, with_closing, node_opened, bodies_next}
-use Rattle.ve_blocks.specs.Blocks.{with_siblings, white_at_end, siblings_limit}
+use Rattle.ve_read.specs.Blocks.{with_siblings, white_at_end, siblings_limit}
 use Rattle.ve_read.specs.Bodies.{InBodies, with_items, no_span}
 use Rattle.ve_read.specs.declared.fault.ReadFault.{ReadFault}
 use Rattle.ve_read.specs.declared.fault.ReadFault.TheVariants as fault

@@ -26,11 +26,11 @@ use Rattle.model_page.specs.Limits.{TooDeep, TooManyMarks, marked_at}
 use Rattle.model_page.specs.PageItems.{or_nothing}
 use Rattle.model_page.specs.Parts.{Parts, Ended, Words, Note, Group, Single, Parent, parts_of, source_of}
 use Rattle.ve_html_tree.specs.declared.node.Node.{Node}
-use Rattle.ve_parts.proofs.SourceLemmas.{parts_of-source}
-use Rattle.ve_context.specs.Context.{OfRead, context_in}
+use Rattle.ve_classify.proofs.SourceLemmas.{parts_of-source}
+use Rattle.ve_classify.specs.Context.{OfRead, context_in}
 use Rattle.ve_reader.specs.declared.purpose.Purpose.TheVariants as purpose
 use Rattle.ve_reader.specs.ReadSoFar.{ReadSoFar, nothing_read}
-use Rattle.ve_blocks.specs.Blocks.{siblings_limit, with_siblings}
+use Rattle.ve_read.specs.Blocks.{siblings_limit, with_siblings}
 use Rattle.ve_read.specs.declared.fragments.FragmentFault.{FragmentFault}
 use Rattle.ve_read.specs.declared.fragments.FragmentFault.TheVariants as fault
 use Rattle.ve_read.specs.Forests.{AreNodesOf, parts_in}

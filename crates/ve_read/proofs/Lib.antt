@@ -10,3 +10,23 @@ pub mod StandLemmas
 pub mod AnewLemmas
 pub mod FragmentLemmas
 pub mod FragmentExamples
+pub mod LimitLemmas
+pub mod ContentTurns
+pub mod MarkLemmas
+pub mod PartLemmas
+pub mod ElementLemmas
+pub mod ReferenceLemmas
+pub mod ContentLoops
+pub mod AnnotationLemmas
+pub mod LeafLemmas
+mod ContentExamples
+pub mod PieceLemmas
+pub mod LieLemmas
+pub mod BlockTurns
+pub mod FitLemmas
+pub mod BranchLemmas
+pub mod ParagraphLemmas
+pub mod UnitLemmas
+pub mod BlockLoops
+pub mod BlockLemmas
+mod BlockExamples

@@ -25,7 +25,7 @@ use Rattle.ve_origin.specs.declared.origin.OriginRow.{OriginRow}
 use Rattle.ve_reader.specs.declared.purpose.Purpose.TheVariants as purpose
 use Rattle.ve_reader.specs.Laws.{InsidesAreEven}
 use Rattle.ve_reader.specs.ReadSoFar.{ReadSoFar, nothing_read, node_rows}
-use Rattle.ve_blocks.specs.Blocks.{siblings_limit, with_siblings, white_at_end}
+use Rattle.ve_read.specs.Blocks.{siblings_limit, with_siblings, white_at_end}
 use Rattle.ve_read.specs.declared.fault.ReadFault.{ReadFault}
 use Rattle.ve_read.specs.declared.fault.ReadFault.TheVariants as fault
 use Rattle.ve_read.specs.Bodies.{AreSpelled}
@@ -34,7 +34,7 @@ use Rattle.ve_read.specs.Forests.{parts_in, rows_in, IsBodyRead}
 use Rattle.ve_read.specs.Moved.{span_moved, owner_moved, made_moved, limit_moved, row_moved}
 use Rattle.ve_html_scan.specs.declared.token.Span.{Span}
 use Rattle.ve_read.specs.declared.pages.PageRead.{PageRead}
-use Rattle.ve_read.specs.Pages.{opened_by, IsPage, HasPlaces}
+use Rattle.ve_read.specs.Pages.{opened_by, IsReadPage, HasPlaces}
 use Rattle.ve_read.proofs.MovedLemmas.{flow_moves, limit_moves}
 use Rattle.ve_read.proofs.RowLemmas.{placed_rows}
 use Rattle.ve_read.proofs.SpelledLemmas.{closed_spelled, owners_spelled}
@@ -194,7 +194,7 @@ sized_page text body source r list values h =
 -- The page, and the places of its rows, where it is small enough.
 pub page_is : (text : List ℕ) (source : List ℕ) (r : ReadSoFar) (p : PageRead) (rows : List OriginRow) → Found text p.body source r p.list.items p.values → InsidesAreEven
     → All (CitesWell p.values) p.list.items → rows ≡ r.rows → p.rows ≡ map (row_moved p.body.from) rows → if_small (opened_at text p.body.from p.body.to) ≡ Ok (opened_at text p.body.from p.body.to)
-    → IsPage text p × HasPlaces p
+    → IsReadPage text p × HasPlaces p
 page_is text source r p rows h even cites rows_are_read moved small =
     let from : ℕ = p.body.from in
     let to : ℕ = p.body.to in

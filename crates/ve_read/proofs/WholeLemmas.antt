@@ -7,9 +7,9 @@ use Rattle.model_page.specs.Parts.{Parts, parts_of}
 use Rattle.model_page.specs.PageItems.{or_nothing}
 use Rattle.ve_html_tree.specs.declared.node.Node.{Node}
 use Rattle.ve_classify.proofs.StandLemmas.{shown_count}
-use Rattle.ve_parts.proofs.TextLemmas.{forest_stands}
-use Rattle.ve_siblings.specs.Units.{Whole}
-use Rattle.ve_blocks.specs.Places.{OfSiblings, SomeSiblings}
+use Rattle.ve_classify.proofs.TextLemmas.{forest_stands}
+use Rattle.ve_classify.specs.Units.{Whole}
+use Rattle.ve_read.specs.Places.{OfSiblings, SomeSiblings}
 use Rattle.ve_read.specs.Forests.{AreNodesOf, parts_in}
 
 whole : (text : List ℕ) (nodes : List Node) (n : ℕ) (found : AreNodesOf text nodes) → n ≡ length nodes → Whole found.0 0 0 n (length text)

@@ -6,3 +6,12 @@ pub mod Bodies
 pub mod Forests
 pub mod Anew
 pub mod Fragments
+pub mod Content
+pub mod ContentParts
+pub mod References
+pub mod ContentLaws
+pub mod Blocks
+pub mod Places
+pub mod Units
+pub mod Reads
+pub mod BlockLaws

@@ -20,7 +20,7 @@ abbrev pub opened_by : List ℕ → PageRead → Opened
 opened_by text p = record { page = text; body = source_span p.body; items = plain_list p.values p.list.items; spans = spans p.rows }
 
 -- It is the page that the model opens, over the values that its items cite, each once and in order.
-pub record IsPage (text : List ℕ) (p : PageRead) : Type 0 where
+pub record IsReadPage (text : List ℕ) (p : PageRead) : Type 0 where
   pub opens : read_page text ≡ Ok (opened_by text p)
   pub values : p.values ≡ values_of (opened_by text p)
   pub cites : All (CitesWell p.values) p.list.items

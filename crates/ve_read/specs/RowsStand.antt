@@ -6,7 +6,7 @@ use Rattle.ve_origin.specs.declared.origin.OriginRow.{OriginRow}
 use Rattle.ve_origin.specs.Kept.{IsNodeRange}
 use Rattle.ve_origin.specs.Origins.{AreRows, IsCut}
 use Rattle.ve_read.specs.declared.pages.PageRead.{PageRead}
-use Rattle.ve_read.specs.Pages.{HasPlaces, IsPage}
+use Rattle.ve_read.specs.Pages.{HasPlaces, IsReadPage}
 
 -- The body is cut between characters; each row has whole characters of the page, and is the range of its node, before the internal list; and the
 -- origins of the list are the numbers of the rows, each once and in order.
@@ -18,4 +18,4 @@ pub record RowsStand (text : List ℕ) (p : PageRead) : Type 0 where
 
 -- So they stand in every page that was read, where its text is UTF-8.
 abbrev pub RowsStandLaw : Type 0
-RowsStandLaw = (text : List ℕ) (p : PageRead) → IsUtf8 text → IsPage text p → HasPlaces p → RowsStand text p
+RowsStandLaw = (text : List ℕ) (p : PageRead) → IsUtf8 text → IsReadPage text p → HasPlaces p → RowsStand text p

@@ -5,7 +5,7 @@ ghost use Rattle.ve_base.specs.Limits.{max_open_kinds};
 ghost use Rattle.model_page.specs.Limits.{body_limit, first_body_limit};
 ghost use Rattle.model_page.specs.PageItems.{internal_item, internal_list, item_head};
 ghost use Rattle.model_spelling.specs.Faults.{fault_of};
-ghost use Rattle.ve_owners.specs.Claimed.{lent_owner};
+ghost use Rattle.ve_reader.specs.Claimed.{lent_owner};
 ghost use Rattle.ve_reader.specs.ReadSoFar.{node_opened, with_opening};
 ghost use Rattle.ve_read.specs.Bodies.{AreSpelled, InBodies, no_span, with_items};
 ghost use Rattle.ve_read.specs.Faults.{Within};
@@ -17,8 +17,7 @@ use std::alloc::Global;
 use ve_base::{Attrs, Head, Memory, RefKey, Text, TryCopy};
 use ve_html_scan::Span;
 use ve_kinds::Kind;
-use ve_owners::{Owner, Owners};
-use ve_reader::{NodeStart, OpenNode, ReadStop, Reader};
+use ve_reader::{NodeStart, OpenNode, Owner, Owners, ReadStop, Reader};
 
 /// The head of an internal item, which says whose body it is.
 fn item_head(alloc: Global, key: &RefKey) -> Result<Head, Memory>

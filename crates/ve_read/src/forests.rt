@@ -3,19 +3,17 @@ ghost use Rattle.std.specs.Prelude.{◌≡◌, [], None, IfOk, OnOk};
 ghost use Rattle.std.specs.Str.{chars};
 ghost use Rattle.model_spelling.specs.Faults.{fault_of};
 ghost use Rattle.model_page.specs.Fit.{around_in};
-ghost use Rattle.ve_blocks.specs.Blocks.{siblings_limit, white_at_end, with_siblings};
+ghost use Rattle.ve_read.specs.Blocks.{siblings_limit, white_at_end, with_siblings};
 ghost use Rattle.ve_read.specs.Forests.{AreNodesOf, parts_in};
 ghost use Rattle.ve_reader.specs.Stops.{Stops};
 
+use crate::read_siblings;
 use std::alloc::Global;
 use ve_base::Memory;
-use ve_blocks::read_siblings;
-use ve_classify::read_stands;
+use ve_classify::{Part, read_stands};
 use ve_html_tree::{Forest, HtmlFault, read};
 use ve_kinds::Kind;
-use ve_leaves::tags_are_read;
-use ve_parts::Part;
-use ve_reader::{ReadStop, Reader};
+use ve_reader::{ReadStop, Reader, tags_are_read};
 
 /// The forest of a text that some forest spells.
 pub fn read_spelled<'a>(alloc: Global, text: &'a str) -> Result<Forest<'a>, Memory>

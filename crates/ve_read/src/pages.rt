@@ -5,12 +5,12 @@ ghost use Rattle.model_page.specs.PageItems.{items_of_page, or_nothing, page_mad
 ghost use Rattle.model_spelling.specs.Parsed.{forest_of};
 ghost use Rattle.ve_read.specs.Faults.{OfSize, RefusesBody, Within, limit_from};
 ghost use Rattle.ve_read.specs.Forests.{AreNodesOf, IsBodyRead, rows_in};
-ghost use Rattle.ve_read.specs.Pages.{HasPlaces, IsPage, IsRefusal};
+ghost use Rattle.ve_read.specs.Pages.{HasPlaces, IsReadPage, IsRefusal};
 
 use crate::bodies::read_bodies;
 use crate::fault::{ReadFault, fault_in_page, stop_in_page};
 use crate::forests::read_whole;
-use crate::rows::rows_in_page;
+use crate::moved_rows::rows_in_page;
 use std::alloc::Global;
 use ve_base::{MAX_ITEMS, MAX_PAGE, MAX_VALUES};
 use ve_html_scan::{Span, body_of};
@@ -80,7 +80,7 @@ fn check_size(count: usize, values: usize) -> Result<(), ReadFault>
 /// Reads a page: the first of its refusals, in the order of `ReadFault`, or all that it holds. It takes a store of its own, and hands it
 /// over.
 pub fn page(alloc: Global, text: &str) -> Result<PageRead, ReadFault>
-    ensures read { IfOk result (λ p. IsPage text.now p) }
+    ensures read { IfOk result (λ p. IsReadPage text.now p) }
     ensures places { IfOk result (λ p. HasPlaces p) }
     ensures refused { IfErr result (λ e. IsRefusal e (read_page text.now)) }
 {

@@ -8,8 +8,8 @@ use Rattle.model_page.specs.Pieces.{Owner, chars_piece}
 use Rattle.model_page.specs.PageItems.{with_origins}
 use Rattle.model_page.specs.Fragment.{item_unmade}
 use Rattle.ve_origin.specs.declared.origin.OriginRow.{OriginRow}
-use Rattle.ve_draft.specs.Drafted.{Drafted}
-use Rattle.ve_leaves.specs.Leaves.{text_items, with_items}
+use Rattle.ve_reader.specs.Drafted.{Drafted}
+use Rattle.ve_reader.specs.Leaves.{text_items, with_items}
 use Rattle.ve_reader.specs.declared.purpose.Purpose.{Purpose}
 use Rattle.ve_reader.specs.declared.purpose.Purpose.TheVariants as purpose
 use Rattle.ve_reader.specs.ReadSoFar.{ReadSoFar, shown, node_rows, shown_rows, with_piece, row_ended}

@@ -2,3 +2,9 @@ pub mod ReadSoFar
 pub mod Stops
 pub mod Shown
 pub mod Laws
+pub mod Drafted
+pub mod Holding
+pub mod TagAttrs
+pub mod Leaves
+pub mod Claimed
+pub mod Owned

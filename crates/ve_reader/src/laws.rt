@@ -1,5 +1,8 @@
 // Pieces, and reading them one after the other.
+ghost use Rattle.ve_reader.specs.Claimed.{ClaimsAreKeys};
 ghost use Rattle.ve_reader.specs.Laws.{DepthsJoin, InsidesAreEven, MarksAreLeft, NodeDepths, NodesJoin, PiecesAreEven, PiecesJoin};
+ghost use Rattle.ve_reader.specs.Leaves.{LeavesArePieces, LeavesAreNumbered, MarksAreAround, HeadsAreReferences};
+ghost use Rattle.ve_reader.specs.TagAttrs.{TagsAreRead};
 
 /// What parts become has a span for each opening and whole nodes alone, and so has what stands inside a branch.
 #[tactic(auto, using(crate::proofs::EvenLemmas::pieces_are_even, crate::proofs::EvenLemmas::insides_are_even))]
@@ -22,4 +25,25 @@ pub fn pieces_join()
 pub fn depths_join()
     ensures pieces { DepthsJoin }
     ensures nodes { NodeDepths }
+{}
+
+/// A leaf, its origin, the mark of an annotation and the head of a reference are the model's.
+#[tactic(auto, using(crate::proofs::LeafLaws::leaves_are_pieces, crate::proofs::LeafLaws::leaves_are_numbered, crate::proofs::LeafLaws::marks_are_around, crate::proofs::LeafLaws::heads_are_references))]
+pub fn leaves_are_pieces()
+    ensures leaves { LeavesArePieces }
+    ensures origins { LeavesAreNumbered }
+    ensures marks { MarksAreAround }
+    ensures references { HeadsAreReferences }
+{}
+
+/// Each start tag of a text that was read has attributes that a start tag may have.
+#[tactic(auto, using(crate::proofs::TagLemmas::tags_are_read))]
+pub fn tags_are_read()
+    ensures { TagsAreRead }
+{}
+
+/// What is claimed by the texts of a `data-mw` is the key and the body that model_page gives the reference,
+/// or nothing where it takes it for none.
+pub fn claims_are_keys()
+    ensures { ClaimsAreKeys }
 {}

@@ -8,23 +8,22 @@ ghost use Rattle.model_page.specs.Heads.{characters};
 ghost use Rattle.model_page.specs.Pieces.{leaf, chars_piece};
 ghost use Rattle.model_page.specs.ReferenceNodes.{is_owned};
 ghost use Rattle.ve_origin.specs.Origins.{source_span};
-ghost use Rattle.ve_owners.specs.Claimed.{claimed};
+ghost use Rattle.ve_reader.specs.Claimed.{claimed};
 ghost use Rattle.ve_reader.specs.ReadSoFar.{nothing_read, with_piece, piece_after, opening_piece, with_opening, with_closing, node_opened, with_mark, mark_left, bodies_next, owned_at};
 ghost use Rattle.ve_reader.specs.Stops.{Stops, deep_in, mark_limit};
 
 use crate::purpose::{Purpose, ReadStop};
 use crate::rows::{check_depth, end_row, next_origin, push_row, shows_generated};
+use crate::{Claim, ItemDraft, Opening, Owners};
 use std::alloc::Global;
 use std::marker::Model;
 use std::mem::replace;
 use ve_base::{Head, MAX_MARKS, Mark, Memory, RefKey, Text};
-use ve_draft::{Draft, Opening};
 use ve_html_scan::Span;
 use ve_internal::RefRead;
 use ve_items::Linear;
 use ve_kinds::Kind;
 use ve_origin::{OriginRow, OriginTable};
-use ve_owners::{Claim, Owners};
 use ve_store::Store;
 
 /// A node that is to come: its kind, its head, whether it was made for text that stood in none, and its bytes.
@@ -61,7 +60,7 @@ pub struct ReadParts {
 /// What is read so far, of a page, a body or a fragment.
 #[derive(Drop)]
 pub struct Reader {
-    draft: Draft,
+    draft: ItemDraft,
     purpose: Purpose,
     rows: Vec<OriginRow>,
     owners: Owners,
@@ -87,7 +86,7 @@ impl Reader {
         ensures { result ≡ nothing_read purpose }
     {
         Reader {
-            draft: Draft::new(alloc),
+            draft: ItemDraft::new(alloc),
             purpose,
             rows: Vec::new(alloc),
             owners: Owners::new(alloc),
@@ -176,8 +175,8 @@ impl Reader {
     pub fn push_text(&mut self, spelled: &str) -> Result<(), Memory>
         ensures { OnOk result (self.new ≡ with_piece (chars_piece self.old.marks (characters spelled.now)) [] self.old) }
     {
-        if ve_leaves::push_text(self.alloc, &mut self.draft, spelled).is_err() {
-            self.draft = Draft::new(self.alloc);
+        if crate::push_text(self.alloc, &mut self.draft, spelled).is_err() {
+            self.draft = ItemDraft::new(self.alloc);
             self.mark_count = 0;
             return Err(Memory);
         }
@@ -192,8 +191,8 @@ impl Reader {
         check_depth(self.purpose, self.depth, span.from)?;
         let from = self.draft.len();
         let origin = next_origin(self.purpose, self.rows.len())?;
-        if ve_leaves::push_leaf(&mut self.draft, kind, head, origin).is_err() {
-            self.draft = Draft::new(self.alloc);
+        if crate::push_leaf(&mut self.draft, kind, head, origin).is_err() {
+            self.draft = ItemDraft::new(self.alloc);
             self.mark_count = 0;
             return Err(ReadStop::Memory);
         }
@@ -216,8 +215,8 @@ impl Reader {
         check_depth(self.purpose, self.depth, span.from)?;
         let from = self.draft.len();
         let origin = next_origin(self.purpose, self.rows.len())?;
-        if ve_leaves::push_block_leaf(&mut self.draft, kind, head, origin, white).is_err() {
-            self.draft = Draft::new(self.alloc);
+        if crate::push_block_leaf(&mut self.draft, kind, head, origin, white).is_err() {
+            self.draft = ItemDraft::new(self.alloc);
             self.mark_count = 0;
             return Err(ReadStop::Memory);
         }

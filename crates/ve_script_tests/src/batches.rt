@@ -9,7 +9,7 @@ use std::marker::Brand;
 use std::sync::ledger::{Blank, Ledger};
 use std::test::Fail;
 use ve_base::{Memory, Steps, Text};
-use ve_batches::{Batch, BatchStop, Typed, perform_all, type_text};
+use ve_changes::{Batch, BatchStop, Typed, perform_all, type_text};
 use ve_editor::Editor;
 use ve_lawful::check;
 use ve_samples::list;

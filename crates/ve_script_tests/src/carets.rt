@@ -7,7 +7,7 @@ use std::marker::Brand;
 use std::sync::ledger::{Blank, Ledger};
 use std::test::Fail;
 use ve_base::Steps;
-use ve_changes::{Stop, erased_range, next_place};
+use ve_changes::{ChangeStop, erased_range, next_place};
 use ve_items::Linear;
 use ve_lawful::check;
 use ve_offsets::Doc;
@@ -23,7 +23,7 @@ enum Expected {
 }
 
 /// Whether a caret comes where it is expected.
-fn comes_so(made: Result<usize, Stop>, expected: Expected) -> bool {
+fn comes_so(made: Result<usize, ChangeStop>, expected: Expected) -> bool {
     match expected {
         Expected::Place(there) => match made {
             Ok(place) => place == there,
@@ -31,13 +31,13 @@ fn comes_so(made: Result<usize, Stop>, expected: Expected) -> bool {
         },
         Expected::Refused(refusal) => match made {
             Ok(_) => false,
-            Err(why) => why == Stop::Refused(refusal),
+            Err(why) => why == ChangeStop::Refused(refusal),
         },
     }
 }
 
 /// The end of what is erased.
-fn end_of(erased: Result<Selection, Stop>) -> Result<usize, Stop> {
+fn end_of(erased: Result<Selection, ChangeStop>) -> Result<usize, ChangeStop> {
     match erased {
         Ok(range) => Ok(range.focus),
         Err(why) => Err(why),

@@ -14,7 +14,7 @@ use std::marker::Brand;
 use std::sync::ledger::{Blank, Ledger};
 use std::test::Fail;
 use ve_base::{Attrs, Mark, Memory, Steps, Text};
-use ve_changes::{Stop, change_draft, is_move, move_draft};
+use ve_changes::{ChangeStop, change_draft, is_move, move_draft};
 use ve_items::Linear;
 use ve_kinds::Kind;
 use ve_lawful::check;
@@ -25,11 +25,11 @@ use ve_tree::Tree;
 use ve_tx::Draft;
 
 /// Whether it is a draft, or the refusal that is expected.
-fn ends_so(made: Result<Draft, Stop>, expected: Option<Refusal>) -> bool {
+fn ends_so(made: Result<Draft, ChangeStop>, expected: Option<Refusal>) -> bool {
     match made {
         Ok(_) => expected.is_none(),
-        Err(Stop::Refused(refusal)) => expected == Some(refusal),
-        Err(Stop::Memory) => false,
+        Err(ChangeStop::Refused(refusal)) => expected == Some(refusal),
+        Err(ChangeStop::Memory) => false,
     }
 }
 

@@ -1,6 +1,6 @@
 // That every command is read where memory is ample, and what is refused.
 use std::alloc::Global;
-use ve_commands::{CommandFault, Field, Refusal, command};
+use ve_json::{CommandFault, Field, Refusal, command};
 
 /// One line of each command, with the members that it needs and some that may be absent.
 const LINES: [&str; 36] = [

@@ -22,4 +22,4 @@ mod replies;
 #[cfg(test)]
 mod run;
 #[cfg(test)]
-mod session;
+mod sites;

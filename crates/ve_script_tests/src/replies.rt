@@ -10,8 +10,8 @@ use std::alloc::Global;
 use std::test::Fail;
 use ve_base::{Bytes, Key, Memory, RefKey, Text};
 use ve_items::Linear;
+use ve_json::{Answer, reply_text};
 use ve_kinds::Kind;
-use ve_replies::{Answer, reply_text};
 use ve_samples::{closing, letter, opening};
 use ve_store::Store;
 

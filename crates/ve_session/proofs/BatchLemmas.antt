@@ -9,12 +9,12 @@ use Rattle.model_site_law.specs.SelectionLaws.{StandsIn}
 use Rattle.model_world.specs.declared.change.Change.{Change}
 use Rattle.model_world.specs.Answers.{after_text}
 use Rattle.model_world.specs.Edits.{batch_on}
-use Rattle.ve_batches.specs.Batches.{IsBatch, IsTyped}
-use Rattle.ve_batches.specs.declared.batch.Batch.{Batch}
-use Rattle.ve_batches.specs.declared.typed.Typed.{Typed}
+use Rattle.ve_changes.specs.Batches.{IsBatch, IsTyped}
+use Rattle.ve_changes.specs.declared.batch.Batch.{Batch}
+use Rattle.ve_changes.specs.declared.typed.Typed.{Typed}
 use Rattle.ve_site.specs.Settled.{settled}
 use Rattle.ve_site.proofs.SettleLemmas.{settled_is}
-use Rattle.ve_turns.specs.Shared.{Shared, site_at, sites, with_site_at}
+use Rattle.ve_sites.specs.Shared.{Shared, site_at, sites, with_site_at}
 use Rattle.ve_session.proofs.TurnLemmas.{site_put}
 
 put_length : (ms : List Member) (k : ℕ) (m : Member) → length (put_member k m ms) ≡ length ms

@@ -14,10 +14,10 @@ use Rattle.model_world.specs.declared.command.Request.TheVariants as request
 use Rattle.model_world.specs.declared.reply.Reply.TheVariants as reply
 use Rattle.model_world.specs.Answers.{after_text, asked, batch_or_no, moved_or_no, next_place, selected, typed_or_no, typing}
 use Rattle.model_world.specs.Edits.{batch_on}
-use Rattle.ve_replies.specs.declared.answer.Answer.TheVariants as answer
+use Rattle.ve_json.specs.declared.answer.Answer.TheVariants as answer
 use Rattle.ve_session.specs.Asked.{asker, kept_or_new, IsAnswered}
 use Rattle.ve_session.proofs.TurnLemmas.{member_put, put_again, site_put}
-use Rattle.ve_turns.specs.Shared.{Shared, member_at, site_at, sites, with_member_at, with_site_at}
+use Rattle.ve_sites.specs.Shared.{Shared, member_at, site_at, sites, with_member_at, with_site_at}
 
 -- a selection is set, and told
 pub is_selected : (r : Request) (k : ℕ) (old new : Shared) (s : Selection) →

@@ -19,7 +19,7 @@ use Rattle.model_world.specs.Answers.{asked, erased_or_no, higher, lower, perfor
 use Rattle.model_world.specs.Edits.{allowed, change_of}
 use Rattle.model_world.specs.Refusals.{refused_as}
 use Rattle.model_world_law.specs.Fit.{Fit, MovesFit}
-use Rattle.ve_changes.specs.declared.faults.Stop.{Stop}
+use Rattle.ve_changes.specs.declared.faults.ChangeStop.{ChangeStop}
 use Rattle.ve_changes.specs.Carets.{range_to_erase}
 use Rattle.ve_changes.specs.Drafts.{IsDrafted}
 use Rattle.ve_changes.specs.Moves.{is_move, moved_by}
@@ -29,7 +29,7 @@ use Rattle.ve_tx.specs.declared.draft.Draft.{Draft}
 use Rattle.ve_session.specs.Asked.{asker, IsStopped}
 use Rattle.ve_session.specs.Cost.{steps_to_answer, steps_to_erase, steps_to_perform}
 use Rattle.ve_session.proofs.TurnLemmas.{unmeant}
-use Rattle.ve_turns.specs.Shared.{Shared, site_at}
+use Rattle.ve_sites.specs.Shared.{Shared, site_at}
 
 -- what holds of each value that a call may give holds of the one that it gives
 pub ok_as : {A E : Type 0} (P Q : A → Type 0) (r : Result A E) → ((x : A) → P x → Q x) → IfOk r P → IfOk r Q
@@ -137,7 +137,7 @@ module _ (k : ℕ) (old : Shared) (dir : Dir) (by : By) (s : Selection) (e : to_
       subst (λ m. after ≤ before + steps_to_erase (site_at old k).replica.items m) (sym e)
       (subst (λ c. after ≤ before + steps_to_perform (site_at old k).replica.items (change_of (site_at old k).replica.items c)) (sym same_change) h)
 
-  pub unerased : (why : Stop) (lent : List PlainItem) → lent ≡ (site_at old k).replica.items → IsRefused why (change_of lent (change.Remove from to)) →
+  pub unerased : (why : ChangeStop) (lent : List PlainItem) → lent ≡ (site_at old k).replica.items → IsRefused why (change_of lent (change.Remove from to)) →
       IsStopped (request.Erase dir by) k old why
   unerased why lent same is =
       unmeant (request.Erase dir by) k old (change_of (site_at old k).replica.items (change.Remove from to)) erases why

@@ -4,7 +4,7 @@ use Rattle.ve_base.specs.declared.value.Value.{Value}
 use Rattle.model_items.specs.declared.plain_item.PlainItem.{PlainItem}
 use Rattle.model_items.specs.Plain.{plain_list}
 use Rattle.model_page.specs.References.{table}
-use Rattle.ve_fresh.specs.Originals.{opened_over, origin_of, IsFirst}
+use Rattle.ve_write.specs.Originals.{opened_over, origin_of, IsFirst}
 use Rattle.ve_origin.specs.Kept.{IsNodeRange}
 use Rattle.ve_origin.specs.Origins.{FirstRead}
 use Rattle.ve_tx.specs.Making.{Extends}

@@ -17,7 +17,7 @@ use Rattle.model_world.specs.World.{World, Open}
 use Rattle.model_world_law.specs.Reached.{EverySiteHolds}
 use Rattle.ve_answers.specs.Asked.{HtmlIsAsked}
 use Rattle.ve_answers.specs.Replies.{html_reply}
-use Rattle.ve_fresh.specs.Originals.{opened_over, IsFirst}
+use Rattle.ve_write.specs.Originals.{opened_over, IsFirst}
 use Rattle.ve_origin.specs.Origins.{FirstRead}
 use Rattle.ve_session.specs.Asked.{asker, kept_or_new, obeyed}
 use Rattle.ve_session.specs.Laws.{UneditedIsTold}
@@ -26,7 +26,7 @@ use Rattle.ve_session.proofs.FirstLemmas.{first_grown, first_same, page_same}
 use Rattle.ve_session.proofs.PageLemmas.{extends}
 use Rattle.ve_session.proofs.ShownLemmas.{stays}
 use Rattle.ve_session.proofs.WorldLemmas.{obeyed_is}
-use Rattle.ve_turns.specs.Shared.{Shared, site_at, sites}
+use Rattle.ve_sites.specs.Shared.{Shared, site_at, sites}
 
 pub html_told : HtmlIsAsked → (page : Opened) (s : Shared) (k : ℕ) → k < sites s →
     obeyed (Open page s.session) (Ask request.Html k) ≡ (html_reply page (site_at s k).replica.items, Open page s.session)

@@ -3,7 +3,7 @@ use Rattle.std.proofs.Common.{◌≡◌, ℕ, zero, suc, ◌+◌, ◌<◌, List,
 use Rattle.model_items.specs.declared.plain_item.PlainItem.{PlainItem}
 use Rattle.model_items.specs.declared.plain_item.PlainItem.TheVariants.{Char, Opening, Closing}
 use Rattle.model_page_law.specs.Origins.{origins_of, counted_from}
-use Rattle.ve_fresh.specs.Originals.{origin_of}
+use Rattle.ve_write.specs.Originals.{origin_of}
 
 none_there : (at k : ℕ) → origin_of (drop at []) ≡ Some k → ⊥
 none_there zero k e = absurd (cc)

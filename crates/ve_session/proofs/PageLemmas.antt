@@ -28,16 +28,16 @@ use Rattle.model_world.specs.World.{World, Open}
 use Rattle.model_world_law.specs.Fit.{LinesAreWritten}
 use Rattle.model_world_law.specs.Reached.{EveryItemStands, EverySiteHolds, SiteHolds}
 use Rattle.model_world_law.specs.Standing.{has_few_marks, may_stand}
-use Rattle.ve_fresh.specs.Originals.{opened_over, IsFirst}
+use Rattle.ve_write.specs.Originals.{opened_over, IsFirst}
 use Rattle.ve_html_scan.specs.declared.token.Span.{Span}
 use Rattle.ve_origin.specs.declared.origin.OriginRow.{OriginRow}
 use Rattle.ve_origin.specs.Origins.{FirstRead}
 use Rattle.ve_read.specs.declared.pages.PageRead.{PageRead}
-use Rattle.ve_read.specs.Pages.{opened_by, IsPage}
+use Rattle.ve_read.specs.Pages.{opened_by, IsReadPage}
 use Rattle.ve_read.specs.RowsStand.{RowsStand}
-use Rattle.ve_replies.specs.declared.answer.Answer.{Answer}
-use Rattle.ve_replies.specs.declared.answer.Answer.TheVariants as answer
-use Rattle.ve_replies.specs.Answers.{reply_of}
+use Rattle.ve_json.specs.declared.answer.Answer.{Answer}
+use Rattle.ve_json.specs.declared.answer.Answer.TheVariants as answer
+use Rattle.ve_json.specs.Answers.{reply_of}
 use Rattle.ve_tree.specs.TreeOf.{most_steps}
 use Rattle.ve_tx.specs.Making.{Extends}
 use Rattle.ve_session.specs.Asked.{obeyed, IsAnswered, IsAsked}
@@ -48,7 +48,7 @@ use Rattle.ve_session.proofs.CaretLemmas.{is_selected, is_typed, moves, site_put
 use Rattle.ve_session.proofs.NumberedLemmas.{origins_below}
 use Rattle.ve_session.proofs.TurnLemmas.{site_put}
 use Rattle.ve_session.proofs.WorldLemmas.{led_after, obeyed_so, steps_are, there}
-use Rattle.ve_turns.specs.Shared.{Shared, member_at, site_at, sites, with_site_at}
+use Rattle.ve_sites.specs.Shared.{Shared, member_at, site_at, sites, with_site_at}
 
 -- ---- a page that was read
 

@@ -11,13 +11,13 @@ use Rattle.model_world.specs.declared.refusal.Refusal.TheVariants.{NothingQueued
 use Rattle.model_world.specs.declared.reply.Reply.TheVariants as reply
 use Rattle.model_world.specs.Answers.{ranges, sent_or_no, served_or_no, taken_or_no, taken_reply}
 use Rattle.model_world.specs.Refusals.{refused_as, send_refusal}
-use Rattle.ve_changes.specs.declared.faults.Stop.TheVariants as stop
-use Rattle.ve_replies.specs.declared.answer.Answer.{Answer}
-use Rattle.ve_replies.specs.declared.answer.Answer.TheVariants as answer
-use Rattle.ve_replies.specs.Answers.{reply_of, AnswerCites}
+use Rattle.ve_changes.specs.declared.faults.ChangeStop.TheVariants as stop
+use Rattle.ve_json.specs.declared.answer.Answer.{Answer}
+use Rattle.ve_json.specs.declared.answer.Answer.TheVariants as answer
+use Rattle.ve_json.specs.Answers.{reply_of, AnswerCites}
 use Rattle.ve_session.specs.Asked.{asker, kept_or_new, IsAnswered, IsStopped}
-use Rattle.ve_turns.specs.Shared.{Shared, member_at, site_at}
-use Rattle.ve_turns.specs.Turns.{HasSent}
+use Rattle.ve_sites.specs.Shared.{Shared, member_at, site_at}
+use Rattle.ve_sites.specs.Turns.{HasSent}
 
 pub is_sent : (k count : ℕ) (old new : Shared) → HasSent k count old new → IsAnswered request.Send k old (answer.Sent count) new
 is_sent k count old new h = record {

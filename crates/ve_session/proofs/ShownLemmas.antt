@@ -9,10 +9,10 @@ use Rattle.model_world.specs.declared.reply.Reply.{Reply}
 use Rattle.model_world.specs.Answers.{asked}
 use Rattle.model_world.specs.Laws.{is_refusal}
 use Rattle.ve_answers.specs.Asked.{outcome_of}
-use Rattle.ve_replies.specs.declared.answer.Answer.{Answer}
-use Rattle.ve_replies.specs.Answers.{reply_of, AnswerCites}
+use Rattle.ve_json.specs.declared.answer.Answer.{Answer}
+use Rattle.ve_json.specs.Answers.{reply_of, AnswerCites}
 use Rattle.ve_session.specs.Asked.{asker, kept_or_new, IsAnswered}
-use Rattle.ve_turns.specs.Shared.{Shared, site_at}
+use Rattle.ve_sites.specs.Shared.{Shared, site_at}
 
 -- a refusal or not, it is the reply, and the session stays
 pub stays : (w : Session) (r : Reply) → kept_or_new w (outcome_of w r) ≡ (r, w)

@@ -28,7 +28,7 @@ use Rattle.ve_site.specs.Refusal.{IsRedoRefusal, IsSendRefusal, IsUndoRefusal}
 use Rattle.ve_changes.specs.HtmlStops.{html_stop}
 use Rattle.ve_session.specs.Asked.{asker, IsStopped}
 use Rattle.ve_session.specs.Stopped.{page_stop, redo_stop, revoke_stop, send_stop, undo_stop}
-use Rattle.ve_turns.specs.Shared.{Shared, site_at}
+use Rattle.ve_sites.specs.Shared.{Shared, site_at}
 
 -- ---- pages
 

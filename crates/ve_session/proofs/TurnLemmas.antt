@@ -13,13 +13,13 @@ use Rattle.model_world.specs.declared.reply.Reply.{Reply}
 use Rattle.model_world.specs.declared.reply.Reply.TheVariants.{Length}
 use Rattle.model_world.specs.Answers.{asked, changed_or_no, performed_or_no}
 use Rattle.model_world.specs.Edits.{allowed, unless_faulty}
-use Rattle.ve_changes.specs.declared.faults.Stop.{Stop}
-use Rattle.ve_changes.specs.declared.faults.Stop.TheVariants as stop
+use Rattle.ve_changes.specs.declared.faults.ChangeStop.{ChangeStop}
+use Rattle.ve_changes.specs.declared.faults.ChangeStop.TheVariants as stop
 use Rattle.ve_changes.specs.Stops.{IsRefused}
-use Rattle.ve_replies.specs.declared.answer.Answer.{Answer}
-use Rattle.ve_replies.specs.declared.answer.Answer.TheVariants as answer
+use Rattle.ve_json.specs.declared.answer.Answer.{Answer}
+use Rattle.ve_json.specs.declared.answer.Answer.TheVariants as answer
 use Rattle.ve_session.specs.Asked.{asker, kept_or_new, IsAnswered, IsPerformed, IsStopped}
-use Rattle.ve_turns.specs.Shared.{Shared, member_at, site_at, sites, with_member_at, with_site_at}
+use Rattle.ve_sites.specs.Shared.{Shared, member_at, site_at, sites, with_member_at, with_site_at}
 
 -- ---- members put into place
 
@@ -107,12 +107,12 @@ module _ (r : Request) (k : ℕ) (old : Shared) (meant : Result Transaction Refu
   }
 
   -- nothing is meant
-  pub unmeant : (why : Stop) → IsRefused why meant → IsStopped r k old why
+  pub unmeant : (why : ChangeStop) → IsRefused why meant → IsStopped r k old why
   unmeant (stop.Refused why) e = λ page. asks page ∙ ap (λ m. performed_or_no (asker page old k) (allowed (site_at old k).replica m)) e
   unmeant stop.Memory e = tt
 
   -- what is meant isn't performed
-  pub barred : (t : Transaction) (why : Stop) → meant ≡ Ok t → IsRefused why (allowed (site_at old k).replica (Ok t)) → IsStopped r k old why
+  pub barred : (t : Transaction) (why : ChangeStop) → meant ≡ Ok t → IsRefused why (allowed (site_at old k).replica (Ok t)) → IsStopped r k old why
   barred t (stop.Refused why) means e = λ page.
       asks page
       ∙ ap (λ m. performed_or_no (asker page old k) (allowed (site_at old k).replica m)) means

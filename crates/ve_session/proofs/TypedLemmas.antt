@@ -13,18 +13,18 @@ use Rattle.model_world.specs.declared.change.TextMarks.TheVariants.{Left}
 use Rattle.model_world.specs.declared.command.Request.TheVariants as request
 use Rattle.model_world.specs.Answers.{lower, typed_or_no, typing}
 use Rattle.model_world.specs.Edits.{batch_on, change_of, change_on}
-use Rattle.ve_batches.specs.Costs.{steps_of_batch}
-use Rattle.ve_batches.proofs.BatchLemmas.{allowed_is, lone_batch, lone_refused, not_allowed, steps_of_lone, undrafted}
-use Rattle.ve_batches.proofs.TypingLemmas.{typing_caret}
-use Rattle.ve_changes.specs.declared.faults.Stop.{Stop}
-use Rattle.ve_changes.specs.declared.faults.Stop.TheVariants as stop
+use Rattle.ve_changes.specs.Costs.{steps_of_batch}
+use Rattle.ve_changes.proofs.BatchLemmas.{allowed_is, lone_batch, lone_refused, not_allowed, steps_of_lone, undrafted}
+use Rattle.ve_changes.proofs.TypingLemmas.{typing_caret}
+use Rattle.ve_changes.specs.declared.faults.ChangeStop.{ChangeStop}
+use Rattle.ve_changes.specs.declared.faults.ChangeStop.TheVariants as stop
 use Rattle.ve_changes.specs.Stops.{IsRefused, edit_stop}
 use Rattle.ve_changes.proofs.StopLemmas.{edit_stops}
 use Rattle.ve_editor.specs.Counted.{steps_after}
 use Rattle.ve_editor.specs.Refusal.{IsEditRefusal}
 use Rattle.ve_session.specs.Asked.{asker, IsStopped}
 use Rattle.ve_session.proofs.TurnLemmas.{edit_was}
-use Rattle.ve_turns.specs.Shared.{Shared, site_at, with_site_at}
+use Rattle.ve_sites.specs.Shared.{Shared, site_at, with_site_at}
 
 module _ (k : ℕ) (old : Shared) (text : List ℕ) (at : ℕ)
     (caret : (site_at old k).replica.selection.anchor ≡ (site_at old k).replica.selection.focus)
@@ -42,12 +42,12 @@ module _ (k : ℕ) (old : Shared) (text : List ℕ) (at : ℕ)
   pub typed_batch : (t : Transaction) → change_of r.items put ≡ Ok t → edit_cause t r ≡ None → batch_on r (typing r.selection text) ≡ Ok (t ∷ [])
   typed_batch t means fits = ap (batch_on r) (sym is_typing) ∙ lone_batch r put t (allowed_is r put t means fits)
 
-  stopped : (why : Stop) → IsRefused why (change_on r put) → IsStopped (request.TypeText text) k old why
+  stopped : (why : ChangeStop) → IsRefused why (change_on r put) → IsStopped (request.TypeText text) k old why
   stopped (stop.Refused why) e = λ page. ap (typed_or_no (asker page old k)) (ap (batch_on r) (sym is_typing) ∙ lone_refused r put why e)
   stopped stop.Memory e = tt
 
   -- there is no such change of the list that is lent
-  pub untyped : (why : Stop) (lent : List PlainItem) → lent ≡ r.items → IsRefused why (change_of lent put) → IsStopped (request.TypeText text) k old why
+  pub untyped : (why : ChangeStop) (lent : List PlainItem) → lent ≡ r.items → IsRefused why (change_of lent put) → IsStopped (request.TypeText text) k old why
   untyped why lent items e = stopped why (undrafted r lent put why items e)
 
   -- and where there is, the site may refuse it

@@ -17,12 +17,12 @@ use Rattle.model_world.specs.Answers.{Outcome, asked}
 use Rattle.model_world.specs.Commands.{command}
 use Rattle.model_world.specs.Opening.{open_page, session_of}
 use Rattle.model_world.specs.World.{World, Closed, Open, Answer as WorldAnswer, answered_if, asked_of, meaning, on_page, opened_or_no, reply, settled, world_after}
-use Rattle.ve_replies.specs.declared.answer.Answer.{Answer}
-use Rattle.ve_replies.specs.Answers.{reply_of}
+use Rattle.ve_json.specs.declared.answer.Answer.{Answer}
+use Rattle.ve_json.specs.Answers.{reply_of}
 use Rattle.ve_session.specs.Asked.{asker, kept_or_new, obeyed, IsAnswered, IsAsked}
 use Rattle.ve_session.specs.Cost.{steps_at, steps_of, steps_to_answer, steps_to_open}
 use Rattle.ve_session.specs.Opened.{IsLed, MayOpen, OnPage, world_on}
-use Rattle.ve_turns.specs.Shared.{Shared, member_at, sites}
+use Rattle.ve_sites.specs.Shared.{Shared, member_at, sites}
 
 -- ---- one line more
 

@@ -13,11 +13,11 @@ use Rattle.model_world.specs.Answers.{Asked, Outcome, asked, performed_or_no}
 use Rattle.model_world.specs.Edits.{allowed}
 use Rattle.model_world.specs.Commands.{command}
 use Rattle.model_world.specs.World.{World, answered, settled}
-use Rattle.ve_replies.specs.declared.answer.Answer.{Answer}
-use Rattle.ve_changes.specs.declared.faults.Stop.{Stop}
-use Rattle.ve_changes.specs.declared.faults.Stop.TheVariants as stop
-use Rattle.ve_replies.specs.Answers.{reply_of, AnswerCites}
-use Rattle.ve_turns.specs.Shared.{Shared, member_at, site_at}
+use Rattle.ve_json.specs.declared.answer.Answer.{Answer}
+use Rattle.ve_changes.specs.declared.faults.ChangeStop.{ChangeStop}
+use Rattle.ve_changes.specs.declared.faults.ChangeStop.TheVariants as stop
+use Rattle.ve_json.specs.Answers.{reply_of, AnswerCites}
+use Rattle.ve_sites.specs.Shared.{Shared, member_at, site_at}
 
 -- ---- a world
 
@@ -68,6 +68,6 @@ pub record IsPerformed (t : Transaction) (k : ℕ) (old : Shared) (answer : Answ
   pub cites : AnswerCites answer
 
 -- The request is refused; or memory is wanting, which may be at any time.
-abbrev pub IsStopped : Request → ℕ → Shared → Stop → Type 0
+abbrev pub IsStopped : Request → ℕ → Shared → ChangeStop → Type 0
 IsStopped r k old (stop.Refused why) = (page : Opened) → asked (asker page old k) r ≡ Err (No why)
 IsStopped r k old stop.Memory = Unit {0}

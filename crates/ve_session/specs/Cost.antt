@@ -20,12 +20,12 @@ use Rattle.model_world.specs.Commands.{command}
 use Rattle.model_world.specs.Edits.{change_of}
 use Rattle.model_world.specs.Opening.{open_page}
 use Rattle.model_world.specs.World.{World, Closed, Open, reply}
-use Rattle.ve_batches.specs.Costs.{steps_of_batch}
+use Rattle.ve_changes.specs.Costs.{steps_of_batch}
 use Rattle.ve_changes.specs.Moves.{moved_by}
 use Rattle.ve_editor.specs.Counted.{steps_after, steps_over}
 use Rattle.ve_site.specs.Counted.{redoing, undoing}
 use Rattle.ve_tree.specs.TreeOf.{most_steps}
-use Rattle.ve_turns.specs.Turns.{revoking, steps_of_turn}
+use Rattle.ve_sites.specs.Turns.{revoking, steps_of_turn}
 use Rattle.ve_session.specs.States.{State, after}
 
 -- of a transaction that is performed, or is not because the list that it leaves isn't lawful

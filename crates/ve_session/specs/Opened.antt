@@ -7,7 +7,7 @@ use Rattle.model_site.specs.Replica.{Replica}
 use Rattle.model_site.specs.Session.{Member, Session}
 use Rattle.model_world.specs.Opening.{open_page, session_of}
 use Rattle.model_world.specs.World.{World, Closed, Open, world_after}
-use Rattle.ve_fresh.specs.Originals.{opened_over, IsFirst}
+use Rattle.ve_write.specs.Originals.{opened_over, IsFirst}
 use Rattle.ve_html_scan.specs.declared.token.Span.{Span}
 use Rattle.ve_origin.specs.Origins.{first_read, AreRows, FirstRead, IsCut}
 use Rattle.ve_origin.specs.declared.origin.OriginRow.{OriginRow}

@@ -6,15 +6,15 @@ use Rattle.model_site.specs.declared.site_fault.RedoFault.TheVariants as redo
 use Rattle.model_site.specs.declared.site_fault.SendFault.{SendFault}
 use Rattle.model_site.specs.declared.site_fault.SendFault.TheVariants as send
 use Rattle.model_world.specs.declared.refusal.Refusal.TheVariants as refusal
-use Rattle.ve_changes.specs.declared.faults.Stop.{Stop}
-use Rattle.ve_changes.specs.declared.faults.Stop.TheVariants as stop
+use Rattle.ve_changes.specs.declared.faults.ChangeStop.{ChangeStop}
+use Rattle.ve_changes.specs.declared.faults.ChangeStop.TheVariants as stop
 use Rattle.ve_changes.specs.HtmlStops.{html_stop}
 use Rattle.ve_peer_undo.specs.declared.fault.RevokeFault.{RevokeFault}
 use Rattle.ve_peer_undo.specs.declared.fault.RevokeFault.TheVariants as revoke
 use Rattle.ve_read.specs.declared.fault.ReadFault.{ReadFault}
 use Rattle.ve_read.specs.declared.fault.ReadFault.TheVariants as page
 
-abbrev pub page_stop : ReadFault → Stop
+abbrev pub page_stop : ReadFault → ChangeStop
 page_stop (page.PageTooLong bytes) = stop.Refused (refusal.PageTooLong bytes)
 page_stop (page.Html f) = html_stop f
 page_stop (page.TooDeep at) = stop.Refused (refusal.TooDeep at)
@@ -23,20 +23,20 @@ page_stop (page.TooManyItems count) = stop.Refused (refusal.TooManyItems count)
 page_stop page.StoreFull = stop.Refused refusal.StoreFull
 page_stop page.Memory = stop.Memory
 
-abbrev pub undo_stop : UndoFault → Stop
+abbrev pub undo_stop : UndoFault → ChangeStop
 undo_stop undo.NothingToUndo = stop.Refused refusal.NothingToUndo
 undo_stop (undo.AlreadyShared sent) = stop.Refused (refusal.AlreadyShared sent)
 undo_stop undo.Memory = stop.Memory
 
-abbrev pub redo_stop : RedoFault → Stop
+abbrev pub redo_stop : RedoFault → ChangeStop
 redo_stop redo.NothingToRedo = stop.Refused refusal.NothingToRedo
 redo_stop redo.Memory = stop.Memory
 
-abbrev pub send_stop : SendFault → Stop
+abbrev pub send_stop : SendFault → ChangeStop
 send_stop (send.InFlight entries) = stop.Refused (refusal.InFlight entries)
 send_stop send.NothingToSend = stop.Refused refusal.NothingToSend
 send_stop send.Memory = stop.Memory
 
-abbrev pub revoke_stop : RevokeFault → Stop
+abbrev pub revoke_stop : RevokeFault → ChangeStop
 revoke_stop (revoke.Conflict later reversal) = stop.Refused (refusal.RevokeConflict later reversal)
 revoke_stop revoke.Memory = stop.Memory

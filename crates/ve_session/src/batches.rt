@@ -4,26 +4,25 @@ ghost use Rattle.model_world.specs.declared.command.Request.TheVariants as reque
 ghost use Rattle.ve_session.specs.Asked.{IsAnswered, IsStopped};
 ghost use Rattle.ve_session.specs.Cost.{steps_to_answer};
 ghost use Rattle.ve_session.specs.Turning.{MayTurn};
-ghost use Rattle.ve_turns.specs.Shared.{member_at, site_at, sites};
+ghost use Rattle.ve_sites.specs.Shared.{member_at, site_at, sites};
 
 use crate::edits::len_at;
 use model_world::ChangeList;
 use std::alloc::Global;
 use std::sync::ledger::Ledger;
 use ve_base::Steps;
-use ve_batches::{BatchStop, perform_all};
-use ve_changes::Stop;
+use ve_changes::{BatchStop, ChangeStop, perform_all};
 use ve_json::Answer;
-use ve_turns::Session;
+use ve_sites::Sites;
 
 /// Changes made in turn, all of them or none.
 pub fn batch<L: Ledger>(
     alloc: Global,
-    session: &mut Session,
+    session: &mut Sites,
     k: usize,
     changes: &ChangeList,
     steps: &mut Steps<L>,
-) -> Result<Answer<'static>, Stop>
+) -> Result<Answer<'static>, ChangeStop>
     requires site { k < sites session.old }
     requires may { MayTurn (request.Batch changes.now) (site_at session.old k).replica }
     ensures answer { IfOk result (λ answer. IsAnswered (request.Batch changes.now) k session.old answer session.new) }
@@ -35,7 +34,7 @@ pub fn batch<L: Ledger>(
     let batch = match perform_all(alloc, session.site(k).editor(), changes.as_slice(), steps) {
         Ok(batch) => batch,
         Err(BatchStop::Refused { at, refusal }) => return Ok(Answer::NoBatch { at, refusal }),
-        Err(BatchStop::Memory) => return Err(Stop::Memory),
+        Err(BatchStop::Memory) => return Err(ChangeStop::Memory),
     };
     session.settle(k, batch.editor, batch.entry)?;
     Ok(Answer::Length(len_at(session, k)))

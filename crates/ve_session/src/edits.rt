@@ -12,21 +12,21 @@ ghost use Rattle.ve_offsets.specs.Docs.{page_items};
 ghost use Rattle.ve_session.specs.Asked.{IsAnswered, IsPerformed, IsStopped};
 ghost use Rattle.ve_session.specs.Cost.{steps_to_answer};
 ghost use Rattle.ve_session.specs.Turning.{MayTurn};
-ghost use Rattle.ve_turns.specs.Shared.{member_at, site_at, sites};
+ghost use Rattle.ve_sites.specs.Shared.{member_at, site_at, sites};
 
 use model_edit::{By, Dir};
 use model_world_law::layers_fit;
 use std::alloc::Global;
 use std::sync::ledger::Ledger;
 use ve_base::Steps;
-use ve_changes::{Change, Stop, change_draft, erased_range, move_draft, moves_are_asked};
+use ve_changes::{Change, ChangeStop, change_draft, erased_range, move_draft, moves_are_asked};
 use ve_json::{Answer, Request};
 use ve_offsets::Doc;
-use ve_turns::Session;
+use ve_sites::Sites;
 use ve_tx::Draft;
 
 /// Lends list, tree and store of a site.
-pub fn doc_at(session: &Session, k: usize) -> Doc<'_>
+pub fn doc_at(session: &Sites, k: usize) -> Doc<'_>
     requires site { k < sites session.now }
     ensures items { page_items result ≡ (site_at session.entry.now k).replica.items }
     ensures store { result.store.now ≡ (site_at session.entry.now k).replica.store }
@@ -36,7 +36,7 @@ pub fn doc_at(session: &Session, k: usize) -> Doc<'_>
 }
 
 /// How many items the list of a site has.
-pub fn len_at(session: &Session, k: usize) -> usize
+pub fn len_at(session: &Sites, k: usize) -> usize
     requires site { k < sites session.now }
     ensures { result ≡ length (site_at session.now k).replica.items }
 {
@@ -45,11 +45,11 @@ pub fn len_at(session: &Session, k: usize) -> usize
 
 /// Performs a draft as a new entry of a site.
 fn perform<L: Ledger>(
-    session: &mut Session,
+    session: &mut Sites,
     k: usize,
     draft: &Draft,
     steps: &mut Steps<L>,
-) -> Result<Answer<'static>, Stop>
+) -> Result<Answer<'static>, ChangeStop>
     requires site { k < sites session.old }
     requires draft { IsDraftOf (site_at session.old k).replica.store draft.now }
     requires apart { InsertedApart (drafted (site_at session.old k).replica.store draft.now) }
@@ -61,18 +61,18 @@ fn perform<L: Ledger>(
 {
     match session.edit(k, draft, steps) {
         Ok(()) => Ok(Answer::Length(len_at(session, k))),
-        Err(fault) => Err(Stop::from(fault)),
+        Err(fault) => Err(ChangeStop::from(fault)),
     }
 }
 
 /// A change of a site's list.
 pub fn edit<L: Ledger>(
     alloc: Global,
-    session: &mut Session,
+    session: &mut Sites,
     k: usize,
     change: &Change,
     steps: &mut Steps<L>,
-) -> Result<Answer<'static>, Stop>
+) -> Result<Answer<'static>, ChangeStop>
     requires site { k < sites session.old }
     requires may { MayTurn (request.Edit change.now) (site_at session.old k).replica }
     ensures answer { IfOk result (λ answer. IsAnswered (request.Edit change.now) k session.old answer session.new) }
@@ -89,11 +89,11 @@ pub fn edit<L: Ledger>(
 /// A row, a column or a list item of a site's list moved.
 pub fn move_part<L: Ledger>(
     alloc: Global,
-    session: &mut Session,
+    session: &mut Sites,
     k: usize,
     request: &Request,
     steps: &mut Steps<L>,
-) -> Result<Answer<'static>, Stop>
+) -> Result<Answer<'static>, ChangeStop>
     requires site { k < sites session.old }
     requires moves { is_move request.now ≡ true }
     requires may { MayTurn request.now (site_at session.old k).replica }
@@ -112,12 +112,12 @@ pub fn move_part<L: Ledger>(
 /// What a site has selected taken out, or what stands from its caret to the next place.
 pub fn erase<L: Ledger>(
     alloc: Global,
-    session: &mut Session,
+    session: &mut Sites,
     k: usize,
     dir: Dir,
     by: By,
     steps: &mut Steps<L>,
-) -> Result<Answer<'static>, Stop>
+) -> Result<Answer<'static>, ChangeStop>
     requires site { k < sites session.old }
     requires may { MayTurn (request.Erase dir by) (site_at session.old k).replica }
     ensures answer { IfOk result (λ answer. IsAnswered (request.Erase dir by) k session.old answer session.new) }

@@ -4,65 +4,65 @@ ghost use Rattle.ve_session.specs.Stopped.{page_stop, redo_stop, revoke_stop, se
 
 use model_site::{RedoFault, SendFault, UndoFault};
 use model_world::Refusal;
-use ve_changes::Stop;
+use ve_changes::ChangeStop;
 use ve_peer_undo::RevokeFault;
 use ve_read::ReadFault;
 
 /// Why a page isn't opened.
-pub fn of_page(fault: ReadFault) -> Stop
+pub fn of_page(fault: ReadFault) -> ChangeStop
     ensures { result ≡ page_stop fault }
 {
     match fault {
-        ReadFault::PageTooLong { len } => Stop::Refused(Refusal::PageTooLong { len }),
-        ReadFault::Html(fault) => Stop::from(fault),
-        ReadFault::TooDeep { at } => Stop::Refused(Refusal::TooDeep { at }),
-        ReadFault::TooManyMarks { at } => Stop::Refused(Refusal::TooManyMarks { at }),
-        ReadFault::TooManyItems { count } => Stop::Refused(Refusal::TooManyItems { count }),
-        ReadFault::StoreFull => Stop::Refused(Refusal::StoreFull),
-        ReadFault::Memory => Stop::Memory,
+        ReadFault::PageTooLong { len } => ChangeStop::Refused(Refusal::PageTooLong { len }),
+        ReadFault::Html(fault) => ChangeStop::from(fault),
+        ReadFault::TooDeep { at } => ChangeStop::Refused(Refusal::TooDeep { at }),
+        ReadFault::TooManyMarks { at } => ChangeStop::Refused(Refusal::TooManyMarks { at }),
+        ReadFault::TooManyItems { count } => ChangeStop::Refused(Refusal::TooManyItems { count }),
+        ReadFault::StoreFull => ChangeStop::Refused(Refusal::StoreFull),
+        ReadFault::Memory => ChangeStop::Memory,
     }
 }
 
 /// Why nothing is undone.
-pub fn of_undo(fault: UndoFault) -> Stop
+pub fn of_undo(fault: UndoFault) -> ChangeStop
     ensures { result ≡ undo_stop fault }
 {
     match fault {
-        UndoFault::NothingToUndo => Stop::Refused(Refusal::NothingToUndo),
-        UndoFault::AlreadyShared { sent } => Stop::Refused(Refusal::AlreadyShared { sent }),
-        UndoFault::Memory => Stop::Memory,
+        UndoFault::NothingToUndo => ChangeStop::Refused(Refusal::NothingToUndo),
+        UndoFault::AlreadyShared { sent } => ChangeStop::Refused(Refusal::AlreadyShared { sent }),
+        UndoFault::Memory => ChangeStop::Memory,
     }
 }
 
 /// Why nothing is redone.
-pub fn of_redo(fault: RedoFault) -> Stop
+pub fn of_redo(fault: RedoFault) -> ChangeStop
     ensures { result ≡ redo_stop fault }
 {
     match fault {
-        RedoFault::NothingToRedo => Stop::Refused(Refusal::NothingToRedo),
-        RedoFault::Memory => Stop::Memory,
+        RedoFault::NothingToRedo => ChangeStop::Refused(Refusal::NothingToRedo),
+        RedoFault::Memory => ChangeStop::Memory,
     }
 }
 
 /// Why nothing is sent.
-pub fn of_send(fault: SendFault) -> Stop
+pub fn of_send(fault: SendFault) -> ChangeStop
     ensures { result ≡ send_stop fault }
 {
     match fault {
-        SendFault::InFlight { entries } => Stop::Refused(Refusal::InFlight { entries }),
-        SendFault::NothingToSend => Stop::Refused(Refusal::NothingToSend),
-        SendFault::Memory => Stop::Memory,
+        SendFault::InFlight { entries } => ChangeStop::Refused(Refusal::InFlight { entries }),
+        SendFault::NothingToSend => ChangeStop::Refused(Refusal::NothingToSend),
+        SendFault::Memory => ChangeStop::Memory,
     }
 }
 
 /// Why an entry isn't taken back: the later entry's range and the reversal's are in conflict.
-pub fn of_revoke(fault: RevokeFault) -> Stop
+pub fn of_revoke(fault: RevokeFault) -> ChangeStop
     ensures { result ≡ revoke_stop fault }
 {
     match fault {
         RevokeFault::Conflict { later, reversal } => {
-            Stop::Refused(Refusal::RevokeConflict { later, reversal })
+            ChangeStop::Refused(Refusal::RevokeConflict { later, reversal })
         }
-        RevokeFault::Memory => Stop::Memory,
+        RevokeFault::Memory => ChangeStop::Memory,
     }
 }

@@ -4,23 +4,23 @@ ghost use Rattle.model_world.specs.declared.command.Request.TheVariants as reque
 ghost use Rattle.ve_session.specs.Asked.{IsAnswered, IsStopped};
 ghost use Rattle.ve_session.specs.Cost.{steps_to_answer};
 ghost use Rattle.ve_session.specs.Turning.{MayTurn};
-ghost use Rattle.ve_turns.specs.Shared.{member_at, site_at, sites};
+ghost use Rattle.ve_sites.specs.Shared.{member_at, site_at, sites};
 
 use crate::edits::len_at;
 use crate::faults::{of_redo, of_revoke, of_undo};
 use model_world::Refusal;
 use std::sync::ledger::Ledger;
 use ve_base::Steps;
-use ve_changes::Stop;
+use ve_changes::ChangeStop;
 use ve_json::Answer;
-use ve_turns::Session;
+use ve_sites::Sites;
 
 /// The last unsent entry of a site taken back.
 pub fn undo<L: Ledger>(
-    session: &mut Session,
+    session: &mut Sites,
     k: usize,
     steps: &mut Steps<L>,
-) -> Result<Answer<'static>, Stop>
+) -> Result<Answer<'static>, ChangeStop>
     requires site { k < sites session.old }
     requires may { MayTurn request.Undo (site_at session.old k).replica }
     ensures answer { IfOk result (λ answer. IsAnswered request.Undo k session.old answer session.new) }
@@ -37,10 +37,10 @@ pub fn undo<L: Ledger>(
 
 /// What a site undid last made again.
 pub fn redo<L: Ledger>(
-    session: &mut Session,
+    session: &mut Sites,
     k: usize,
     steps: &mut Steps<L>,
-) -> Result<Answer<'static>, Stop>
+) -> Result<Answer<'static>, ChangeStop>
     requires site { k < sites session.old }
     requires may { MayTurn request.Redo (site_at session.old k).replica }
     ensures answer { IfOk result (λ answer. IsAnswered request.Redo k session.old answer session.new) }
@@ -57,11 +57,11 @@ pub fn redo<L: Ledger>(
 
 /// A committed entry that a site has seen taken back under all later ones.
 pub fn revoke<L: Ledger>(
-    session: &mut Session,
+    session: &mut Sites,
     k: usize,
     entry: usize,
     steps: &mut Steps<L>,
-) -> Result<Answer<'static>, Stop>
+) -> Result<Answer<'static>, ChangeStop>
     requires site { k < sites session.old }
     requires may { MayTurn (request.Revoke entry) (site_at session.old k).replica }
     ensures answer { IfOk result (λ answer. IsAnswered (request.Revoke entry) k session.old answer session.new) }
@@ -72,7 +72,7 @@ pub fn revoke<L: Ledger>(
 {
     let seen = session.site(k).seen();
     if entry >= seen {
-        return Err(Stop::Refused(Refusal::BadEntry { entry, seen }));
+        return Err(ChangeStop::Refused(Refusal::BadEntry { entry, seen }));
     }
     match session.revoke(k, entry, steps) {
         Ok(()) => Ok(Answer::Length(len_at(session, k))),

@@ -5,7 +5,7 @@ ghost use Rattle.model_world.specs.declared.command.Request.TheVariants as reque
 ghost use Rattle.model_world.specs.Opening.{open_page, session_of};
 ghost use Rattle.model_world.specs.Spelled.{reply_text};
 ghost use Rattle.ve_changes.specs.Stops.{IsRefused};
-ghost use Rattle.ve_read.specs.Pages.{HasPlaces, IsPage};
+ghost use Rattle.ve_read.specs.Pages.{HasPlaces, IsReadPage};
 ghost use Rattle.ve_session.specs.Asked.{is_shown, obeyed, IsAsked};
 ghost use Rattle.ve_session.specs.Cost.{steps_of, steps_to_open};
 ghost use Rattle.ve_session.specs.Opened.{world_on, HasUtf8Page, IsLed, MayOpen};
@@ -22,15 +22,14 @@ use std::marker::Model;
 use std::sync::ledger::Ledger;
 use ve_answers::{html, replies_are_as_asked};
 use ve_base::{Bytes, Memory, Steps, Text};
-use ve_changes::Stop;
+use ve_changes::ChangeStop;
 use ve_editor::Editor;
 use ve_html_scan::Span;
-use ve_json::{Request, reply_text};
+use ve_internal::table;
+use ve_json::{Answer, Request, reply_text};
 use ve_origin::{OriginTable, Origins};
 use ve_read::{PageRead, page, rows_stand};
-use ve_references::table;
-use ve_replies::Answer;
-use ve_turns::Session;
+use ve_sites::Sites;
 
 /// A page that is open: its text, what was first read of it, and the sites that edit it.
 #[derive(Drop)]
@@ -40,7 +39,7 @@ pub struct OpenPage {
     rows: OriginTable,
     // the references of the list as it was first read
     first_refs: RefTable,
-    session: Session,
+    session: Sites,
 }
 
 impl Model for OpenPage {
@@ -60,7 +59,7 @@ impl OpenPage {
         text: Text,
         sites: usize,
         steps: &mut Steps<L>,
-    ) -> Result<OpenPage, Stop>
+    ) -> Result<OpenPage, ChangeStop>
         requires may { MayOpen text sites }
         ensures ok { IfOk result (λ p. (open_page text ≡ Ok p.page) × (p.session ≡ session_of p.page sites)) }
         ensures refused { IfErr result (λ stop. IsRefused stop (open_page text)) }
@@ -96,7 +95,7 @@ impl OpenPage {
             return Err(Memory);
         };
         let first_refs = table(alloc, &read.list, &read.values)?;
-        let session = Session::new(alloc, read.list, read.values, count, steps)?;
+        let session = Sites::new(alloc, read.list, read.values, count, steps)?;
         Ok(OpenPage {
             text,
             body: read.body,

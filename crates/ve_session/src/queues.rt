@@ -2,20 +2,20 @@
 ghost use Rattle.std.specs.Prelude.{◌≡◌, ◌<◌, ◌≤◌, ◌+◌, IfErr, IfOk, OnErr, option_map};
 ghost use Rattle.model_world.specs.Answers.{ranges, taken_reply};
 ghost use Rattle.model_world.specs.declared.command.Request.TheVariants as request;
-ghost use Rattle.ve_replies.specs.Answers.{reply_of};
+ghost use Rattle.ve_json.specs.Answers.{reply_of};
 ghost use Rattle.ve_session.specs.Asked.{IsAnswered, IsStopped};
 ghost use Rattle.ve_session.specs.Cost.{steps_to_answer};
 ghost use Rattle.ve_session.specs.Turning.{MayTurn};
-ghost use Rattle.ve_turns.specs.Shared.{member_at, site_at, sites};
+ghost use Rattle.ve_sites.specs.Shared.{member_at, site_at, sites};
 
 use crate::faults::of_send;
 use model_site::{Clash, Taken};
 use model_world::Refusal;
 use std::sync::ledger::Ledger;
 use ve_base::Steps;
-use ve_changes::Stop;
+use ve_changes::ChangeStop;
 use ve_json::Answer;
-use ve_turns::Session;
+use ve_sites::Sites;
 
 /// Both ranges that are in conflict, if there are some.
 fn ranges(clash: Option<Clash>) -> Option<((usize, usize), (usize, usize))>
@@ -38,7 +38,7 @@ fn taken_answer(taken: Taken) -> Answer<'static>
 }
 
 /// All unsent entries of a site sent.
-pub fn send(session: &mut Session, k: usize) -> Result<Answer<'static>, Stop>
+pub fn send(session: &mut Sites, k: usize) -> Result<Answer<'static>, ChangeStop>
     requires site { k < sites session.old }
     requires may { MayTurn request.Send (site_at session.old k).replica }
     ensures answer { IfOk result (λ answer. IsAnswered request.Send k session.old answer session.new) }
@@ -52,7 +52,7 @@ pub fn send(session: &mut Session, k: usize) -> Result<Answer<'static>, Stop>
 }
 
 /// The server's turn at the next submission of a site.
-pub fn serve(session: &mut Session, k: usize) -> Result<Answer<'static>, Stop>
+pub fn serve(session: &mut Sites, k: usize) -> Result<Answer<'static>, ChangeStop>
     requires site { k < sites session.old }
     requires may { MayTurn request.Serve (site_at session.old k).replica }
     ensures answer { IfOk result (λ answer. IsAnswered request.Serve k session.old answer session.new) }
@@ -60,7 +60,7 @@ pub fn serve(session: &mut Session, k: usize) -> Result<Answer<'static>, Stop>
     ensures kept { OnErr result (session.new ≡ session.old) }
 {
     let Some(served) = session.serve(k)? else {
-        return Err(Stop::Refused(Refusal::NothingQueued));
+        return Err(ChangeStop::Refused(Refusal::NothingQueued));
     };
     Ok(Answer::Served {
         accepted: served.accepted,
@@ -71,10 +71,10 @@ pub fn serve(session: &mut Session, k: usize) -> Result<Answer<'static>, Stop>
 
 /// A site's turn at its next feed.
 pub fn take<L: Ledger>(
-    session: &mut Session,
+    session: &mut Sites,
     k: usize,
     steps: &mut Steps<L>,
-) -> Result<Answer<'static>, Stop>
+) -> Result<Answer<'static>, ChangeStop>
     requires site { k < sites session.old }
     requires may { MayTurn request.Take (site_at session.old k).replica }
     ensures answer { IfOk result (λ answer. IsAnswered request.Take k session.old answer session.new) }
@@ -84,7 +84,7 @@ pub fn take<L: Ledger>(
     ensures steps { steps.new ≤ steps.old + steps_to_answer request.Take session.old.session.committed (member_at session.old k) }
 {
     let Some(taken) = session.take(k, steps)? else {
-        return Err(Stop::Refused(Refusal::NothingQueued));
+        return Err(ChangeStop::Refused(Refusal::NothingQueued));
     };
     Ok(taken_answer(taken))
 }

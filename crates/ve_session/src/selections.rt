@@ -5,17 +5,17 @@ ghost use Rattle.model_site.specs.Site.{with_selection};
 ghost use Rattle.model_site_law.specs.SelectionLaws.{StandsIn};
 ghost use Rattle.ve_session.specs.Asked.{IsAnswered, IsStopped};
 ghost use Rattle.ve_session.specs.Turning.{MayTurn};
-ghost use Rattle.ve_turns.specs.Shared.{site_at, sites, with_site_at};
+ghost use Rattle.ve_sites.specs.Shared.{site_at, sites, with_site_at};
 
 use crate::edits::doc_at;
 use model_edit::{By, Dir, Selection};
 use std::alloc::Global;
-use ve_changes::{Stop, carets_are_asked, may_select, next_place};
+use ve_changes::{ChangeStop, carets_are_asked, may_select, next_place};
 use ve_json::Answer;
-use ve_turns::Session;
+use ve_sites::Sites;
 
 /// Selects, and tells where.
-fn set_selection(session: &mut Session, k: usize, selection: Selection) -> Answer<'static>
+fn set_selection(session: &mut Sites, k: usize, selection: Selection) -> Answer<'static>
     requires site { k < sites session.old }
     requires stands { StandsIn (site_at session.old k).replica.items selection }
     ensures answer { result ≡ Answer.Caret selection.anchor selection.focus }
@@ -30,11 +30,11 @@ fn set_selection(session: &mut Session, k: usize, selection: Selection) -> Answe
 
 /// Both ends of a site's selection set.
 pub fn select(
-    session: &mut Session,
+    session: &mut Sites,
     k: usize,
     anchor: usize,
     focus: usize,
-) -> Result<Answer<'static>, Stop>
+) -> Result<Answer<'static>, ChangeStop>
     requires site { k < sites session.old }
     requires may { MayTurn (request.Select anchor focus) (site_at session.old k).replica }
     ensures answer { IfOk result (λ answer. IsAnswered (request.Select anchor focus) k session.old answer session.new) }
@@ -44,19 +44,19 @@ pub fn select(
     carets_are_asked();
     match may_select(doc_at(session, k), anchor, focus) {
         Ok(selection) => Ok(set_selection(session, k, selection)),
-        Err(refusal) => Err(Stop::Refused(refusal)),
+        Err(refusal) => Err(ChangeStop::Refused(refusal)),
     }
 }
 
 /// The end of a site's selection that moves set to its next place, and the other with it unless it is kept.
 pub fn move_caret(
     alloc: Global,
-    session: &mut Session,
+    session: &mut Sites,
     k: usize,
     dir: Dir,
     by: By,
     keep: bool,
-) -> Result<Answer<'static>, Stop>
+) -> Result<Answer<'static>, ChangeStop>
     requires site { k < sites session.old }
     requires may { MayTurn (request.Move dir by keep) (site_at session.old k).replica }
     ensures answer { IfOk result (λ answer. IsAnswered (request.Move dir by keep) k session.old answer session.new) }

@@ -1,14 +1,14 @@
 // What a site answers to the requests that change nothing, but for the page written out.
 ghost use Rattle.std.specs.Prelude.{◌≡◌, ◌<◌, true, IfOk};
 ghost use Rattle.ve_session.specs.Asked.{is_shown, IsAnswered};
-ghost use Rattle.ve_turns.specs.Shared.{sites};
+ghost use Rattle.ve_sites.specs.Shared.{sites};
 
 use crate::edits::doc_at;
 use std::alloc::Global;
 use ve_answers::{caret, grid, items, node, refs, replies_are_as_asked, tree};
 use ve_base::Memory;
 use ve_json::{Answer, Request};
-use ve_turns::Session;
+use ve_sites::Sites;
 
 /// Whether a request changes nothing.
 pub fn is_shown(request: &Request) -> bool
@@ -29,7 +29,7 @@ pub fn is_shown(request: &Request) -> bool
 /// The answer of a site to a request that changes nothing, other than `html`. Items are lent.
 pub fn shown<'a>(
     alloc: Global,
-    session: &'a Session,
+    session: &'a Sites,
     k: usize,
     request: &Request,
 ) -> Result<Answer<'a>, Memory>

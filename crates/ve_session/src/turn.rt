@@ -1,10 +1,10 @@
 // A request that may change a site or the queues.
 ghost use Rattle.std.specs.Prelude.{◌≡◌, ◌<◌, ◌≤◌, ◌+◌, false, IfErr, IfOk, OnErr};
-ghost use Rattle.ve_replies.specs.Answers.{AnswerCites};
+ghost use Rattle.ve_json.specs.Answers.{AnswerCites};
 ghost use Rattle.ve_session.specs.Asked.{is_shown, IsAnswered, IsStopped};
 ghost use Rattle.ve_session.specs.Cost.{steps_to_answer};
 ghost use Rattle.ve_session.specs.Turning.{MayTurn};
-ghost use Rattle.ve_turns.specs.Shared.{member_at, site_at, sites};
+ghost use Rattle.ve_sites.specs.Shared.{member_at, site_at, sites};
 
 use crate::batches::batch;
 use crate::edits::{edit, erase, move_part};
@@ -15,18 +15,18 @@ use crate::typing::type_at;
 use std::alloc::Global;
 use std::sync::ledger::Ledger;
 use ve_base::{Memory, Steps};
-use ve_changes::Stop;
+use ve_changes::ChangeStop;
 use ve_json::{Answer, Request};
-use ve_turns::Session;
+use ve_sites::Sites;
 
 /// What a request to a site does, and its answer.
 fn done<L: Ledger>(
     alloc: Global,
-    session: &mut Session,
+    session: &mut Sites,
     k: usize,
     request: &Request,
     steps: &mut Steps<L>,
-) -> Result<Answer<'static>, Stop>
+) -> Result<Answer<'static>, ChangeStop>
     requires acts { is_shown request.now ≡ false }
     requires site { k < sites session.old }
     requires may { MayTurn request.now (site_at session.old k).replica }
@@ -56,7 +56,7 @@ fn done<L: Ledger>(
 /// The answer of a site to a request that may change it, or its refusal. A refusal changes nothing.
 pub fn turn<L: Ledger>(
     alloc: Global,
-    session: &mut Session,
+    session: &mut Sites,
     k: usize,
     request: &Request,
     steps: &mut Steps<L>,
@@ -72,7 +72,7 @@ pub fn turn<L: Ledger>(
 {
     match done(alloc, session, k, request, steps) {
         Ok(answer) => Ok(answer),
-        Err(Stop::Refused(refusal)) => Ok(Answer::No(refusal)),
-        Err(Stop::Memory) => Err(Memory),
+        Err(ChangeStop::Refused(refusal)) => Ok(Answer::No(refusal)),
+        Err(ChangeStop::Memory) => Err(Memory),
     }
 }

@@ -12,7 +12,7 @@ ghost use Rattle.ve_offsets.specs.Docs.{page_items};
 ghost use Rattle.ve_session.specs.Asked.{IsAnswered, IsStopped};
 ghost use Rattle.ve_session.specs.Cost.{steps_to_answer};
 ghost use Rattle.ve_session.specs.Turning.{MayTurn};
-ghost use Rattle.ve_turns.specs.Shared.{member_at, site_at, sites};
+ghost use Rattle.ve_sites.specs.Shared.{member_at, site_at, sites};
 
 use crate::edits::{doc_at, len_at};
 use model_edit::Selection;
@@ -21,15 +21,14 @@ use model_world_law::layers_fit;
 use std::alloc::Global;
 use std::sync::ledger::Ledger;
 use ve_base::{Steps, Text, TryCopy};
-use ve_batches::{BatchStop, after_inserted, type_text};
-use ve_changes::{Change, Stop, change_draft};
+use ve_changes::{BatchStop, Change, ChangeStop, after_inserted, change_draft, type_text};
 use ve_json::Answer;
 use ve_offsets::Doc;
-use ve_turns::Session;
+use ve_sites::Sites;
 use ve_tx::Draft;
 
 /// The draft by which a text is put at a place, with the marks to the left.
-fn put_draft(alloc: Global, doc: Doc<'_>, at: usize, text: &Text) -> Result<Draft, Stop>
+fn put_draft(alloc: Global, doc: Doc<'_>, at: usize, text: &Text) -> Result<Draft, ChangeStop>
     requires page { IsPage doc.store.now doc.list.now.items doc.tree.now }
     ensures ok { IfOk result (IsDrafted doc.entry.store.now (change_of (page_items doc.entry) (change.Text at text.now Left))) }
     ensures refused { IfErr result (λ why. IsRefused why (change_of (page_items doc.entry) (change.Text at text.now Left))) }
@@ -45,12 +44,12 @@ fn put_draft(alloc: Global, doc: Doc<'_>, at: usize, text: &Text) -> Result<Draf
 /// A text typed at a caret, where nothing is selected: one change, made in place.
 fn type_here<L: Ledger>(
     alloc: Global,
-    session: &mut Session,
+    session: &mut Sites,
     k: usize,
     at: usize,
     text: &Text,
     steps: &mut Steps<L>,
-) -> Result<Answer<'static>, Stop>
+) -> Result<Answer<'static>, ChangeStop>
     requires site { k < sites session.old }
     requires may { MayTurn (request.TypeText text.now) (site_at session.old k).replica }
     requires caret { (site_at session.old k).replica.selection.anchor ≡ (site_at session.old k).replica.selection.focus }
@@ -66,7 +65,7 @@ fn type_here<L: Ledger>(
     let caret = after_inserted(&draft.tx)?;
     match session.edit(k, &draft, steps) {
         Ok(()) => {}
-        Err(fault) => return Err(Stop::from(fault)),
+        Err(fault) => return Err(ChangeStop::from(fault)),
     }
     session.select(
         k,
@@ -81,11 +80,11 @@ fn type_here<L: Ledger>(
 /// A text typed in the place of what a site has selected, made on a copy of its page: two changes that are one entry.
 fn type_over<L: Ledger>(
     alloc: Global,
-    session: &mut Session,
+    session: &mut Sites,
     k: usize,
     text: &Text,
     steps: &mut Steps<L>,
-) -> Result<Answer<'static>, Stop>
+) -> Result<Answer<'static>, ChangeStop>
     requires site { k < sites session.old }
     requires may { MayTurn (request.TypeText text.now) (site_at session.old k).replica }
     ensures answer { IfOk result (λ answer. IsAnswered (request.TypeText text.now) k session.old answer session.new) }
@@ -96,8 +95,8 @@ fn type_over<L: Ledger>(
 {
     let typed = match type_text(alloc, session.site(k).editor(), text, steps) {
         Ok(typed) => typed,
-        Err(BatchStop::Refused { refusal, .. }) => return Err(Stop::Refused(refusal)),
-        Err(BatchStop::Memory) => return Err(Stop::Memory),
+        Err(BatchStop::Refused { refusal, .. }) => return Err(ChangeStop::Refused(refusal)),
+        Err(BatchStop::Memory) => return Err(ChangeStop::Memory),
     };
     session.settle(k, typed.batch.editor, typed.batch.entry)?;
     session.select(
@@ -113,11 +112,11 @@ fn type_over<L: Ledger>(
 /// A text typed in the place of what a site has selected, or at its caret; its caret stands after the text then.
 pub fn type_at<L: Ledger>(
     alloc: Global,
-    session: &mut Session,
+    session: &mut Sites,
     k: usize,
     text: &Text,
     steps: &mut Steps<L>,
-) -> Result<Answer<'static>, Stop>
+) -> Result<Answer<'static>, ChangeStop>
     requires site { k < sites session.old }
     requires may { MayTurn (request.TypeText text.now) (site_at session.old k).replica }
     ensures answer { IfOk result (λ answer. IsAnswered (request.TypeText text.now) k session.old answer session.new) }

@@ -14,7 +14,7 @@ use std::alloc::Global;
 use std::marker::Model;
 use std::sync::ledger::Ledger;
 use ve_base::{Bytes, MAX_LINE, Memory, Steps, Text};
-use ve_changes::Stop;
+use ve_changes::ChangeStop;
 use ve_editor::Editor;
 use ve_json::{Answer, Command, CommandFault, Refusal, Request, command, reply_text};
 use ve_run::Machine;
@@ -107,8 +107,8 @@ impl World {
                 self.page = Some(page);
                 tell_length(self.alloc, len, out)
             }
-            Err(Stop::Refused(refusal)) => refuse(self.alloc, refusal, out),
-            Err(Stop::Memory) => Err(Memory),
+            Err(ChangeStop::Refused(refusal)) => refuse(self.alloc, refusal, out),
+            Err(ChangeStop::Memory) => Err(Memory),
         }
     }
 

@@ -9,7 +9,7 @@ use Rattle.model_edit.specs.declared.grid_cell.GridCell.{GridCell}
 use Rattle.model_edit.specs.Causes.{TableCause, Ragged}
 use Rattle.model_edit.specs.Grid.{Grid, covers_row, covers_column, is_covered}
 use Rattle.model_edit.specs.Tables.{has_gap_before, first_fault}
-use Rattle.ve_tables.specs.Asked.{ragged_causes}
+use Rattle.ve_tables.specs.CellQuestions.{ragged_causes}
 use Rattle.ve_tables.specs.Covered.{AreInRows, AreLowered, AreFloors}
 
 -- a cell at or above a row covers it exactly where it ends below

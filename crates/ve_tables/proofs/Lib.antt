@@ -1,6 +1,6 @@
 pub mod ChildLemmas
 pub mod RowLemmas
-pub mod AskedLemmas
+pub mod QuestionLemmas
 pub mod MarkLemmas
 pub mod CoveredLemmas
 pub mod FreshLemmas
@@ -9,3 +9,5 @@ pub mod PlaceLemmas
 pub mod RiseLemmas
 pub mod StandLemmas
 pub mod ColumnLemmas
+pub mod PlacingLemmas
+pub mod SpanLemmas

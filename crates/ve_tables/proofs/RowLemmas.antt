@@ -17,7 +17,7 @@ use Rattle.ve_kinds.specs.declared.kind.Kind.TheVariants.{Table, Td, Th}
 use Rattle.std.specs.Str.{chars}
 use Rattle.model_edit.specs.Grid as model
 use Rattle.model_edit.specs.Grid.{cell_span, is_crooked, placed}
-use Rattle.ve_grid.specs.Placed.{Placed, next_cell, with_next, IsNext, IsCellRefusal}
+use Rattle.ve_tables.specs.Placed.{Placed, next_cell, with_next, IsNext, IsCellRefusal}
 use Rattle.ve_tables.specs.declared.rows.TableRow.{TableRow}
 use Rattle.ve_tables.specs.Refused.{IsTableRefusal}
 use Rattle.ve_tables.specs.Rows.{attrs_in, child_places, places_of, row_of, rows_at, cell_open, row_placed, row_after, rows_after, HasRow}

@@ -10,7 +10,7 @@ use Rattle.model_items.specs.Tree.{Open}
 use Rattle.model_edit.specs.declared.grid_cell.GridCell.{GridCell}
 use Rattle.model_edit.specs.Causes.{TableCause}
 use Rattle.model_edit.specs.Grid as model
-use Rattle.ve_grid.specs.Placed.{Placed}
+use Rattle.ve_tables.specs.Placed.{Placed}
 use Rattle.ve_tables.specs.declared.rows.TableRow.{TableRow}
 
 -- the place of an item that opens a node of one of these kinds

@@ -8,10 +8,10 @@ ghost use Rattle.ve_tables.specs.Refused.{IsTableRefusal};
 ghost use Rattle.ve_tables.specs.Rows.{attrs_in, row_placed, row_after, HasPlaced, HasRow};
 
 use crate::children::children_of;
+use crate::{Placing, span_of};
 use model_edit::TableFault;
 use std::alloc::Global;
 use ve_base::{Attr, MAX_COLUMN_SPAN, MAX_ROW_SPAN, Memory};
-use ve_grid::{Placing, span_of};
 use ve_items::Item;
 use ve_kinds::Kind;
 use ve_offsets::Doc;

@@ -8,14 +8,14 @@ ghost use Rattle.model_edit.specs.Tables.{cell_removed};
 ghost use Rattle.ve_offsets.specs.Docs.{IsDoc, page_items};
 ghost use Rattle.ve_tx.specs.Cites.{TxCites};
 ghost use Rattle.ve_tx.specs.Operation.{by_value};
-ghost use Rattle.ve_tables.specs.Asked.{asked};
-ghost use Rattle.ve_tables.specs.declared.asked.Question.TheVariants.{IsFullAtColumn};
+ghost use Rattle.ve_tables.specs.CellQuestions.{asked};
+ghost use Rattle.ve_tables.specs.declared.cell_questions.CellQuestion.TheVariants.{IsFullAtColumn};
 ghost use Rattle.ve_tables.specs.Covered.{AreInRows, IsRun, floor_with, floor_of};
 ghost use Rattle.ve_tables.specs.PartWay.{AreNone, CollectsIn, MakesEdits, MayMake, column_put, column_taken, grown_columns, row_widened};
 ghost use Rattle.ve_tables.specs.Refused.{IsTableRefusal};
 ghost use Rattle.ve_tables.specs.Rows.{row_of};
 
-use crate::asked::{covers_column, spans_column};
+use crate::cell_questions::{covers_column, spans_column};
 use crate::fresh::new_cell;
 use crate::refusals::{col_in_fault, col_out_fault};
 use crate::rows::TableRow;

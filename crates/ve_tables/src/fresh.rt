@@ -4,11 +4,11 @@ ghost use Rattle.model_items.specs.Plain.{plain_list, CitesWell};
 ghost use Rattle.model_edit.specs.Tables as model;
 ghost use Rattle.ve_tables.specs.Fresh.{AreMarked, AreTaken, AreCellsPut};
 
-use crate::asked::{covers_column, spans_row};
+use crate::Grid;
+use crate::cell_questions::{covers_column, spans_row};
 use model_edit::GridCell;
 use std::alloc::Global;
 use ve_base::Memory;
-use ve_grid::Grid;
 use ve_items::{Item, Items};
 use ve_kinds::Kind;
 

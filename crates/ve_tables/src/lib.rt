@@ -12,21 +12,42 @@
 //! of rows cover), `Fresh` (the new cells of a row) and `PartWay` (how far the edits of a change are
 //! collected). What a grid is, and a change of it, stands in `model_edit`'s `Grid` and `Tables`. It has no
 //! law of its own: those of `model_edit_law` hold of the results by the clauses.
+//!
+//! The grid of a table, laid out cell by cell: how many rows and columns it has, and each cell with the rectangle that it
+//! covers.
+//!
+//! Cells are placed row by row, each at the least column of its row that isn't left of the cell before it and isn't
+//! covered from above. For each column it is kept down to which row it is covered, so a cell is placed in time in
+//! proportion to the columns that it passes and covers. It knows cells by their places and spans, and no list, tree or
+//! store; how a cell's spans are read from its attributes is said here too.
+//!
+//! Definitions, in reading order: `Placed` (the cells placed so far, the next one, and how it is refused), and for private
+//! functions `Floors` (what the columns' lowest covered rows have to do with the cells). What a grid is stands in
+//! `model_edit`'s `Grid`. Law: `next_is_placed` (the next cell is the model's).
 #![tactic(auto)]
 
-mod asked;
+mod cell_questions;
 mod cells;
 mod children;
 mod column_edits;
+mod floors;
 mod fresh;
+mod grid;
+mod laws;
+mod placing;
 mod ragged;
 mod refusals;
 mod row_edits;
 mod rows;
+mod span_attributes;
 mod spans;
 mod table;
 
 pub use column_edits::{col_in, col_out};
+pub use grid::{Grid, GridCells};
+pub use laws::next_is_placed;
+pub use model_edit::{GridCell, TableFault};
+pub use placing::Placing;
 pub use row_edits::{row_in, row_out};
+pub use span_attributes::span_of;
 pub use table::grid;
-pub use ve_grid::{Grid, GridCell, GridCells, TableFault};

@@ -1,14 +1,14 @@
 // Whether each place left of a column is covered.
 ghost use Rattle.std.specs.Prelude.{◌≡◌, ◌≤◌, ◌<◌, ◌+◌, ◌^◌, nat_le, length, take, drop, IfOk};
 ghost use Rattle.std.specs.List.{list_any};
-ghost use Rattle.ve_tables.specs.Asked.{IsFirstRagged};
+ghost use Rattle.ve_tables.specs.CellQuestions.{IsFirstRagged};
 ghost use Rattle.ve_tables.specs.Covered.{AreInRows, AreLowered, AreFloors, ArePassed};
 
-use crate::asked::covers_column;
+use crate::Grid;
+use crate::cell_questions::covers_column;
 use model_edit::GridCell;
 use std::alloc::Global;
 use ve_base::Memory;
-use ve_grid::Grid;
 
 /// Lowers the floors of the columns that a cell covers to the row below it.
 fn lower(floors: &mut Vec<usize>, cell: GridCell)

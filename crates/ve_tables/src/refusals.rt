@@ -2,15 +2,15 @@
 ghost use Rattle.std.specs.Prelude.{◌≡◌, ◌||◌, ◌==◌, nat_lt, IfOk};
 ghost use Rattle.model_edit.specs.Causes.{SpanFull};
 ghost use Rattle.model_edit.specs.Tables.{at_first};
-ghost use Rattle.ve_tables.specs.Asked.{asked, refusal, row_in_causes, row_out_causes, col_in_causes, col_out_causes};
+ghost use Rattle.ve_tables.specs.CellQuestions.{asked, refusal, row_in_causes, row_out_causes, col_in_causes, col_out_causes};
 ghost use Rattle.ve_tables.specs.Covered.{AreInRows};
 
-use crate::asked::{Question, first_cell};
+use crate::Grid;
+use crate::cell_questions::{CellQuestion, first_cell};
 use crate::ragged::first_ragged;
 use model_edit::{GridCell, TableFault};
 use std::alloc::Global;
 use ve_base::{MAX_COLUMN_SPAN, Memory};
-use ve_grid::Grid;
 
 /// Whether there are no rows, or columns, or fewer than a number.
 fn is_past(number: usize, count: usize) -> bool
@@ -23,7 +23,7 @@ fn is_past(number: usize, count: usize) -> bool
 }
 
 /// The refusal that names the first cell of which the answer is yes.
-fn full_fault(cells: &[GridCell], question: Question) -> Option<TableFault>
+fn full_fault(cells: &[GridCell], question: CellQuestion) -> Option<TableFault>
     ensures { result ≡ refusal (at_first (asked question) cells.now (λ at. SpanFull at)) }
 {
     let at = first_cell(cells, question)?;
@@ -42,7 +42,7 @@ pub fn row_in_fault(grid: &Grid, row: usize) -> Option<TableFault>
     if MAX_COLUMN_SPAN < columns {
         return Some(TableFault::TooWide { columns });
     }
-    full_fault(grid.cells(), Question::IsFullAtRow(row))
+    full_fault(grid.cells(), CellQuestion::IsFullAtRow(row))
 }
 
 /// Why a row can't be taken out.
@@ -53,7 +53,7 @@ pub fn row_out_fault(grid: &Grid, row: usize) -> Option<TableFault>
     if rows <= row {
         return Some(TableFault::BadRow { row, rows });
     }
-    let at = first_cell(grid.cells(), Question::GoesBelow(row))?;
+    let at = first_cell(grid.cells(), CellQuestion::GoesBelow(row))?;
     Some(TableFault::Spanned { at })
 }
 
@@ -69,7 +69,7 @@ pub fn col_in_fault(alloc: Global, grid: &Grid, column: usize) -> Result<Option<
     if let Some(row) = first_ragged(alloc, grid, column)? {
         return Ok(Some(TableFault::Ragged { row }));
     }
-    Ok(full_fault(grid.cells(), Question::IsFullAtColumn(column)))
+    Ok(full_fault(grid.cells(), CellQuestion::IsFullAtColumn(column)))
 }
 
 /// Why a column can't be taken out.

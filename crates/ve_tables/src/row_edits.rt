@@ -6,13 +6,13 @@ ghost use Rattle.model_edit.specs.Tables as model;
 ghost use Rattle.ve_offsets.specs.Docs.{IsDoc, page_items};
 ghost use Rattle.ve_tx.specs.Cites.{TxCites};
 ghost use Rattle.ve_tx.specs.Operation.{by_value};
-ghost use Rattle.ve_tables.specs.Asked.{asked};
-ghost use Rattle.ve_tables.specs.declared.asked.Question.TheVariants.{IsFullAtRow};
+ghost use Rattle.ve_tables.specs.CellQuestions.{asked};
+ghost use Rattle.ve_tables.specs.declared.cell_questions.CellQuestion.TheVariants.{IsFullAtRow};
 ghost use Rattle.ve_tables.specs.PartWay.{AreNone, MakesEdits, MayMake, row_put, row_taken};
 ghost use Rattle.ve_tables.specs.Refused.{IsTableRefusal};
 ghost use Rattle.ve_tables.specs.Rows.{row_of};
 
-use crate::asked::spans_row;
+use crate::cell_questions::spans_row;
 use crate::fresh::new_row;
 use crate::refusals::{row_in_fault, row_out_fault};
 use crate::rows::TableRow;

@@ -11,10 +11,10 @@ ghost use Rattle.ve_tables.specs.Rows.{row_of, rows_after};
 
 use crate::cells::place_row;
 use crate::rows::{TableRow, table_rows};
+use crate::{Grid, Placing};
 use model_edit::TableFault;
 use std::alloc::Global;
 use ve_base::{ListOf, Memory};
-use ve_grid::{Grid, Placing};
 use ve_items::Item;
 use ve_kinds::Kind;
 use ve_offsets::Doc;

@@ -14,7 +14,7 @@ use Rattle.model_items.specs.declared.plain_item.PlainItem.{PlainItem}
 use Rattle.model_items.specs.declared.plain_item.PlainItem.TheVariants.{Char, Opening, Closing}
 use Rattle.model_items.specs.Plain.{plain, plain_list}
 use Rattle.model_page.specs.References.{RefAt, ref_at, refs_from}
-use Rattle.ve_nodes.proofs.SiblingLemmas.{found_at}
+use Rattle.ve_write.proofs.SiblingLemmas.{found_at}
 use Rattle.ve_origin.specs.Kept.{opens_notes}
 use Rattle.ve_origin.proofs.AlikeLemmas.{piece_is}
 use Rattle.ve_origin.proofs.ReferLemmas.{inside_after, none_before, own_refs, ref_in, refs_first}

@@ -13,7 +13,7 @@ use Rattle.model_items.specs.declared.plain_item.PlainItem.{PlainItem}
 use Rattle.model_items.specs.Plain.{plain, plain_list}
 use Rattle.model_page.specs.declared.ref_table.RefRow.{RefRow}
 use Rattle.model_page.specs.References.{Body, RefAt, body_of, place_of_body, ref_row, refs_of, table}
-use Rattle.ve_fresh.specs.Told.{text_of, AreBodyTexts}
+use Rattle.ve_write.specs.Told.{text_of, AreBodyTexts}
 use Rattle.ve_origin.specs.Rows.{RowsRise}
 use Rattle.ve_origin.proofs.RowLemmas.{no_row}
 use Rattle.ve_origin.proofs.ReferLemmas.{table_rises}

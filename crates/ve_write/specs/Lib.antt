@@ -1,1 +1,9 @@
 pub mod BodyTexts
+pub mod Siblings
+pub mod After
+pub mod Passing
+pub mod Bare
+pub mod Inline
+pub mod Originals
+pub mod Told
+pub mod Begun

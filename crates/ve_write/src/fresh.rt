@@ -4,14 +4,14 @@ ghost use Rattle.model_items.specs.Law.{Lawful};
 ghost use Rattle.model_items.specs.Plain.{plain_list};
 ghost use Rattle.model_page.specs.Editable.{all_refer};
 ghost use Rattle.model_page_write.specs.PageText.{fresh};
-ghost use Rattle.ve_nodes.specs.Siblings.{AllCite};
+ghost use Rattle.ve_write.specs.Siblings.{AllCite};
 
 use crate::bodies::body_texts;
+use crate::{Page, put_list};
 use std::alloc::Global;
 use ve_base::{Bytes, Memory};
-use ve_fresh::{Page, put_list};
+use ve_internal::table;
 use ve_items::Linear;
-use ve_references::table;
 use ve_store::Store;
 
 /// Appends the nodes of a list, all written afresh: no origin is looked at. Each body is written at the

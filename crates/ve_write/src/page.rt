@@ -4,16 +4,16 @@ ghost use Rattle.model_items.specs.Law.{Lawful};
 ghost use Rattle.model_items.specs.Plain.{plain_list};
 ghost use Rattle.model_page.specs.Editable.{all_refer};
 ghost use Rattle.model_page_write.specs.PageText.{write};
-ghost use Rattle.ve_fresh.specs.Originals.{opened_over, IsFirst};
-ghost use Rattle.ve_nodes.specs.Siblings.{AllCite};
+ghost use Rattle.ve_write.specs.Originals.{opened_over, IsFirst};
+ghost use Rattle.ve_write.specs.Siblings.{AllCite};
 
 use crate::bodies::body_texts;
+use crate::{First, Page, put_list};
 use std::alloc::Global;
 use ve_base::{Bytes, Memory};
-use ve_fresh::{First, Page, put_list};
+use ve_internal::table;
 use ve_items::Linear;
 use ve_origin::Origins;
-use ve_references::table;
 use ve_store::Store;
 
 /// Appends the page that a list gives, after the page that was first read: what stood before its body, the

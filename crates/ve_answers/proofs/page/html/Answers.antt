@@ -3,7 +3,7 @@ use Rattle.std.proofs.lemmas.Str.{IsUtf8-nil}
 use Rattle.model_items.proofs.VerdictLemmas.{verdict_reads_no_values}
 use Rattle.model_page_write.specs.PageText.{write}
 use Rattle.model_world.specs.declared.reply.Reply.TheVariants as reply
-use Rattle.ve_fresh.specs.Originals.{opened_over}
+use Rattle.ve_write.specs.Originals.{opened_over}
 use Rattle.ve_offsets.specs.Docs.{page_items}
 use Rattle.ve_answers.proofs.CiteLemmas.{cites_each}
 use Rattle.ve_answers.proofs.PageLemmas.{page_told}

@@ -1,4 +1,4 @@
-use Rattle.ve_build_wrap.proofs.NodeLemmas.{holds_content}
+use Rattle.ve_build_shape.proofs.NodeLemmas.{holds_content}
 use Rattle.ve_changes.proofs.carets.holds_content.Goals as goal
 
 pub returns : goal.returns

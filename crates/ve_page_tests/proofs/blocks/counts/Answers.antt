@@ -1,5 +1,5 @@
 use Rattle.std.proofs.Common.{length, sym, subst}
-use Rattle.ve_blocks.specs.Places.{SomeSiblings}
+use Rattle.ve_read.specs.Places.{SomeSiblings}
 use Rattle.ve_page_tests.proofs.WholeLemmas.{whole_siblings}
 use Rattle.ve_page_tests.proofs.blocks.counts.Goals as goal
 

@@ -1,5 +1,5 @@
 use Rattle.std.proofs.Common.{length, sym, subst}
-use Rattle.ve_content.specs.Parts.{SomeParts}
+use Rattle.ve_read.specs.ContentParts.{SomeParts}
 use Rattle.ve_page_tests.proofs.WholeLemmas.{whole_parts}
 use Rattle.ve_page_tests.proofs.content.counts.Goals as goal
 

@@ -2,7 +2,7 @@ use Rattle.std.proofs.Common.{◌≡◌, [], sym, subst, true}
 use Rattle.model_items.specs.Law.{Lawful}
 use Rattle.model_items.specs.Plain.{plain_list}
 use Rattle.model_page.specs.Editable.{all_refer}
-use Rattle.ve_fresh.specs.Told.{text_of, AreBodyTexts}
+use Rattle.ve_write.specs.Told.{text_of, AreBodyTexts}
 use Rattle.ve_page_tests.proofs.BodyLemmas.{no_bodies}
 use Rattle.ve_page_tests.proofs.fresh.put_page.Goals as goal
 

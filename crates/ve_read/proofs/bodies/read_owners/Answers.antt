@@ -1,6 +1,6 @@
 use Rattle.std.proofs.Common.{◌≡◌, suc, ◌+◌, subst, arith}
 use Rattle.std.proofs.lemmas.Result.{err_from_is_err_and}
-use Rattle.ve_owners.specs.Claimed.{lent_owner}
+use Rattle.ve_reader.specs.Claimed.{lent_owner}
 use Rattle.ve_read.proofs.BodyLemmas.{Left, left_first, left_next, left_over}
 use Rattle.ve_read.proofs.SpelledLemmas.{spelled_at}
 use Rattle.ve_read.proofs.bodies.read_owners.Goals as goal

@@ -2,7 +2,7 @@ use Rattle.std.proofs.Common.{◌≡◌, None}
 use Rattle.std.specs.Prelude.{chars}
 use Rattle.std.proofs.lemmas.Result.{err_from_is_err_and}
 use Rattle.model_page.specs.Fit.{around_in}
-use Rattle.ve_blocks.specs.Blocks.{with_siblings, white_at_end, siblings_limit}
+use Rattle.ve_read.specs.Blocks.{with_siblings, white_at_end, siblings_limit}
 use Rattle.ve_reader.specs.Stops.{stop_limit}
 use Rattle.ve_read.proofs.WholeLemmas.{some_siblings, of_text}
 use Rattle.ve_read.proofs.forests.read_whole.Goals as goal

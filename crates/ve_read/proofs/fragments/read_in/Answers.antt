@@ -1,7 +1,7 @@
 use Rattle.std.proofs.Common.{[], ap, ◌∙◌, subst}
 use Rattle.model_change.specs.Store.{cited, fill}
 use Rattle.model_page.specs.Fit.{around_in}
-use Rattle.ve_blocks.specs.Blocks.{siblings_limit}
+use Rattle.ve_read.specs.Blocks.{siblings_limit}
 use Rattle.ve_reader.specs.ReadSoFar.{ReadSoFar}
 use Rattle.ve_reader.specs.Stops.{stop_limit}
 use Rattle.ve_read.specs.Forests.{parts_in}

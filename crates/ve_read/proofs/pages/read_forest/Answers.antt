@@ -3,7 +3,7 @@ use Rattle.std.specs.Prelude.{chars}
 use Rattle.std.proofs.lemmas.Result.{err_from_is_err_and}
 use Rattle.ve_kinds.specs.declared.kind.Kind.TheVariants.{Root}
 use Rattle.model_page.specs.Fit.{around_in}
-use Rattle.ve_blocks.specs.Blocks.{siblings_limit, white_at_end, with_siblings}
+use Rattle.ve_read.specs.Blocks.{siblings_limit, white_at_end, with_siblings}
 use Rattle.ve_reader.specs.Stops.{stop_limit}
 use Rattle.ve_read.specs.Forests.{parts_in}
 use Rattle.ve_read.proofs.PageLemmas.{outer_limit, outer_over, inner_over, all_within, all_items, page_spelled}

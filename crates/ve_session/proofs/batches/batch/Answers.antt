@@ -3,7 +3,7 @@ use Rattle.model_site.specs.Site.{Site}
 use Rattle.model_world.specs.declared.command.Request.TheVariants as request
 use Rattle.model_world.specs.Answers.{batch_or_no}
 use Rattle.ve_site.specs.Settled.{settled}
-use Rattle.ve_turns.specs.Shared.{site_at}
+use Rattle.ve_sites.specs.Shared.{site_at}
 use Rattle.ve_session.specs.Asked.{asker}
 use Rattle.ve_session.proofs.BatchLemmas.{batch_at, batch_settled, still_there}
 use Rattle.ve_session.proofs.CaretLemmas.{is_batched}

@@ -6,7 +6,7 @@ use Rattle.ve_editor.specs.Edited.{drafted}
 use Rattle.ve_session.specs.Asked.{IsAnswered, IsPerformed, IsStopped}
 use Rattle.ve_session.proofs.DraftLemmas.{drafted_at, err_as, ok_as, steps_of_meant}
 use Rattle.ve_session.proofs.TurnLemmas.{answered_by, barred}
-use Rattle.ve_turns.specs.Shared.{site_at}
+use Rattle.ve_sites.specs.Shared.{site_at}
 use Rattle.std.proofs.Common.{refl}
 use Rattle.ve_session.proofs.edits.edit.Goals as goal
 

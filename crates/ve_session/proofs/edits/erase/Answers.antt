@@ -10,7 +10,7 @@ use Rattle.ve_editor.specs.Edited.{drafted}
 use Rattle.ve_session.specs.Asked.{IsAnswered, IsPerformed, IsStopped}
 use Rattle.ve_session.proofs.DraftLemmas.{drafted_at, erase_steps, erased_at, erases, err_as, ok_as, steps_of_meant, unerased}
 use Rattle.ve_session.proofs.TurnLemmas.{answered_by, barred}
-use Rattle.ve_turns.specs.Shared.{site_at}
+use Rattle.ve_sites.specs.Shared.{site_at}
 use Rattle.ve_session.proofs.edits.erase.Goals as goal
 
 pub returns-in_err-draft-clause-refused : goal.returns-in_err-draft-clause-refused

@@ -7,7 +7,7 @@ use Rattle.ve_editor.specs.Edited.{drafted}
 use Rattle.ve_session.specs.Asked.{asker, IsAnswered, IsPerformed, IsStopped}
 use Rattle.ve_session.proofs.DraftLemmas.{drafted_at, err_as, move_fits, move_steps, ok_as, steps_of_meant}
 use Rattle.ve_session.proofs.TurnLemmas.{answered_by, barred}
-use Rattle.ve_turns.specs.Shared.{member_at, site_at}
+use Rattle.ve_sites.specs.Shared.{member_at, site_at}
 use Rattle.ve_session.proofs.edits.move_part.Goals as goal
 
 pub perform-requires-clause-apart : goal.perform-requires-clause-apart

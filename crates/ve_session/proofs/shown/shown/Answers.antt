@@ -4,7 +4,7 @@ use Rattle.model_world.specs.declared.command.Request.{Request}
 use Rattle.model_world.specs.declared.command.Request.TheVariants as request
 use Rattle.ve_answers.specs.Replies.{grid_reply, items_reply, node_reply, refs_reply, tree_reply}
 use Rattle.ve_offsets.specs.Docs.{page_items}
-use Rattle.ve_replies.specs.Answers.{reply_of, AnswerCites}
+use Rattle.ve_json.specs.Answers.{reply_of, AnswerCites}
 use Rattle.ve_session.specs.Asked.{asker, IsAnswered}
 use Rattle.ve_session.proofs.ShownLemmas.{ok_both, shown_over}
 use Rattle.ve_session.proofs.shown.shown.Goals as goal

@@ -13,7 +13,7 @@ use Rattle.ve_session.proofs.CaretLemmas.{is_typed}
 use Rattle.ve_session.proofs.DraftLemmas.{drafted_at}
 use Rattle.ve_session.proofs.TurnLemmas.{edit_was}
 use Rattle.ve_session.proofs.TypedLemmas.{barred_typing, edited_there, typed_batch, typing_steps, untyped}
-use Rattle.ve_turns.specs.Shared.{site_at, with_site_at}
+use Rattle.ve_sites.specs.Shared.{site_at, with_site_at}
 use Rattle.ve_session.proofs.typing.type_here.Goals as goal
 
 pub returns-in_err-draft-clause-refused : goal.returns-in_err-draft-clause-refused

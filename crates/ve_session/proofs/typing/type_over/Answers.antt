@@ -2,7 +2,7 @@ use Rattle.std.proofs.Common.{ap, ◌∙◌}
 use Rattle.model_edit.specs.Translate.{between}
 use Rattle.model_site.specs.Site.{Site, with_entry, with_selection}
 use Rattle.model_world.specs.Answers.{typing}
-use Rattle.ve_turns.specs.Shared.{site_at, with_site_at}
+use Rattle.ve_sites.specs.Shared.{site_at, with_site_at}
 use Rattle.ve_session.proofs.BatchLemmas.{batch_settled, caret_there, still_there, typed_at}
 use Rattle.ve_session.proofs.CaretLemmas.{is_typed}
 use Rattle.ve_session.proofs.typing.type_over.Goals as goal

@@ -7,13 +7,13 @@ use Rattle.model_edit.specs.Edits.{InOrder, transaction_of}
 use Rattle.model_edit.specs.Grid.{Grid, grid, table_rows}
 use Rattle.model_edit.specs.Causes.{BadColumn, SpanFull}
 use Rattle.model_edit.specs.Tables.{at_first}
-use Rattle.ve_tables.specs.declared.asked.Question.TheVariants.{IsFullAtColumn}
+use Rattle.ve_tables.specs.declared.cell_questions.CellQuestion.TheVariants.{IsFullAtColumn}
 use Rattle.ve_tables.specs.declared.rows.TableRow.{TableRow}
-use Rattle.ve_tables.specs.Asked.{asked, col_in_causes, ragged_causes}
+use Rattle.ve_tables.specs.CellQuestions.{asked, col_in_causes, ragged_causes}
 use Rattle.ve_tables.specs.Covered.{AreInRows}
 use Rattle.ve_tables.specs.PartWay.{IsLaid, col_in_edits}
 use Rattle.ve_tables.specs.Rows.{row_of}
-use Rattle.ve_tables.proofs.AskedLemmas.{refused_by, none_of_them, none_later, none_after, none_asked, no_answer}
+use Rattle.ve_tables.proofs.QuestionLemmas.{refused_by, none_of_them, none_later, none_after, none_asked, no_answer}
 use Rattle.ve_tables.proofs.PartWayLemmas.{lawful_plain}
 use Rattle.ve_tables.proofs.RiseLemmas.{grid_in_rows}
 use Rattle.ve_tables.proofs.StandLemmas.{rows_inside, cells_inside, row_count, col_in_ordered}

@@ -5,9 +5,9 @@ use Rattle.model_items.specs.Plain.{plain, plain_list}
 use Rattle.model_edit.specs.declared.grid_cell.GridCell.{GridCell}
 use Rattle.model_edit.specs.Edits.{InOrder, transaction_of}
 use Rattle.model_edit.specs.Grid.{Grid, grid}
-use Rattle.ve_tables.specs.Asked.{col_out_causes}
+use Rattle.ve_tables.specs.CellQuestions.{col_out_causes}
 use Rattle.ve_tables.specs.PartWay.{IsLaid, columns_removed}
-use Rattle.ve_tables.proofs.AskedLemmas.{refused_by}
+use Rattle.ve_tables.proofs.QuestionLemmas.{refused_by}
 use Rattle.ve_tables.proofs.PartWayLemmas.{lawful_plain}
 use Rattle.ve_tables.proofs.StandLemmas.{cells_inside, cells_ahead, col_out_ordered}
 use Rattle.ve_tables.proofs.column_edits.col_out.Goals as goal

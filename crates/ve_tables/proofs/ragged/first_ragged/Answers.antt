@@ -2,7 +2,7 @@ use Rattle.std.proofs.Common.{◌≡◌, ◌-◌, ◌+◌, ℕ, suc, true, false
 use Rattle.std.specs.List.{list_any}
 use Rattle.model_edit.specs.declared.grid_cell.GridCell.{GridCell}
 use Rattle.model_edit.specs.Tables.{first_fault, has_gap_before}
-use Rattle.ve_tables.specs.Asked.{ragged_causes}
+use Rattle.ve_tables.specs.CellQuestions.{ragged_causes}
 use Rattle.ve_tables.proofs.CoveredLemmas.{gap_is, floors_later, rows_lower, ragged_yes, ragged_no}
 use Rattle.ve_tables.proofs.ragged.first_ragged.Goals as goal
 

@@ -1,7 +1,7 @@
 use Rattle.std.proofs.Common.{◌≡◌, ◌≤◌, ◌-◌, ◌++◌, Bool, List, length, take, drop}
 use Rattle.model_edit.specs.Causes.{TableCause}
 use Rattle.model_edit.specs.Tables.{first_fault}
-use Rattle.ve_tables.specs.Asked.{ragged_causes}
+use Rattle.ve_tables.specs.CellQuestions.{ragged_causes}
 use Rattle.ve_tables.specs.Covered.{AreInRows, AreFloors}
 use Rattle.ve_tables.proofs.ragged.first_ragged.Given as goal
 

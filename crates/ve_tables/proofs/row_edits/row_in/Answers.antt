@@ -8,12 +8,12 @@ use Rattle.model_edit.specs.Edits.{InOrder, transaction_of}
 use Rattle.model_edit.specs.Grid.{Grid, grid, table_rows}
 use Rattle.model_edit.specs.Causes.{BadRow, TooWide, SpanFull}
 use Rattle.model_edit.specs.Tables.{row_in_edits, at_first}
-use Rattle.ve_tables.specs.declared.asked.Question.TheVariants.{IsFullAtRow}
+use Rattle.ve_tables.specs.declared.cell_questions.CellQuestion.TheVariants.{IsFullAtRow}
 use Rattle.ve_tables.specs.declared.rows.TableRow.{TableRow}
-use Rattle.ve_tables.specs.Asked.{asked, row_in_causes}
+use Rattle.ve_tables.specs.CellQuestions.{asked, row_in_causes}
 use Rattle.ve_tables.specs.PartWay.{IsLaid}
 use Rattle.ve_tables.specs.Rows.{row_of}
-use Rattle.ve_tables.proofs.AskedLemmas.{refused_by, none_of_them, none_first, none_later, none_asked, no_answer}
+use Rattle.ve_tables.proofs.QuestionLemmas.{refused_by, none_of_them, none_first, none_later, none_asked, no_answer}
 use Rattle.ve_tables.proofs.PartWayLemmas.{lawful_plain}
 use Rattle.ve_tables.proofs.StandLemmas.{rows_inside, row_count, row_in_ordered}
 use Rattle.ve_tables.proofs.row_edits.row_in.Goals as goal

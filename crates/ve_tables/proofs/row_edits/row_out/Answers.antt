@@ -7,12 +7,12 @@ use Rattle.model_edit.specs.Edits.{InOrder, transaction_of}
 use Rattle.model_edit.specs.Grid.{Grid, grid, table_rows}
 use Rattle.model_edit.specs.Causes.{BadRow, Spanned}
 use Rattle.model_edit.specs.Tables.{at_first}
-use Rattle.ve_tables.specs.declared.asked.Question.TheVariants.{GoesBelow}
+use Rattle.ve_tables.specs.declared.cell_questions.CellQuestion.TheVariants.{GoesBelow}
 use Rattle.ve_tables.specs.declared.rows.TableRow.{TableRow}
-use Rattle.ve_tables.specs.Asked.{asked, row_out_causes}
+use Rattle.ve_tables.specs.CellQuestions.{asked, row_out_causes}
 use Rattle.ve_tables.specs.PartWay.{IsLaid, row_out_edits}
 use Rattle.ve_tables.specs.Rows.{row_of}
-use Rattle.ve_tables.proofs.AskedLemmas.{refused_by, none_of_them, none_first, no_answer}
+use Rattle.ve_tables.proofs.QuestionLemmas.{refused_by, none_of_them, none_first, no_answer}
 use Rattle.ve_tables.proofs.PartWayLemmas.{lawful_plain}
 use Rattle.ve_tables.proofs.StandLemmas.{rows_inside, rows_ahead, row_count, row_out_ordered}
 use Rattle.ve_tables.proofs.row_edits.row_out.Goals as goal

@@ -1,6 +1,6 @@
 use Rattle.std.proofs.Common.{sym, ◌∙◌}
 use Rattle.model_items.specs.Plain.{plain_list}
-use Rattle.ve_fresh.proofs.BodyLemmas.{no_texts}
+use Rattle.ve_write.proofs.BodyLemmas.{no_texts}
 use Rattle.ve_write.proofs.TextLemmas.{row_within, row_passed, row_put, texts_are}
 use Rattle.ve_write.proofs.bodies.body_texts.Goals as goal
 use Rattle.ve_write.proofs.bodies.body_texts.Goals.{in-Some+in_ok-body_text+in_ok-insert+in-Some-1, in-Some+in_ok-body_text+in_ok-insert+in-None-1, in_default}

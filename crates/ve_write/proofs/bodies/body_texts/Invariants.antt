@@ -1,7 +1,7 @@
 use Rattle.std.proofs.Common.{◌≡◌, ℕ, take}
 use Rattle.model_items.specs.Plain.{plain_list}
 use Rattle.model_page.specs.References.{table}
-use Rattle.ve_fresh.specs.Told.{text_of}
+use Rattle.ve_write.specs.Told.{text_of}
 use Rattle.ve_write.specs.BodyTexts.{notes_place, text_by}
 use Rattle.ve_write.proofs.bodies.body_texts.Given as goal
 

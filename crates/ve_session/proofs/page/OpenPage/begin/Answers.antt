@@ -5,7 +5,7 @@ use Rattle.model_site.specs.Replica.{opened_with}
 use Rattle.model_site.specs.Session.{started}
 use Rattle.ve_session.specs.Opened.{lent_of, IsOpen}
 use Rattle.ve_session.proofs.PageLemmas.{begun, begun_ok, is_open, opens, page}
-use Rattle.ve_turns.specs.Shared.{Shared}
+use Rattle.ve_sites.specs.Shared.{Shared}
 use Rattle.ve_session.proofs.page.OpenPage.begin.Goals as goal
 
 pub new-requires-clause-sound : goal.new-requires-clause-sound

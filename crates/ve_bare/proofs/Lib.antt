@@ -1,3 +1,0 @@
-pub mod InlineLemmas
-pub mod RunLemmas
-pub mod BareLemmas

@@ -1,4 +1,0 @@
-pub mod BatchLemmas
-pub mod CaretLemmas
-pub mod TypingLemmas
-mod BatchExamples

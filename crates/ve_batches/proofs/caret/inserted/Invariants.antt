@@ -1,6 +1,0 @@
-use Rattle.std.proofs.Common.{take}
-use Rattle.ve_batches.specs.Carets.{HasSeen, inserted_items}
-use Rattle.ve_batches.proofs.caret.inserted.Given as goal
-
-abbrev pub invariant-loop-op : goal.invariant-loop-op
-invariant-loop-op l = HasSeen (inserted_items (take l.op-index l.ops)) l.seen

@@ -1,5 +1,0 @@
-pub mod Blocks
-pub mod Places
-pub mod Units
-pub mod Reads
-pub mod Laws

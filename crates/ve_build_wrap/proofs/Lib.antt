@@ -1,5 +1,0 @@
-pub mod NodeLemmas
-pub mod ClaimLemmas
-pub mod ShapeLemmas
-pub mod RoundLemmas
-mod WrapExamples

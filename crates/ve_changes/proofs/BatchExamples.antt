@@ -1,0 +1,67 @@
+-- Worked examples on a paragraph: a batch of two texts, one that is refused, and typing.
+use Rattle.std.proofs.Common.{◌≡◌, ◌+◌, false, [], ◌∷◌, None, refl}
+use Rattle.ve_base.specs.declared.head.Head.{Head}
+use Rattle.ve_kinds.specs.declared.kind.Kind.TheVariants.{InternalList, P}
+use Rattle.model_items.specs.declared.item.Item.TheVariants as item
+use Rattle.model_items.specs.declared.plain_item.PlainItem.TheVariants.{Char, Closing, Opening}
+use Rattle.model_site.specs.Replica.{Replica}
+use Rattle.model_world.specs.declared.change.Change.TheVariants as change
+use Rattle.model_world.specs.declared.change.TextMarks.TheVariants.{Left}
+use Rattle.model_world.specs.declared.refusal.Refusal.TheVariants as refusal
+use Rattle.model_world.specs.Edits.{batch_on}
+use Rattle.ve_tx.specs.declared.op.Op.TheVariants as op
+use Rattle.ve_changes.specs.declared.faults.ChangeStop.TheVariants as one
+use Rattle.ve_changes.specs.declared.batch_stop.BatchStop.TheVariants as stop
+use Rattle.ve_changes.specs.Batches.{IsBatchRefused, stop_at}
+use Rattle.ve_changes.specs.TypedCarets.{first_of, inserted_items}
+use Rattle.ve_changes.specs.Costs.{steps_of_batch, steps_of_change, steps_of_changes}
+
+abbrev head : Head
+head = record { tag = []; attrs = []; raw = []; reference = None; owner = false }
+
+-- `<p>a</p>` and no references, with the letter selected
+abbrev letter : Replica
+letter = record {
+  items = Opening P head [] [] None false ∷ Char 97 [] ∷ Closing P [] ∷ Opening InternalList head [] [] None false ∷ Closing InternalList [] ∷ [];
+  store = [];
+  selection = record { anchor = 2; focus = 1 };
+}
+
+-- a refusal is told with its place, and memory without one
+place_is_told : stop_at 1 (one.Refused (refusal.BadRange 9 12)) ≡ stop.Refused 1 (refusal.BadRange 9 12)
+place_is_told = refl
+
+memory_has_no_place : stop_at 1 one.Memory ≡ stop.Memory
+memory_has_no_place = refl
+
+-- the second change is refused on what the first one makes
+second_is_refused : IsBatchRefused (batch_on letter (change.Text 1 (120 ∷ []) Left ∷ change.Remove 9 12 ∷ [])) (stop.Refused 1 (refusal.BadRange 9 12))
+second_is_refused = refl
+
+-- the letter's text node goes, and the paragraph and the root become shorter
+three_are_touched : steps_of_change letter (change.Remove 1 2) ≡ 40
+three_are_touched = refl
+
+a_refused_change_has_none : steps_of_change letter (change.Remove 9 12) ≡ 0
+a_refused_change_has_none = refl
+
+-- a copy, and two transactions that touch three nodes each
+two_changes : steps_of_batch letter (change.Remove 1 2 ∷ change.Text 1 (120 ∷ []) Left ∷ []) ≡ 40 + (40 + 40)
+two_changes = refl
+
+-- nothing is counted after what is refused
+refused_first : steps_of_changes letter (change.Remove 9 12 ∷ change.Remove 1 2 ∷ []) ≡ 0
+refused_first = refl
+
+nothing_but_a_copy : steps_of_batch letter [] ≡ 40
+nothing_but_a_copy = refl
+
+-- what operations insert, in their order, and what they pass first
+in_order : inserted_items (op.Retain 3 ∷ op.Replace [] (item.Char 97 None ∷ []) ∷ op.Retain 2 ∷ op.Replace [] (item.Char 98 None ∷ []) ∷ []) ≡ item.Char 97 None ∷ item.Char 98 None ∷ []
+in_order = refl
+
+passed_first : first_of (op.Retain 3 ∷ op.Replace [] [] ∷ []) ≡ 3
+passed_first = refl
+
+none_passed : first_of (op.Replace [] [] ∷ op.Retain 3 ∷ []) ≡ 0
+none_passed = refl

@@ -1,0 +1,39 @@
+use Rattle.std.proofs.Common.{◌≤◌, ◌+◌, ap, ◌∙◌, subst, sym}
+use Rattle.model_world.specs.Answers.{typing}
+use Rattle.model_world.specs.Edits.{batch_on}
+use Rattle.model_world_law.specs.Fit.{AllWritten}
+use Rattle.ve_changes.specs.Batches.{IsBatch, IsBatchRefused}
+use Rattle.ve_changes.specs.Costs.{steps_of_batch}
+use Rattle.ve_changes.proofs.TypingLemmas.{typing_is_written}
+use Rattle.ve_changes.proofs.typed.type_text.Goals as goal
+
+pub perform_all-requires-clause-written : goal.perform_all-requires-clause-written
+perform_all-requires-clause-written g c =
+    let same = c.as_slice.ensures ∙ c.in_ok-changes.ensures ∙ ap (λ s. typing s c.args.text.now) c.selection.ensures in
+    subst AllWritten (sym same) (typing_is_written c.args.editor.now.selection c.args.text.now)
+
+pub returns-in-Ok-clause-ok : goal.returns-in-Ok-clause-ok
+returns-in-Ok-clause-ok g c =
+    let same = c.as_slice.ensures ∙ c.in_ok-changes.ensures ∙ ap (λ s. typing s c.args.text.now) c.selection.ensures in
+    c.in_ok-with_caret-in-Ok.ensures c.args.editor.now c.args.text.now
+    (subst (λ cs. IsBatch c.args.editor.now (batch_on c.args.editor.now cs) c.in-Ok.batch) same c.in-Ok.ensures.ok)
+
+pub returns-in-Ok-clause-steps : goal.returns-in-Ok-clause-steps
+returns-in-Ok-clause-steps g c =
+    let same = c.as_slice.ensures ∙ c.in_ok-changes.ensures ∙ ap (λ s. typing s c.args.text.now) c.selection.ensures in
+    subst (λ cs. c.perform_all.new.steps ≤ c.args.steps.now + steps_of_batch c.args.editor.now cs) same c.in-Ok.ensures.steps
+
+pub returns-in_err-with_caret-in-Ok-clause-steps : goal.returns-in_err-with_caret-in-Ok-clause-steps
+returns-in_err-with_caret-in-Ok-clause-steps g c =
+    let same = c.as_slice.ensures ∙ c.in_ok-changes.ensures ∙ ap (λ s. typing s c.args.text.now) c.selection.ensures in
+    subst (λ cs. c.perform_all.new.steps ≤ c.args.steps.now + steps_of_batch c.args.editor.now cs) same c.in-Ok.ensures.steps
+
+pub returns-clause-refused : goal.returns-clause-refused
+returns-clause-refused g c =
+    let same = c.as_slice.ensures ∙ c.in_ok-changes.ensures ∙ ap (λ s. typing s c.args.text.now) c.selection.ensures in
+    subst (λ cs. IsBatchRefused (batch_on c.args.editor.now cs) c.in-Err.stop) same c.in-Err.ensures.refused
+
+pub returns-clause-steps : goal.returns-clause-steps
+returns-clause-steps g c =
+    let same = c.as_slice.ensures ∙ c.in_ok-changes.ensures ∙ ap (λ s. typing s c.args.text.now) c.selection.ensures in
+    subst (λ cs. c.perform_all.new.steps ≤ c.args.steps.now + steps_of_batch c.args.editor.now cs) same c.in-Err.ensures.steps

@@ -1,5 +1,0 @@
-mod ListLemmas
-mod WordLemmas
-mod TestLemmas
-mod CommandExamples
-mod LineLemmas

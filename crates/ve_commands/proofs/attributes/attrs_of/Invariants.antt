@@ -1,9 +1,0 @@
-use Rattle.std.proofs.Common.{◌≡◌, drop, map}
-use Rattle.serde_json.specs.View.{view}
-use Rattle.model_world.specs.Values.{all_read}
-use Rattle.model_world.specs.Attributes.{attr_in}
-use Rattle.ve_commands.proofs.ListLemmas.{read_on}
-use Rattle.ve_commands.proofs.attributes.attrs_of.Given as goal
-
-abbrev pub invariant-loop-json : goal.invariant-loop-json
-invariant-loop-json l = read_on l.attrs attr_in (drop l.json-index l.list) ≡ all_read attr_in (map view l.list)

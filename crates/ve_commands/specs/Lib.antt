@@ -1,3 +1,0 @@
-pub use Rattle.model_world.specs.Commands
-pub mod Gives
-pub mod Words

@@ -1,4 +1,0 @@
-pub mod Content
-pub mod Parts
-pub mod References
-pub mod Laws

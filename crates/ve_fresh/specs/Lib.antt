@@ -1,3 +1,0 @@
-pub mod Originals
-pub mod Told
-pub mod Begun

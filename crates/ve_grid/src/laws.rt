@@ -1,7 +1,0 @@
-// Laws of cells that are placed.
-ghost use Rattle.ve_grid.specs.Placed.{NextIsPlaced};
-
-/// The next cell is the one that the model places after those before it in its row.
-pub fn next_is_placed()
-    ensures { NextIsPlaced }
-{}

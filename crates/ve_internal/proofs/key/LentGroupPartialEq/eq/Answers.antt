@@ -1,0 +1,11 @@
+use Rattle.std.proofs.Common.{sym, ◌∙◌}
+use Rattle.std.proofs.lemmas.Bool.Decides.{same_from_decides}
+use Rattle.model_items.specs.Same.{text_same}
+use Rattle.ve_internal.specs.Keys.{text_same-Decides}
+use Rattle.ve_internal.proofs.key.LentGroupPartialEq.eq.Goals as goal
+
+pub returns : goal.returns
+returns c =
+    same_from_decides c.same.result (text_same c.args.self.now c.args.other.now)
+    (λ found. sym c.self.view_is ∙ c.same.ensures.0 found ∙ c.other.view_is, λ equal. c.same.ensures.1 (c.self.view_is ∙ equal ∙ sym c.other.view_is))
+    (text_same-Decides c.args.self.now c.args.other.now)

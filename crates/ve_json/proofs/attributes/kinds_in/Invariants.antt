@@ -1,0 +1,9 @@
+use Rattle.std.proofs.Common.{◌≡◌, drop, map}
+use Rattle.serde_json.specs.View.{view}
+use Rattle.model_world.specs.Values.{all_read}
+use Rattle.model_world.specs.Attributes.{branch_in}
+use Rattle.ve_json.proofs.ListLemmas.{read_on}
+use Rattle.ve_json.proofs.attributes.kinds_in.Given as goal
+
+abbrev pub invariant-loop-json : goal.invariant-loop-json
+invariant-loop-json l = read_on l.kinds branch_in (drop l.json-index l.list) ≡ all_read branch_in (map view l.list)

@@ -1,0 +1,11 @@
+use Rattle.std.proofs.Common.{◌+◌, drop, ap, ◌∙◌}
+use Rattle.model_world.specs.Attributes.{shape_in}
+use Rattle.ve_json.proofs.ListLemmas.{read_on, read_next}
+use Rattle.ve_json.proofs.attributes.shapes_in.Goals as goal
+
+pub loop-json-preserved : goal.loop-json-preserved
+loop-json-preserved c =
+    let i = c.loop-json.json-index in
+    ap (λ l. read_on l shape_in (drop (i + 1) c.in_ok-list.list.now)) c.in_ok-push.ensures.ok
+    ∙ read_next c.loop-json.shapes shape_in c.in_ok-list.list.now i c.json-item.result c.in_ok-shape.shape c.loop-json-test.true c.json-item.is c.in_ok-shape.ensures
+    ∙ c.loop-json.invariant

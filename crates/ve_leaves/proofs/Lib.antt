@@ -1,4 +1,0 @@
-pub mod LeafLaws
-pub mod AttrLemmas
-pub mod TagLemmas
-pub mod DraftLemmas

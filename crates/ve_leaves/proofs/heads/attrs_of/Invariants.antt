@@ -1,8 +1,0 @@
-use Rattle.ve_leaves.proofs.AttrLemmas.{LeftOf}
-use Rattle.ve_leaves.proofs.heads.attrs_of.Given as goal
-
-abbrev pub invariant-loop-token : goal.invariant-loop-token
-invariant-loop-token l =
-    (goal.iterator-loop-token).can_next l.token-iterator
-    × (goal.iterator-loop-token).is_finite l.token-iterator
-    × LeftOf l.fn.tokens l.token-iterator l.attrs

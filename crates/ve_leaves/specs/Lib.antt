@@ -1,2 +1,0 @@
-pub mod TagAttrs
-pub mod Leaves

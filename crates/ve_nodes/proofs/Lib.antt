@@ -1,3 +1,0 @@
-pub mod SiblingLemmas
-pub mod DepthLemmas
-pub mod AfterLemmas

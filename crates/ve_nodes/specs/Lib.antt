@@ -1,3 +1,0 @@
-pub mod Siblings
-pub mod After
-pub mod Passing

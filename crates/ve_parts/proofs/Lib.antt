@@ -1,4 +1,0 @@
-pub mod SourceLemmas
-pub mod PartSource
-pub mod TextLemmas
-pub mod PartLemmas

@@ -1,3 +1,0 @@
-pub mod FirstPart
-pub mod Places
-pub mod Laws

@@ -1,0 +1,18 @@
+use Rattle.std.specs.Str.{chars}
+use Rattle.std.proofs.Common.{ap, ◌∙◌}
+use Rattle.model_items.specs.declared.plain_item.PlainItem.TheVariants as plain
+use Rattle.model_change.specs.Store.{cited_by}
+use Rattle.ve_reader.specs.Drafted.{with_item}
+use Rattle.ve_tx.proofs.ValuesLemmas.{extends_by_fill}
+use Rattle.ve_reader.proofs.ExtendLemmas.{knows_on, items_more, holds_more}
+use Rattle.ve_reader.proofs.draft.ItemDraft.close.Goals as goal
+
+pub invariant_of-self : goal.invariant_of-self
+invariant_of-self c =
+    holds_more c.self.inside.values c.put_closing.new.values c.self.inside.items c.put_closing.new.items (plain.Closing c.args.kind (chars c.args.white.now)) c.in-Ok.ensures.ok c.self.inside.marks.items c.self.inside.known c.self.inside.known c.self.invariant
+    (knows_on c.self.inside.values c.put_closing.new.values c.self.inside.marks.items c.self.inside.known (extends_by_fill c.self.inside.values c.put_closing.new.values (cited_by (plain.Closing c.args.kind (chars c.args.white.now))) c.in-Ok.ensures.ok.filled) c.self.invariant.knows)
+
+pub returns-in-Ok-clause-ok : goal.returns-in-Ok-clause-ok
+returns-in-Ok-clause-ok c =
+    ap (λ l. record { items = l; marks = c.self.inside.marks.items }) (items_more c.self.inside.values c.put_closing.new.values c.self.inside.items c.put_closing.new.items (plain.Closing c.args.kind (chars c.args.white.now)) c.in-Ok.ensures.ok c.self.invariant.cites)
+    ∙ ap (with_item (plain.Closing c.args.kind (chars c.args.white.now))) c.self.view_is

@@ -1,3 +1,0 @@
-pub mod KeyLemmas
-pub mod ItemLemmas
-pub mod NoteLemmas

@@ -1,6 +1,0 @@
-use Rattle.std.proofs.Common.{take}
-use Rattle.ve_references.specs.Noted.{AreRows}
-use Rattle.ve_references.proofs.rows.rows_of.Given as goal
-
-abbrev pub invariant-loop-cited : goal.invariant-loop-cited
-invariant-loop-cited l = AreRows l.notes (take l.cited-index l.notes.refs.items) l.rows

@@ -1,6 +1,0 @@
-pub mod BracketExamples
-pub mod Escapes
-pub mod MemberLemmas
-pub mod RangeLemmas
-pub mod RunLemmas
-pub mod ShownLemmas

@@ -1,9 +1,0 @@
-pub use Rattle.model_world.specs.Names
-pub use Rattle.model_world.specs.Shown
-pub use Rattle.model_world.specs.Spelled
-pub mod Spelling
-pub mod Pieces
-pub mod Words
-pub mod Members
-pub mod Runs
-pub mod Answers

@@ -1,4 +1,0 @@
-pub mod Runs
-pub mod Siblings
-pub mod Marked
-pub mod Units

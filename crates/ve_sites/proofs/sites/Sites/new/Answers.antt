@@ -1,0 +1,23 @@
+use Rattle.std.proofs.Common.{sym, ap, ◌∙◌, subst}
+use Rattle.model_edit.specs.Translate.{between}
+use Rattle.model_site.specs.Site.{starting}
+use Rattle.ve_editor.specs.Page.{page_of}
+use Rattle.ve_server.specs.Serving.{Serving}
+use Rattle.ve_sites.specs.IsShared.{IsShared}
+use Rattle.ve_sites.specs.Senders.{shared_of}
+use Rattle.ve_sites.proofs.BeginLemmas.{all, begins, served_yet, stands}
+use Rattle.ve_sites.proofs.sites.Sites.new.Goals as goal
+
+pub invariant_of-result : goal.invariant_of-result
+invariant_of-result g c =
+    let v = c.args.values in
+    let f = c.args.list.items in
+    subst (λ server. IsShared v f server c.in_ok-members.members.items) (sym c.in_ok-server.ensures)
+    (subst (IsShared v f (served_yet v f c.args.sites c.requires.filled)) (sym c.in_ok-members.ensures.ok) (stands v f c.args.sites c.requires.filled c.requires.sound c.requires.cites))
+
+pub returns-clause-ok : goal.returns-clause-ok
+returns-clause-ok g c =
+    let v = c.args.values in
+    let f = c.args.list.items in
+    ap (λ server. shared_of v f server c.in_ok-members.members.items) c.in_ok-server.ensures
+    ∙ (ap (shared_of v f (served_yet v f c.args.sites c.requires.filled)) c.in_ok-members.ensures.ok ∙ begins v f c.args.sites c.requires.filled)

@@ -1,0 +1,140 @@
+// What one site does by itself.
+ghost use Rattle.std.specs.Prelude.{◌≡◌, ◌≤◌, ◌<◌, ◌+◌, ◌∷◌, [], Ok, List, drop, length, IfOk, IfErr, OnOk, OnErr};
+ghost use Rattle.model_change.specs.Replay.{revoke};
+ghost use Rattle.model_change.specs.Transaction.{InsertedApart};
+ghost use Rattle.model_site.specs.Refused.{edit_cause};
+ghost use Rattle.model_site.specs.Site.{edit, entries_of, redo, revoke_entry, undo, with_selection};
+ghost use Rattle.model_site_law.specs.SelectionLaws.{StandsIn};
+ghost use Rattle.ve_editor.specs.Counted.{steps_after, steps_over};
+ghost use Rattle.ve_editor.specs.Edited.{IsDraftOf, drafted};
+ghost use Rattle.ve_editor.specs.Refusal.{IsEditRefusal};
+ghost use Rattle.ve_peer_undo.specs.Refusal.{IsRevokeRefusal};
+ghost use Rattle.ve_site.specs.Counted.{redoing, undoing};
+ghost use Rattle.ve_site.specs.Refusal.{IsRedoRefusal, IsUndoRefusal};
+ghost use Rattle.ve_site.specs.Settled.{settled, Settles};
+ghost use Rattle.ve_sites.specs.Shared.{site_at, sites, with_site_at};
+ghost use Rattle.ve_sites.specs.Turns.{revoking};
+
+use crate::Sites;
+use model_edit::Selection;
+use model_site::{EditFault, RedoFault, UndoFault};
+use std::alloc::Global;
+use std::sync::ledger::Ledger;
+use ve_base::{Memory, Steps};
+use ve_editor::Editor;
+use ve_peer_undo::{RevokeFault, entries_are_taken_back, reversal};
+use ve_server::Parcels;
+use ve_site::Site;
+use ve_tx::{Draft, Entry, ParcelList};
+
+/// The entries that a site knows from one on: the committed ones that it has seen, and then its pending ones.
+fn known_from(alloc: Global, committed: &Parcels, i: usize, site: &Site) -> Result<Parcels, Memory>
+    requires from { i ≤ site.now.site.seen }
+    requires seen { site.now.site.seen ≤ length committed.now }
+    ensures { IfOk result (λ known. known ≡ drop i (entries_of committed.now site.now.site)) }
+{
+    let seen = &committed.as_slice()[i..site.seen()];
+    let mut known = Parcels::from_list(ParcelList::copy_of(alloc, seen)?);
+    known.append(site.pending()?)?;
+    Ok(known)
+}
+
+impl Sites {
+    /// Performs a draft at the site at a place, as a new entry. It is refused as `Editor::perform` refuses,
+    /// and an `Err` changes nothing.
+    pub fn edit<L: Ledger>(
+        &mut self,
+        k: usize,
+        draft: &Draft,
+        steps: &mut Steps<L>,
+    ) -> Result<(), EditFault>
+        requires site { k < sites self.old }
+        requires draft { IsDraftOf (site_at self.old k).replica.store draft.now }
+        requires apart { InsertedApart (drafted (site_at self.old k).replica.store draft.now) }
+        ensures site { OnOk result (edit (drafted (site_at self.old k).replica.store draft.now) (site_at self.old k) ≡ Ok (site_at self.new k)) }
+        ensures same { OnOk result (self.new ≡ with_site_at k (site_at self.new k) self.old) }
+        ensures refused { IfErr result (IsEditRefusal (edit_cause (drafted (site_at self.old k).replica.store draft.now) (site_at self.old k).replica)) }
+        ensures kept { OnErr result (self.new ≡ self.old) }
+        ensures counted { steps.old ≤ steps.new }
+        ensures steps { steps.new ≤ steps.old + steps_after (drafted (site_at self.old k).replica.store draft.now ∷ []) (site_at self.old k).replica.items }
+    {
+        // its type keeps that it is in normal form, which `ops` tells
+        let _ops = draft.tx.ops();
+        self.members[k].edit(draft, steps)
+    }
+
+    /// Takes a changed copy of the editor of the site at a place, and the entry that the changes are: edits
+    /// that were performed one after the other and are one, as a batch is. An `Err` changes nothing.
+    pub fn settle(&mut self, k: usize, editor: Editor, entry: Entry) -> Result<(), Memory>
+        requires site { k < sites self.old }
+        requires settles { Settles (site_at self.old k).replica editor entry }
+        ensures site { OnOk result (self.new ≡ with_site_at k (settled editor entry (site_at self.old k)) self.old) }
+        ensures kept { OnErr result (self.new ≡ self.old) }
+    {
+        self.members[k].settle(editor, entry)
+    }
+
+    /// Takes back the last entry that the site at a place has not sent. It is refused as `Site::undo`
+    /// refuses, and an `Err` changes nothing.
+    pub fn undo<L: Ledger>(&mut self, k: usize, steps: &mut Steps<L>) -> Result<(), UndoFault>
+        requires site { k < sites self.old }
+        ensures site { OnOk result (undo (site_at self.old k) ≡ Ok (site_at self.new k)) }
+        ensures same { OnOk result (self.new ≡ with_site_at k (site_at self.new k) self.old) }
+        ensures refused { IfErr result (IsUndoRefusal (undo (site_at self.old k))) }
+        ensures kept { OnErr result (self.new ≡ self.old) }
+        ensures counted { steps.old ≤ steps.new }
+        ensures steps { steps.new ≤ steps.old + steps_over (undoing (site_at self.old k).unsent) (site_at self.old k).replica.items }
+    {
+        self.members[k].undo(steps)
+    }
+
+    /// Performs again what the site at a place undid last, as a new entry. It is refused as `Site::redo`
+    /// refuses, and an `Err` changes nothing.
+    pub fn redo<L: Ledger>(&mut self, k: usize, steps: &mut Steps<L>) -> Result<(), RedoFault>
+        requires site { k < sites self.old }
+        ensures site { OnOk result (redo (site_at self.old k) ≡ Ok (site_at self.new k)) }
+        ensures same { OnOk result (self.new ≡ with_site_at k (site_at self.new k) self.old) }
+        ensures refused { IfErr result (IsRedoRefusal (redo (site_at self.old k))) }
+        ensures kept { OnErr result (self.new ≡ self.old) }
+        ensures counted { steps.old ≤ steps.new }
+        ensures steps { steps.new ≤ steps.old + steps_over (redoing (site_at self.old k).undone) (site_at self.old k).replica.items }
+    {
+        self.members[k].redo(steps)
+    }
+
+    /// Selects something else at the site at a place.
+    pub fn select(&mut self, k: usize, selection: Selection)
+        requires site { k < sites self.old }
+        requires stands { StandsIn (site_at self.old k).replica.items selection }
+        ensures { self.new ≡ with_site_at k (with_selection selection (site_at self.old k)) self.old }
+    {
+        self.members[k].select(selection);
+    }
+
+    /// Takes back, at the site at a place, the committed entry `i` under all later entries that the site
+    /// knows, as a new entry of its own. `Conflict` comes exactly where a later one conflicts with what takes
+    /// it back, and names the first two ranges that do. An `Err` changes nothing.
+    pub fn revoke<L: Ledger>(
+        &mut self,
+        k: usize,
+        i: usize,
+        steps: &mut Steps<L>,
+    ) -> Result<(), RevokeFault>
+        requires site { k < sites self.old }
+        requires seen { i < (site_at self.old k).seen }
+        ensures site { OnOk result (revoke_entry self.old.session.committed i (site_at self.old k) ≡ Ok (site_at self.new k)) }
+        ensures same { OnOk result (self.new ≡ with_site_at k (site_at self.new k) self.old) }
+        ensures refused { IfErr result (IsRevokeRefusal (revoke (entries_of self.old.session.committed (site_at self.old k)) i)) }
+        ensures kept { OnErr result (self.new ≡ self.old) }
+        ensures counted { steps.old ≤ steps.new }
+        ensures steps { steps.new ≤ steps.old + steps_over (revoking self.old.session.committed i (site_at self.old k)) (site_at self.old k).replica.items }
+    {
+        // entries that run meet what `reversal` asks, and those before `i` don't matter
+        entries_are_taken_back();
+        let alloc = *self.members.allocator();
+        let known = known_from(alloc, self.server.committed(), i, self.members[k].site())?;
+        let back = reversal(alloc, known.as_slice(), 0)?;
+        self.members[k].adopt(&back, steps)?;
+        Ok(())
+    }
+}

@@ -1,0 +1,16 @@
+// Laws: each is the contract of a function that does nothing.
+ghost use Rattle.ve_sites.specs.Laws.{EditHappens, RedoHappens, RevokeHappens, SelectHappens, SendHappens, ServeHappens, SettlingHappens, TakeHappens, UndoHappens};
+
+/// What a call of `Sites` promises is what the model's event of its name leaves: of an edit, and of a
+/// changed copy that takes the place of a site's editor, the event that performs these transactions.
+pub fn turns_are_events()
+    ensures edit { EditHappens }
+    ensures settle { SettlingHappens }
+    ensures select { SelectHappens }
+    ensures undo { UndoHappens }
+    ensures redo { RedoHappens }
+    ensures revoke { RevokeHappens }
+    ensures send { SendHappens }
+    ensures serve { ServeHappens }
+    ensures take { TakeHappens }
+{}

@@ -1,0 +1,140 @@
+// A page under edit by several sites.
+ghost use Rattle.std.specs.Prelude.{◌≡◌, ◌≤◌, ◌<◌, ◌+◌, ◌*◌, [], All, IfOk};
+ghost use Rattle.model_items.specs.Plain.{plain_list, CitesWell};
+ghost use Rattle.model_edit.specs.Translate.{between};
+ghost use Rattle.model_site.specs.Replica.{opened_with};
+ghost use Rattle.model_site.specs.Session.{started};
+ghost use Rattle.model_site.specs.Site.{starting};
+ghost use Rattle.model_site_law.specs.Sound.{Sound};
+ghost use Rattle.ve_editor.specs.Page.{page_of};
+ghost use Rattle.ve_tree.specs.TreeOf.{most_steps};
+ghost use Rattle.ve_sites.specs.Senders.{begun};
+ghost use Rattle.ve_sites.specs.Shared.{site_at, sites as sites_of};
+
+use crate::member::Member;
+use std::alloc::Global;
+use std::marker::Model;
+use std::sync::ledger::Ledger;
+use ve_base::{Memory, Steps, TryCopy};
+use ve_editor::Editor;
+use ve_items::Linear;
+use ve_server::Server;
+use ve_site::Site;
+use ve_store::Store;
+
+/// A page under edit by several sites, each with its queues to and from one server. It is seen as the
+/// model's session beside the list that it was opened with. Sites are named by their numbers, from 0.
+#[derive(Drop)]
+pub struct Sites {
+    // the list as it was opened, and the values that it cites
+    first: Linear,
+    values: Store,
+    pub(crate) server: Server,
+    pub(crate) members: Vec<Member>,
+}
+
+impl Model for Sites {
+    ghost use Rattle.ve_sites.specs.Shared.{Shared};
+    ghost use Rattle.ve_sites.specs.Senders.{shared_of};
+    ghost use Rattle.ve_sites.specs.IsShared.{IsShared};
+
+    ghost Value = { Shared };
+
+    ghost view = { λ s. shared_of s.values s.first.items s.server s.members.items };
+
+    ghost invariant = { λ s. IsShared s.values s.first.items s.server s.members.items };
+}
+
+/// A site that begins with a copy of the list and of its values.
+fn begin<L: Ledger>(
+    alloc: Global,
+    number: u32,
+    list: &Linear,
+    values: &Store,
+    steps: &mut Steps<L>,
+) -> Result<Member, Memory>
+    requires sound { Sound (plain_list values.now list.now.items) }
+    requires cites { All (CitesWell values.now) list.now.items }
+    ensures ok { IfOk result (λ member. member ≡ record { number = number; site = starting (page_of values.now list.now.items (between 0 0)); submissions = [] }) }
+    ensures counted { steps.old ≤ steps.new }
+    ensures steps { steps.new ≤ steps.old + most_steps (plain_list values.now list.now.items) }
+{
+    let list = list.copy(alloc)?;
+    let values = values.copy(alloc)?;
+    let editor = Editor::new(alloc, list, values, steps)?;
+    Ok(Member::new(alloc, Site::new(alloc, number, editor)))
+}
+
+/// So many sites, each of which begins with a copy of the list and of its values.
+fn all_begun<L: Ledger>(
+    alloc: Global,
+    list: &Linear,
+    values: &Store,
+    sites: u32,
+    steps: &mut Steps<L>,
+) -> Result<Vec<Member>, Memory>
+    requires sound { Sound (plain_list values.now list.now.items) }
+    requires cites { All (CitesWell values.now) list.now.items }
+    ensures ok { IfOk result (λ members. members.items ≡ begun 0 sites (starting (page_of values.now list.now.items (between 0 0)))) }
+    ensures counted { steps.old ≤ steps.new }
+    ensures steps { steps.new ≤ steps.old + sites * most_steps (plain_list values.now list.now.items) }
+{
+    let mut members = Vec::new(alloc);
+    for number in 0..sites {
+        let member = begin(alloc, number, list, values, steps)?;
+        members.push(member)?;
+    }
+    Ok(members)
+}
+
+impl Sites {
+    /// A session of so many sites, each of which has the page as it was opened. Each site's tree is built, in
+    /// as many steps as `Editor::new` may take.
+    pub fn new<L: Ledger>(
+        alloc: Global,
+        list: Linear,
+        values: Store,
+        sites: u32,
+        steps: &mut Steps<L>,
+    ) -> Result<Sites, Memory>
+        requires sound { Sound (plain_list values list.items) }
+        requires cites { All (CitesWell values) list.items }
+        requires filled { values ≡ (opened_with (plain_list values list.items)).store }
+        ensures ok { IfOk result (λ s. s ≡ record { first = list.items; session = started (opened_with (plain_list values list.items)) sites }) }
+        ensures counted { steps.old ≤ steps.new }
+        ensures steps { steps.new ≤ steps.old + sites * most_steps (plain_list values list.items) }
+    {
+        let server = Server::new(alloc, sites as usize)?;
+        let members = all_begun(alloc, &list, &values, sites, steps)?;
+        Ok(Sites {
+            first: list,
+            values,
+            server,
+            members,
+        })
+    }
+
+    /// How many sites there are.
+    pub fn len(&self) -> usize
+        ensures { result ≡ sites_of self.now }
+    {
+        self.members.len()
+    }
+
+    /// Lends the list as it was opened. It cites the values of the base.
+    pub fn first(&self) -> &Linear
+        ensures same { result.now.items ≡ self.now.first }
+        ensures cites { All (CitesWell self.now.session.base.store) self.now.first }
+        ensures items { plain_list self.now.session.base.store self.now.first ≡ self.now.session.base.items }
+    {
+        &self.first
+    }
+
+    /// Lends the site at a place.
+    pub fn site(&self, k: usize) -> &Site
+        requires site { k < sites_of self.now }
+        ensures { result.now.site ≡ site_at self.now k }
+    {
+        self.members[k].site()
+    }
+}

@@ -1,0 +1,33 @@
+use Rattle.std.proofs.Common.{◌++◌, refl, sym, ap, ◌∙◌, subst, IsUtf8}
+use Rattle.std.proofs.lemmas.Str.{IsUtf8-append}
+use Rattle.ve_write.proofs.SiblingLemmas.{opening_outer}
+use Rattle.ve_write.specs.Told.{known_of}
+use Rattle.ve_write.proofs.BeforeLemmas.{origin_at}
+use Rattle.ve_write.proofs.CopiedLemmas.{kept_put, no_node, tags_needed}
+use Rattle.ve_write.proofs.blocks.put_kept.Goals as goal
+
+pub original_at-requires-clause-origin : goal.original_at-requires-clause-origin
+original_at-requires-clause-origin c = origin_at c.args.page.store.now c.args.page.list.now.items c.args.at _ _ _ _ _ _ c.in-Opening.ensures
+
+pub put_white-requires : goal.put_white-requires
+put_white-requires c = (c.requires.cites c.args.at _ c.in-Opening.ensures).2
+
+pub returns-in_default : goal.returns-in_default
+returns-in_default c = record { more = tt; within = tt; outer = tt; text = tt; utf8 = λ u. u; none = refl; afresh = no_node (known_of c.args.page) c.args.at c.args.before c.get.result c.get.ensures c.in_default.not-Opening }
+
+pub returns-then-needs_tags-clause-afresh : goal.returns-then-needs_tags-clause-afresh
+returns-then-needs_tags-clause-afresh c =
+    tags_needed (known_of c.args.page) c.args.at _ _ _ _ _ _ c.args.before c.in_ok-bare.bare c.in-Opening.ensures c.in_ok-bare.ensures (sym c.needs_tags.ensures ∙ c.if-needs_tags.true)
+
+pub returns-clause-outer : goal.returns-clause-outer
+returns-clause-outer c =
+    opening_outer c.args.page.list.now.items c.args.at c.get.result _ _ _ _ _ _ c.siblings_end-end.result c.after_siblings-at.result c.get.ensures c.in-Opening.is c.siblings_end-end.ensures.end c.after_siblings-at.ensures.follows
+
+pub returns-clause-text : goal.returns-clause-text
+returns-clause-text c =
+    kept_put (known_of c.args.page) c.args.at _ _ _ _ _ _ c.args.before c.in_ok-bare.bare c.in-Some.text.now c.siblings_end-end.result c.after_siblings-at.result c.args.out.now c.put_white.new.out _ c.in-Opening.ensures
+    (sym c.in-Some.ensures) c.in_ok-bare.ensures (sym c.needs_tags.ensures ∙ c.if-needs_tags.false) c.siblings_end-end.ensures.end c.after_siblings-at.ensures.follows c.in_ok-put_white.ensures.text
+    (c.in_ok-push.ensures.ok ∙ ap (λ l. c.put_white.new.out ++ l) c.as_bytes.ensures.value)
+
+pub returns-clause-utf8 : goal.returns-clause-utf8
+returns-clause-utf8 c = λ u. subst IsUtf8 (sym c.in_ok-push.ensures.ok) (IsUtf8-append _ _ (c.in_ok-put_white.ensures.utf8 u) c.as_bytes.ensures.utf8)

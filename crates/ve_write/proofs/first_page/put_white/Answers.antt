@@ -1,0 +1,7 @@
+use Rattle.std.proofs.Common.{IsUtf8, sym, subst}
+use Rattle.std.proofs.lemmas.Result.{on_ok_weaker}
+use Rattle.std.proofs.lemmas.Str.{IsUtf8-append}
+use Rattle.ve_write.proofs.first_page.put_white.Goals as goal
+
+pub returns-clause-utf8 : goal.returns-clause-utf8
+returns-clause-utf8 c = on_ok_weaker c.push.result (λ e u. subst IsUtf8 (sym e) (IsUtf8-append _ _ u c.as_bytes.ensures.utf8)) c.push.ensures.ok
