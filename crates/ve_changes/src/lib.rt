@@ -1,30 +1,18 @@
-//! What a line asks of the page, as the draft that an editor performs, or as the refusal that answers it.
+//! What a line changes on the page, one change or several together. It reads no line, and knows no site.
 //!
-//! `change_draft` gives the draft that a change is over a page's store, and `move_draft` the draft of a row, a column or a
-//! list item that is moved. A draft's values are just those by which the store grows where it is filled with what the
-//! draft inserts. Each calls one of the builders below and says what its fault is answered by; nothing is performed, and no
-//! line is read.
+//! - `change_draft` gives the draft that a change is over a page's store, or the refusal that answers it; `move_draft` the draft
+//!   of a row, a column or a list item that is moved. Each calls one builder and names its fault (`Stops`, `HtmlStops`,
+//!   `Drafts`, `Moves` in specs/). Nothing is performed.
+//! - `may_select`, `next_place` and `erased_range` say what may be selected, where a caret goes and what is erased (`Carets`).
+//!   They read the page alone.
+//! - `perform_all` performs changes, each on what those before it make, on a copy of an editor, as one entry: the model's
+//!   `batch_on`. Where one is refused nothing is changed, and its place is told (`Batches`, `Costs`).
+//! - `type_text` performs what typing is, and tells where the caret stands after the text; `after_inserted` tells that of one
+//!   transaction (`TypedCarets`).
 //!
-//! `may_select` gives the selection between two offsets, `next_place` where a caret goes and `erased_range` what is erased,
-//! or the model's refusal. They read the page alone: nothing is selected and nothing removed.
-//!
-//! Definitions, in reading order: `Stops` (why what a line asks for isn't done, and which refusal each builder's
-//! fault is), `HtmlStops` (the same of the fault of a text), `Drafts` (what a draft is of), `Moves` (the transaction that a
-//! move is), `Carets` (what may be selected and what is erased). What a change means stands in model_world's `Edits`,
-//! where a caret goes in its `Answers`.
-//! [`moves_are_asked`] is a law above `Moves`: the model answers a move by performing the transaction that is defined there.
-//! [`carets_are_asked`] is one above `Carets`.
-//!
-//! Changes that a line asks for together: each is performed on what those before it make, on a copy of an
-//! editor, and all of them are one entry. Where one of them is refused nothing is changed; its place is told.
-//!
-//! - `perform_all` performs changes; it is the model's `batch_on`.
-//! - `type_text` performs those that typing is, and tells where the caret stands after the text.
-//! - `after_inserted` tells where the caret stands after a text that one transaction inserts.
-//!
-//! An editor that is lent stays as it is: who settles a batch puts the copy in its place. Definitions, in
-//! reading order: `Batches` (what a batch is, and why there is none), `Costs` (how many steps it counts at
-//! most). `Carets` serves private functions. That a batch is whole or nothing is a law of model_world.
+//! What a change means stands in model_world's `Edits`, where a caret goes in its `Answers`. Laws: a move is answered by
+//! performing the transaction that `Moves` defines (`moves_are_asked`), and so carets (`carets_are_asked`). That a batch is whole
+//! or nothing is a law of model_world.
 #![tactic(auto)]
 
 mod applied;

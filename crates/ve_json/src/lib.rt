@@ -1,29 +1,13 @@
-//! The words of a script: what its lines ask, and how its replies are spelled.
-//!
-//! It joins what reads lines (`ve_commands`) with what spells replies (`ve_replies`), and passes both on: [`command`] and
-//! [`reply_text`], with the types that they speak of. It knows nothing of pages, and doesn't say when a reply is given.
+//! What a line of a script asks, and how a reply is spelled. It knows nothing of pages, and doesn't say when a reply is given.
 //! What both mean stands in model_world: `Commands`, and `Spelled`.
 //!
-//! What a line of a script asks.
-//!
-//! It knows every command's members, and how JSON spells them. It knows nothing of pages, of sites or of replies, and
-//! answers nothing: a well-formed command may still be refused by what it is about. What is read is `model_world`'s, value
-//! by value: each reader here gives what the definition of its name gives there. Its own definitions, in reading order:
-//!
-//! - `Gives`: a reader gives what is meant, or nothing of it for want of memory;
-//! - `Words`: the commands by their words alone, and what reads the members of each.
-//!
-//! The replies of a script, spelled into a buffer: words and numbers, and the JSON of texts, items, references and cells.
-//!
-//! Each call appends what `model_world` says is the text of a reply. Items are lent by the page, and spelled in
-//! one pass. It knows nothing of commands, nor of what is answered when. Its own definitions, in reading order:
-//!
-//! - `Spelling`: a text that is being spelled into a buffer;
-//! - `Pieces`: what stands for itself in a JSON string;
-//! - `Words`: words with their numbers;
-//! - `Members`: the members of an object, each with the comma between it and the one that always stands there;
-//! - `Runs`: characters of one list of marks, and what is shown first of the items from a place on;
-//! - `Answers`: the reply that an answer is, whose items are lent.
+//! - `command` reads a line: each command's members, as JSON spells them. A well-formed command may still be refused by what it
+//!   is about. `Gives` in specs/: a reader gives what is meant, or nothing of it for want of memory; `CommandWords`: the
+//!   commands by their words, and what reads the members of each.
+//! - `reply_text` appends a reply to a buffer: words and numbers, and the JSON of texts, items, references and cells. Items are
+//!   lent by the page, and spelled in one pass. `Spelling`: a text that is being spelled into a buffer; `Pieces`: what stands
+//!   for itself in a JSON string; `ReplyWords`: words with their numbers; `ReplyMembers`: the members of an object; `Runs`: the
+//!   characters of one list of marks; `Answers`: the reply that an answer is.
 #![tactic(auto)]
 
 mod answer;
