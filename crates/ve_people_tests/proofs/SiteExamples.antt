@@ -45,8 +45,8 @@ sends w k = option_map (λ (m : Member). entries_sent (send m.site)) (slice_get 
 -- a take after which all entries that are kept count as sent
 kept_entries_stay_unsent :
     pending_counts (run (started (opened []) 2)
-      (Perform 1 (inserts 1 (codes "B") 4 ∷ []) ∷ Send 1 ∷ Perform 1 (inserts 2 (codes "C") 5 ∷ [])
-      ∷ Perform 0 (inserts 1 (codes "A") 4 ∷ []) ∷ Send 0 ∷ Serve 0 ∷ Take 1 ∷ []))
+    (Perform 1 (inserts 1 (codes "B") 4 ∷ []) ∷ Send 1 ∷ Perform 1 (inserts 2 (codes "C") 5 ∷ [])
+    ∷ Perform 0 (inserts 1 (codes "A") 4 ∷ []) ∷ Send 0 ∷ Serve 0 ∷ Take 1 ∷ []))
     ≡ (1, 0) ∷ (1, 1) ∷ []
 kept_entries_stay_unsent = refl
 
@@ -67,15 +67,15 @@ a_send_counts_entries = refl
 -- a reversal of the last entry, or of one before that which is asked for
 the_entry_that_is_named_is_taken_back :
     lists (run (started (opened []) 1)
-      (Perform 0 (inserts 1 (codes "A") 4 ∷ []) ∷ Perform 0 (inserts 2 (codes "B") 5 ∷ []) ∷ Perform 0 (inserts 3 (codes "C") 6 ∷ [])
-      ∷ Send 0 ∷ Serve 0 ∷ Take 0 ∷ Revoke 0 1 ∷ []))
+    (Perform 0 (inserts 1 (codes "A") 4 ∷ []) ∷ Perform 0 (inserts 2 (codes "B") 5 ∷ []) ∷ Perform 0 (inserts 3 (codes "C") 6 ∷ [])
+    ∷ Send 0 ∷ Serve 0 ∷ Take 0 ∷ Revoke 0 1 ∷ []))
     ≡ page (codes "AC") ∷ []
 the_entry_that_is_named_is_taken_back = refl
 
 -- a reversal that isn't joined over what is pending
 pending_entries_are_later_ones :
     lists (run (started (opened []) 2)
-      (Perform 0 (inserts 1 (codes "A") 4 ∷ []) ∷ Send 0 ∷ Serve 0 ∷ Take 1 ∷ Perform 1 (inserts 1 (codes "C") 5 ∷ []) ∷ Revoke 1 0 ∷ []))
+    (Perform 0 (inserts 1 (codes "A") 4 ∷ []) ∷ Send 0 ∷ Serve 0 ∷ Take 1 ∷ Perform 1 (inserts 1 (codes "C") 5 ∷ []) ∷ Revoke 1 0 ∷ []))
     ≡ page (codes "A") ∷ page (codes "C") ∷ []
 pending_entries_are_later_ones = refl
 
