@@ -1,0 +1,2 @@
+mod EditExamples
+mod CaretExamples
