@@ -20,7 +20,7 @@ mod children;
 mod column_edits;
 mod floors;
 mod fresh;
-mod grid;
+mod grid_cells;
 mod laws;
 mod placing;
 mod ragged;
@@ -32,7 +32,7 @@ mod spans;
 mod table;
 
 pub use column_edits::{col_in, col_out};
-pub use grid::{Grid, GridCells};
+pub use grid_cells::{Grid, GridCells};
 pub use laws::next_is_placed;
 pub use model_edit::{GridCell, TableFault};
 pub use placing::Placing;

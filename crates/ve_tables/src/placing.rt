@@ -6,7 +6,7 @@ ghost use Rattle.ve_tables.specs.Floors.{AreSet};
 ghost use Rattle.ve_tables.specs.Placed.{next_cell, IsNext, IsCellRefusal};
 
 use crate::floors::{are_free, free_column, set_floors};
-use crate::grid::{Grid, GridCells};
+use crate::grid_cells::{Grid, GridCells};
 use model_edit::{GridCell, TableFault};
 use std::alloc::Global;
 use std::marker::Model;
