@@ -1,4 +1,4 @@
-# Shared by bin/vemodel, tools/release and tools/check-release: what the program is built of, and where the release is.
+# Shared by bin/vemodel, tools/release, tools/check-release and bench/: what the program is built of, and where the release is.
 # Whoever reads this file has set top, the folder of the repository.
 # shellcheck shell=sh disable=SC2034,SC2154
 
@@ -17,6 +17,11 @@ fresh() {
         -newer "$stamp" -print -quit 2>/dev/null)" ]
 }
 
+# The program was built here of the sources as they are.
+is_built() {
+    [ -x "$program" ] && fresh "$built"
+}
+
 # The sum of the sources: the SHA-256 of what sha256sum writes of crates.txt and of each file of src/, specs/ and proofs/ of each
 # crate, called by their paths from the top, in the order of the bytes of these.
 sources_sum() {
@@ -29,8 +34,8 @@ said() {
     sed -n "s/^$1 //p" "$sums" 2>/dev/null
 }
 
-# The release is of the sources that stand here, and is whole.
-fits() {
+# The release is of the sources as they are, and is whole.
+is_released() {
     [ -x "$release" ] && [ "$(said sources)" = "$(sources_sum)" ] &&
         [ "$(said program)" = "$(sha256sum <"$release" | cut -d ' ' -f 1)" ]
 }
