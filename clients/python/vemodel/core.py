@@ -326,10 +326,13 @@ class Core:
         """Returns what the reply to a command has after `ok `. Raises Refused."""
         if site:
             members["site"] = site
-        reply = self.line(json.dumps({"do": do, **members}, ensure_ascii=False, separators=(",", ":")))
+        reply = self.line(_spelled({"do": do, **members}))
         if reply.startswith("no "):
             raise Refused(reply[3:])
         return reply[3:]
+
+
+_spelled = json.JSONEncoder(ensure_ascii=False, separators=(",", ":")).encode
 
 
 def _attrs(attrs: Attrs | None) -> list[tuple[str, str]]:
