@@ -1,12 +1,14 @@
 # Shared by the scripts beside it: where the program is, scripts to run, and times.
 
 top=$(dirname "$(dirname "$(readlink -f "$0")")")
-program=$top/crates/vemodel/out/vemodel
+# shellcheck source=tools/sources.sh
+. "$top/tools/sources.sh"
 work=$(mktemp -d) || exit 1
 trap 'rm -rf "$work"' EXIT
 
-# The program is built by its own launcher, on an empty script.
-"$top/bin/vemodel" run </dev/null
+# Its own launcher, on an empty script, sees to it that the program which was built here or the release is of these sources.
+"$top/bin/vemodel" run </dev/null || exit 1
+is_built || program=$release
 
 # A page of so many paragraphs of ten characters, as the line that opens it.
 open_line() {

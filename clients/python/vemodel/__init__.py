@@ -1,0 +1,26 @@
+"""A client of vemodel, the proved document core of a rich text editor.
+
+    from vemodel import Core
+
+    with Core() as core:
+        core.open("<p>ab</p>")   # 6, the length of the list
+        core.text(2, "X")        # 7
+        core.html()              # '<p>aXb</p>'
+"""
+from .core import Ack, Cell, Core, Foreign, Grid, Node, Reference, Refused, Selection, Served
+from .program import Ended, Program
+
+__all__ = [
+    "Ack",
+    "Cell",
+    "Core",
+    "Ended",
+    "Foreign",
+    "Grid",
+    "Node",
+    "Program",
+    "Reference",
+    "Refused",
+    "Selection",
+    "Served",
+]
