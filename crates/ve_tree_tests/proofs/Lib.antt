@@ -1,1 +1,4 @@
 mod PageLemmas
+mod ItemExamples
+mod StoreExamples
+mod TreeExamples
