@@ -2,3 +2,4 @@ mod PageLemmas
 mod ItemExamples
 mod StoreExamples
 mod TreeExamples
+mod OffsetExamples
