@@ -3,6 +3,7 @@ use Rattle.std.proofs.Common.{◌≡◌, ℕ, zero, suc, ◌<◌, List, [], ◌�
 use Rattle.ve_kinds.specs.declared.kind.Kind.TheVariants.{Root, InternalList}
 use Rattle.model_items.specs.declared.item.Item.{Item}
 use Rattle.model_items.specs.declared.item.Item.TheVariants.{Opening, Closing}
+use Rattle.model_items.specs.declared.law_fault.LawFault.TheVariants as law
 use Rattle.ve_arena.specs.declared.node.NodeId.{NodeId}
 use Rattle.ve_arena.specs.declared.node.NodeWhat.TheVariants.{Node}
 use Rattle.ve_arena.specs.declared.node.ArenaNode.{ArenaNode}
@@ -12,7 +13,9 @@ use Rattle.ve_tree.specs.IsTree.{unvalued, IsTree}
 use Rattle.ve_tree.specs.Named.{Named, NoNode, NamedBranch}
 use Rattle.ve_tree.specs.Places.{NodePlace, tree_places}
 use Rattle.ve_tree.specs.Landmarks.{MayFollow}
+use Rattle.ve_repair.specs.declared.fault.RepairFault.TheVariants.{TooDeep}
 use Rattle.ve_repair.specs.Relink.{linked}
+use Rattle.ve_repair.specs.Repaired.{fault_of}
 
 -- ---- the page without content: the root 0 and the internal list 1. A paragraph 2 stood before the list, and went.
 
@@ -70,3 +73,7 @@ a_changed_node_is_no_landmark may =
 -- Where a sibling led one way alone, the internal list would have nothing before it when 2 comes to stand there.
 a_sibling_leads_both_ways : (linked 0 2 None (links_of slots)).before 1 ≡ Some 2
 a_sibling_leads_both_ways = refl
+
+-- where the cause was called unlawful, it would be `Unlawful 3`
+a_list_too_deep_is_called_so : fault_of (law.TooDeep 3) ≡ TooDeep 3
+a_list_too_deep_is_called_so = refl
