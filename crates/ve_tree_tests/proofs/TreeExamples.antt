@@ -1,8 +1,12 @@
 -- Nodes and places that a wrong body would give for a small page, refused by what is promised of them.
-use Rattle.std.proofs.Common.{◌≡◌, ℕ, zero, suc, ◌+◌, ◌<◌, List, [], ◌∷◌, inl, inr, get_or, length, take, sum, Contains, Option, Some, None, false, refl, sym, ap, subst, arith}
+use Rattle.std.proofs.Common.{◌≡◌, ℕ, zero, suc, ◌+◌, ◌<◌, List, [], ◌∷◌, inl, inr, get_or, length, take, sum, slice_get, Contains, Option, Some, None, false, refl, sym, ap, subst, arith}
 use Rattle.ve_kinds.specs.declared.kind.Kind.TheVariants.{Root, P, Br, InternalList}
 use Rattle.model_items.specs.declared.item.Item.{Item}
 use Rattle.model_items.specs.declared.item.Item.TheVariants.{Char, Opening, Closing}
+use Rattle.model_items.specs.declared.plain_item.PlainItem.{PlainItem}
+use Rattle.model_items.specs.declared.plain_item.PlainItem.TheVariants as plain
+use Rattle.model_items.specs.Law.{Lawful}
+use Rattle.model_items.specs.Tree.{tree_of}
 use Rattle.ve_arena.specs.declared.node.NodeId.{NodeId}
 use Rattle.ve_arena.specs.declared.node.NodeWhat.TheVariants.{Node, Run}
 use Rattle.ve_arena.specs.declared.node.ArenaNode.{ArenaNode}
@@ -178,3 +182,17 @@ what_is_changed_is_no_landmark cut =
       ]
       | inr moves ↦ absurd (omega (arith, moves.0, was))
     ]
+
+-- ---- what a tree tells
+
+abbrev with_char : ℕ → List PlainItem
+with_char c =
+    unvalued (Opening P false None None None None ∷ Char c None ∷ Closing P None ∷ Opening InternalList false None None None None ∷ Closing InternalList None ∷ [])
+
+-- two lawful lists of one tree, which are not equal: a tree tells shapes alone
+a_tree_tells_no_letters :
+    ((items others : List PlainItem) → Lawful items → Lawful others → tree_of items ≡ tree_of others → items ≡ others) → ⊥
+a_tree_tells_no_letters tells =
+    let same = tells (with_char 1) (with_char 2) refl refl refl in
+    let letter : ◌≡◌ {A = Option PlainItem} (Some (plain.Char 1 [])) (Some (plain.Char 2 [])) = ap (λ (items : List PlainItem). slice_get items 1) same in
+    cc
