@@ -1,2 +1,3 @@
 mod EditExamples
 mod CaretExamples
+mod CellExamples

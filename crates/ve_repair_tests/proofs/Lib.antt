@@ -1,2 +1,4 @@
 mod LinkLemmas
 mod AppliedLemmas
+mod ChangeExamples
+mod RepairExamples

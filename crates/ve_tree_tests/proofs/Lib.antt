@@ -1,1 +1,5 @@
 mod PageLemmas
+mod ItemExamples
+mod StoreExamples
+mod TreeExamples
+mod OffsetExamples
