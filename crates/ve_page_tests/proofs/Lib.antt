@@ -1,4 +1,5 @@
 mod BodyLemmas
+mod ClassifyExamples
 mod RowLemmas
 mod SampleLemmas
 mod WholeLemmas
