@@ -1,5 +1,7 @@
 mod BodyLemmas
 mod ClassifyExamples
+mod InternalExamples
+mod OriginExamples
 mod RowLemmas
 mod SampleLemmas
 mod WholeLemmas
