@@ -2,6 +2,7 @@ mod BodyLemmas
 mod ClassifyExamples
 mod InternalExamples
 mod OriginExamples
+mod ReadExamples
 mod ReaderExamples
 mod RowLemmas
 mod SampleLemmas
