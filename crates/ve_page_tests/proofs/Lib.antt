@@ -7,3 +7,4 @@ mod ReaderExamples
 mod RowLemmas
 mod SampleLemmas
 mod WholeLemmas
+mod WriteExamples
