@@ -8,7 +8,7 @@ use Rattle.model_items.specs.Same.{ref_key_same, text_same}
 use Rattle.model_page.proofs.PageExamples.{key_n, internal_list_of, owner_paragraph, reuse_paragraph}
 use Rattle.model_page.specs.References.{RefAt, table}
 use Rattle.model_page.specs.declared.ref_table.RefRow.{RefRow}
-use Rattle.ve_internal.specs.Noted.{Counts, HasRefs, NotesBody, bare_ref, cited_ref, counted, row_by, seen_again}
+use Rattle.ve_internal.specs.Noted.{Counts, HasRefs, NotesBody, cited_ref, counted, row_by, seen_again}
 use Rattle.ve_internal.specs.declared.notes.Cited.{Cited}
 use Rattle.ve_internal.specs.declared.notes.Notes.{Notes}
 
