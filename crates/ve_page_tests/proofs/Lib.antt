@@ -1,4 +1,10 @@
 mod BodyLemmas
+mod ClassifyExamples
+mod InternalExamples
+mod OriginExamples
+mod ReadExamples
+mod ReaderExamples
 mod RowLemmas
 mod SampleLemmas
 mod WholeLemmas
+mod WriteExamples
