@@ -1,5 +1,4 @@
-mod PageLemmas
 mod ItemExamples
+mod OffsetExamples
 mod StoreExamples
 mod TreeExamples
-mod OffsetExamples

@@ -1,4 +1,0 @@
-mod LinkLemmas
-mod AppliedLemmas
-mod ChangeExamples
-mod RepairExamples
