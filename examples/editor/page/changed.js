@@ -1,0 +1,74 @@
+// What changed. After an edit of its own a window knows the range that the edit touched, and reads the nodes there anew; after changes
+// of others it reads all, and compares. Both ways the answer is one change, `{ at, gone, came }`: the items that stood at the place, and
+// how many stand there now. A command that tells what changed would replace `difference` and the reading of all.
+import { isContent, itemsOf, startOf } from "./tree.js";
+import { scalars } from "./scalars.js";
+
+// The fewest whole siblings, none of them in a content branch, that cover the range.
+export function cover(root, from, to) {
+  let parent = root, start = 0;
+  for (;;) {
+    let at = start;
+    let first = -1, last = 0, begin = 0, end = 0;
+    parent.kids.forEach((kid, k) => {
+      const over = at + kid.size;
+      if (from <= over && to >= at) {
+        if (first < 0) [first, begin] = [k, at];
+        [last, end] = [k + 1, over];
+      }
+      at = over;
+    });
+    if (first < 0) [first, last, begin, end] = [0, 0, start, start];
+    const only = last - first === 1 ? parent.kids[first] : null;
+    if (!only?.kids?.length || isContent(only) || from <= begin || to >= end) return { parent, first, last, from: begin, to: end };
+    [parent, start] = [only, begin + 1];
+  }
+}
+
+// The same one level up, or nothing above the root.
+export function wider({ parent }) {
+  if (!parent.parent) return null;
+  const first = parent.parent.kids.indexOf(parent);
+  const from = startOf(parent);
+  return { parent: parent.parent, first, last: first + 1, from, to: from + parent.size };
+}
+
+const sizeOf = (item) => (typeof item === "string" ? scalars(item) : Array.isArray(item) ? scalars(item[0]) : 1);
+const same = (a, b) => a === b || (typeof a === "object" && typeof b === "object" && JSON.stringify(a) === JSON.stringify(b));
+
+// Runs as their characters, so that two lists may be compared item by item.
+function single(items) {
+  return items.flatMap((item) => {
+    if (typeof item === "string") return [...item];
+    return Array.isArray(item) ? [...item[0]].map((char) => [char, item[1]]) : [item];
+  });
+}
+
+// Where two lists begin to differ, from each end.
+function ends(old, fresh) {
+  let head = 0, tail = 0;
+  const most = Math.min(old.length, fresh.length);
+  while (head < most && same(old[head], fresh[head])) head++;
+  while (tail < most - head && same(old.at(-1 - tail), fresh.at(-1 - tail))) tail++;
+  return [head, tail];
+}
+
+// The one change that makes the nodes `fresh` of the nodes `old`, which begin at `from`; nothing where they are equal.
+export function difference(old, fresh, from) {
+  const before = itemsOf(old), after = itemsOf(fresh);
+  const [head, tail] = ends(before, after);
+  const gone = single(before.slice(head, before.length - tail));
+  const came = single(after.slice(head, after.length - tail));
+  const [skip, cut] = ends(gone, came);
+  if (skip === gone.length && skip === came.length) return null;
+  let at = from + skip;
+  for (let k = 0; k < head; k++) at += sizeOf(before[k]);
+  return { at, gone: gone.slice(skip, gone.length - cut), came: came.length - skip - cut };
+}
+
+// Where an offset stands after a change. What stood in its place stands at its end.
+export function mapped(at, change) {
+  if (!change || at < change.at) return at;
+  const end = change.at + change.gone.length;
+  return at >= end ? at + change.came - change.gone.length : change.at + change.came;
+}

@@ -1,0 +1,87 @@
+// What the user does, as intents of the editor. The browser changes nothing of the page by itself: each `beforeinput` is taken from it,
+// but for those of an input method, which writes into the document until its text is chosen.
+import { broken, ends, erased, indented, outdented, parted, pasted, typed } from "./commands.js";
+import { cleaned, cleanedText } from "./paste.js";
+import { commonOf, innermost } from "./tree.js";
+
+export function listen(host, editor, shortcuts) {
+  const erase = (dir, by) => editor.act(({ root, selection }) => erased(root, selection, dir, by));
+
+  const inputs = {
+    insertText: ({ data }) => editor.type(data),
+    insertReplacementText: (event) => {
+      const [range] = event.getTargetRanges();
+      const text = event.dataTransfer?.getData("text/plain") ?? event.data;
+      const place = [editor.view.offset(range.startContainer, range.startOffset), editor.view.offset(range.endContainer, range.endOffset)];
+      editor.place(place);
+      if (text) editor.type(text);
+    },
+    insertParagraph: () => editor.act(({ root, selection }) => parted(root, selection)),
+    insertLineBreak: () => editor.act(({ root, selection }) => broken(root, selection)),
+    deleteContentBackward: () => erase("back", "cluster"),
+    deleteContentForward: () => erase("ahead", "cluster"),
+    deleteWordBackward: () => erase("back", "word"),
+    deleteWordForward: () => erase("ahead", "word"),
+    historyUndo: () => editor.undo(),
+    historyRedo: () => editor.redo(),
+  };
+
+  host.addEventListener("beforeinput", (event) => {
+    if (event.isComposing) return;
+    event.preventDefault();
+    inputs[event.inputType]?.(event);
+  });
+
+  document.addEventListener("selectionchange", () => {
+    if (composing) return;
+    const selection = editor.view.selection();
+    if (selection) editor.moved(selection);
+  });
+
+  host.addEventListener("keydown", (event) => {
+    if (event.isComposing) return;
+    const item = event.key === "Tab" && editor.act(({ root, selection }) => (event.shiftKey ? outdented : indented)(root, selection));
+    const shortcut = (event.ctrlKey || event.metaKey) && shortcuts[(event.shiftKey ? "shift+" : "") + event.key.toLowerCase()];
+    if (shortcut) shortcut();
+    if (item || shortcut) event.preventDefault();
+  });
+
+  // An input method: what it wrote is taken out of the document again, and typed as any other text.
+  let composing = null;
+  host.addEventListener("compositionstart", () => {
+    editor.hold(new Promise((end) => (composing = end)));
+  });
+  host.addEventListener("compositionend", ({ data }) => {
+    const [lo, hi] = ends(editor.selection);
+    editor.view.redraw(commonOf(innermost(editor.root, lo), innermost(editor.root, hi)));
+    editor.view.select(...editor.selection);
+    composing();
+    composing = null;
+    editor.hold(null);
+    if (data) editor.type(data);
+  });
+
+  host.addEventListener("paste", (event) => {
+    event.preventDefault();
+    const [html, text] = ["text/html", "text/plain"].map((type) => event.clipboardData.getData(type));
+    const piece = html ? cleaned(html) : cleanedText(text);
+    if (piece) editor.act(({ root, selection }) => (html ? pasted(root, selection, piece) : pastedText(root, selection, text, piece)));
+  });
+  const pastedText = (root, selection, text, piece) => (piece.blocks ? pasted(root, selection, piece) : typed(root, selection, text));
+
+  for (const what of ["copy", "cut"]) {
+    host.addEventListener(what, (event) => {
+      const chosen = document.getSelection();
+      if (chosen.isCollapsed) return;
+      event.preventDefault();
+      const box = document.createElement("div");
+      box.append(chosen.getRangeAt(0).cloneContents());
+      event.clipboardData.setData("text/html", box.innerHTML);
+      event.clipboardData.setData("text/plain", chosen.toString());
+      if (what === "cut") erase("back", "cluster");
+    });
+  }
+
+  // The browser would move DOM nodes.
+  for (const what of ["dragstart", "drop"]) host.addEventListener(what, (event) => event.preventDefault());
+}
