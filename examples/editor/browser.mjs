@@ -114,6 +114,13 @@ class Window {
     await this.call("Input.dispatchKeyEvent", { type: "keyUp", key, code, windowsVirtualKeyCode, modifiers });
   }
 
+  // The key by which a browser pastes; the protocol wants to be told what it does.
+  async paste() {
+    const key = { key: "v", code: "KeyV", windowsVirtualKeyCode: 86, modifiers: CTRL };
+    await this.call("Input.dispatchKeyEvent", { type: "rawKeyDown", ...key, commands: ["paste"] });
+    await this.call("Input.dispatchKeyEvent", { type: "keyUp", ...key });
+  }
+
   async type(text) {
     for (const char of text) {
       const key = { key: char, windowsVirtualKeyCode: /[a-z0-9 ]/i.test(char) ? char.toUpperCase().charCodeAt(0) : 0 };

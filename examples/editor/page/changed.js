@@ -44,26 +44,28 @@ function single(items) {
   });
 }
 
-// Where two lists begin to differ, from each end.
-function ends(old, fresh) {
+// Where two lists begin to differ, from each end; from the front they are taken as equal for so many items at most.
+function ends(old, fresh, limit = Infinity) {
   let head = 0, tail = 0;
   const most = Math.min(old.length, fresh.length);
-  while (head < most && same(old[head], fresh[head])) head++;
+  while (head < Math.min(most, limit) && same(old[head], fresh[head])) head++;
   while (tail < most - head && same(old.at(-1 - tail), fresh.at(-1 - tail))) tail++;
   return [head, tail];
 }
 
-// The one change that makes the nodes `fresh` of the nodes `old`, which begin at `from`; nothing where they are equal.
-export function difference(old, fresh, from) {
+// The one change that makes the nodes `fresh` of the nodes `old`, which begin at `from`; nothing where they are equal. Of a letter that
+// is typed beside its like the items don't tell which one is new, but the caret does: it stands just after what was typed, and just where
+// something was erased.
+export function difference(old, fresh, from, caret = Infinity) {
   const before = itemsOf(old), after = itemsOf(fresh);
   const [head, tail] = ends(before, after);
   const gone = single(before.slice(head, before.length - tail));
   const came = single(after.slice(head, after.length - tail));
-  const [skip, cut] = ends(gone, came);
-  if (skip === gone.length && skip === came.length) return null;
-  let at = from + skip;
+  let at = from;
   for (let k = 0; k < head; k++) at += sizeOf(before[k]);
-  return { at, gone: gone.slice(skip, gone.length - cut), came: came.length - skip - cut };
+  const [skip, cut] = ends(gone, came, Math.max(0, caret - at - Math.max(0, came.length - gone.length)));
+  if (skip === gone.length && skip === came.length) return null;
+  return { at: at + skip, gone: gone.slice(skip, gone.length - cut), came: came.length - skip - cut };
 }
 
 // Where an offset stands after a change. What stood in its place stands at its end.

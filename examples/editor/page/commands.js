@@ -5,7 +5,7 @@ import { CONTENT, ancestors, around, branchesIn, commonOf, endOf, innerEnd, inne
   leftOf, marksOf, runsIn, shown, startOf } from "./tree.js";
 import { scalars } from "./scalars.js";
 
-const select = (at) => ({ do: "select", anchor: at, focus: at });
+const select = (anchor, focus = anchor) => ({ do: "select", anchor, focus });
 const batch = (cmds) => (cmds.length === 1 ? cmds[0] : { do: "batch", cmds });
 const remove = (from, to) => (from < to ? [{ do: "remove", from, to }] : []);
 const isItem = (node) => ["li", "dt", "dd"].includes(node.kind);
@@ -194,12 +194,13 @@ export function marksAt(root, selection) {
   return marksOf(runs[0].kid).filter((mark) => runs.every(({ kid }) => marksOf(kid).some(([tag]) => tag === mark[0])));
 }
 
-// Puts a mark on the selection, or takes it and those that look the same off where all of the selection has one.
+// Puts a mark on the selection, or takes it and those that look the same off where all of the selection has one. The items are new ones
+// then, so the selection has to be put on them again.
 export function toggled(root, selection, tags) {
   const [lo, hi] = ends(selection);
   const has = marksAt(root, selection).some(([tag]) => tags.includes(tag));
   const lines = has ? unmarked(root, lo, hi, tags) : [{ do: "mark", from: lo, to: hi, tag: tags[0] }];
-  return { lines: [batch(lines)], from: lo, to: hi, grows: 0 };
+  return { lines: [batch(lines), select(...selection)], from: lo, to: hi, grows: 0 };
 }
 
 function unmarked(root, from, to, tags) {
@@ -239,7 +240,7 @@ export function linked(root, selection, address) {
     return { lines: [batch([{ do: "text", at: from, text: address }, { ...mark, from, to: from + size }]), select(from + size)], from, to };
   }
   const lines = [...unmarked(root, from, to, ["a"]), ...(href ? [{ ...mark, from, to }] : [])];
-  return lines.length ? { lines: [batch(lines)], from, to, grows: 0 } : null;
+  return lines.length ? { lines: [batch(lines), select(...selection)], from, to, grows: 0 } : null;
 }
 
 // The branches of the selection become headings, or paragraphs.

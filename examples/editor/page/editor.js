@@ -40,6 +40,7 @@ export class Editor {
 
   // An intent gives an edit, a text to tell the user, or nothing. Its promise is done when the screen shows what came of it.
   act(intent) {
+    this.look();
     this.#waiting.push(intent);
     const turn = this.#turns.then(async () => {
       await this.#hold;
@@ -54,6 +55,7 @@ export class Editor {
 
   // Keys that come faster than turns are typed as one text.
   type(text) {
+    this.look();
     const last = this.#waiting.at(-1);
     if (last?.text) {
       last.text += text;
@@ -69,9 +71,10 @@ export class Editor {
     this.act(() => NOTHING);
   }
 
-  // The user put the selection somewhere.
-  moved(selection) {
-    if (String(selection) === String(this.selection)) return;
+  // Reads where the browser's selection is. Its event comes some time after the user moved it, and the next key may come before.
+  look() {
+    const selection = this.#hold ? null : this.view.selection();
+    if (!selection || String(selection) === String(this.selection)) return;
     this.selection = selection;
     this.marks = new Map();
     this.#moved = true;
@@ -84,10 +87,11 @@ export class Editor {
     if (this.#moved && this.#waiting.length === 0) this.act(() => (this.#moved ? NOTHING : null));
   }
 
-  // The editor puts it there.
+  // Puts the selection somewhere.
   place(selection) {
-    this.moved(selection);
-    this.view.select(...this.selection);
+    this.selection = selection;
+    this.#moved = true;
+    this.view.select(...selection);
     this.#reveal();
   }
 
@@ -145,9 +149,12 @@ export class Editor {
       this.#seen += one.foreign ?? one.ack;
       return Array.from({ length: one.ack ?? 0 }, (_, k) => first + k);
     });
-    let change = null;
-    if (foreign || (edit && !known)) change = await this.#readAll();
-    else if (edit?.lines.some(({ do: what }) => what !== "select")) change = await this.#readAgain(known, ahead);
+    const edited = edit?.lines.some(({ do: what }) => what !== "select");
+    const all = foreign || (edit && !known);
+    const piece = all ? await this.#readAll() : edited ? await this.#readAgain(known, ahead) : null;
+    // what the user selected meanwhile is selected on what the screen still shows
+    this.look();
+    const change = piece && this.#show(piece, edit?.kind && !all ? turn.caret[1] : undefined);
     this.#remember(edit, change, mine, foreign);
     // where the user moved the selection meanwhile it stays, among what is there now
     this.selection = this.#moved ? this.selection.map((at) => mapped(at, change)) : turn.caret;
@@ -165,23 +172,24 @@ export class Editor {
   }
 
   async #readAll() {
-    const fresh = parse(await this.#read({}));
-    const change = difference(this.root.kids, fresh, 0);
-    this.view.update(this.root, 0, this.root.kids.length, fresh);
-    return change;
+    return { parent: this.root, first: 0, last: this.root.kids.length, from: 0, fresh: parse(await this.#read({})) };
   }
 
   // Reads the siblings that an edit touched, and where brackets of theirs lost their partners, what stands round them.
   async #readAgain({ span, length }, ahead) {
     const grown = length - this.root.size;
-    for (let { parent, first, last, from, to } = span; ; { parent, first, last, from, to } = wider({ parent })) {
-      const fresh = parse(ahead ?? (await this.#read({ from, to: to + grown })));
-      ahead = null;
-      if (!fresh) continue;
-      const change = difference(parent.kids.slice(first, last), fresh, from);
-      this.view.update(parent, first, last, fresh);
-      return change;
+    let fresh = parse(ahead ?? (await this.#read({ from: span.from, to: span.to + grown })));
+    while (!fresh) {
+      span = wider(span);
+      fresh = parse(await this.#read({ from: span.from, to: span.to + grown }));
     }
+    return { ...span, fresh };
+  }
+
+  #show({ parent, first, last, from, fresh }, caret) {
+    const change = difference(parent.kids.slice(first, last), fresh, from, caret);
+    this.view.update(parent, first, last, fresh);
+    return change;
   }
 
   #remember(edit, change, entries, foreign) {

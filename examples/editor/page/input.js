@@ -32,11 +32,7 @@ export function listen(host, editor, shortcuts) {
     inputs[event.inputType]?.(event);
   });
 
-  document.addEventListener("selectionchange", () => {
-    if (composing) return;
-    const selection = editor.view.selection();
-    if (selection) editor.moved(selection);
-  });
+  document.addEventListener("selectionchange", () => editor.look());
 
   host.addEventListener("keydown", (event) => {
     if (event.isComposing) return;
@@ -47,7 +43,7 @@ export function listen(host, editor, shortcuts) {
   });
 
   // An input method: what it wrote is taken out of the document again, and typed as any other text.
-  let composing = null;
+  let composing;
   host.addEventListener("compositionstart", () => {
     editor.hold(new Promise((end) => (composing = end)));
   });
@@ -55,9 +51,8 @@ export function listen(host, editor, shortcuts) {
     const [lo, hi] = ends(editor.selection);
     editor.view.redraw(commonOf(innermost(editor.root, lo), innermost(editor.root, hi)));
     editor.view.select(...editor.selection);
-    composing();
-    composing = null;
     editor.hold(null);
+    composing();
     if (data) editor.type(data);
   });
 

@@ -67,3 +67,6 @@ const editor = new Editor(host, link, {
 const carets = new Carets(find("#carets"), editor.view);
 const tools = toolbar(find("#bar"), host, editor);
 listen(host, editor, tools.shortcuts);
+
+// for the console, and for the check
+globalThis.vemodel = { editor, link };

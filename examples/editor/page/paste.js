@@ -57,7 +57,8 @@ function cleanElement(dom, pre) {
   } else {
     for (const { name } of [...dom.attributes]) if (!KEPT[tag]?.includes(name)) dom.removeAttribute(name);
     if (/^\s*(javascript|data|vbscript):/i.test(dom.getAttribute("href") ?? "")) dom.removeAttribute("href");
-    if (INLINE.has(tag) && tag !== "br" && tag !== "img" && !dom.firstChild) dom.remove();
+    if (tag === "a" && !dom.hasAttribute("href")) dom.replaceWith(...dom.childNodes);
+    else if (INLINE.has(tag) && tag !== "br" && tag !== "img" && !dom.firstChild) dom.remove();
   }
 }
 

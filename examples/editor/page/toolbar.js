@@ -23,6 +23,7 @@ export function toolbar(bar, host, editor) {
   const list = (tag) => editor.act(({ root, selection }) => listed(root, selection, tag));
 
   const openLink = () => {
+    editor.look();
     address.value = linkAt(editor.root, editor.selection).href;
     form.hidden = false;
     address.select();

@@ -176,14 +176,14 @@ export class View {
     return range;
   }
 
-  // The browser's selection as offsets, where it stands in this view.
+  // The browser's selection as offsets. Where the editor hasn't the focus nobody moves it, nor may it take the focus from elsewhere.
   selection() {
+    if (document.activeElement !== this.#host) return null;
     const { anchorNode, anchorOffset, focusNode, focusOffset } = document.getSelection();
     if (!anchorNode || !this.#host.contains(anchorNode) || !this.#host.contains(focusNode)) return null;
     return [this.offset(anchorNode, anchorOffset), this.offset(focusNode, focusOffset)];
   }
 
-  // Where the editor hasn't the focus it must not take it from a field of the toolbar.
   select(anchor, focus) {
     if (document.activeElement !== this.#host) return;
     document.getSelection().setBaseAndExtent(...this.point(anchor), ...this.point(focus));
