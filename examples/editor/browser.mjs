@@ -1,8 +1,10 @@
-// Headless Chromium by the DevTools protocol: windows, real keys and the mouse. Node's own WebSocket is all that it needs.
+// Headless Chromium by the DevTools protocol: windows, real keys and the mouse. Node's own WebSocket is all that it needs. And the
+// server, as the check and the measurements start it.
 import { spawn } from "node:child_process";
 import { mkdtempSync, rmSync } from "node:fs";
 import { tmpdir } from "node:os";
 import { join } from "node:path";
+import { fileURLToPath } from "node:url";
 
 const PATIENCE = 15_000; // milliseconds; a loaded machine is slow, and one that fails is worth waiting for
 
@@ -15,6 +17,17 @@ export async function until(what, condition) {
     if (Date.now() > end) throw new Error(`waited in vain until ${what}`);
     await new Promise((next) => setTimeout(next, 10));
   }
+}
+
+// The server on these pages, at a port that is free. It has a page's address in `url`.
+export async function serve(program, ...files) {
+  const words = [fileURLToPath(new URL("server.mjs", import.meta.url)), "--port", "0", "--program", program, ...files];
+  const server = spawn(process.execPath, words, { stdio: ["ignore", "pipe", "inherit"] });
+  const url = await new Promise((tell, fail) => {
+    server.stdout.setEncoding("utf8").once("data", (said) => tell(said.split("\n")[0]));
+    server.once("exit", () => fail(new Error("the server ended")));
+  });
+  return { url, close: () => server.kill() };
 }
 
 const CTRL = 2, SHIFT = 8;
@@ -35,7 +48,7 @@ export class Browser {
 
   async #launch(path) {
     const words = ["--headless=new", "--disable-gpu", "--remote-debugging-port=0", `--user-data-dir=${this.#folder}`, "--no-first-run",
-      "--disable-extensions", "--disable-background-networking", "--disable-dev-shm-usage", "--window-size=1000,760",
+      "--disable-extensions", "--disable-background-networking", "--disable-dev-shm-usage", "--window-size=1000,820",
       "--disable-renderer-backgrounding", "--disable-backgrounding-occluded-windows", ...(process.getuid() ? [] : ["--no-sandbox"]), "about:blank"];
     this.#process = spawn(path, words, { stdio: ["ignore", "ignore", "pipe"] });
     const address = await new Promise((tell, fail) => {
@@ -56,6 +69,7 @@ export class Browser {
       else waiting?.tell(result);
     };
     await new Promise((open) => (this.#socket.onopen = open));
+    await this.call("Browser.grantPermissions", { permissions: ["clipboardReadWrite", "clipboardSanitizedWrite"] });
   }
 
   call(method, params = {}, sessionId = undefined) {
@@ -70,6 +84,26 @@ export class Browser {
     // each window believes that it is in front, so that both have a caret and draw at once
     await this.call("Emulation.setFocusEmulationEnabled", { enabled: true }, sessionId);
     return new Window(this, sessionId);
+  }
+
+  // A window of the editor, once it is ready.
+  async edit(url) {
+    const window = await this.open(url);
+    await until("the editor is ready", () => window.value("document.documentElement?.dataset.ready"));
+    return window;
+  }
+
+  // Pictures of windows, side by side as one.
+  async together(windows) {
+    const pictures = await Promise.all(windows.map((window) => window.picture()));
+    const sheet = await this.open("about:blank");
+    const width = 1600, height = 640;
+    await sheet.call("Emulation.setDeviceMetricsOverride", { width, height, deviceScaleFactor: 1, mobile: false });
+    const images = pictures.map((png) => `<img width="${width / windows.length - 15}" src="data:image/png;base64,${png.toString("base64")}">`);
+    await sheet.value(`document.body.style = "margin:10px;display:flex;gap:10px;align-items:flex-start;background:#cbd2dc";
+      document.body.innerHTML = ${JSON.stringify(images.join(""))};
+      Promise.all([...document.images].map((image) => image.decode())).then(() => true)`);
+    return sheet.picture();
   }
 
   async close() {
@@ -129,24 +163,20 @@ class Window {
     }
   }
 
-  async press(x, y, clickCount = 1) {
-    await this.call("Input.dispatchMouseEvent", { type: "mousePressed", x, y, button: "left", clickCount });
+  #mouse(type, [x, y]) {
+    return this.call("Input.dispatchMouseEvent", { type, x, y, button: "left", buttons: 1, clickCount: 1 });
   }
 
-  async release(x, y, clickCount = 1) {
-    await this.call("Input.dispatchMouseEvent", { type: "mouseReleased", x, y, button: "left", clickCount });
-  }
-
-  async click(x, y) {
-    await this.press(x, y);
-    await this.release(x, y);
+  async click(at) {
+    await this.#mouse("mousePressed", at);
+    await this.#mouse("mouseReleased", at);
   }
 
   // From one place to another with the button held down.
   async drag(from, to) {
-    await this.press(...from);
-    await this.call("Input.dispatchMouseEvent", { type: "mouseMoved", x: to[0], y: to[1], button: "left", buttons: 1 });
-    await this.release(...to);
+    await this.#mouse("mousePressed", from);
+    await this.#mouse("mouseMoved", to);
+    await this.#mouse("mouseReleased", to);
   }
 
   async picture() {
