@@ -19,14 +19,21 @@ export async function until(what, condition) {
   }
 }
 
+// What a promise gives, unless it takes too long.
+async function soon(what, promise) {
+  let late;
+  const patience = new Promise((_, fail) => (late = setTimeout(() => fail(new Error(`waited in vain for ${what}`)), PATIENCE)));
+  return Promise.race([promise, patience]).finally(() => clearTimeout(late));
+}
+
 // The server on these pages, at a port that is free. It has a page's address in `url`.
 export async function serve(program, ...files) {
   const words = [fileURLToPath(new URL("server.mjs", import.meta.url)), "--port", "0", "--program", program, ...files];
   const server = spawn(process.execPath, words, { stdio: ["ignore", "pipe", "inherit"] });
-  const url = await new Promise((tell, fail) => {
+  const url = await soon("the server", new Promise((tell, fail) => {
     server.stdout.setEncoding("utf8").once("data", (said) => tell(said.split("\n")[0]));
     server.once("exit", () => fail(new Error("the server ended")));
-  });
+  }));
   return { url, close: () => server.kill() };
 }
 
@@ -51,7 +58,7 @@ export class Browser {
       "--disable-extensions", "--disable-background-networking", "--disable-dev-shm-usage", "--window-size=1000,820",
       "--disable-renderer-backgrounding", "--disable-backgrounding-occluded-windows", ...(process.getuid() ? [] : ["--no-sandbox"]), "about:blank"];
     this.#process = spawn(path, words, { stdio: ["ignore", "ignore", "pipe"] });
-    const address = await new Promise((tell, fail) => {
+    const address = await soon("Chromium", new Promise((tell, fail) => {
       let said = "";
       this.#process.stderr.setEncoding("utf8").on("data", (piece) => {
         said += piece;
@@ -59,7 +66,7 @@ export class Browser {
         if (found) tell(found[1]);
       });
       this.#process.on("exit", (status) => fail(new Error(`Chromium ended with ${status}: ${said.slice(-500)}`)));
-    });
+    }));
     this.#socket = new WebSocket(address);
     this.#socket.onmessage = ({ data }) => {
       const { id, result, error } = JSON.parse(data);
@@ -75,7 +82,7 @@ export class Browser {
   call(method, params = {}, sessionId = undefined) {
     const id = ++this.#next;
     this.#socket.send(JSON.stringify({ id, method, params, sessionId }));
-    return new Promise((tell, fail) => this.#waiting.set(id, { tell, fail }));
+    return soon(`an answer to ${method} ${params.expression ?? ""}`, new Promise((tell, fail) => this.#waiting.set(id, { tell, fail })));
   }
 
   async open(url) {
@@ -177,6 +184,10 @@ class Window {
     await this.#mouse("mousePressed", from);
     await this.#mouse("mouseMoved", to);
     await this.#mouse("mouseReleased", to);
+  }
+
+  close() {
+    return this.call("Page.close");
   }
 
   async picture() {

@@ -152,6 +152,7 @@ export class Editor {
     const edited = edit?.lines.some(({ do: what }) => what !== "select");
     const all = foreign || (edit && !known);
     const piece = all ? await this.#readAll() : edited ? await this.#readAgain(known, ahead) : null;
+    await this.#hold; // an input method loses its place where the text round it is drawn anew
     // what the user selected meanwhile is selected on what the screen still shows
     this.look();
     const change = piece && this.#show(piece, edit?.kind && !all ? turn.caret[1] : undefined);
