@@ -3,6 +3,11 @@ import { randomUUID } from "node:crypto";
 import { Core, accepted } from "./core.mjs";
 
 const SITES = 8; // as many as the program has
+const REMEMBERED = 200; // submissions whose ranges are kept for who has not taken them yet
+
+// The length of the list that the last change among these replies left.
+const lengthIn = (replies) => Number(/^ok (\d+)$/.exec(replies.findLast((reply) => /^ok \d+$/.test(reply)))[1]);
+
 // What a window may ask. The rest is the room's: pages are opened and sites are joined here alone.
 const READ = new Set(["data", "html"]);
 const ASKED = new Set([...READ, "select", "type", "erase", "text", "remove", "split", "mark", "unmark", "wrap", "convert",
@@ -12,6 +17,8 @@ export class Room {
   #core;
   #windows = new Map();
   #seen = Array(SITES).fill(0); // how many committed entries each site has seen
+  #committed = 0;
+  #touched = new Map(); // by its first entry's number, what a submission touched
   #opened;
   #turns = Promise.resolve();
 
@@ -46,7 +53,7 @@ export class Room {
 
   // A turn of a window: its lines, all or none, then what joins its site with the others. Nobody's line comes between. So no
   // submission is ever on its way when a turn begins, nor is anything unsent, even where a window is closed in the middle.
-  turn(id, lines) {
+  turn(id, lines, touched) {
     return this.#inTurn(async () => {
       const site = this.#site(id);
       const replies = [];
@@ -57,7 +64,7 @@ export class Room {
         break;
       }
       const sent = accepted(await this.#core.ask({ do: "send", site }));
-      if (sent) await this.#core.ask({ do: "serve", site });
+      if (sent) await this.#serve(site, touched && { ...touched, length: lengthIn(replies) });
       const taken = await this.#take(site);
       const state = { site, seen: this.#seen[site], caret: await this.#caret(site) };
       this.#tell(id, "turn", { ...state, changed: sent });
@@ -75,13 +82,22 @@ export class Room {
     return this.#windows.get(id).site;
   }
 
+  // Where nobody committed anything since this site took what there was, its submission is committed as it was made. So every site
+  // that takes it, and has nothing of its own to join it with, has the same range of the same list changed.
+  async #serve(site, touched) {
+    const [, accepted, , total] = (await this.#core.ask({ do: "serve", site })).split(" ").map(Number);
+    if (touched && accepted === total && this.#seen[site] === this.#committed) this.#touched.set(this.#committed, touched);
+    if (this.#touched.size > REMEMBERED) this.#touched.delete(this.#touched.keys().next().value);
+    this.#committed += accepted;
+  }
+
   // Hands the site all that the server has for it.
   async #take(site) {
     const taken = [];
     for (;;) {
       const [word, what, count, , dropped] = (await this.#core.ask({ do: "take", site })).split(" ");
       if (word === "no") return taken;
-      taken.push({ [what]: +count, dropped: +(dropped ?? 0) });
+      taken.push({ [what]: +count, dropped: +(dropped ?? 0), touched: this.#touched.get(this.#seen[site]) });
       this.#seen[site] += +count;
     }
   }

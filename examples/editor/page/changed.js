@@ -1,6 +1,7 @@
-// What changed. After an edit of its own a window knows the range that the edit touched, and reads the nodes there anew; after changes
-// of others it reads all, and compares. Both ways the answer is one change, `{ at, gone, came }`: the items that stood at the place, and
-// how many stand there now. A command that tells what changed would replace `difference` and the reading of all.
+// What changed. A window knows the range that its edit touched, and reads the nodes there anew; the others are told of it where it is the
+// same range of their lists. Where it isn't, as two changed the page at once, a window reads all, and compares. Any way the answer is one
+// change, `{ at, gone, came }`: the items that stood at the place, and how many stand there now. A command of the program that tells what
+// changed would replace what is told, the reading of all, and `difference`.
 import { isContent, itemsOf, startOf } from "./tree.js";
 import { scalars } from "./scalars.js";
 
@@ -31,6 +32,19 @@ export function wider({ parent }) {
   const first = parent.parent.kids.indexOf(parent);
   const from = startOf(parent);
   return { parent: parent.parent, first, last: first + 1, from, to: from + parent.size };
+}
+
+// The range of the list as it is shown that others' changes touched one after the other, and the length that they leave; nothing where
+// that isn't known of each of them.
+export function union(taken, length) {
+  let from = Infinity, to = 0, now = length;
+  for (const { touched } of taken) {
+    if (!touched) return null;
+    from = Math.min(from, touched.from);
+    to = Math.max(to, touched.to - (now - length));
+    now = touched.length;
+  }
+  return { from, to, length: now };
 }
 
 const sizeOf = (item) => (typeof item === "string" ? scalars(item) : Array.isArray(item) ? scalars(item[0]) : 1);

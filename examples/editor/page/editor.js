@@ -1,6 +1,6 @@
 // The editor: its tree, its selection, and the turns by which they change. Everything that a user does is an intent, a function that is
 // called when its turn comes; so it sees the list and the selection as the turn before left them, however fast the keys come.
-import { cover, difference, mapped, wider } from "./changed.js";
+import { cover, difference, mapped, union, wider } from "./changed.js";
 import { typed } from "./commands.js";
 import { History, backwards } from "./history.js";
 import { accepted, itemsIn, lengthIn } from "./link.js";
@@ -122,7 +122,8 @@ export class Editor {
     this.#moved = false;
     const span = edit.to === null ? null : cover(this.root, edit.from, edit.to);
     const ahead = span && edit.grows !== undefined ? [{ do: "data", from: span.from, to: span.to + edit.grows }] : [];
-    const turn = await this.#link.turn([...told, ...edit.lines, ...ahead]);
+    const touched = span && edit.lines.length ? { from: edit.from, to: edit.to } : undefined;
+    const turn = await this.#link.turn([...told, ...edit.lines, ...ahead], touched);
     const refused = turn.replies.find((reply) => !accepted(reply));
     if (refused) {
       this.#moved = told.length > 0;
@@ -133,7 +134,7 @@ export class Editor {
     }
     const replies = turn.replies.slice(told.length);
     const length = edit.lines.reduce((known, { do: what }, k) => (what === "select" ? known : lengthIn(replies[k])), this.root.size);
-    await this.#heed(turn, edit, span && { span, length }, ahead.length ? itemsIn(replies.at(-1)) : null);
+    await this.#heed(turn, edit, span && { ...edit, length }, ahead.length ? itemsIn(replies.at(-1)) : null);
     const { dropped } = turn.taken.find((one) => one.dropped) ?? {};
     if (!dropped) return;
     // What was typed is typed again where the caret went; anything else might now do what nobody meant.
@@ -143,19 +144,20 @@ export class Editor {
 
   // Shows what a turn brought, keeps what undo needs, and takes over the selection that the program moved along.
   async #heed(turn, edit, known, ahead) {
-    const foreign = turn.taken.some((one) => one.foreign);
+    const others = turn.taken.filter((one) => one.foreign);
+    const foreign = others.length > 0;
     const mine = turn.taken.flatMap((one) => {
       const first = this.#seen;
       this.#seen += one.foreign ?? one.ack;
       return Array.from({ length: one.ack ?? 0 }, (_, k) => first + k);
     });
     const edited = edit?.lines.some(({ do: what }) => what !== "select");
-    const all = foreign || (edit && !known);
-    const piece = all ? await this.#readAll() : edited ? await this.#readAgain(known, ahead) : null;
+    if (foreign) known = edited ? null : union(others, this.root.size);
+    const piece = edited || foreign || edit?.to === null ? await this.#readAgain(known, ahead) : null;
     await this.#hold; // an input method loses its place where the text round it is drawn anew
     // what the user selected meanwhile is selected on what the screen still shows
     this.look();
-    const change = piece && this.#show(piece, edit?.kind && !all ? turn.caret[1] : undefined);
+    const change = piece && this.#show(piece, edit?.kind && !foreign ? turn.caret[1] : undefined);
     this.#remember(edit, change, mine, foreign);
     // where the user moved the selection meanwhile it stays, among what is there now
     this.selection = this.#moved ? this.selection.map((at) => mapped(at, change)) : turn.caret;
@@ -172,13 +174,12 @@ export class Editor {
     return itemsIn(await this.#link.read({ do: "data", ...range }));
   }
 
-  async #readAll() {
-    return { parent: this.root, first: 0, last: this.root.kids.length, from: 0, fresh: parse(await this.#read({})) };
-  }
-
-  // Reads the siblings that an edit touched, and where brackets of theirs lost their partners, what stands round them.
-  async #readAgain({ span, length }, ahead) {
-    const grown = length - this.root.size;
+  // Reads the siblings that a change touched, and where brackets of theirs lost their partners, what stands round them; all of the page
+  // where it isn't known what was touched.
+  async #readAgain(known, ahead) {
+    if (!known) return { parent: this.root, first: 0, last: this.root.kids.length, from: 0, fresh: parse(await this.#read({})) };
+    const grown = known.length - this.root.size;
+    let span = cover(this.root, known.from, known.to);
     let fresh = parse(ahead ?? (await this.#read({ from: span.from, to: span.to + grown })));
     while (!fresh) {
       span = wider(span);

@@ -21,9 +21,10 @@ export class Link {
     }
   }
 
-  // Lines that are done as a whole, or not at all; then this window's site meets the others.
-  turn(lines) {
-    return this.#post("turn", { lines });
+  // Lines that are done as a whole, or not at all; then this window's site meets the others. `touched` is the range of the list that
+  // the lines change, where it is known: other windows are told of it.
+  turn(lines, touched) {
+    return this.#post("turn", { lines, touched });
   }
 
   // A line that changes nothing. The site stays as the last turn left it, whatever others did since.
