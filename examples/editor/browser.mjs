@@ -150,40 +150,40 @@ class Window {
     const modifiers = (held.includes("ctrl") ? CTRL : 0) | (held.includes("shift") ? SHIFT : 0);
     const code = key.length === 1 ? `Key${key.toUpperCase()}` : key;
     const windowsVirtualKeyCode = KEYS[key] ?? key.toUpperCase().charCodeAt(0);
-    const text = key === "Enter" ? "\r" : undefined;
-    await this.call("Input.dispatchKeyEvent", { type: text ? "keyDown" : "rawKeyDown", key, code, windowsVirtualKeyCode, modifiers, text });
-    await this.call("Input.dispatchKeyEvent", { type: "keyUp", key, code, windowsVirtualKeyCode, modifiers });
+    await this.#press({ key, code, windowsVirtualKeyCode, modifiers, text: key === "Enter" ? "\r" : undefined });
+  }
+
+  // Events are sent ahead; the browser takes them in their order.
+  #press(key) {
+    return Promise.all([
+      this.call("Input.dispatchKeyEvent", { type: key.text ? "keyDown" : "rawKeyDown", ...key }),
+      this.call("Input.dispatchKeyEvent", { type: "keyUp", ...key, text: undefined, commands: undefined }),
+    ]);
   }
 
   // The key by which a browser pastes; the protocol wants to be told what it does.
-  async paste() {
-    const key = { key: "v", code: "KeyV", windowsVirtualKeyCode: 86, modifiers: CTRL };
-    await this.call("Input.dispatchKeyEvent", { type: "rawKeyDown", ...key, commands: ["paste"] });
-    await this.call("Input.dispatchKeyEvent", { type: "keyUp", ...key });
+  paste() {
+    return this.#press({ key: "v", code: "KeyV", windowsVirtualKeyCode: 86, modifiers: CTRL, commands: ["paste"] });
   }
 
-  async type(text) {
-    for (const char of text) {
-      const key = { key: char, windowsVirtualKeyCode: /[a-z0-9 ]/i.test(char) ? char.toUpperCase().charCodeAt(0) : 0 };
-      await this.call("Input.dispatchKeyEvent", { type: "keyDown", text: char, ...key });
-      await this.call("Input.dispatchKeyEvent", { type: "keyUp", ...key });
-    }
+  type(text) {
+    return Promise.all([...text].map((char) => {
+      const windowsVirtualKeyCode = /[a-z0-9 ]/i.test(char) ? char.toUpperCase().charCodeAt(0) : 0;
+      return this.#press({ key: char, text: char, windowsVirtualKeyCode });
+    }));
   }
 
   #mouse(type, [x, y]) {
     return this.call("Input.dispatchMouseEvent", { type, x, y, button: "left", buttons: 1, clickCount: 1 });
   }
 
-  async click(at) {
-    await this.#mouse("mousePressed", at);
-    await this.#mouse("mouseReleased", at);
+  click(at) {
+    return Promise.all([this.#mouse("mousePressed", at), this.#mouse("mouseReleased", at)]);
   }
 
   // From one place to another with the button held down.
-  async drag(from, to) {
-    await this.#mouse("mousePressed", from);
-    await this.#mouse("mouseMoved", to);
-    await this.#mouse("mouseReleased", to);
+  drag(from, to) {
+    return Promise.all([this.#mouse("mousePressed", from), this.#mouse("mouseMoved", to), this.#mouse("mouseReleased", to)]);
   }
 
   close() {
