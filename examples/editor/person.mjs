@@ -44,13 +44,10 @@ export async function press(person, name) {
   await idle(person);
 }
 
-// Keys by which the browser itself moves the caret act on what is on the screen.
+// As fast as they go; what is to come of them waits its turn.
 export async function keys(person, ...names) {
+  await Promise.all(names.map((name) => person.key(name)));
   await idle(person);
-  for (const name of names) {
-    await person.key(name);
-    await idle(person);
-  }
 }
 
 export async function paste(person, text) {

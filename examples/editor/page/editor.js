@@ -20,6 +20,7 @@ export class Editor {
   #seen = 0;
   #turns = Promise.resolve();
   #waiting = []; // intents whose turn hasn't come
+  #unfinished = 0; // these, and the one whose turn it is
   #moved = false; // the program wasn't told of the selection yet
   #hold = null; // a promise, while an input method writes
   #heard;
@@ -42,6 +43,7 @@ export class Editor {
   act(intent) {
     this.look();
     this.#waiting.push(intent);
+    this.#unfinished++;
     const turn = this.#turns.then(async () => {
       await this.#hold;
       const next = this.#waiting.shift();
@@ -49,8 +51,13 @@ export class Editor {
       if (typeof edit === "string") this.#heard.notice(edit);
       else if (edit) await this.#run(edit, next);
     });
-    this.#turns = turn.catch((error) => this.#heard.notice(error.message));
+    this.#turns = turn.catch((error) => this.#heard.notice(error.message)).finally(() => this.#unfinished--);
     return this.#turns;
+  }
+
+  // Whether something that was done isn't on the screen yet.
+  get busy() {
+    return this.#unfinished > 0;
   }
 
   // Keys that come faster than turns are typed as one text.

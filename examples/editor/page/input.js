@@ -4,6 +4,16 @@ import { broken, ends, erased, indented, outdented, parted, pasted, typed } from
 import { cleaned, cleanedText } from "./paste.js";
 import { commonOf, innermost } from "./tree.js";
 
+// The keys by which the browser moves the caret: the direction, by what, and by what with Ctrl.
+const MOVES = {
+  ArrowLeft: ["left", "character", "word"],
+  ArrowRight: ["right", "character", "word"],
+  ArrowUp: ["backward", "line", "paragraph"],
+  ArrowDown: ["forward", "line", "paragraph"],
+  Home: ["backward", "lineboundary", "documentboundary"],
+  End: ["forward", "lineboundary", "documentboundary"],
+};
+
 export function listen(host, editor, shortcuts) {
   const erase = (dir, by) => editor.act(({ root, selection }) => erased(root, selection, dir, by));
 
@@ -34,8 +44,22 @@ export function listen(host, editor, shortcuts) {
 
   document.addEventListener("selectionchange", () => editor.look());
 
+  // The browser moves the caret on what is shown. Where keys before aren't on the screen yet, the move waits its turn as they do.
+  function move({ key, shiftKey, ctrlKey }) {
+    const [direction, by, byWithCtrl] = MOVES[key];
+    editor.act(() => {
+      document.getSelection().modify(shiftKey ? "extend" : "move", direction, ctrlKey ? byWithCtrl : by);
+      editor.look();
+    });
+  }
+
   host.addEventListener("keydown", (event) => {
     if (event.isComposing) return;
+    if (MOVES[event.key] && editor.busy) {
+      event.preventDefault();
+      move(event);
+      return;
+    }
     const item = event.key === "Tab" && editor.act(({ root, selection }) => (event.shiftKey ? outdented : indented)(root, selection));
     const shortcut = (event.ctrlKey || event.metaKey) && shortcuts[(event.shiftKey ? "shift+" : "") + event.key.toLowerCase()];
     if (shortcut) shortcut();
