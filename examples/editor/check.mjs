@@ -6,7 +6,7 @@ import { tmpdir } from "node:os";
 import { join } from "node:path";
 import { fileURLToPath } from "node:url";
 import { Browser, serve, until } from "./browser.mjs";
-import { clickAfter, dragOver, html, idle, keys, meet, paste, press } from "./person.mjs";
+import { clickAfter, dragOver, html, keys, meet, paste, press } from "./person.mjs";
 
 const [chromium, program, picture] = process.argv.slice(2);
 const folder = mkdtempSync(join(tmpdir(), "editor-"));

@@ -1,10 +1,10 @@
 // The editor: its tree, its selection, and the turns by which they change. Everything that a user does is an intent, a function that is
 // called when its turn comes; so it sees the list and the selection as the turn before left them, however fast the keys come.
 import { cover, difference, mapped, union, wider } from "./changed.js";
-import { typed } from "./commands.js";
 import { History, backwards } from "./history.js";
 import { accepted, itemsIn, lengthIn } from "./link.js";
 import { caretPlace, innermost, isContent, newRoot, parse, startOf } from "./tree.js";
+import { typed } from "./text.js";
 import { View } from "./view.js";
 
 // A turn without an edit still tells where the selection is, and takes what others did.
@@ -23,9 +23,10 @@ export class Editor {
   #unfinished = 0; // these, and the one whose turn it is
   #moved = false; // the program wasn't told of the selection yet
   #hold = null; // a promise, while an input method writes
+  #stopped = false;
   #heard;
 
-  // `heard` has a function for each event: changed, where list or selection did, and notice.
+  // `heard` has a function for each event: changed, where list or selection did, notice and stopped.
   constructor(host, link, heard) {
     this.view = new View(host, this.root);
     this.#link = link;
@@ -47,12 +48,19 @@ export class Editor {
     const turn = this.#turns.then(async () => {
       await this.#hold;
       const next = this.#waiting.shift();
+      if (this.#stopped) return;
       const edit = next(this);
       if (typeof edit === "string") this.#heard.notice(edit);
       else if (edit) await this.#run(edit, next);
     });
-    this.#turns = turn.catch((error) => this.#heard.notice(error.message)).finally(() => this.#unfinished--);
+    this.#turns = turn.catch((error) => this.#stop(error)).finally(() => this.#unfinished--);
     return this.#turns;
+  }
+
+  // A turn that failed in the middle, as where the connection was cut: the window doesn't know its site's list any more.
+  #stop(error) {
+    this.#stopped = true;
+    this.#heard.stopped(error.message);
   }
 
   // Whether something that was done isn't on the screen yet.

@@ -1,7 +1,9 @@
 // What the user does, as intents of the editor. The browser changes nothing of the page by itself: each `beforeinput` is taken from it,
 // but for those of an input method, which writes into the document until its text is chosen.
-import { broken, ends, erased, indented, outdented, parted, pasted, typed } from "./commands.js";
+import { indented, outdented } from "./blocks.js";
+import { ends } from "./edits.js";
 import { cleaned, cleanedText } from "./paste.js";
+import { broken, erased, parted, pasted, typed } from "./text.js";
 import { commonOf, innermost } from "./tree.js";
 
 // The keys by which the browser moves the caret: the direction, by what, and by what with Ctrl.

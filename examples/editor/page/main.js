@@ -18,6 +18,11 @@ function notice(text, stays = false) {
   if (!stays) fading = setTimeout(() => (dom.hidden = true), 5000);
 }
 
+function stopped(why) {
+  host.contentEditable = "false";
+  notice(`${why}. Load the page again to go on.`, true);
+}
+
 function showPeople(mine) {
   const dots = [mine, ...carets.sites].map((site) => {
     const dom = Object.assign(document.createElement("span"), { className: "person", textContent: nameOf(site) });
@@ -51,8 +56,7 @@ const link = new Link({
     showPeople(site);
   },
   ended({ why }) {
-    host.contentEditable = "false";
-    notice(why, true);
+    stopped(why);
   },
 });
 
@@ -63,6 +67,7 @@ const editor = new Editor(host, link, {
     if (turn) carets.moved(change, seen);
   },
   notice,
+  stopped,
 });
 const carets = new Carets(find("#carets"), editor.view);
 const tools = toolbar(find("#bar"), host, editor);

@@ -1,5 +1,7 @@
 // Makes a fragment that the program can read of what another program put on the clipboard. The browser parses it, without running any of
 // it; what the program knows is kept, with few attributes; and the browser's serialiser spells it, as the program's grammar is strict.
+import { isSafe } from "./addresses.js";
+
 const BLOCKS = new Set(["p", "h1", "h2", "h3", "h4", "h5", "h6", "pre", "ul", "ol", "li", "dl", "dt", "dd", "blockquote", "table",
   "caption", "thead", "tbody", "tfoot", "tr", "td", "th"]);
 const INLINE = new Set(["a", "abbr", "b", "bdi", "big", "br", "cite", "code", "del", "em", "i", "img", "ins", "kbd", "mark", "q", "s",
@@ -56,7 +58,7 @@ function cleanElement(dom, pre) {
     dom.replaceWith(...dom.childNodes);
   } else {
     for (const { name } of [...dom.attributes]) if (!KEPT[tag]?.includes(name)) dom.removeAttribute(name);
-    if (/^\s*(javascript|data|vbscript):/i.test(dom.getAttribute("href") ?? "")) dom.removeAttribute("href");
+    if (!isSafe(dom.getAttribute("href") ?? "")) dom.removeAttribute("href");
     if (tag === "a" && !dom.hasAttribute("href")) dom.replaceWith(...dom.childNodes);
     else if (INLINE.has(tag) && tag !== "br" && tag !== "img" && !dom.firstChild) dom.remove();
   }

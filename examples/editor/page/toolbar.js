@@ -1,5 +1,6 @@
 // The buttons, the field for a link, and what they show of the selection.
-import { converted, kindsAt, linkAt, linked, listed, marksAt, toggled } from "./commands.js";
+import { converted, kindsAt, listed } from "./blocks.js";
+import { linkAt, linked, marksAt, toggled } from "./marks.js";
 
 const TAGS = { bold: ["b", "strong"], italic: ["i", "em"] };
 

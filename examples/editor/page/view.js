@@ -2,12 +2,11 @@
 // browser shows is never read back, but for where its selection stands.
 import { CONTENT, HIDDEN, caretPlace, endOf, innerStart, innermost, isContent, isLeaf, isText, marksOf, replaceKids, shown,
   startOf } from "./tree.js";
+import { isPicture, isSafe } from "./addresses.js";
 import { scalars, units } from "./scalars.js";
 
 // Attributes of pages that are shown. Others can style or run things, and are kept by the program alone.
 const SHOWN = new Set(["alt", "colspan", "dir", "height", "lang", "reversed", "rowspan", "start", "title", "width"]);
-const isSafe = (url) => /^(https?:|mailto:|[^:]*$|[^:]*[/?#])/i.test(url.trim());
-const isPicture = (url) => /^(https:|data:image\/)/i.test(url.trim());
 
 function element(tag, attrs = []) {
   const dom = document.createElement(tag);
