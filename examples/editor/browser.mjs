@@ -104,7 +104,7 @@ export class Browser {
   async together(windows) {
     const pictures = await Promise.all(windows.map((window) => window.picture()));
     const sheet = await this.open("about:blank");
-    const width = 1600, height = 640;
+    const width = 1600, height = 595;
     await sheet.call("Emulation.setDeviceMetricsOverride", { width, height, deviceScaleFactor: 1, mobile: false });
     const images = pictures.map((png) => `<img width="${width / windows.length - 15}" src="data:image/png;base64,${png.toString("base64")}">`);
     await sheet.value(`document.body.style = "margin:10px;display:flex;gap:10px;align-items:flex-start;background:#cbd2dc";

@@ -104,9 +104,9 @@ async function bringIn() {
     <script>hacked = 1</script><div id="x">thr<font color="red">ee</font></div>`);
   await ben.type("?");
   // an input method
-  await ben.call("Input.imeSetComposition", { text: "ni", selectionStart: 2, selectionEnd: 2 });
-  await ben.call("Input.insertText", { text: "你" });
-  becomes("are one each.</h1>", "are one each.</h1><p>One<br>&amp;&nbsp;two</p><p>three?你</p>");
+  await ben.call("Input.imeSetComposition", { text: "z", selectionStart: 1, selectionEnd: 1 });
+  await ben.call("Input.insertText", { text: "ž" });
+  becomes("are one each.</h1>", "are one each.</h1><p>One<br>&amp;&nbsp;two</p><p>three?ž</p>");
 }
 
 // Both at once, where it isn't known which site comes first.
