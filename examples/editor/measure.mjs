@@ -27,7 +27,6 @@ const watch = (person) => person.value(`(() => {
     while (drawn.length < page.firstChild.textContent.length - "Here".length) drawn.push(now(performance.now()));
   }))).observe(page, { subtree: true, childList: true, characterData: true });
 })()`);
-const times = (person, what) => person.value(what);
 const of = (list, part) => list.sort((a, b) => a - b)[Math.floor(part * (list.length - 1))].toFixed(0).padStart(6);
 
 try {
@@ -48,7 +47,7 @@ try {
       await idle(here);
       await idle(there);
     }
-    const [pressed, drawn, other] = [await times(here, "pressed"), await times(here, "drawn"), await times(there, "drawn")];
+    const [pressed, drawn, other] = await Promise.all([here.value("pressed"), here.value("drawn"), there.value("drawn")]);
     const mine = drawn.map((at, k) => at - pressed[k]), its = other.map((at, k) => at - pressed[k]);
     console.log(`${name.padEnd(8)}${opens.toFixed(0).padStart(7)}   ${of(mine, 0.5)}${of(mine, 0.95)}              ${of(its, 0.5)}${of(its, 0.95)}`);
     server.close();

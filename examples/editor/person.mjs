@@ -51,8 +51,12 @@ export async function keys(person, ...names) {
 }
 
 export async function paste(person, text) {
-  await person.value(`navigator.clipboard.write([new ClipboardItem({
-    "text/html": new Blob([${JSON.stringify(text)}], { type: "text/html" }), "text/plain": new Blob(["-"], { type: "text/plain" }) })])`);
+  // the clipboard is for the window in front
+  await until("the clipboard holds what is to be pasted", async () => {
+    await person.call("Page.bringToFront");
+    return person.value(`navigator.clipboard.write([new ClipboardItem({ "text/plain": new Blob(["-"], { type: "text/plain" }),
+      "text/html": new Blob([${JSON.stringify(text)}], { type: "text/html" }) })]).then(() => true, () => false)`);
+  });
   await person.paste();
   await idle(person);
 }

@@ -85,10 +85,10 @@ export class Room {
   // Where nobody committed anything since this site took what there was, its submission is committed as it was made. So every site
   // that takes it, and has nothing of its own to join it with, has the same range of the same list changed.
   async #serve(site, touched) {
-    const [, accepted, , total] = (await this.#core.ask({ do: "serve", site })).split(" ").map(Number);
-    if (touched && accepted === total && this.#seen[site] === this.#committed) this.#touched.set(this.#committed, touched);
+    const [, joined, , sent] = (await this.#core.ask({ do: "serve", site })).split(" ").map(Number);
+    if (touched && joined === sent && this.#seen[site] === this.#committed) this.#touched.set(this.#committed, touched);
     if (this.#touched.size > REMEMBERED) this.#touched.delete(this.#touched.keys().next().value);
-    this.#committed += accepted;
+    this.#committed += joined;
   }
 
   // Hands the site all that the server has for it.

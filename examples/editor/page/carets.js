@@ -45,12 +45,9 @@ export class Carets {
     const origin = this.#layer.getBoundingClientRect();
     for (const { dom, highlight, caret } of this.#others.values()) {
       const [anchor, focus] = caret;
-      const range = this.#view.range(focus, focus);
-      const box = range.getClientRects()[0] ?? range.startContainer.getBoundingClientRect?.();
+      const box = this.#view.box(focus);
       highlight.clear();
       if (anchor !== focus) highlight.add(this.#view.range(Math.min(anchor, focus), Math.max(anchor, focus)));
-      dom.hidden = !box;
-      if (!box) continue;
       dom.style.left = `${box.left - origin.left}px`;
       dom.style.top = `${box.top - origin.top}px`;
       dom.style.height = `${box.height}px`;

@@ -69,7 +69,7 @@ function neighbour(branch, dir) {
 function inward(node, dir) {
   if (isContent(node) || isLeaf(node)) return node;
   const next = shown(node).at(dir === "back" ? -1 : 0);
-  return !next || ["table"].includes(node.kind) ? null : inward(next, dir);
+  return !next || node.kind === "table" ? null : inward(next, dir);
 }
 
 // The outermost element that holds nothing but the node.

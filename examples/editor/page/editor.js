@@ -16,14 +16,15 @@ export class Editor {
   marks = new Map(); // tags that the next typed text shall have, or not have, whatever stands on its left
   history = new History();
   view;
+  seen = 0; // how many committed entries the list holds
   #link;
-  #seen = 0;
   #turns = Promise.resolve();
   #waiting = []; // intents whose turn hasn't come
   #unfinished = 0; // these, and the one whose turn it is
   #moved = false; // the program wasn't told of the selection yet
   #hold = null; // a promise, while an input method writes
   #stopped = false;
+  #behind = false; // others changed the page, and the turn that takes it waits
   #heard;
 
   // `heard` has a function for each event: changed, where list or selection did, notice and stopped.
@@ -35,7 +36,7 @@ export class Editor {
 
   // What the window shows first: all of the page.
   async open(seen) {
-    this.#seen = seen;
+    this.seen = seen;
     await this.act(() => ({ lines: [], from: 0, to: null }));
     this.place(Array(2).fill(caretPlace(this.root, 0, true)));
   }
@@ -83,7 +84,12 @@ export class Editor {
 
   // Others changed the page.
   catchUp() {
-    this.act(() => NOTHING);
+    if (this.#behind) return;
+    this.#behind = true;
+    this.act(() => {
+      this.#behind = false;
+      return NOTHING;
+    });
   }
 
   // Reads where the browser's selection is. Its event comes some time after the user moved it, and the next key may come before.
@@ -108,6 +114,7 @@ export class Editor {
     this.#moved = true;
     this.view.select(...selection);
     this.#reveal();
+    this.#tell();
   }
 
   hold(promise) {
@@ -162,8 +169,8 @@ export class Editor {
     const others = turn.taken.filter((one) => one.foreign);
     const foreign = others.length > 0;
     const mine = turn.taken.flatMap((one) => {
-      const first = this.#seen;
-      this.#seen += one.foreign ?? one.ack;
+      const first = this.seen;
+      this.seen += one.foreign ?? one.ack;
       return Array.from({ length: one.ack ?? 0 }, (_, k) => first + k);
     });
     const edited = edit?.lines.some(({ do: what }) => what !== "select");
@@ -176,12 +183,12 @@ export class Editor {
     this.#remember(edit, change, mine, foreign);
     // where the user moved the selection meanwhile it stays, among what is there now
     this.selection = this.#moved ? this.selection.map((at) => mapped(at, change)) : turn.caret;
-    if (!this.#moved && edit?.caret && change) this.#moveAfter(edit.caret, change);
+    if (!this.#moved && edit?.came && change) this.#moveAfter(edit.came, change);
     if (!this.#moved && edit?.reveal && change) this.#moveTo(change.at + change.came);
     if (edit?.kind) this.marks = new Map();
     if (change || edit?.lines.length) this.view.select(...this.selection);
     if (edit?.lines.length) this.#reveal();
-    this.#heard.changed(change, turn);
+    this.#heard.changed(change);
     this.#tell();
   }
 
@@ -219,9 +226,10 @@ export class Editor {
   }
 
   // After a paste: at the end of what came, not in the rest of the branch that it parted.
-  #moveAfter({ blocks }, change) {
-    const end = change.at + change.came;
-    this.#moveTo(blocks ? caretPlace(this.root, isContent(innermost(this.root, end)) ? startOf(innermost(this.root, end)) : end) : end);
+  #moveAfter({ blocks, after }, change) {
+    const end = change.at + change.came, rest = innermost(this.root, end);
+    if (blocks) this.#moveTo(isContent(rest) ? startOf(rest) : end);
+    else this.#moveTo(after === null ? end : after + change.came - change.gone.length);
   }
 
   #moveTo(at) {
@@ -232,9 +240,7 @@ export class Editor {
 
   // Scrolls so far that the caret is seen.
   #reveal() {
-    const range = this.view.range(this.selection[1], this.selection[1]);
-    const box = range.getClientRects()[0] ?? range.startContainer.getBoundingClientRect?.();
-    if (!box) return;
+    const box = this.view.box(this.selection[1]);
     if (box.top < 70) scrollBy(0, box.top - 90);
     else if (box.bottom > innerHeight - 20) scrollBy(0, box.bottom - innerHeight + 60);
   }

@@ -1,6 +1,6 @@
 // What the user does, as intents of the editor. The browser changes nothing of the page by itself: each `beforeinput` is taken from it,
 // but for those of an input method, which writes into the document until its text is chosen.
-import { indented, outdented } from "./blocks.js";
+import { indented, kindsAt, outdented } from "./blocks.js";
 import { ends } from "./edits.js";
 import { cleaned, cleanedText } from "./paste.js";
 import { broken, erased, parted, pasted, typed } from "./text.js";
@@ -62,10 +62,16 @@ export function listen(host, editor, shortcuts) {
       move(event);
       return;
     }
-    const item = event.key === "Tab" && editor.act(({ root, selection }) => (event.shiftKey ? outdented : indented)(root, selection));
+    const inList = () => kindsAt(editor.root, editor.selection).list;
+    if (event.key === "Tab" && (editor.busy || inList())) { // elsewhere it leads out of the page, as in any form
+      event.preventDefault();
+      editor.act(({ root, selection }) => (event.shiftKey ? outdented : indented)(root, selection));
+    }
     const shortcut = (event.ctrlKey || event.metaKey) && shortcuts[(event.shiftKey ? "shift+" : "") + event.key.toLowerCase()];
-    if (shortcut) shortcut();
-    if (item || shortcut) event.preventDefault();
+    if (shortcut) {
+      event.preventDefault();
+      shortcut();
+    }
   });
 
   // An input method: what it wrote is taken out of the document again, and typed as any other text.

@@ -8,7 +8,6 @@ import { toolbar } from "./toolbar.js";
 const find = (selector) => document.querySelector(selector);
 const host = find("#page");
 
-let seen = 0;
 let fading;
 function notice(text, stays = false) {
   const dom = find("#notice");
@@ -36,9 +35,9 @@ function showPeople(mine) {
 let site;
 const link = new Link({
   async hello(hello) {
-    ({ site, seen } = hello);
+    site = hello.site;
     for (const other of hello.others) carets.heard(other);
-    await editor.open(seen);
+    await editor.open(hello.seen);
     host.contentEditable = "true";
     host.focus();
     editor.view.select(...editor.selection);
@@ -48,7 +47,7 @@ const link = new Link({
   turn(other) {
     carets.heard(other);
     if (other.changed) editor.catchUp();
-    carets.moved(null, seen);
+    carets.moved(null, editor.seen);
     showPeople(site);
   },
   left(other) {
@@ -61,10 +60,9 @@ const link = new Link({
 });
 
 const editor = new Editor(host, link, {
-  changed(change, turn) {
-    seen = turn?.seen ?? seen;
+  changed(change) {
     tools.show();
-    if (turn) carets.moved(change, seen);
+    carets.moved(change, editor.seen);
   },
   notice,
   stopped,

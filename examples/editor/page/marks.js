@@ -1,7 +1,7 @@
 // Marks and links.
 import { withScheme } from "./addresses.js";
 import { batch, ends, select } from "./edits.js";
-import { branchesIn, innerStart, innermost, isContent, leftOf, marksOf, runsIn } from "./tree.js";
+import { branchesIn, innerEnd, innerStart, innermost, isContent, leftOf, marksOf, runsIn } from "./tree.js";
 import { scalars } from "./scalars.js";
 
 // Which marks the whole selection has, and where it is collapsed, which ones typing would take.
@@ -41,11 +41,15 @@ export function linkAt(root, selection) {
   const href = mark[1].find(([name]) => name === "href")?.[1] ?? "";
   if (lo < hi) return { from: lo, to: hi, href };
   const branch = innermost(root, lo);
-  let [from, to, at] = [lo, lo, innerStart(branch)];
+  let at = innerStart(branch), from = at, to = innerEnd(branch);
   for (const kid of branch.kids) {
-    const linked = marksOf(kid).some((other) => JSON.stringify(other) === JSON.stringify(mark));
-    if (!linked && at + kid.size < lo) from = lo;
-    if (linked && at <= to && at + kid.size >= from) [from, to] = [Math.min(from, at), Math.max(to, at + kid.size)];
+    if (!marksOf(kid).some((other) => JSON.stringify(other) === JSON.stringify(mark))) {
+      if (at >= lo) {
+        to = at;
+        break;
+      }
+      from = at + kid.size;
+    }
     at += kid.size;
   }
   return { from, to, href };

@@ -18,8 +18,8 @@ export function typed(root, selection, text, marks = new Map()) {
   return { lines, from: cutting?.from ?? lo, to: cutting?.to ?? hi, grows, kind: "type" };
 }
 
-// A character or a word that way, or the selection. At the beginning of an item
-// the item leaves its list, and at the edge of any other branch the one beside it is joined.
+// A character or a word that way, or the selection. At the beginning of an item the item leaves its list, and at the edge of any other
+// branch the one beside it is joined.
 export function erased(root, selection, dir, by) {
   const [lo, hi] = ends(selection);
   if (lo < hi) {
@@ -69,7 +69,7 @@ export function pasted(root, selection, { html, blocks }) {
   const cutting = lo < hi ? cut(root, lo, hi) : null;
   const content = isContent(branch);
   const [begin, end] = content ? [startOf(branch), endOf(branch)] : [lo, lo];
-  const edit = { from: Math.min(begin, cutting?.from ?? lo), to: Math.max(end, cutting?.to ?? hi), caret: { at: lo, blocks } };
+  const edit = { from: Math.min(begin, cutting?.from ?? lo), to: Math.max(end, cutting?.to ?? hi), came: { blocks, after: cutting?.apply ? null : hi } };
   const put = (at) => ({ do: "insert", at, html });
   if (blocks && content && !cutting && branch.size === 2) return { ...edit, lines: [batch([put(end), ...remove(begin, end)])] };
   if (blocks && content && !cutting && lo === end - 1) return { ...edit, lines: [put(end)] };

@@ -152,8 +152,9 @@ export class View {
     return dom.lastChild ? this.#after(dom.lastChild) : this.#before(dom);
   }
 
-  // The place in the document of an offset where a caret may stand: at a border the end of what is on the left, whose marks typing takes.
-  point(at) {
+  // The place in the document of the caret at an offset: at a border the end of what is on the left, whose marks typing takes.
+  point(offset) {
+    const at = caretPlace(this.#root, offset);
     const node = innermost(this.#root, at);
     const host = this.#doms.get(node);
     if (!isContent(node)) return [host, 0];
@@ -166,6 +167,12 @@ export class View {
     }
     const last = this.#doms.get(node.kids.at(-1) ?? null);
     return last ? [last.parentNode, [...last.parentNode.childNodes].indexOf(last) + 1] : [host, 0];
+  }
+
+  // Where a caret at the offset is on the screen; an empty line has no text that could say so.
+  box(at) {
+    const range = this.range(at, at);
+    return range.getClientRects()[0] ?? range.startContainer.getBoundingClientRect();
   }
 
   range(from, to) {
