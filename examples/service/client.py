@@ -21,6 +21,7 @@ from urllib.parse import quote
 from aiohttp import ClientError, ClientSession, ClientWebSocketResponse, WSMsgType
 
 PAUSE = 0.1  # seconds before it tries another server
+PATIENCE = 20.0  # seconds for an answer; a page whose server is gone is another's before that
 
 Message = dict[str, Any]
 
@@ -51,7 +52,7 @@ class Site:
     def __init__(self, session: ClientSession, servers: Sequence[str], page: str, key: str) -> None:
         self._session, self._servers, self._page, self._key = session, servers, page, key
         self._socket: ClientWebSocketResponse | None = None
-        self.server = ""  # the one that it speaks to
+        self.server = ""  # the one that writes the page, as it was when this connected
         self.site = -1
         self.open = -1  # the number of the `open` that its next line stands on
         self.n = 0  # the number of its last line
@@ -99,15 +100,15 @@ class Site:
 
     async def _connected(self) -> None:
         while self._socket is None:
-            self.server = random.choice(self._servers)
+            url = f"http://{random.choice(self._servers)}/pages/{quote(self._page, safe='')}/edit"
             try:
-                self._socket = await self._session.ws_connect(
-                    f"http://{self.server}/pages/{quote(self._page, safe='')}/edit", max_msg_size=0)
+                self._socket = await asyncio.wait_for(self._session.ws_connect(url, max_msg_size=0, heartbeat=10), PATIENCE)
                 welcome = await self._ask({"key": self._key})
             except (ClientError, OSError, asyncio.TimeoutError, Broken):
                 await self._drop()
                 await asyncio.sleep(PAUSE * random.random())
                 continue
+            self.server = welcome.get("server", "")
             if "error" in welcome:
                 await self.leave()
                 raise Refused(welcome)
@@ -126,8 +127,8 @@ class Site:
             raise Broken
         try:
             await self._socket.send_str(json.dumps(said))
-            told = await self._socket.receive()
-        except (ClientError, OSError) as fault:
+            told = await self._socket.receive(PATIENCE)
+        except (ClientError, OSError, asyncio.TimeoutError) as fault:
             await self._drop()
             raise Broken from fault
         if told.type is not WSMsgType.TEXT:

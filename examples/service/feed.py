@@ -13,16 +13,15 @@ TAIL = 4 << 20  # bytes of the newest lines that are kept at hand
 class Feed:
     def __init__(self, page: str, log: Log, span: Span) -> None:
         self._page, self._log = page, log
-        self.first, self.next = span.first, span.next
-        self.followers = 0
+        self.next = span.next
+        self.users = 0  # who would miss it
         self._tail: deque[str] = deque()  # the lines just before the number `_end`
         self._end, self._bytes = span.next, 0
         self._more = asyncio.Event()
         self._reading = asyncio.Lock()
 
-    def put(self, number: int, lines: Sequence[str], first: int) -> None:
+    def put(self, number: int, lines: Sequence[str]) -> None:
         """Lines that were just appended here."""
-        self.first = first
         if number == self._end:
             self._keep(lines)
         self.hear(number + len(lines))

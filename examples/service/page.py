@@ -129,7 +129,7 @@ class Page:
 
     def idle(self) -> float:
         """Seconds since somebody was here."""
-        busy = any(self._here) or self.feed.followers or self._requests
+        busy = any(self._here) or self.feed.users > 1 or self._requests
         return 0 if busy else asyncio.get_running_loop().time() - max(self._used, *self._left)
 
     def give_up(self) -> None:
@@ -321,7 +321,7 @@ class Page:
         self._fresh.clear()
         self._first, self._next = first, number + len(texts)
         self._newest = asyncio.get_running_loop().time()
-        self.feed.put(number, texts, first)
+        self.feed.put(number, texts)
 
     # Sites
 

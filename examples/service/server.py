@@ -11,7 +11,7 @@ from pathlib import Path
 from typing import Any, TypeVar
 from weakref import WeakValueDictionary
 
-from aiohttp import ClientError, ClientSession, ClientTimeout, ClientWebSocketResponse, WSMsgType, web
+from aiohttp import ClientError, ClientSession, ClientWebSocketResponse, WSMsgType, web
 
 from core import PROGRAM, Core, Ended
 from feed import Feed
@@ -23,6 +23,7 @@ from seats import CHANGES, READS, SITES, Line, Seats, digest, spelled
 
 MOST_MESSAGE = 9 << 20  # bytes; the longest line that the program takes has 8 MiB
 PATIENCE = 15.0  # seconds for which a page's server is looked for
+ANSWER = 3.0  # seconds that another server has for beginning to talk
 IDLE = 60.0  # seconds after which a page that nobody wants is left to any server
 HOP = "X-Vemodel-Hop"  # a request that another server handed on: it isn't handed on again
 
@@ -36,6 +37,7 @@ class Service:
         self._pages: dict[str, Page] = {}
         self._feeds: dict[str, Feed] = {}
         self._doors: WeakValueDictionary[str, asyncio.Lock] = WeakValueDictionary()
+        self._address: str
         self._log: Log
         self._peers: ClientSession
 
@@ -51,16 +53,13 @@ class Service:
             span = await self._log.take(name, here)
             if span is None:
                 raise web.HTTPNotFound(text="no such page\n")
-            feed = Feed(name, self._log, span)
-            if name in self._feeds:
-                # Whoever follows here goes on following.
-                feed = self._feeds[name]
-                feed.first = span.first
-                feed.hear(span.next)
-            page = Page(name, self._log, feed, self._program, self._limits, self._gone)
-            await page.open(span)
+            page = Page(name, self._log, self._feed(name, span), self._program, self._limits, self._gone)
+            try:
+                await page.open(span)
+            except BaseException:
+                self._leave_feed(name)
+                raise
             self._pages[name] = page
-            self._feeds[name] = feed
             self._watch()
             return page
 
@@ -74,11 +73,19 @@ class Service:
     def _gone(self, page: Page) -> None:
         if self._pages.get(page.name) is page:
             del self._pages[page.name]
-            self._drop_feed(page.name)
+        self._leave_feed(page.name)
 
-    def _drop_feed(self, name: str) -> None:
-        feed = self._feeds.get(name)
-        if feed is not None and name not in self._pages and not feed.followers:
+    def _feed(self, name: str, span: Span) -> Feed:
+        """The page's feed, for one more user: a follower, or the page where it is this server's."""
+        feed = self._feeds.setdefault(name, Feed(name, self._log, span))
+        feed.users += 1
+        feed.hear(span.next)
+        self._watch()
+        return feed
+
+    def _leave_feed(self, name: str) -> None:
+        self._feeds[name].users -= 1
+        if not self._feeds[name].users:
             del self._feeds[name]
         self._watch()
 
@@ -163,7 +170,7 @@ class Service:
             return web.Response(text=json.loads(told["reply"][3:]), content_type="text/plain", charset="utf-8")
 
         async def there(address: str) -> web.Response:
-            async with self._peers.get(f"http://{address}{request.path_qs}", headers={HOP: "1"}) as answer:
+            async with self._peers.get(f"http://{address}{request.path_qs}", headers={HOP: "1"}, timeout=PATIENCE) as answer:
                 if answer.status == 503:
                     raise ClientError
                 return web.Response(status=answer.status, body=await answer.read(), headers={
@@ -197,28 +204,20 @@ class Service:
         number = number_of(request.query.get("from"), span.first)
         socket = web.WebSocketResponse(heartbeat=20)
         await socket.prepare(request)
-        async with self._following(name, number, socket):
+        async with self._following(name, span, number, socket):
             async for _ in socket:
                 pass
         return socket
 
     @contextlib.asynccontextmanager
-    async def _following(self, name: str, number: int, socket: web.WebSocketResponse) -> AsyncIterator[None]:
-        if name not in self._feeds:
-            span = await self._log.span(name)
-            assert span is not None
-            self._feeds.setdefault(name, Feed(name, self._log, span))
-        feed = self._feeds[name]
-        feed.followers += 1
-        self._watch()
-        sending = asyncio.create_task(send_lines(feed, number, socket))
+    async def _following(self, name: str, span: Span, number: int, socket: web.WebSocketResponse) -> AsyncIterator[None]:
+        sending = asyncio.create_task(send_lines(self._feed(name, span), number, socket))
         try:
             yield
         finally:
             sending.cancel()
             await asyncio.wait((sending,))
-            feed.followers -= 1
-            self._drop_feed(name)
+            self._leave_feed(name)
 
     async def edit(self, request: web.Request) -> web.WebSocketResponse:
         """Who writes. The page's own server hears it; any other one hands on what it hears."""
@@ -234,10 +233,14 @@ class Service:
             return socket
 
         async def there(address: str) -> web.WebSocketResponse:
-            async with self._peers.ws_connect(f"http://{address}{request.path_qs}", headers={HOP: "1"},
-                                              max_msg_size=0) as peer:
+            # A server that is paused takes connections, and answers nothing.
+            peer = await asyncio.wait_for(self._peers.ws_connect(
+                f"http://{address}{request.path_qs}", headers={HOP: "1"}, max_msg_size=0, heartbeat=10), ANSWER)
+            try:
                 await socket.prepare(request)
                 await hand_on(socket, peer)
+            finally:
+                await peer.close()
             return socket
 
         return await self._at_home(request, here, there)
@@ -251,7 +254,7 @@ class Service:
             await socket.send_str(spelled({"error": "bad"}))
             return
         told = await page.ask(Enter(key))
-        await socket.send_str(spelled(told))
+        await socket.send_str(spelled({**told, "server": self._address}))
         if "error" in told:
             return
         site = told["site"]
@@ -259,7 +262,8 @@ class Service:
         try:
             async with contextlib.AsyncExitStack() as stack:
                 if start is not None:
-                    await stack.enter_async_context(self._following(page.name, start, socket))
+                    span = Span(told["open"], told["next"])
+                    await stack.enter_async_context(self._following(page.name, span, start, socket))
                 await Talk(page, socket, site, digest(key)).run()
         finally:
             page.left(site)
@@ -268,6 +272,7 @@ class Service:
 
     async def run(self, address: str, log: str, history: bool) -> None:
         async with contextlib.AsyncExitStack() as stack:
+            self._address = address
             if log.startswith(("postgresql:", "postgres:")):
                 opened: PostgresLog | SqliteLog = PostgresLog(log, address, history, self._heard, self._lost)
             else:
@@ -275,7 +280,7 @@ class Service:
             await opened.open()
             self._log = opened
             stack.push_async_callback(opened.close)
-            self._peers = await stack.enter_async_context(ClientSession(timeout=ClientTimeout(total=None, connect=3)))
+            self._peers = await stack.enter_async_context(ClientSession())
             app = web.Application(client_max_size=MOST_MESSAGE, middlewares=[faults])
             app.add_routes([
                 web.put("/pages/{page}", self.create),
