@@ -21,6 +21,7 @@ from urllib.parse import quote
 from aiohttp import ClientError, ClientSession, ClientWebSocketResponse, WSMsgType
 
 PAUSE = 0.1  # seconds before it tries another server
+GOODBYE = 0.1  # seconds for the server's side of an ending
 PATIENCE = 20.0  # seconds for an answer; a page whose server is gone is another's before that
 
 Message = dict[str, Any]
@@ -102,7 +103,8 @@ class Site:
         while self._socket is None:
             url = f"http://{random.choice(self._servers)}/pages/{quote(self._page, safe='')}/edit"
             try:
-                self._socket = await asyncio.wait_for(self._session.ws_connect(url, max_msg_size=0, heartbeat=10), PATIENCE)
+                self._socket = await asyncio.wait_for(self._session.ws_connect(
+                    url, max_msg_size=0, heartbeat=10, timeout=GOODBYE), PATIENCE)
                 welcome = await self._ask({"key": self._key})
             except (ClientError, OSError, asyncio.TimeoutError, Broken):
                 await self._drop()

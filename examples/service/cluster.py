@@ -11,14 +11,16 @@ import time
 import urllib.request
 from pathlib import Path
 
+import psycopg
+
 SERVER = Path(__file__).with_name("server.py")
 
 
 def postgres_programs() -> Path | None:
     """The folder of `initdb` and `postgres`, which Debian keeps off the path."""
     found = shutil.which("initdb")
-    folders = [Path(found).parent] if found else []
-    folders += sorted(Path("/usr/lib/postgresql").glob("*/bin"), reverse=True)
+    folders = sorted(Path("/usr/lib/postgresql").glob("*/bin"), reverse=True)
+    folders += [Path(found).parent] if found else []
     return next((folder for folder in folders if (folder / "initdb").exists() and (folder / "postgres").exists()), None)
 
 
@@ -41,10 +43,15 @@ class Postgres:
                 stdout=log, stderr=log, user=self._user, group=self._user, cwd="/")
         self.url = f"postgresql://vemodel@/postgres?host={self._folder}"
         until = time.monotonic() + 30
-        while subprocess.run([programs / "pg_isready", "-q", "-h", self._folder]).returncode:
-            if time.monotonic() > until or self._process.poll() is not None:
-                raise SystemExit(f"service: no database: see {folder}/postgres.log")
-            time.sleep(0.1)
+        while True:
+            try:
+                psycopg.connect(self.url).close()
+                return
+            except psycopg.OperationalError:
+                if time.monotonic() > until or self._process.poll() is not None:
+                    self.stop()
+                    raise SystemExit(f"service: no database: see {folder}/postgres.log") from None
+                time.sleep(0.1)
 
     def stop(self) -> None:
         self._process.send_signal(signal.SIGINT)

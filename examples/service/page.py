@@ -88,7 +88,8 @@ class Page:
         self._left = [now] * SITES  # when the last of them ended
         self._newest = self._used = now  # when the newest line came, and when anything did
         self._cut_after = now
-        self._first = self._next = self._bytes = 0
+        self._first = self._next = 0
+        self._bytes = 0  # of the lines after the newest `open`
         self._over = False
         self._requests: deque[Queued] = deque()
         self._wake = asyncio.Event()
@@ -270,7 +271,7 @@ class Page:
 
     async def _replay(self) -> None:
         """A new program with all lines from the newest `open` on."""
-        self._seats, self._bytes = Seats(), 0
+        self._seats = Seats()
         self._core = await Core.start(self._program)
         try:
             await self._read()
@@ -289,8 +290,9 @@ class Page:
             for (n, text), reply in zip(rows, await self._core.run(texts)):
                 if not reply.startswith("ok"):
                     raise Lost(f"{self.name}: line {n} of the log is answered {reply}: by another version of the program?")
-                self._seats.note(n, json.loads(text), reply)
-                self._bytes += len(text.encode()) + 1
+                line = json.loads(text)
+                self._seats.note(n, line, reply)
+                self._count(text, line)
             number += len(rows)
 
     async def _run(self, texts: list[str]) -> list[str]:
@@ -317,11 +319,14 @@ class Page:
         await self._log.append(Batch(self.name, number, texts, first))
         for place, (text, line, reply) in enumerate(self._fresh):
             self._seats.note(number + place, line, reply)
-            self._bytes += len(text.encode()) + 1
+            self._count(text, line)
         self._fresh.clear()
         self._first, self._next = first, number + len(texts)
         self._newest = asyncio.get_running_loop().time()
         self.feed.put(number, texts)
+
+    def _count(self, text: str, line: Line) -> None:
+        self._bytes = 0 if line["do"] == "open" else self._bytes + len(text.encode()) + 1
 
     # Sites
 
@@ -433,7 +438,7 @@ class Page:
             self._cut_after = asyncio.get_running_loop().time() + 60
             return
         await self._core.close()
-        self._core, self._bytes = core, 0
+        self._core = core
         self._fresh.append((spelled(line), line, reply))
         if root.split(" ")[1:4] == ["root", "0", reply[3:]]:
             # The page reads back as long as it was, so a caret is where it was.

@@ -24,6 +24,7 @@ from seats import CHANGES, READS, SITES, Line, Seats, digest, spelled
 MOST_MESSAGE = 9 << 20  # bytes; the longest line that the program takes has 8 MiB
 PATIENCE = 15.0  # seconds for which a page's server is looked for
 ANSWER = 3.0  # seconds that another server has for beginning to talk
+GOODBYE = 0.1  # seconds that it has for ending a talk
 IDLE = 60.0  # seconds after which a page that nobody wants is left to any server
 HOP = "X-Vemodel-Hop"  # a request that another server handed on: it isn't handed on again
 
@@ -202,7 +203,7 @@ class Service:
         """Sends the page's lines from a number on, at whichever server."""
         name, span = await self._named(request)
         number = number_of(request.query.get("from"), span.first)
-        socket = web.WebSocketResponse(heartbeat=20)
+        socket = web.WebSocketResponse(heartbeat=20, timeout=GOODBYE)
         await socket.prepare(request)
         async with self._following(name, span, number, socket):
             async for _ in socket:
@@ -221,7 +222,7 @@ class Service:
 
     async def edit(self, request: web.Request) -> web.WebSocketResponse:
         """Who writes. The page's own server hears it; any other one hands on what it hears."""
-        socket = web.WebSocketResponse(heartbeat=20, max_msg_size=MOST_MESSAGE)
+        socket = web.WebSocketResponse(heartbeat=20, timeout=GOODBYE, max_msg_size=MOST_MESSAGE)
 
         async def here(page: Page) -> web.WebSocketResponse:
             await socket.prepare(request)
@@ -235,7 +236,8 @@ class Service:
         async def there(address: str) -> web.WebSocketResponse:
             # A server that is paused takes connections, and answers nothing.
             peer = await asyncio.wait_for(self._peers.ws_connect(
-                f"http://{address}{request.path_qs}", headers={HOP: "1"}, max_msg_size=0, heartbeat=10), ANSWER)
+                f"http://{address}{request.path_qs}", headers={HOP: "1"}, max_msg_size=0, heartbeat=10, timeout=GOODBYE),
+                ANSWER)
             try:
                 await socket.prepare(request)
                 await hand_on(socket, peer)

@@ -12,7 +12,7 @@ from typing import Any
 
 from aiohttp import ClientError, ClientSession, ClientWebSocketResponse, TCPConnector
 
-from client import PATIENCE, Broken, Cut, Message, Refused, Site
+from client import GOODBYE, PATIENCE, Cut, Message, Refused, Site
 
 CUT = 0.003  # of a writer's messages, the connection is cut just after so many
 REST = 8.0  # seconds from one rest of a page's writers to the next
@@ -146,7 +146,7 @@ async def follow(session: ClientSession, servers: list[str], told: Told, rnd: ra
     while True:
         try:
             url = f"http://{rnd.choice(servers)}/pages/{told.page}/follow?from={len(told.followed)}"
-            stream = await asyncio.wait_for(session.ws_connect(url, heartbeat=10, max_msg_size=0), PATIENCE)
+            stream = await asyncio.wait_for(session.ws_connect(url, heartbeat=10, max_msg_size=0, timeout=GOODBYE), PATIENCE)
             try:
                 async for message in stream:
                     told.gaps += not message.data.startswith(f'{{"number":{len(told.followed)},')
@@ -180,6 +180,17 @@ async def page(session: ClientSession, servers: list[str], name: str, writers: i
     for site in sites:
         await site.leave()
     return told
+
+
+async def wander(server: str, name: str) -> None:
+    """Moves a caret to and fro, which is enough for the log to be cut."""
+    told = Told(name)
+    async with ClientSession() as session:
+        site = Writer(session, [server], told, random.Random(0))
+        for place in 1, 2:
+            for _ in range(20):
+                await site.do(do="select", anchor=place, focus=place)
+        await site.leave()
 
 
 async def _run(servers: list[str], names: list[str], writers: int, until: float, seed: int) -> list[Told]:
