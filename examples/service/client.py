@@ -20,7 +20,8 @@ from urllib.parse import quote
 
 from aiohttp import ClientError, ClientSession, ClientWebSocketResponse, WSMsgType
 
-PAUSE = 0.1  # seconds before it tries another server
+PAUSE = 0.05  # seconds before it tries another server, about; twice as many each time, up to
+MOST_PAUSE = 1.0
 GOODBYE = 0.1  # seconds for the server's side of an ending
 PATIENCE = 20.0  # seconds for an answer; a page whose server is gone is another's before that
 
@@ -100,15 +101,20 @@ class Site:
             await socket.close()
 
     async def _connected(self) -> None:
+        pause = PAUSE
         while self._socket is None:
-            url = f"http://{random.choice(self._servers)}/pages/{quote(self._page, safe='')}/edit"
+            # Any server hands on what is for another, and the page's own one needn't.
+            server = self.server or random.choice(self._servers)
+            url = f"http://{server}/pages/{quote(self._page, safe='')}/edit"
             try:
                 self._socket = await asyncio.wait_for(self._session.ws_connect(
                     url, max_msg_size=0, heartbeat=10, timeout=GOODBYE), PATIENCE)
                 welcome = await self._ask({"key": self._key})
             except (ClientError, OSError, asyncio.TimeoutError, Broken):
                 await self._drop()
-                await asyncio.sleep(PAUSE * random.random())
+                self.server = ""
+                await asyncio.sleep(pause * random.uniform(0.5, 1.5))
+                pause = min(2 * pause, MOST_PAUSE)
                 continue
             self.server = welcome.get("server", "")
             if "error" in welcome:

@@ -334,7 +334,7 @@ class Page:
         site = self._seats.held_by(key)
         fresh = site is None
         if site is None:
-            site = await self._free_site()
+            site = self._free()
             if site is None:
                 return {"error": "full"}
             await self._do({"do": "select", "anchor": 0, "focus": 0, "site": site, "log": {"join": digest(key)}})
@@ -343,16 +343,10 @@ class Page:
         self._left[site] = asyncio.get_running_loop().time()
         return {"site": site, "fresh": fresh, "done": self._seats[site].done, "open": self._first, "next": self._next}
 
-    async def _free_site(self) -> int | None:
-        """One that nobody holds, with the least to take; or that of who has been away the longest."""
+    def _free(self) -> int | None:
+        """A site that nobody holds, with the least to take."""
         free = [site for site, seat in enumerate(self._seats) if not seat.holder]
-        if free:
-            return min(free, key=lambda site: self._seats[site].queued)
-        gone = min(range(SITES), key=lambda site: (self._here[site], self._left[site]))
-        if not self._away(gone):
-            return None
-        await self._leave(gone)
-        return gone
+        return min(free, key=lambda site: self._seats[site].queued, default=None)
 
     def _away(self, site: int) -> bool:
         now = asyncio.get_running_loop().time()
@@ -377,9 +371,8 @@ class Page:
         """A site that shows the committed page; one that nobody holds takes what there is for it."""
         site = next((site for site, seat in enumerate(self._seats) if seat.at_rest), None)
         if site is None:
-            free = [site for site, seat in enumerate(self._seats) if not seat.holder]
-            if free:
-                site = min(free, key=lambda site: self._seats[site].queued)
+            site = self._free()
+            if site is not None:
                 await self._settle(site)
                 await self._keep()
         return site

@@ -12,7 +12,7 @@ from typing import Any
 
 from aiohttp import ClientError, ClientSession, ClientWebSocketResponse, TCPConnector
 
-from client import GOODBYE, PATIENCE, Cut, Message, Refused, Site
+from client import GOODBYE, MOST_PAUSE, PATIENCE, PAUSE, Cut, Message, Refused, Site
 
 CUT = 0.003  # of a writer's messages, the connection is cut just after so many
 REST = 8.0  # seconds from one rest of a page's writers to the next
@@ -123,7 +123,7 @@ async def cut(socket_: ClientWebSocketResponse, message: str) -> None:
 
 async def settle(writers: list[Writer]) -> None:
     """Until nobody has anything to send or to take: then all sites have one page."""
-    while any([await writer.meet() for writer in writers]):
+    while any(await asyncio.gather(*(writer.meet() for writer in writers))):
         pass
 
 
@@ -143,12 +143,14 @@ async def write(writers: list[Writer], until: float, rnd: random.Random) -> None
 
 async def follow(session: ClientSession, servers: list[str], told: Told, rnd: random.Random) -> None:
     """Follows a page through any server, from where the last one left off."""
+    pause = PAUSE
     while True:
         try:
             url = f"http://{rnd.choice(servers)}/pages/{told.page}/follow?from={len(told.followed)}"
             stream = await asyncio.wait_for(session.ws_connect(url, heartbeat=10, max_msg_size=0, timeout=GOODBYE), PATIENCE)
             try:
                 async for message in stream:
+                    pause = PAUSE
                     told.gaps += not message.data.startswith(f'{{"number":{len(told.followed)},')
                     told.followed.append(message.data)
                     if rnd.random() < CUT / 10:
@@ -158,7 +160,8 @@ async def follow(session: ClientSession, servers: list[str], told: Told, rnd: ra
                 await stream.close()
         except (ClientError, OSError, asyncio.TimeoutError):
             pass
-        await asyncio.sleep(0.1 * rnd.random())
+        await asyncio.sleep(pause * rnd.uniform(0.5, 1.5))
+        pause = min(2 * pause, MOST_PAUSE)
 
 
 async def page(session: ClientSession, servers: list[str], name: str, writers: int, until: float, seed: int) -> Told:
