@@ -108,7 +108,7 @@ class Site:
             url = f"http://{server}/pages/{quote(self._page, safe='')}/edit"
             try:
                 self._socket = await asyncio.wait_for(self._session.ws_connect(
-                    url, max_msg_size=0, heartbeat=10, timeout=GOODBYE), PATIENCE)
+                    url, max_msg_size=0, timeout=GOODBYE), PATIENCE)
                 welcome = await self._ask({"key": self._key})
             except (ClientError, OSError, asyncio.TimeoutError, Broken):
                 await self._drop()

@@ -346,7 +346,7 @@ class Page:
     def _free(self) -> int | None:
         """A site that nobody holds, with the least to take."""
         free = [site for site, seat in enumerate(self._seats) if not seat.holder]
-        return min(free, key=lambda site: self._seats[site].queued, default=None)
+        return min(free, key=lambda site: self._seats[site].queued) if free else None
 
     def _away(self, site: int) -> bool:
         now = asyncio.get_running_loop().time()

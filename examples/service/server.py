@@ -236,8 +236,7 @@ class Service:
         async def there(address: str) -> web.WebSocketResponse:
             # A server that is paused takes connections, and answers nothing.
             peer = await asyncio.wait_for(self._peers.ws_connect(
-                f"http://{address}{request.path_qs}", headers={HOP: "1"}, max_msg_size=0, heartbeat=10, timeout=GOODBYE),
-                ANSWER)
+                f"http://{address}{request.path_qs}", headers={HOP: "1"}, max_msg_size=0, timeout=GOODBYE), ANSWER)
             try:
                 await socket.prepare(request)
                 await hand_on(socket, peer)
@@ -275,6 +274,7 @@ class Service:
     async def run(self, address: str, log: str, history: bool) -> None:
         async with contextlib.AsyncExitStack() as stack:
             self._address = address
+            asyncio.get_running_loop().set_exception_handler(unless_broken)
             if log.startswith(("postgresql:", "postgres:")):
                 opened: PostgresLog | SqliteLog = PostgresLog(log, address, history, self._heard, self._lost)
             else:
@@ -298,6 +298,12 @@ class Service:
             await web.TCPSite(runner, host, int(port), backlog=1024, shutdown_timeout=1).start()
             print(f"http://{address}", flush=True)
             await self._sweep()
+
+
+def unless_broken(loop: asyncio.AbstractEventLoop, told: dict[str, Any]) -> None:
+    """aiohttp pings in tasks of its own, and says so where a connection has just ended."""
+    if not isinstance(told.get("exception"), ConnectionError):
+        loop.default_exception_handler(told)
 
 
 @web.middleware

@@ -10,7 +10,7 @@ import time
 from dataclasses import dataclass, field
 from typing import Any
 
-from aiohttp import ClientError, ClientSession, ClientWebSocketResponse, TCPConnector
+from aiohttp import ClientError, ClientSession, ClientWebSocketResponse, TCPConnector, WSMsgType
 
 from client import GOODBYE, MOST_PAUSE, PATIENCE, PAUSE, Cut, Message, Refused, Site
 
@@ -147,9 +147,9 @@ async def follow(session: ClientSession, servers: list[str], told: Told, rnd: ra
     while True:
         try:
             url = f"http://{rnd.choice(servers)}/pages/{told.page}/follow?from={len(told.followed)}"
-            stream = await asyncio.wait_for(session.ws_connect(url, heartbeat=10, max_msg_size=0, timeout=GOODBYE), PATIENCE)
+            stream = await asyncio.wait_for(session.ws_connect(url, max_msg_size=0, timeout=GOODBYE), PATIENCE)
             try:
-                async for message in stream:
+                while (message := await stream.receive(PATIENCE)).type is WSMsgType.TEXT:
                     pause = PAUSE
                     told.gaps += not message.data.startswith(f'{{"number":{len(told.followed)},')
                     told.followed.append(message.data)
