@@ -96,10 +96,14 @@ class Commits:
             await self._wake.wait()
             self._wake.clear()
             taken, self._waiting = self._waiting, []
+            kept: set[str] = set()
             try:
                 kept = await self._commit([batch for batch, _ in taken])
             except Lost:
-                kept = set()
+                pass
+            except Exception as fault:
+                # Nobody is to wait for ever because of a fault of ours.
+                asyncio.get_running_loop().call_exception_handler({"message": "a commit failed", "exception": fault})
             for batch, done in taken:
                 if done.cancelled():
                     continue

@@ -23,6 +23,7 @@ from __future__ import annotations
 import asyncio
 import contextlib
 import hashlib
+import sys
 from collections.abc import AsyncIterator, Callable
 from dataclasses import dataclass
 from typing import Any
@@ -107,8 +108,8 @@ class PostgresLog:
                     opened.set()
                     for part in self._beat, self._listen, self._tell:
                         tasks.create_task(part(session))
-            except* (psycopg.Error, OSError, TimeoutError):
-                pass
+            except* Exception as faults:
+                print(f"no session of the database any more: {faults.exceptions[0]!r}", file=sys.stderr, flush=True)
             finally:
                 self._session = None
                 self._lost()

@@ -30,6 +30,10 @@ SPARE = 1 << 20  # bytes that the program is to have room for beside a turn, for
 PAUSE = 1.0  # seconds between two looks at what has grown and who has gone
 
 
+class Strange(Exception):
+    """The program doesn't accept a line of the log, which another one has: the versions differ, or the log was changed."""
+
+
 @dataclass(frozen=True)
 class Limits:
     """When a log is cut, and when a site is free again."""
@@ -289,7 +293,7 @@ class Page:
             texts = [text for _, text in rows]
             for (n, text), reply in zip(rows, await self._core.run(texts)):
                 if not reply.startswith("ok"):
-                    raise Lost(f"{self.name}: line {n} of the log is answered {reply}: by another version of the program?")
+                    raise Strange(f"{self.name}: line {n} of its log is answered {reply}")
                 line = json.loads(text)
                 self._seats.note(n, line, reply)
                 self._count(text, line)

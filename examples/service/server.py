@@ -18,7 +18,7 @@ from feed import Feed
 from log import Elsewhere, Log, Lost, Span
 from log_postgres import PostgresLog
 from log_sqlite import SqliteLog
-from page import Ask, Change, Enter, Limits, Page, Show
+from page import Ask, Change, Enter, Limits, Page, Show, Strange
 from seats import CHANGES, READS, SITES, Line, Seats, digest, spelled
 
 MOST_MESSAGE = 9 << 20  # bytes; the longest line that the program takes has 8 MiB
@@ -314,6 +314,8 @@ async def faults(request: web.Request, handler: Handler) -> web.StreamResponse:
         raise web.HTTPServiceUnavailable(text=f"{fault}\n") from fault
     except ValueError as fault:
         raise web.HTTPBadRequest(text=f"{fault}\n") from fault
+    except Strange as fault:
+        raise web.HTTPInternalServerError(text=f"{fault}\n") from fault
 
 
 class Talk:
@@ -425,8 +427,12 @@ def main() -> None:
     words.add_argument("--absent", type=float, default=120, metavar="SECONDS", help="after which a site's holder loses it")
     given = words.parse_args()
     limits = Limits(given.cut, given.most, given.quiet, given.absent)
-    with contextlib.suppress(KeyboardInterrupt):
+    try:
         asyncio.run(Service(given.program, limits).run(given.listen, given.log, given.history))
+    except KeyboardInterrupt:
+        pass
+    except Lost as fault:
+        raise SystemExit(f"{given.log}: {fault}") from fault
 
 
 if __name__ == "__main__":

@@ -13,6 +13,7 @@ from typing import Any
 from aiohttp import ClientError, ClientSession, ClientWebSocketResponse, TCPConnector, WSMsgType
 
 from client import GOODBYE, MOST_PAUSE, PATIENCE, PAUSE, Cut, Message, Refused, Site
+from seats import SITES
 
 CUT = 0.003  # of a writer's messages, the connection is cut just after so many
 REST = 8.0  # seconds from one rest of a page's writers to the next
@@ -187,13 +188,64 @@ async def page(session: ClientSession, servers: list[str], name: str, writers: i
 
 async def wander(server: str, name: str) -> None:
     """Moves a caret to and fro, which is enough for the log to be cut."""
-    told = Told(name)
+    until = time.monotonic() + 20
     async with ClientSession() as session:
-        site = Writer(session, [server], told, random.Random(0))
-        for place in 1, 2:
-            for _ in range(20):
-                await site.do(do="select", anchor=place, focus=place)
+        site = Site(session, [server], name, secrets.token_urlsafe())
+        done = 0
+        while done < 40:
+            try:
+                await site.change(do="select", anchor=1, focus=1 + done % 2)
+                done += 1
+            except Cut:
+                pass
+            except Refused:
+                # The sites of who has left become free in a moment.
+                if time.monotonic() > until:
+                    raise
+                await asyncio.sleep(0.2)
         await site.leave()
+
+
+async def manners(server: str, name: str) -> list[str]:
+    """What a client can't do, on a page of its own; what went wrong."""
+    wrong = []
+
+    def sure(holds: bool, what: str) -> None:
+        if not holds:
+            wrong.append(f"{name}: {what}")
+
+    async with ClientSession() as session:
+        sites = [Site(session, [server], name, secrets.token_urlsafe()) for _ in range(SITES + 1)]
+        before = [await site.read(do="html") for site in sites[:SITES]]
+        try:
+            await sites[SITES].read(do="html")
+            sure(False, "a ninth writer has a site")
+        except Refused:
+            pass
+        one, two = sites[:2]
+        for do in "open", "serve", "paint":
+            try:
+                await one.change(do=do, page="<p>other</p>")
+                sure(False, f"a client has done {do}")
+            except Refused:
+                pass
+        first = await one.change(do="text", at=1, text="X", site=two.site, log={"leave": True})
+        sure(first["reply"].startswith("ok"), "a line with other members is refused")
+        sure(await two.read(do="html") == before[1], "a line has spoken for another's site")
+        one.n -= 1
+        await one.leave()
+        sure(await one.change(do="text", at=1, text="X") == first, "a line that is sent again is answered otherwise")
+        shown = await one.read(do="html")
+        sure(shown == before[0].replace(">", ">X", 1), "a line that was sent twice was done twice")
+        thief = Site(session, [server], name, secrets.token_urlsafe())
+        try:
+            await thief.change(do="text", at=1, text="X")
+            sure(False, "a site was given to another key")
+        except Refused:
+            pass
+        for site in sites:
+            await site.leave()
+    return wrong
 
 
 async def _run(servers: list[str], names: list[str], writers: int, until: float, seed: int) -> list[Told]:
