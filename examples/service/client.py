@@ -18,7 +18,7 @@ from collections.abc import Sequence
 from typing import Any
 from urllib.parse import quote
 
-from aiohttp import ClientError, ClientSession, ClientWebSocketResponse, WSMsgType
+from aiohttp import ClientError, ClientSession, ClientWebSocketResponse, WSMsgType, WSServerHandshakeError
 
 PAUSE = 0.05  # seconds before it tries another server, about; twice as many each time, up to
 MOST_PAUSE = 1.0
@@ -110,7 +110,9 @@ class Site:
                 self._socket = await asyncio.wait_for(self._session.ws_connect(
                     url, max_msg_size=0, timeout=GOODBYE), PATIENCE)
                 welcome = await self._ask({"key": self._key})
-            except (ClientError, OSError, asyncio.TimeoutError, Broken):
+            except (ClientError, OSError, asyncio.TimeoutError, Broken) as fault:
+                if isinstance(fault, WSServerHandshakeError) and fault.status == 404:
+                    raise Refused("no such page") from fault
                 await self._drop()
                 self.server = ""
                 await asyncio.sleep(pause * random.uniform(0.5, 1.5))

@@ -1,61 +1,35 @@
-"""For the check: a database and servers of its own, in a folder of its own. Nothing else is started, and nothing else is ended."""
+"""For the check: a file and servers of its own, in a folder of its own. Nothing else is started, and nothing else is ended."""
 from __future__ import annotations
 
-import os
-import shutil
+import contextlib
 import signal
 import socket
+import sqlite3
 import subprocess
 import sys
 import time
 import urllib.request
 from pathlib import Path
-
-import psycopg
+from typing import Any
 
 SERVER = Path(__file__).with_name("server.py")
 
 
-def postgres_programs() -> Path | None:
-    """The folder of `initdb` and `postgres`, which Debian keeps off the path."""
-    found = shutil.which("initdb")
-    folders = sorted(Path("/usr/lib/postgresql").glob("*/bin"), reverse=True)
-    folders += [Path(found).parent] if found else []
-    return next((folder for folder in folders if (folder / "initdb").exists() and (folder / "postgres").exists()), None)
+class Sqlite:
+    """A file."""
 
+    def __init__(self, folder: Path) -> None:
+        self.log = str(folder / "pages.sqlite")
 
-class Postgres:
-    """Listens on a socket in its folder alone. It refuses to run as root, and then runs as `postgres`."""
+    def rows(self, query: str) -> list[tuple[Any, ...]]:
+        with contextlib.closing(sqlite3.connect(self.log)) as file:
+            return file.execute(query).fetchall()
 
-    def __init__(self, programs: Path, folder: Path) -> None:
-        self._folder = folder / "postgres"
-        self._folder.mkdir()
-        self._user = "postgres" if os.getuid() == 0 else None
-        if self._user:
-            folder.chmod(0o755)
-            shutil.chown(self._folder, self._user, self._user)
-        data = self._folder / "data"
-        with open(folder / "postgres.log", "w") as log:
-            subprocess.run([programs / "initdb", "-D", data, "-A", "trust", "-U", "vemodel", "-E", "UTF8", "--no-locale"],
-                           stdout=log, stderr=log, check=True, user=self._user, group=self._user, cwd="/")
-            self._process = subprocess.Popen(
-                [programs / "postgres", "-D", data, "-k", self._folder, "-c", "listen_addresses=", "-c", "unix_socket_permissions=0700"],
-                stdout=log, stderr=log, user=self._user, group=self._user, cwd="/")
-        self.url = f"postgresql://vemodel@/postgres?host={self._folder}"
-        until = time.monotonic() + 30
-        while True:
-            try:
-                psycopg.connect(self.url).close()
-                return
-            except psycopg.OperationalError:
-                if time.monotonic() > until or self._process.poll() is not None:
-                    self.stop()
-                    raise SystemExit(f"service: no database: see {folder}/postgres.log") from None
-                time.sleep(0.1)
+    def size(self) -> int:
+        return Path(self.log).stat().st_size
 
     def stop(self) -> None:
-        self._process.send_signal(signal.SIGINT)
-        self._process.wait()
+        pass
 
 
 class Server:

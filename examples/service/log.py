@@ -49,6 +49,8 @@ Notice = Callable[[str, int], None]
 class Log(Protocol):
     """An engine. Every call may raise `Lost`."""
 
+    async def open(self) -> None: ...
+
     def sure(self) -> bool:
         """Whether what this server has taken is surely still its own."""
 
@@ -71,6 +73,9 @@ class Log(Protocol):
     async def read(self, page: str, number: int) -> list[tuple[int, str]]:
         """Some lines from this number on, with their numbers. Where the number is of lines that were deleted, those from
         the newest `open` on; empty where there are no more lines."""
+
+    def watch(self, pages: set[str]) -> None:
+        """Lines that other servers append to these pages are to be told of."""
 
     async def close(self) -> None: ...
 

@@ -88,7 +88,7 @@ class PostgresLog:
         self._beaten = 0.0
         self._changed: dict[str, int] = {}
         self._change = asyncio.Event()
-        self.watched: set[str] = set()  # pages of which `heard` is told
+        self._watched: set[str] = set()
 
     async def open(self) -> None:
         """Returns once there is a session; later ones are made as they are needed."""
@@ -143,9 +143,9 @@ class PostgresLog:
                 for number, pid, _, silent in servers:
                     if silent and number != session.me:
                         await session.writer.execute("SELECT pg_terminate_backend(%s)", (pid,))
-                if self.watched:
+                if self._watched:
                     rows = await session.reader.execute(
-                        "SELECT page, next FROM pages WHERE page = ANY(%s)", (list(self.watched),))
+                        "SELECT page, next FROM pages WHERE page = ANY(%s)", (list(self._watched),))
                     for page, number in await rows.fetchall():
                         self._heard(page, number)
             await asyncio.sleep(BEAT)
@@ -153,7 +153,7 @@ class PostgresLog:
     async def _listen(self, session: Session) -> None:
         async for notice in session.listener.notifies():
             number, page = notice.payload.split(" ", 1)
-            if page in self.watched:
+            if page in self._watched:
                 self._heard(page, int(number))
 
     async def _tell(self, session: Session) -> None:
@@ -256,6 +256,9 @@ class PostgresLog:
             rows = await session.reader.execute(
                 "SELECT number, line FROM lines WHERE page = %s AND number >= %s ORDER BY number LIMIT %s", (page, number, SOME))
             return [(row[0], row[1]) for row in await rows.fetchall()]
+
+    def watch(self, pages: set[str]) -> None:
+        self._watched = pages
 
     async def close(self) -> None:
         await self._commits.close()

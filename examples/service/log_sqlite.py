@@ -102,6 +102,9 @@ class SqliteLog:
             ).fetchall()
         return await self._do(call)
 
+    def watch(self, pages: set[str]) -> None:
+        """There are no other servers."""
+
     async def close(self) -> None:
         if self._commits is not None:
             await self._commits.close()

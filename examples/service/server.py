@@ -16,7 +16,6 @@ from aiohttp import ClientError, ClientSession, ClientWebSocketResponse, WSMsgTy
 from core import PROGRAM, Core, Ended
 from feed import Feed
 from log import Elsewhere, Log, Lost, Span
-from log_postgres import PostgresLog
 from log_sqlite import SqliteLog
 from page import Ask, Change, Enter, Limits, Page, Show, Strange
 from seats import CHANGES, READS, SITES, Line, Seats, digest, spelled
@@ -91,8 +90,7 @@ class Service:
         self._watch()
 
     def _watch(self) -> None:
-        if isinstance(self._log, PostgresLog):
-            self._log.watched = {name for name in self._feeds if name not in self._pages}
+        self._log.watch(self._feeds.keys() - self._pages.keys())
 
     def _heard(self, name: str, number: int) -> None:
         if name in self._feeds:
@@ -271,17 +269,19 @@ class Service:
 
     # The server
 
+    def _engine(self, log: str, history: bool) -> Log:
+        if not log.startswith(("postgresql:", "postgres:")):
+            return SqliteLog(Path(log), history)
+        from log_postgres import PostgresLog  # which needs a package that SQLite doesn't
+        return PostgresLog(log, self._address, history, self._heard, self._lost)
+
     async def run(self, address: str, log: str, history: bool) -> None:
         async with contextlib.AsyncExitStack() as stack:
             self._address = address
             asyncio.get_running_loop().set_exception_handler(unless_broken)
-            if log.startswith(("postgresql:", "postgres:")):
-                opened: PostgresLog | SqliteLog = PostgresLog(log, address, history, self._heard, self._lost)
-            else:
-                opened = SqliteLog(Path(log), history)
-            await opened.open()
-            self._log = opened
-            stack.push_async_callback(opened.close)
+            self._log = self._engine(log, history)
+            await self._log.open()
+            stack.push_async_callback(self._log.close)
             self._peers = await stack.enter_async_context(ClientSession())
             app = web.Application(client_max_size=MOST_MESSAGE, middlewares=[faults])
             app.add_routes([
