@@ -103,7 +103,10 @@ class Trial:
             until = time.monotonic() + seconds
             parts = [pool.submit(writers.run, addresses, self._names[n::workers], each, until, seed) for n in range(workers)]
             self._trouble(until, parts)
-            return [told for part in parts for told in part.result()]
+            try:
+                return [told for part in parts for told in part.result()]
+            except TimeoutError as fault:
+                raise Wrong("the writers don't come to an end") from fault
 
     def _trouble(self, until: float, parts: list[Future[list[writers.Told]]]) -> None:
         while time.monotonic() + KILL < until and not any(part.done() for part in parts):

@@ -23,7 +23,7 @@ from aiohttp import ClientError, ClientSession, ClientWebSocketResponse, WSMsgTy
 PAUSE = 0.05  # seconds before it tries another server, about; twice as many each time, up to
 MOST_PAUSE = 1.0
 GOODBYE = 0.1  # seconds for the server's side of an ending
-PATIENCE = 20.0  # seconds for an answer; a page whose server is gone is another's before that
+PATIENCE = 30.0  # seconds for an answer; a page whose server is gone is another's before that
 
 Message = dict[str, Any]
 

@@ -23,10 +23,12 @@ from __future__ import annotations
 import asyncio
 import contextlib
 import hashlib
+import os
+import socket
 import sys
-from collections.abc import AsyncIterator, Callable
-from dataclasses import dataclass
-from typing import Any
+from collections.abc import AsyncIterator, Callable, Coroutine
+from dataclasses import dataclass, field
+from typing import Any, TypeVar
 
 import psycopg
 
@@ -68,6 +70,7 @@ SELECT page FROM fence
 """
 
 Connection = psycopg.AsyncConnection[tuple[Any, ...]]
+T = TypeVar("T")
 
 
 @dataclass(frozen=True)
@@ -77,6 +80,7 @@ class Session:
     reader: Connection
     listener: Connection
     me: int
+    tasks: set[asyncio.Task[Any]] = field(default_factory=set)
 
 
 class PostgresLog:
@@ -111,7 +115,6 @@ class PostgresLog:
             except* Exception as faults:
                 print(f"no session of the database any more: {faults.exceptions[0]!r}", file=sys.stderr, flush=True)
             finally:
-                self._session = None
                 self._lost()
             await asyncio.sleep(0.2)
 
@@ -131,7 +134,16 @@ class PostgresLog:
             await writer.execute("SELECT pg_advisory_lock(%s::int, %s::int)", (LOCKS, row[0]))
             await reader.execute("SET synchronous_commit = off")  # it writes nothing, and notifies
             await listener.execute("LISTEN lines")
-            yield Session(writer, reader, listener, row[0])
+            session = Session(writer, reader, listener, row[0])
+            try:
+                yield session
+            finally:
+                # Who waits for an answer on a connection that is closed waits for ever, so first it gets the end of it.
+                self._session = None
+                for connection in made:
+                    hang_up(connection)
+                if session.tasks:
+                    await asyncio.wait(session.tasks)
 
     async def _beat(self, session: Session) -> None:
         """Shows that this server lives, ends sessions of those that have been silent, and looks for missed notices."""
@@ -170,31 +182,37 @@ class PostgresLog:
     def sure(self) -> bool:
         return self._session is not None and asyncio.get_running_loop().time() - self._beaten < SURE
 
-    @contextlib.asynccontextmanager
-    async def _use(self) -> AsyncIterator[Session]:
-        if self._session is None:
+    async def _do(self, work: Callable[[Session], Coroutine[Any, Any, T]]) -> T:
+        """Does it to its end, even where who wanted it has gone: a connection that is left amid an answer is of no use."""
+        session = self._session
+        if session is None:
             raise Lost("no database")
+        task = asyncio.create_task(work(session))
+        session.tasks.add(task)
+        task.add_done_callback(session.tasks.discard)
         try:
-            yield self._session
+            return await asyncio.shield(task)
         except (psycopg.Error, OSError) as fault:
             raise Lost(str(fault)) from fault
 
     # Pages
 
     async def create(self, page: str, line: str) -> bool:
-        async with self._use() as session:
+        async def work(session: Session) -> bool:
             made = await session.writer.execute(
                 "WITH made AS (INSERT INTO pages VALUES (%(page)s, 0, 1) ON CONFLICT DO NOTHING RETURNING page) "
                 "INSERT INTO lines SELECT page, 0, %(line)s FROM made", {"page": page, "line": line})
             return made.rowcount == 1
+        return await self._do(work)
 
     async def span(self, page: str) -> Span | None:
-        async with self._use() as session:
+        async def work(session: Session) -> Span | None:
             row = await (await session.reader.execute("SELECT first, next FROM pages WHERE page = %s", (page,))).fetchone()
             return Span(*row) if row else None
+        return await self._do(work)
 
     async def take(self, page: str, here: bool) -> Span | None:
-        async with self._use() as session:
+        async def work(session: Session) -> Span | None:
             while True:
                 row = await (await session.writer.execute("SELECT owner FROM pages WHERE page = %s", (page,))).fetchone()
                 if row is None:
@@ -214,16 +232,18 @@ class PostgresLog:
                     (session.me, page, owner))).fetchone()
                 if taken is not None:
                     return Span(*taken)
+        return await self._do(work)
 
     async def release(self, page: str) -> None:
-        async with self._use() as session:
+        async def work(session: Session) -> None:
             await session.writer.execute("UPDATE pages SET owner = 0 WHERE page = %s AND owner = %s", (page, session.me))
+        await self._do(work)
 
     async def append(self, batch: Batch) -> None:
         await self._commits.append(batch)
 
     async def _commit(self, batches: list[Batch]) -> set[str]:
-        async with self._use() as session:
+        async def work(session: Session) -> set[str]:
             rows = [(b.page, b.number + n, line) for b in batches for n, line in enumerate(b.lines)]
             kept = await (await session.writer.execute(APPEND, {
                 "me": session.me,
@@ -235,27 +255,31 @@ class PostgresLog:
                 "at": [row[1] for row in rows],
                 "lines": [row[2] for row in rows],
             })).fetchall()
-            pages = {row[0] for row in kept}
+            return {row[0] for row in kept}
+        pages = await self._do(work)
         for b in batches:
             if b.page in pages:
                 self._changed[b.page] = b.number + len(b.lines)
         self._change.set()
         if not self._history:
-            await self._forget([b for b in batches if b.first >= b.number and b.page in pages])
+            for b in batches:
+                if b.first >= b.number and b.page in pages:
+                    await self._forget(b)
         return pages
 
-    async def _forget(self, cut: list[Batch]) -> None:
+    async def _forget(self, cut: Batch) -> None:
         """Deletes what stood before an `open`. Where this fails, the page's next cut does it."""
+        async def work(session: Session) -> None:
+            await session.writer.execute("DELETE FROM lines WHERE page = %s AND number < %s", (cut.page, cut.first))
         with contextlib.suppress(Lost):
-            for b in cut:
-                async with self._use() as session:
-                    await session.writer.execute("DELETE FROM lines WHERE page = %s AND number < %s", (b.page, b.first))
+            await self._do(work)
 
     async def read(self, page: str, number: int) -> list[tuple[int, str]]:
-        async with self._use() as session:
+        async def work(session: Session) -> list[tuple[int, str]]:
             rows = await session.reader.execute(
                 "SELECT number, line FROM lines WHERE page = %s AND number >= %s ORDER BY number LIMIT %s", (page, number, SOME))
             return [(row[0], row[1]) for row in await rows.fetchall()]
+        return await self._do(work)
 
     def watch(self, pages: set[str]) -> None:
         self._watched = pages
@@ -265,3 +289,10 @@ class PostgresLog:
         self._life.cancel()
         with contextlib.suppress(asyncio.CancelledError):
             await self._life
+
+
+def hang_up(connection: Connection) -> None:
+    """Ends a connection's socket, so that whoever waits for its answer is told."""
+    with contextlib.suppress(psycopg.Error, OSError):
+        with socket.socket(fileno=os.dup(connection.fileno())) as line:
+            line.shutdown(socket.SHUT_RDWR)

@@ -139,6 +139,7 @@ class Page:
 
     def give_up(self) -> None:
         """What wasn't answered is for the next one who runs the log."""
+        self._over = True
         self._task.cancel()
 
     async def close(self) -> None:
@@ -156,7 +157,8 @@ class Page:
                 if not self._requests:
                     self._wake.clear()
                     with contextlib.suppress(TimeoutError):
-                        await asyncio.wait_for(self._wake.wait(), PAUSE)
+                        async with asyncio.timeout(PAUSE):
+                            await self._wake.wait()
                 if loop.time() - tidied >= PAUSE or self._bytes >= self._limits.most_bytes:
                     await self._tidy()
                     tidied = loop.time()

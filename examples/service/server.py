@@ -21,8 +21,8 @@ from page import Ask, Change, Enter, Limits, Page, Show, Strange
 from seats import CHANGES, READS, SITES, Line, Seats, digest, spelled
 
 MOST_MESSAGE = 9 << 20  # bytes; the longest line that the program takes has 8 MiB
-PATIENCE = 15.0  # seconds for which a page's server is looked for
-ANSWER = 3.0  # seconds that another server has for beginning to talk
+PATIENCE = 20.0  # seconds for which a page's server is looked for
+ANSWER = 6.0  # seconds that another server has for beginning to talk
 GOODBYE = 0.1  # seconds that it has for ending a talk
 IDLE = 60.0  # seconds after which a page that nobody wants is left to any server
 HOP = "X-Vemodel-Hop"  # a request that another server handed on: it isn't handed on again
@@ -202,7 +202,7 @@ class Service:
         name, span = await self._named(request)
         number = number_of(request.query.get("from"), span.first)
         socket = web.WebSocketResponse(heartbeat=20, timeout=GOODBYE)
-        await socket.prepare(request)
+        await begin(socket, request)
         async with self._following(name, span, number, socket):
             async for _ in socket:
                 pass
@@ -223,7 +223,7 @@ class Service:
         socket = web.WebSocketResponse(heartbeat=20, timeout=GOODBYE, max_msg_size=MOST_MESSAGE)
 
         async def here(page: Page) -> web.WebSocketResponse:
-            await socket.prepare(request)
+            await begin(socket, request)
             try:
                 await self._hear(page, socket)
             except (Lost, ConnectionError):
@@ -236,7 +236,7 @@ class Service:
             peer = await asyncio.wait_for(self._peers.ws_connect(
                 f"http://{address}{request.path_qs}", headers={HOP: "1"}, max_msg_size=0, timeout=GOODBYE), ANSWER)
             try:
-                await socket.prepare(request)
+                await begin(socket, request)
                 await hand_on(socket, peer)
             finally:
                 await peer.close()
@@ -387,6 +387,12 @@ async def message(socket: web.WebSocketResponse) -> Line | None:
     except (ValueError, RecursionError):
         return None
     return said if isinstance(said, dict) else None
+
+
+async def begin(socket: web.WebSocketResponse, request: web.Request) -> None:
+    if request.transport is None:
+        raise web.HTTPServiceUnavailable(text="who asked has gone\n")
+    await socket.prepare(request)
 
 
 async def send_lines(feed: Feed, number: int, socket: web.WebSocketResponse) -> None:

@@ -17,6 +17,7 @@ from seats import SITES
 
 CUT = 0.003  # of a writer's messages, the connection is cut just after so many
 REST = 8.0  # seconds from one rest of a page's writers to the next
+STUCK = 180.0  # seconds after which writers that don't come to an end aren't waited for
 QUIET = 1.5  # seconds that a rest takes
 
 
@@ -249,7 +250,7 @@ async def manners(server: str, name: str) -> list[str]:
 
 
 async def _run(servers: list[str], names: list[str], writers: int, until: float, seed: int) -> list[Told]:
-    async with ClientSession(connector=TCPConnector(limit=0)) as session:
+    async with ClientSession(connector=TCPConnector(limit=0)) as session, asyncio.timeout(until - time.monotonic() + STUCK):
         return list(await asyncio.gather(*(page(session, servers, name, writers, until, seed) for name in names)))
 
 
