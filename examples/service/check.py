@@ -5,6 +5,7 @@ from __future__ import annotations
 import argparse
 import asyncio
 import json
+import os
 import random
 import shutil
 import signal
@@ -237,7 +238,7 @@ def report(it: Trial, given: argparse.Namespace, tolds: list[writers.Told], log:
           f"{len(it.kills)} kills, {it.pauses} pause(s), {sum(told.cuts for told in tolds)} cut connections, "
           f"{opens - given.pages} cut logs")
     print(f"service: {it.engine}: {count / given.seconds:.0f} lines a second; {text / count:.0f} bytes a line, "
-          f"{size / count:.0f} on the disk")
+          f"{size / count:.0f} on the disk; {os.cpu_count()} processors, load {os.getloadavg()[0]:.0f}")
     if times:
         print(f"service: {it.engine}: after a kill a page's next line was answered in {statistics.median(times):.2f} s "
               f"(median of {len(times)}), {max(times):.2f} s at most"
