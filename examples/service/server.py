@@ -36,6 +36,7 @@ class Service:
         self._program, self._limits = program, limits
         self._pages: dict[str, Page] = {}
         self._feeds: dict[str, Feed] = {}
+        self._homes: dict[str, str] = {}  # where pages of others were when somebody last asked
         self._doors: WeakValueDictionary[str, asyncio.Lock] = WeakValueDictionary()
         self._address: str
         self._log: Log
@@ -47,10 +48,18 @@ class Service:
         """The page, which this server is the one to write. Raises `Elsewhere` where it isn't."""
         if name in self._pages:
             return self._pages[name]
+        if name in self._homes and not here:
+            raise Elsewhere(self._homes[name])
         async with self._door(name):
             if name in self._pages:
                 return self._pages[name]
-            span = await self._log.take(name, here)
+            if name in self._homes and not here:
+                raise Elsewhere(self._homes[name])
+            try:
+                span = await self._log.take(name, here)
+            except Elsewhere as other:
+                self._homes[name] = other.address
+                raise
             if span is None:
                 raise web.HTTPNotFound(text="no such page\n")
             page = Page(name, self._log, self._feed(name, span), self._program, self._limits, self._gone)
@@ -102,9 +111,10 @@ class Service:
             page.give_up()
 
     async def _sweep(self) -> None:
-        """Leaves pages that nobody wants."""
+        """Leaves pages that nobody wants, and forgets where others are."""
         while True:
             await asyncio.sleep(IDLE / 4)
+            self._homes.clear()
             for page in [page for page in self._pages.values() if page.idle() >= IDLE]:
                 async with self._door(page.name):
                     await page.close()
@@ -127,6 +137,8 @@ class Service:
                     raise web.HTTPServiceUnavailable(text="moved\n")
                 with contextlib.suppress(ClientError, OSError, asyncio.TimeoutError):
                     return await there(other.address)
+                if self._homes.get(name) == other.address:
+                    del self._homes[name]
             except Lost as fault:
                 if handed:
                     raise web.HTTPServiceUnavailable(text=f"{fault}\n") from fault
