@@ -1,2 +1,6 @@
-mod EditExamples
+mod AppliedLemmas
 mod CaretExamples
+mod CellExamples
+mod EditExamples
+mod ChangeExamples
+mod RepairExamples

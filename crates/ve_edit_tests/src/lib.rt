@@ -1,27 +1,15 @@
-//! The tests of the crates that make edits, which are proved once as they stand here: a crate with tests would be proved
-//! twice. Nothing else stands in this crate, and none stands on it. Each module has the tests of one subject, `shapes` of
-//! the plans of model_edit; `pages` is what they share.
+//! The tests of values, changes, pages and edits that the stored run of `vemodel` doesn't show: `store` of ve_store, `changes` of ve_tx,
+//! `repairs` of ve_repair, `fresh` of ve_write and `plans` of model_edit. They are proved once as they stand here. There are no other functions and no laws
+//! here, and nothing stands on it.
 #![tactic(auto)]
 
 #[cfg(test)]
-mod edits;
+mod changes;
 #[cfg(test)]
-mod grid;
+mod fresh;
 #[cfg(test)]
-mod insert;
+mod plans;
 #[cfg(test)]
-mod lists;
+mod repairs;
 #[cfg(test)]
-mod pages;
-#[cfg(test)]
-mod remove;
-#[cfg(test)]
-mod select;
-#[cfg(test)]
-mod shape;
-#[cfg(test)]
-mod shapes;
-#[cfg(test)]
-mod tables;
-#[cfg(test)]
-mod wrap;
+mod store;

@@ -1,5 +1,7 @@
 pub mod Run
 pub mod Status
+pub mod Asked
+pub mod Soak
 pub mod Ended
 pub use Rattle.model_script.specs.Lines
 pub use Rattle.model_script.specs.Output

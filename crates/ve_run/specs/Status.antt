@@ -5,10 +5,6 @@ use Rattle.ve_run.specs.declared.stop.Stop.TheVariants as stop
 use Rattle.ve_run.specs.declared.status.Status.{Status}
 use Rattle.ve_run.specs.declared.status.Status.TheVariants.{Done, Usage, ReadFault, WriteFault, InputTooLong, Memory, Help}
 
--- the words are the one word `run`
-abbrev pub IsRun : List (List ℕ) → Type 0
-IsRun words = words ≡ codes "run" ∷ []
-
 abbrev pub usage_line : List ℕ
 usage_line = codes "usage: vemodel run | make | soak [--start N] [--edits N]\n"
 

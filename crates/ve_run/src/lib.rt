@@ -14,9 +14,12 @@
 mod answer;
 mod feed;
 mod machine;
+mod make;
 mod script;
+mod soak;
 mod status;
 mod stop;
+mod tally;
 mod top;
 
 pub use machine::Machine;

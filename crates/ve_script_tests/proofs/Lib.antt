@@ -1,3 +1,1 @@
-mod SoundLemmas
-mod WrittenLemmas
 mod MemberExamples

@@ -4,11 +4,12 @@ use Rattle.std.proofs.Common.{◌≡◌, true, false, List, [], ◌∷◌, lengt
 use Rattle.std.specs.Prelude.{codes, nat_le}
 use Rattle.ve_base.specs.Limits.{max_marks}
 use Rattle.ve_base.specs.declared.marks.Mark.{Mark}
-use Rattle.ve_kinds.specs.declared.kind.Kind.TheVariants.{AlienBlock, AlienInline}
+use Rattle.ve_kinds.specs.declared.kind.Kind.TheVariants.{AlienBlock, AlienInline, TransBlock}
 use Rattle.model_world.specs.declared.change.Change.{Change}
 use Rattle.model_world.specs.declared.change.Change.TheVariants.{Split}
 use Rattle.model_world.specs.Commands.{is_batch}
 use Rattle.model_world.specs.ItemWords.{may_open}
+use Rattle.model_world.specs.Names.{kind_name}
 
 abbrev bold : Mark
 bold = record { tag = codes "b"; attrs = [] }
@@ -33,3 +34,7 @@ a_batch_of_one_more_is_none = refl
 
 a_batch_holds_a_thousand : is_batch (replicate 1000 (Split 1 1)) ≡ true
 a_batch_holds_a_thousand = refl
+
+-- a kind under the name of another
+kinds_have_names_of_their_own : kind_name TransBlock ≡ codes "trans_block"
+kinds_have_names_of_their_own = refl

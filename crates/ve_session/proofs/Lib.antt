@@ -12,4 +12,6 @@ pub mod NumberedLemmas
 pub mod PageLemmas
 pub mod HtmlLemmas
 pub mod ToldLemmas
+pub mod PlainLemmas
+pub mod ProgramLemmas
 pub mod SessionExamples

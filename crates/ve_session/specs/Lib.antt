@@ -7,3 +7,4 @@ pub mod Turning
 pub mod Cost
 pub mod Stopped
 pub mod Laws
+pub mod Program

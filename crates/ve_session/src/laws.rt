@@ -1,5 +1,5 @@
-// What a world replies. The function does nothing, and its contract is the law.
-ghost use Rattle.ve_session.specs.Laws.{UneditedIsTold};
+// What a world replies. Each function does nothing, and its contract is the law.
+ghost use Rattle.ve_session.specs.Laws.{LeadsAsDefined, UneditedIsTold, WritesAsDefined};
 
 use model_line_law::pages_of_lines_stand;
 
@@ -9,3 +9,11 @@ pub fn unedited_page_is_told()
 {
     pages_of_lines_stand();
 }
+
+/// What a world writes for a script, as a machine, is what the definitions write for it from the same world, and the world
+/// after it is theirs.
+#[tactic(auto, using(crate::proofs::PlainLemmas::writes_as_defined, crate::proofs::PlainLemmas::leads_as_defined))]
+pub fn world_answers_as_defined()
+    ensures writes { WritesAsDefined }
+    ensures leads { LeadsAsDefined }
+{}

@@ -10,6 +10,8 @@
 //! - `Cost`: how many steps a line takes at most, and the `meaning` of a world as a machine;
 //! - `Stopped`: how a refusal of the crates below is told;
 //! - `Laws`: `html` of a list that is as it was opened gives the page back ([`unedited_page_is_told`]); so it is answered without a walk.
+//!   And a world answers a script as the plain machine of the definitions does ([`world_answers_as_defined`]);
+//! - `Program`: what a run of a new world does, in the words of the definitions ([`run_program`]).
 #![tactic(auto)]
 
 mod batches;
@@ -18,6 +20,7 @@ mod faults;
 mod history;
 mod laws;
 mod page;
+mod program;
 mod queues;
 mod selections;
 mod shown;
@@ -25,7 +28,8 @@ mod turn;
 mod typing;
 mod world;
 
-pub use laws::unedited_page_is_told;
+pub use laws::{unedited_page_is_told, world_answers_as_defined};
+pub use program::run_program;
 pub use ve_json::{Answer, Refusal};
 pub use ve_run::{Machine, Status, run};
 pub use world::World;

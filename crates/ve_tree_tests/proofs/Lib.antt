@@ -1,1 +1,4 @@
-mod PageLemmas
+mod ItemExamples
+mod OffsetExamples
+mod StoreExamples
+mod TreeExamples

@@ -1,6 +1,6 @@
-//! The tests of items and tree: of the crates from ve_lengths to ve_offsets, a module for each. A crate with tests is proved
-//! twice, so they stand here, where they are proved once as they stand. There are no other functions and no laws here, and
-//! nothing stands on it.
+//! The tests of items and tree that the stored run of `vemodel` doesn't show: of ve_items and ve_arena, and of the pages in one line of
+//! ve_samples, a module for each. They are proved once as they stand here. There are no other functions and no laws
+//! here, and nothing stands on it.
 #![tactic(auto)]
 
 #[cfg(test)]
@@ -8,14 +8,4 @@ mod arena;
 #[cfg(test)]
 mod items;
 #[cfg(test)]
-mod lawful;
-#[cfg(test)]
-mod lengths;
-#[cfg(test)]
-mod offsets;
-#[cfg(test)]
 mod samples;
-#[cfg(test)]
-mod store;
-#[cfg(test)]
-mod tree;

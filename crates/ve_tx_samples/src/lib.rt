@@ -1,6 +1,5 @@
 //! Transactions for tests, each written in one line: `transaction(alloc, "1 -ab+c 3")` passes one item, puts the letter `c` in
-//! place of `a` and `b`, and passes three. For tests alone: no crate's other code calls it. The tests of ve_tx stand here, so
-//! that ve_tx is proved once.
+//! place of `a` and `b`, and passes three. For tests alone: no crate's other code calls it.
 //!
 //! The words of a line are its operations, with spaces between them:
 //! - a number is a retain, and what is no number retains nothing;
@@ -14,13 +13,9 @@
 //! line of a page, with the attributes of its elements, as `<p id="x">ab</p>`.
 #![tactic(auto)]
 
-#[cfg(test)]
-mod entry_tests;
 mod fault;
 mod line;
 mod pages;
-#[cfg(test)]
-mod tests;
 
 pub use fault::LineFault;
 pub use line::{ops, spells, transaction};

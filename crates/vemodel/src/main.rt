@@ -1,6 +1,6 @@
 //! The program: a script from standard input, its replies to standard output.
 //!
-//! It hands `run` a world without a page, and ends with the status's number. Standard input and output are adapted
+//! It calls `run_program` on the words, standard input and standard output, and ends with the status's number. Standard input and output are adapted
 //! here (`adapters`) in a few lines: each error raises a count, so `run`'s clauses on faults hold of them. What a
 //! terminal or a pipe gave or got is known to no clause, and a stored run of the program shows it. Nothing else may
 //! touch the outside.
@@ -19,7 +19,7 @@ use std::marker::Brand;
 use std::process::ExitCode;
 use std::sync::ledger::{Blank, Ledger};
 use ve_base::{Memory, Steps, Text};
-use ve_session::{Status, World, run};
+use ve_session::{Status, run_program};
 
 /// The words after the program's name. Where one of them isn't UTF-8, none is understood, and there are none.
 fn words(rt: &HostRuntime) -> Result<Vec<Text>, Memory> {
@@ -36,7 +36,7 @@ fn words(rt: &HostRuntime) -> Result<Vec<Text>, Memory> {
     Ok(words)
 }
 
-/// Runs a world that has no page on standard input and output.
+/// Runs the program on standard input and output.
 fn run_all<L: Ledger>(rt: &HostRuntime, blank: Blank) -> Status
     requires name { blank.name ≡ L.name }
     requires parts { blank.parts ≡ L.parts }
@@ -49,13 +49,11 @@ fn run_all<L: Ledger>(rt: &HostRuntime, blank: Blank) -> Status
     let mut steps: Steps<L> = Steps::start(rt, blank);
     let mut source = ReadSource::new(rt.stdin());
     let mut sink = WriteSink::new(rt.stdout());
-    let mut world = World::new(alloc);
-    run(
+    run_program(
         alloc,
         words.as_slice(),
         &mut source,
         &mut sink,
-        &mut world,
         &mut steps,
     )
 }

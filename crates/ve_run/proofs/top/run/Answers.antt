@@ -1,69 +1,172 @@
-use Rattle.std.proofs.Common.{◌≡◌, inl, inr, ◌<◌, ◌++◌, ◌∷◌, [], ℕ, List, Option, None, Some, arith, refl, ap, subst, length, length-append}
-use Rattle.std.specs.Option.{IfSome}
-use Rattle.ve_run.specs.declared.stop.Stop.{Stop}
-use Rattle.ve_run.specs.declared.stop.Stop.TheVariants.{Memory, ReadFault, WriteFault, InputTooLong}
-use Rattle.model_script.specs.Output.{Meaning}
-use Rattle.model_world.specs.declared.reply.Reply.{Reply}
-use Rattle.ve_base.specs.Limits.{max_script}
-use Rattle.ve_run.specs.Run.{Scene, Took, Stopped, Broke, Starved, WrotePrefix}
-use Rattle.ve_run.specs.declared.status.Status.{Status}
-use Rattle.ve_run.specs.Ended.{EndsByLength}
-use Rattle.ve_run.specs.Status.{status_of}
-use Rattle.ve_run.proofs.Runs.{AppendsPrefix-answered, AppendsPrefix-broke_off, AppendsPrefix-gave_up}
+use Rattle.std.proofs.Common.{◌≡◌, inl, inr, refl, ap, ◌∙◌}
+use Rattle.ve_words.specs.Words.{Asks, Refused, HelpWanted}
+use Rattle.ve_words.specs.declared.read.Mode.TheVariants.{Run, Make, Soak}
+use Rattle.ve_gen.specs.Generated.{script, script_lines}
+use Rattle.ve_run.specs.declared.status.Status.TheVariants as status
+use Rattle.ve_run.specs.Ended.{moment}
+use Rattle.ve_run.specs.Run.{scene}
+use Rattle.ve_run.specs.Soak.{soak_text}
+use Rattle.ve_run.specs.Status.{usage_line}
+use Rattle.ve_run.proofs.Ends.{means, ended_as, ends_by, make_runs_not, soak_runs_not, refused_runs_not, help_runs_not, text_completes, unread_words, nothing_written, memory_ends_by_length, memory_ends_by_words}
 use Rattle.ve_run.proofs.top.run.Goals as goal
 
--- whatever stopped it
-by_cause : (P : Type 0) (s : Stop) → (s ≡ Memory → P) → (s ≡ ReadFault → P) → (s ≡ WriteFault → P) → (s ≡ InputTooLong → P) → P
-by_cause P Memory m r w l = m refl
-by_cause P ReadFault m r w l = r refl
-by_cause P WriteFault m r w l = w refl
-by_cause P InputTooLong m r w l = l refl
+pub returns-in-Err-Memory-clause-ended : goal.returns-in-Err-Memory-clause-ended
+returns-in-Err-Memory-clause-ended g c =
+    unread_words g.M.Machine.meaning c.args.words.now (moment (scene c.args.world.now c.args.steps.now (g.K.Sink.held c.args.sink.now)) (g.S.Source.left c.args.source.now) (g.S.Source.faults c.args.source.now) (g.K.Sink.faults c.args.sink.now))
 
-prefix_at_stop : {W : Type 0} (m : Meaning W Reply) (left_before left : Option (List ℕ)) (a b : Scene W) (extra : List ℕ) → Stopped m left_before left a b extra → WrotePrefix m left_before left a b
-prefix_at_stop m left_before left a b extra h = record { script = h.script; extra = extra; took = h.took; written = AppendsPrefix-answered m a b h.script h.rest h.answered }
+pub returns-in-Err-Memory-clause-prefix : goal.returns-in-Err-Memory-clause-prefix
+returns-in-Err-Memory-clause-prefix g c _ =
+    nothing_written g.M.Machine.meaning (g.S.Source.left c.args.source.now) (scene c.args.world.now c.args.steps.now (g.K.Sink.held c.args.sink.now))
 
-prefix_at_fault : {W : Type 0} (m : Meaning W Reply) (left_before left : Option (List ℕ)) (a b : Scene W) → Broke m left_before left a b → WrotePrefix m left_before left a b
-prefix_at_fault m left_before left a b h = record { script = h.script; extra = h.extra; took = h.took; written = AppendsPrefix-broke_off m a b h.script _ h.broke_off }
+pub returns-in-Err-Memory-clause-complete : goal.returns-in-Err-Memory-clause-complete
+returns-in-Err-Memory-clause-complete g c _ _ =
+    memory_ends_by_length (g.S.Source.left c.args.source.now)
 
-prefix_at_want : {W : Type 0} (m : Meaning W Reply) (left_before left : Option (List ℕ)) (a b : Scene W) → Starved m left_before left a b → WrotePrefix m left_before left a b
-prefix_at_want m left_before left a b h = record { script = h.script; extra = h.extra; took = h.took; written = AppendsPrefix-gave_up m a b h.script h.gave_up }
+pub returns-in-Err-Memory-clause-complete_else : goal.returns-in-Err-Memory-clause-complete_else
+returns-in-Err-Memory-clause-complete_else g c _ _ =
+    memory_ends_by_words c.args.words.now
 
-pub returns-in-Err-run_script-clause-prefix : goal.returns-in-Err-run_script-clause-prefix
-returns-in-Err-run_script-clause-prefix g c _ =
-    by_cause _ c.in-Err-run_script.stop
-    (λ e. prefix_at_want _ _ _ _ _ (c.run_script.ensures.starved (cc (e, c.in-Err-run_script.is))))
-    (λ e. prefix_at_stop _ _ _ _ _ [] (c.run_script.ensures.read_fault (cc (e, c.in-Err-run_script.is))))
-    (λ e. prefix_at_fault _ _ _ _ _ (c.run_script.ensures.write_fault (cc (e, c.in-Err-run_script.is))))
-    (λ e. let (x, stopped) = c.run_script.ensures.too_long (cc (e, c.in-Err-run_script.is)) in prefix_at_stop _ _ _ _ _ (x ∷ []) stopped)
+pub write_usage-requires : goal.write_usage-requires
+write_usage-requires g c =
+    inl refl
 
--- a byte past the limit was taken only where more than the limit were left
-took_past : (s : List ℕ) (c : Option (List ℕ)) (script : List ℕ) (x : ℕ) → Took (Some s) c script (x ∷ []) → max_script < length s
-took_past s None script x h = absurd h.consumed
-took_past s (Some ys) script x h =
-    elim h.beyond [
-      | inl none ↦ cc none
-      | inr past ↦ omega (arith, past.0, ap length h.consumed, length-append (script ++ x ∷ []) ys, length-append script (x ∷ []))
-    ]
+pub returns-in-Err-Usage-clause-headline : goal.returns-in-Err-Usage-clause-headline
+returns-in-Err-Usage-clause-headline g c is =
+    let e = means c.args.words.now Refused (c.asked.ensures.usage (cc)) in
+    absurd (refused_runs_not c.args.words.now e is)
 
--- what is known of an option holds of its value
-if_known : (a : Option (List ℕ)) (P : List ℕ → Type 0) → ((s : List ℕ) → a ≡ Some s → P s) → IfSome a P
-if_known None P f = tt
-if_known (Some s) P f = f s refl
+pub returns-in-Err-Usage-clause-prefix : goal.returns-in-Err-Usage-clause-prefix
+returns-in-Err-Usage-clause-prefix g c is =
+    let e = means c.args.words.now Refused (c.asked.ensures.usage (cc)) in
+    absurd (refused_runs_not c.args.words.now e is)
 
--- where nothing failed, only a script that is too long or want of memory stops a run
-ends_by_length : {W : Type 0} (m : Meaning W Reply) (left_before left : Option (List ℕ)) (a b : Scene W) (script : List ℕ) (status : Status) (stop : Stop) → status ≡ status_of stop → left_before ≡ Some script
-    → (stop ≡ ReadFault → ⊥) → (stop ≡ WriteFault → ⊥) → (stop ≡ InputTooLong → (x : ℕ) × Stopped m left_before left a b (x ∷ [])) → EndsByLength script status
-ends_by_length m left_before left a b script status Memory e known reads writes past = record { whole = λ _. inr e; too_long = λ _. inr e }
-ends_by_length m left_before left a b script status ReadFault e known reads writes past = absurd (reads refl)
-ends_by_length m left_before left a b script status WriteFault e known reads writes past = absurd (writes refl)
-ends_by_length m left_before left a b script status InputTooLong e known reads writes past =
-    let (x, stopped) = past refl in
-    let beyond = took_past script left stopped.script x (subst (λ before. Took before left stopped.script (x ∷ [])) known stopped.took) in
-    record { whole = λ short. absurd (omega (arith, short, beyond)); too_long = λ _. inl e }
+pub returns-in-Err-Usage-clause-complete : goal.returns-in-Err-Usage-clause-complete
+returns-in-Err-Usage-clause-complete g c is =
+    let e = means c.args.words.now Refused (c.asked.ensures.usage (cc)) in
+    absurd (refused_runs_not c.args.words.now e is)
 
-pub returns-in-Err-run_script-clause-complete : goal.returns-in-Err-run_script-clause-complete
-returns-in-Err-run_script-clause-complete g c _ no_faults =
-    if_known _ _ (λ script known. ends_by_length _ _ _ _ _ script _ c.in-Err-run_script.stop c.status.ensures known
-    (λ e. no_faults.0 (c.run_script.ensures.read_cause (cc (e, c.in-Err-run_script.is))))
-    (λ e. no_faults.1 (c.run_script.ensures.write_cause (cc (e, c.in-Err-run_script.is))))
-    (λ e. c.run_script.ensures.too_long (cc (e, c.in-Err-run_script.is))))
+pub returns-in-Err-Usage-clause-ended : goal.returns-in-Err-Usage-clause-ended
+returns-in-Err-Usage-clause-ended g c =
+    let e = means c.args.words.now Refused (c.asked.ensures.usage (cc)) in
+    ended_as g.M.Machine.meaning c.args.words.now (moment (scene c.args.world.now c.args.steps.now (g.K.Sink.held c.args.sink.now)) (g.S.Source.left c.args.source.now) (g.S.Source.faults c.args.source.now) (g.K.Sink.faults c.args.sink.now)) (moment (scene c.args.world.now c.args.steps.now (g.K.Sink.held c.write_usage.new.sink)) (g.S.Source.left c.args.source.now) (g.S.Source.faults c.args.source.now) (g.K.Sink.faults c.write_usage.new.sink)) c.write_usage.result Refused e c.write_usage.ensures.ended
+
+pub returns-in-Err-Usage-clause-complete_else : goal.returns-in-Err-Usage-clause-complete_else
+returns-in-Err-Usage-clause-complete_else g c _ no_fault =
+    let e = means c.args.words.now Refused (c.asked.ensures.usage (cc)) in
+    ends_by c.args.words.now c.write_usage.result Refused e (text_completes status.Usage usage_line (g.K.Sink.held c.args.sink.now) (g.K.Sink.held c.write_usage.new.sink) (g.K.Sink.faults c.args.sink.now) (g.K.Sink.faults c.write_usage.new.sink) c.write_usage.result c.write_usage.ensures.ended no_fault)
+
+pub write_usage-requires-in-Err-Help : goal.write_usage-requires-in-Err-Help
+write_usage-requires-in-Err-Help g c =
+    inr refl
+
+pub returns-in-Err-Help-clause-headline : goal.returns-in-Err-Help-clause-headline
+returns-in-Err-Help-clause-headline g c is =
+    let e = means c.args.words.now HelpWanted (c.asked.ensures.help (cc)) in
+    absurd (help_runs_not c.args.words.now e is)
+
+pub returns-in-Err-Help-clause-prefix : goal.returns-in-Err-Help-clause-prefix
+returns-in-Err-Help-clause-prefix g c is =
+    let e = means c.args.words.now HelpWanted (c.asked.ensures.help (cc)) in
+    absurd (help_runs_not c.args.words.now e is)
+
+pub returns-in-Err-Help-clause-complete : goal.returns-in-Err-Help-clause-complete
+returns-in-Err-Help-clause-complete g c is =
+    let e = means c.args.words.now HelpWanted (c.asked.ensures.help (cc)) in
+    absurd (help_runs_not c.args.words.now e is)
+
+pub returns-in-Err-Help-clause-ended : goal.returns-in-Err-Help-clause-ended
+returns-in-Err-Help-clause-ended g c =
+    let e = means c.args.words.now HelpWanted (c.asked.ensures.help (cc)) in
+    ended_as g.M.Machine.meaning c.args.words.now (moment (scene c.args.world.now c.args.steps.now (g.K.Sink.held c.args.sink.now)) (g.S.Source.left c.args.source.now) (g.S.Source.faults c.args.source.now) (g.K.Sink.faults c.args.sink.now)) (moment (scene c.args.world.now c.args.steps.now (g.K.Sink.held c.write_usage-in-Err-Help.new.sink)) (g.S.Source.left c.args.source.now) (g.S.Source.faults c.args.source.now) (g.K.Sink.faults c.write_usage-in-Err-Help.new.sink)) c.write_usage-in-Err-Help.result HelpWanted e c.write_usage-in-Err-Help.ensures.ended
+
+pub returns-in-Err-Help-clause-complete_else : goal.returns-in-Err-Help-clause-complete_else
+returns-in-Err-Help-clause-complete_else g c _ no_fault =
+    let e = means c.args.words.now HelpWanted (c.asked.ensures.help (cc)) in
+    ends_by c.args.words.now c.write_usage-in-Err-Help.result HelpWanted e (text_completes status.Help usage_line (g.K.Sink.held c.args.sink.now) (g.K.Sink.held c.write_usage-in-Err-Help.new.sink) (g.K.Sink.faults c.args.sink.now) (g.K.Sink.faults c.write_usage-in-Err-Help.new.sink) c.write_usage-in-Err-Help.result c.write_usage-in-Err-Help.ensures.ended no_fault)
+
+pub returns-in-Run-clause-headline : goal.returns-in-Run-clause-headline
+returns-in-Run-clause-headline g c _ =
+    c.end_lines.ensures.headline
+
+pub returns-in-Run-clause-prefix : goal.returns-in-Run-clause-prefix
+returns-in-Run-clause-prefix g c _ =
+    c.end_lines.ensures.prefix
+
+pub returns-in-Run-clause-complete : goal.returns-in-Run-clause-complete
+returns-in-Run-clause-complete g c _ =
+    c.end_lines.ensures.complete
+
+pub returns-in-Run-clause-unread : goal.returns-in-Run-clause-unread
+returns-in-Run-clause-unread g c other =
+    let e = means c.args.words.now (Asks Run c.in-Ok.asked.start c.in-Ok.asked.edits) (c.in-Ok.ensures.ok ∙ ap (λ m. Asks m c.in-Ok.asked.start c.in-Ok.asked.edits) c.in-Run.is) in
+    absurd (other (c.in-Ok.asked.start, c.in-Ok.asked.edits, e))
+
+pub returns-in-Run-clause-unmoved : goal.returns-in-Run-clause-unmoved
+returns-in-Run-clause-unmoved g c other _ =
+    let e = means c.args.words.now (Asks Run c.in-Ok.asked.start c.in-Ok.asked.edits) (c.in-Ok.ensures.ok ∙ ap (λ m. Asks m c.in-Ok.asked.start c.in-Ok.asked.edits) c.in-Run.is) in
+    absurd (other (c.in-Ok.asked.start, c.in-Ok.asked.edits, e))
+
+pub returns-in-Run-clause-complete_else : goal.returns-in-Run-clause-complete_else
+returns-in-Run-clause-complete_else g c other _ =
+    let e = means c.args.words.now (Asks Run c.in-Ok.asked.start c.in-Ok.asked.edits) (c.in-Ok.ensures.ok ∙ ap (λ m. Asks m c.in-Ok.asked.start c.in-Ok.asked.edits) c.in-Run.is) in
+    absurd (other (c.in-Ok.asked.start, c.in-Ok.asked.edits, e))
+
+pub returns-in-Run-clause-ended : goal.returns-in-Run-clause-ended
+returns-in-Run-clause-ended g c =
+    let e = means c.args.words.now (Asks Run c.in-Ok.asked.start c.in-Ok.asked.edits) (c.in-Ok.ensures.ok ∙ ap (λ m. Asks m c.in-Ok.asked.start c.in-Ok.asked.edits) c.in-Run.is) in
+    ended_as g.M.Machine.meaning c.args.words.now (moment (scene c.args.world.now c.args.steps.now (g.K.Sink.held c.args.sink.now)) (g.S.Source.left c.args.source.now) (g.S.Source.faults c.args.source.now) (g.K.Sink.faults c.args.sink.now)) (moment (scene c.end_lines.new.world c.end_lines.new.steps (g.K.Sink.held c.end_lines.new.sink)) (g.S.Source.left c.end_lines.new.source) (g.S.Source.faults c.end_lines.new.source) (g.K.Sink.faults c.end_lines.new.sink)) c.end_lines.result (Asks Run c.in-Ok.asked.start c.in-Ok.asked.edits) e c.end_lines.ensures.ended
+
+pub returns-in-Make-clause-headline : goal.returns-in-Make-clause-headline
+returns-in-Make-clause-headline g c is =
+    let e = means c.args.words.now (Asks Make c.in-Ok.asked.start c.in-Ok.asked.edits) (c.in-Ok.ensures.ok ∙ ap (λ m. Asks m c.in-Ok.asked.start c.in-Ok.asked.edits) c.in-Make.is) in
+    absurd (make_runs_not c.args.words.now c.in-Ok.asked.start c.in-Ok.asked.edits e is)
+
+pub returns-in-Make-clause-prefix : goal.returns-in-Make-clause-prefix
+returns-in-Make-clause-prefix g c is =
+    let e = means c.args.words.now (Asks Make c.in-Ok.asked.start c.in-Ok.asked.edits) (c.in-Ok.ensures.ok ∙ ap (λ m. Asks m c.in-Ok.asked.start c.in-Ok.asked.edits) c.in-Make.is) in
+    absurd (make_runs_not c.args.words.now c.in-Ok.asked.start c.in-Ok.asked.edits e is)
+
+pub returns-in-Make-clause-complete : goal.returns-in-Make-clause-complete
+returns-in-Make-clause-complete g c is =
+    let e = means c.args.words.now (Asks Make c.in-Ok.asked.start c.in-Ok.asked.edits) (c.in-Ok.ensures.ok ∙ ap (λ m. Asks m c.in-Ok.asked.start c.in-Ok.asked.edits) c.in-Make.is) in
+    absurd (make_runs_not c.args.words.now c.in-Ok.asked.start c.in-Ok.asked.edits e is)
+
+pub returns-in-Make-clause-ended : goal.returns-in-Make-clause-ended
+returns-in-Make-clause-ended g c =
+    let e = means c.args.words.now (Asks Make c.in-Ok.asked.start c.in-Ok.asked.edits) (c.in-Ok.ensures.ok ∙ ap (λ m. Asks m c.in-Ok.asked.start c.in-Ok.asked.edits) c.in-Make.is) in
+    ended_as g.M.Machine.meaning c.args.words.now (moment (scene c.args.world.now c.args.steps.now (g.K.Sink.held c.args.sink.now)) (g.S.Source.left c.args.source.now) (g.S.Source.faults c.args.source.now) (g.K.Sink.faults c.args.sink.now)) (moment (scene c.args.world.now c.args.steps.now (g.K.Sink.held c.end_make.new.sink)) (g.S.Source.left c.args.source.now) (g.S.Source.faults c.args.source.now) (g.K.Sink.faults c.end_make.new.sink)) c.end_make.result (Asks Make c.in-Ok.asked.start c.in-Ok.asked.edits) e c.end_make.ensures.ended
+
+pub returns-in-Make-clause-complete_else : goal.returns-in-Make-clause-complete_else
+returns-in-Make-clause-complete_else g c _ no_fault =
+    let e = means c.args.words.now (Asks Make c.in-Ok.asked.start c.in-Ok.asked.edits) (c.in-Ok.ensures.ok ∙ ap (λ m. Asks m c.in-Ok.asked.start c.in-Ok.asked.edits) c.in-Make.is) in
+    ends_by c.args.words.now c.end_make.result (Asks Make c.in-Ok.asked.start c.in-Ok.asked.edits) e (text_completes status.Done (script c.in-Ok.asked.start c.in-Ok.asked.edits) (g.K.Sink.held c.args.sink.now) (g.K.Sink.held c.end_make.new.sink) (g.K.Sink.faults c.args.sink.now) (g.K.Sink.faults c.end_make.new.sink) c.end_make.result c.end_make.ensures.ended no_fault)
+
+pub returns-in-Soak-clause-headline : goal.returns-in-Soak-clause-headline
+returns-in-Soak-clause-headline g c is =
+    let e = means c.args.words.now (Asks Soak c.in-Ok.asked.start c.in-Ok.asked.edits) (c.in-Ok.ensures.ok ∙ ap (λ m. Asks m c.in-Ok.asked.start c.in-Ok.asked.edits) c.in-Soak.is) in
+    absurd (soak_runs_not c.args.words.now c.in-Ok.asked.start c.in-Ok.asked.edits e is)
+
+pub returns-in-Soak-clause-prefix : goal.returns-in-Soak-clause-prefix
+returns-in-Soak-clause-prefix g c is =
+    let e = means c.args.words.now (Asks Soak c.in-Ok.asked.start c.in-Ok.asked.edits) (c.in-Ok.ensures.ok ∙ ap (λ m. Asks m c.in-Ok.asked.start c.in-Ok.asked.edits) c.in-Soak.is) in
+    absurd (soak_runs_not c.args.words.now c.in-Ok.asked.start c.in-Ok.asked.edits e is)
+
+pub returns-in-Soak-clause-complete : goal.returns-in-Soak-clause-complete
+returns-in-Soak-clause-complete g c is =
+    let e = means c.args.words.now (Asks Soak c.in-Ok.asked.start c.in-Ok.asked.edits) (c.in-Ok.ensures.ok ∙ ap (λ m. Asks m c.in-Ok.asked.start c.in-Ok.asked.edits) c.in-Soak.is) in
+    absurd (soak_runs_not c.args.words.now c.in-Ok.asked.start c.in-Ok.asked.edits e is)
+
+pub returns-in-Soak-clause-unmoved : goal.returns-in-Soak-clause-unmoved
+returns-in-Soak-clause-unmoved g c _ other =
+    let e = means c.args.words.now (Asks Soak c.in-Ok.asked.start c.in-Ok.asked.edits) (c.in-Ok.ensures.ok ∙ ap (λ m. Asks m c.in-Ok.asked.start c.in-Ok.asked.edits) c.in-Soak.is) in
+    absurd (other (c.in-Ok.asked.start, c.in-Ok.asked.edits, e))
+
+pub returns-in-Soak-clause-ended : goal.returns-in-Soak-clause-ended
+returns-in-Soak-clause-ended g c =
+    let e = means c.args.words.now (Asks Soak c.in-Ok.asked.start c.in-Ok.asked.edits) (c.in-Ok.ensures.ok ∙ ap (λ m. Asks m c.in-Ok.asked.start c.in-Ok.asked.edits) c.in-Soak.is) in
+    ended_as g.M.Machine.meaning c.args.words.now (moment (scene c.args.world.now c.args.steps.now (g.K.Sink.held c.args.sink.now)) (g.S.Source.left c.args.source.now) (g.S.Source.faults c.args.source.now) (g.K.Sink.faults c.args.sink.now)) (moment (scene c.end_soak.new.world c.end_soak.new.steps (g.K.Sink.held c.end_soak.new.sink)) (g.S.Source.left c.args.source.now) (g.S.Source.faults c.args.source.now) (g.K.Sink.faults c.end_soak.new.sink)) c.end_soak.result (Asks Soak c.in-Ok.asked.start c.in-Ok.asked.edits) e c.end_soak.ensures.ended
+
+pub returns-in-Soak-clause-complete_else : goal.returns-in-Soak-clause-complete_else
+returns-in-Soak-clause-complete_else g c _ no_fault =
+    let e = means c.args.words.now (Asks Soak c.in-Ok.asked.start c.in-Ok.asked.edits) (c.in-Ok.ensures.ok ∙ ap (λ m. Asks m c.in-Ok.asked.start c.in-Ok.asked.edits) c.in-Soak.is) in
+    ends_by c.args.words.now c.end_soak.result (Asks Soak c.in-Ok.asked.start c.in-Ok.asked.edits) e (text_completes status.Done (soak_text g.M.Machine.meaning c.args.world.now (script_lines c.in-Ok.asked.start c.in-Ok.asked.edits)) (g.K.Sink.held c.args.sink.now) (g.K.Sink.held c.end_soak.new.sink) (g.K.Sink.faults c.args.sink.now) (g.K.Sink.faults c.end_soak.new.sink) c.end_soak.result c.end_soak.ensures.ended.text no_fault)

@@ -1,4 +1,0 @@
-use Rattle.ve_edit_tests.proofs.pages.tree_of.Given as goal
-
-abbrev pub ghosts-counted_tree : goal.ghosts-counted_tree
-ghosts-counted_tree a = record { name = a.blank.name; parts = a.blank.parts }

@@ -1,0 +1,6 @@
+mod ClassifyExamples
+mod InternalExamples
+mod OriginExamples
+mod ReadExamples
+mod ReaderExamples
+mod WriteExamples

@@ -1,4 +1,0 @@
-mod BodyLemmas
-mod RowLemmas
-mod SampleLemmas
-mod WholeLemmas

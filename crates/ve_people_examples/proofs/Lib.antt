@@ -1,0 +1,2 @@
+mod SiteExamples
+mod SpanExamples

@@ -1,3 +1,0 @@
-mod PlainLemmas
-mod SiteExamples
-mod SpanExamples

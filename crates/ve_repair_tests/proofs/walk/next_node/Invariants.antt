@@ -1,5 +1,0 @@
-use Rattle.ve_arena.specs.Arena.{IsLive}
-use Rattle.ve_repair_tests.proofs.walk.next_node.Given as goal
-
-abbrev pub invariant-loop-up : goal.invariant-loop-up
-invariant-loop-up l = IsLive l.tree.arena l.at

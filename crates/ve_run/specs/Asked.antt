@@ -1,0 +1,15 @@
+-- What the words after the program's name ask for.
+use Rattle.std.specs.Prelude.{◌≡◌, ℕ, List}
+use Rattle.ve_words.specs.Words.{Meant, Asks, Refused, HelpWanted, meant}
+use Rattle.ve_words.specs.declared.read.Mode.TheVariants.{Run, Make, Soak}
+
+unfoldable pub asked_for : (words : List (List ℕ)) → Meant
+asked_for words = meant words
+
+-- the words ask for the lines of the source to be answered
+abbrev pub IsRun : List (List ℕ) → Type 0
+IsRun words = (start : ℕ) × (edits : ℕ) × (asked_for words ≡ Asks Run start edits)
+
+-- the words ask for the lines of a generated script to be answered, and their replies to be summed up
+abbrev pub IsSoak : List (List ℕ) → Type 0
+IsSoak words = (start : ℕ) × (edits : ℕ) × (asked_for words ≡ Asks Soak start edits)

@@ -1,4 +1,0 @@
-use Rattle.ve_script_tests.proofs.carets.a_caret_goes_by_clusters.Given as goal
-
-abbrev pub ghosts-carets_go_so : goal.ghosts-carets_go_so
-ghosts-carets_go_so g a = record { name = a.blank.name; parts = a.blank.parts }

@@ -1,0 +1,9 @@
+pub mod LentWalk
+pub mod LentFaults
+pub mod AloneLemmas
+pub mod ReadLemmas
+pub mod ParseLemmas
+pub mod RangeLemmas
+pub mod MeantExamples
+pub mod SoundWalk
+pub mod SoundWords

@@ -1,0 +1,196 @@
+// Headless Chromium by the DevTools protocol: windows, real keys and the mouse. Node's own WebSocket is all that it needs. And the
+// server, as the check and the measurements start it.
+import { spawn } from "node:child_process";
+import { mkdtempSync, rmSync } from "node:fs";
+import { tmpdir } from "node:os";
+import { join } from "node:path";
+import { fileURLToPath } from "node:url";
+
+const PATIENCE = 15_000; // milliseconds; a loaded machine is slow, and one that fails is worth waiting for
+
+// Waits until a condition gives something that holds. Tells what it waited for where it never does.
+export async function until(what, condition) {
+  const end = Date.now() + PATIENCE;
+  for (;;) {
+    const got = await condition();
+    if (got) return got;
+    if (Date.now() > end) throw new Error(`waited in vain until ${what}`);
+    await new Promise((next) => setTimeout(next, 10));
+  }
+}
+
+// What a promise gives, unless it takes too long.
+async function soon(what, promise) {
+  let late;
+  const patience = new Promise((_, fail) => (late = setTimeout(() => fail(new Error(`waited in vain for ${what}`)), PATIENCE)));
+  return Promise.race([promise, patience]).finally(() => clearTimeout(late));
+}
+
+// The server on these pages, at a port that is free. It has a page's address in `url`.
+export async function serve(program, ...files) {
+  const words = [fileURLToPath(new URL("server.mjs", import.meta.url)), "--port", "0", "--program", program, ...files];
+  const server = spawn(process.execPath, words, { stdio: ["ignore", "pipe", "inherit"] });
+  const url = await soon("the server", new Promise((tell, fail) => {
+    server.stdout.setEncoding("utf8").once("data", (said) => tell(said.split("\n")[0]));
+    server.once("exit", () => fail(new Error("the server ended")));
+  }));
+  return { url, close: () => server.kill() };
+}
+
+const CTRL = 2, SHIFT = 8;
+const KEYS = { Enter: 13, Backspace: 8, Tab: 9, Escape: 27, End: 35, Home: 36, ArrowLeft: 37, ArrowUp: 38, ArrowRight: 39, ArrowDown: 40, Delete: 46 };
+
+export class Browser {
+  #process;
+  #folder = mkdtempSync(join(tmpdir(), "editor-"));
+  #socket;
+  #waiting = new Map();
+  #next = 0;
+
+  static async start(path) {
+    const browser = new Browser();
+    await browser.#launch(path);
+    return browser;
+  }
+
+  async #launch(path) {
+    const words = ["--headless=new", "--disable-gpu", "--remote-debugging-port=0", `--user-data-dir=${this.#folder}`, "--no-first-run",
+      "--disable-extensions", "--disable-background-networking", "--disable-dev-shm-usage", "--window-size=1000,820",
+      "--disable-renderer-backgrounding", "--disable-backgrounding-occluded-windows", ...(process.getuid() ? [] : ["--no-sandbox"]), "about:blank"];
+    this.#process = spawn(path, words, { stdio: ["ignore", "ignore", "pipe"] });
+    const address = await soon("Chromium", new Promise((tell, fail) => {
+      let said = "";
+      this.#process.stderr.setEncoding("utf8").on("data", (piece) => {
+        said += piece;
+        const found = /DevTools listening on (\S+)/.exec(said);
+        if (found) tell(found[1]);
+      });
+      this.#process.on("exit", (status) => fail(new Error(`Chromium ended with ${status}: ${said.slice(-500)}`)));
+    }));
+    this.#socket = new WebSocket(address);
+    this.#socket.onmessage = ({ data }) => {
+      const { id, result, error } = JSON.parse(data);
+      const waiting = this.#waiting.get(id);
+      this.#waiting.delete(id);
+      if (error) waiting?.fail(new Error(error.message));
+      else waiting?.tell(result);
+    };
+    await new Promise((open) => (this.#socket.onopen = open));
+    await this.call("Browser.grantPermissions", { permissions: ["clipboardReadWrite", "clipboardSanitizedWrite"] });
+  }
+
+  call(method, params = {}, sessionId = undefined) {
+    const id = ++this.#next;
+    this.#socket.send(JSON.stringify({ id, method, params, sessionId }));
+    return soon(`an answer to ${method} ${params.expression ?? ""}`, new Promise((tell, fail) => this.#waiting.set(id, { tell, fail })));
+  }
+
+  async open(url) {
+    const { targetId } = await this.call("Target.createTarget", { url, newWindow: true });
+    const { sessionId } = await this.call("Target.attachToTarget", { targetId, flatten: true });
+    // each window believes that it is in front, so that both have a caret and draw at once
+    await this.call("Emulation.setFocusEmulationEnabled", { enabled: true }, sessionId);
+    return new Window(this, sessionId);
+  }
+
+  // A window of the editor, once it is ready.
+  async edit(url) {
+    const window = await this.open(url);
+    await until("the editor is ready", () => window.value("document.documentElement?.dataset.ready"));
+    return window;
+  }
+
+  // Pictures of windows, side by side as one.
+  async together(windows) {
+    const pictures = await Promise.all(windows.map((window) => window.picture()));
+    const sheet = await this.open("about:blank");
+    const width = 1600, height = 595;
+    await sheet.call("Emulation.setDeviceMetricsOverride", { width, height, deviceScaleFactor: 1, mobile: false });
+    const images = pictures.map((png) => `<img width="${width / windows.length - 15}" src="data:image/png;base64,${png.toString("base64")}">`);
+    await sheet.value(`document.body.style = "margin:10px;display:flex;gap:10px;align-items:flex-start;background:#cbd2dc";
+      document.body.innerHTML = ${JSON.stringify(images.join(""))};
+      Promise.all([...document.images].map((image) => image.decode())).then(() => true)`);
+    return sheet.picture();
+  }
+
+  async close() {
+    const gone = new Promise((end) => this.#process.on("close", end));
+    this.#process.removeAllListeners("exit");
+    this.call("Browser.close").catch(() => {});
+    const late = setTimeout(() => this.#process.kill("SIGKILL"), 3000);
+    await gone;
+    clearTimeout(late);
+    this.#socket.close();
+    rmSync(this.#folder, { recursive: true, force: true, maxRetries: 5 });
+  }
+}
+
+class Window {
+  #browser;
+  #session;
+
+  constructor(browser, session) {
+    this.#browser = browser;
+    this.#session = session;
+  }
+
+  call(method, params) {
+    return this.#browser.call(method, params, this.#session);
+  }
+
+  async value(expression) {
+    const { result, exceptionDetails } = await this.call("Runtime.evaluate", { expression, awaitPromise: true, returnByValue: true });
+    if (exceptionDetails) throw new Error(exceptionDetails.exception?.description ?? exceptionDetails.text);
+    return result.value;
+  }
+
+  // A key by its name, with what is held down: "Enter", "ctrl+b", "shift+ArrowLeft".
+  async key(name) {
+    const held = name.split("+").slice(0, -1), key = name.split("+").at(-1);
+    const modifiers = (held.includes("ctrl") ? CTRL : 0) | (held.includes("shift") ? SHIFT : 0);
+    const code = key.length === 1 ? `Key${key.toUpperCase()}` : key;
+    const windowsVirtualKeyCode = KEYS[key] ?? key.toUpperCase().charCodeAt(0);
+    await this.#press({ key, code, windowsVirtualKeyCode, modifiers, text: key === "Enter" ? "\r" : undefined });
+  }
+
+  // Events are sent ahead; the browser takes them in their order.
+  #press(key) {
+    return Promise.all([
+      this.call("Input.dispatchKeyEvent", { type: key.text ? "keyDown" : "rawKeyDown", ...key }),
+      this.call("Input.dispatchKeyEvent", { type: "keyUp", ...key, text: undefined, commands: undefined }),
+    ]);
+  }
+
+  // The key by which a browser pastes; the protocol wants to be told what it does.
+  paste() {
+    return this.#press({ key: "v", code: "KeyV", windowsVirtualKeyCode: 86, modifiers: CTRL, commands: ["paste"] });
+  }
+
+  type(text) {
+    return Promise.all([...text].map((char) => {
+      const windowsVirtualKeyCode = /[a-z0-9 ]/i.test(char) ? char.toUpperCase().charCodeAt(0) : 0;
+      return this.#press({ key: char, text: char, windowsVirtualKeyCode });
+    }));
+  }
+
+  #mouse(type, [x, y]) {
+    return this.call("Input.dispatchMouseEvent", { type, x, y, button: "left", buttons: 1, clickCount: 1 });
+  }
+
+  click(at) {
+    return Promise.all([this.#mouse("mousePressed", at), this.#mouse("mouseReleased", at)]);
+  }
+
+  // From one place to another with the button held down.
+  drag(from, to) {
+    return Promise.all([this.#mouse("mousePressed", from), this.#mouse("mouseMoved", to), this.#mouse("mouseReleased", to)]);
+  }
+
+  close() {
+    return this.call("Page.close");
+  }
+
+  async picture() {
+    return Buffer.from((await this.call("Page.captureScreenshot", { format: "png" })).data, "base64");
+  }
+}

@@ -1,0 +1,87 @@
+// What a person does in a window of the editor, for the check.
+import assert from "node:assert/strict";
+import { until } from "./browser.mjs";
+
+// The page that the window's site holds.
+export const html = async (person) => JSON.parse((await person.value("vemodel.link.read({ do: 'html' })")).slice(3));
+
+// All that the keys so far asked for is on the screen.
+export const idle = (person) => person.value("vemodel.editor.act(() => null).then(() => true)");
+
+// Where a text of the page begins and ends on the screen.
+const place = (person, text) => until(`${text} is shown`, () => person.value(`(() => {
+  const walker = document.createTreeWalker(document.querySelector("#page"), NodeFilter.SHOW_TEXT);
+  for (let node; (node = walker.nextNode()); ) {
+    const at = node.data.indexOf(${JSON.stringify(text)});
+    if (at < 0) continue;
+    const range = document.createRange();
+    range.setStart(node, at);
+    range.setEnd(node, at + ${text.length});
+    node.parentElement.scrollIntoView({ block: "nearest" });
+    const boxes = [...range.getClientRects()], first = boxes[0], last = boxes.at(-1);
+    return [[first.left + 0.5, first.top + first.height / 2], [last.right - 0.5, last.top + last.height / 2]];
+  }
+})()`));
+
+// What others type moves the text, so the other window's turns have to be on the screen, too: `meet` sees to that where it matters.
+export async function clickAfter(person, text) {
+  await idle(person);
+  await person.click((await place(person, text))[1]);
+  await idle(person);
+}
+
+export async function dragOver(person, text) {
+  await idle(person);
+  await person.drag(...(await place(person, text)));
+  await idle(person);
+}
+
+export async function press(person, name) {
+  await person.click(await person.value(`(() => {
+    const box = document.querySelector("[data-do=${name}]").getBoundingClientRect();
+    return [box.x + box.width / 2, box.y + box.height / 2];
+  })()`));
+  await idle(person);
+}
+
+// As fast as they go; what is to come of them waits its turn.
+export async function keys(person, ...names) {
+  await Promise.all(names.map((name) => person.key(name)));
+  await idle(person);
+}
+
+export async function paste(person, text) {
+  // the clipboard is for the window in front
+  await until("the clipboard holds what is to be pasted", async () => {
+    await person.call("Page.bringToFront");
+    return person.value(`navigator.clipboard.write([new ClipboardItem({ "text/plain": new Blob(["-"], { type: "text/plain" }),
+      "text/html": new Blob([${JSON.stringify(text)}], { type: "text/html" }) })]).then(() => true, () => false)`);
+  });
+  await person.paste();
+  await idle(person);
+}
+
+// Waits until all sites hold one page, and gives it. Each window has to show exactly what its site holds: its tree is the site's list,
+// and its screen is what a window that opens now would show.
+export async function meet(...people) {
+  await until("all sites hold one page", async () => {
+    const pages = new Set();
+    for (const person of people) {
+      await idle(person);
+      pages.add(await html(person));
+    }
+    return pages.size === 1;
+  });
+  for (const person of people) {
+    const [shown, held, screen, fresh] = await person.value(`(async () => {
+      const [tree, { View }] = await Promise.all([import("./tree.js"), import("./view.js")]);
+      const held = JSON.parse((await vemodel.link.read({ do: "data" })).slice(3));
+      const root = tree.newRoot(), host = document.createElement("div");
+      new View(host, root).update(root, 0, 0, tree.parse(held));
+      return [tree.itemsOf(vemodel.editor.root.kids), held, document.querySelector("#page").innerHTML, host.innerHTML];
+    })()`);
+    assert.deepEqual(shown, held, "a window's tree isn't its site's list");
+    assert.equal(screen, fresh, "a window's screen isn't its tree");
+  }
+  return html(people[0]);
+}

@@ -1,0 +1,84 @@
+"""For the check: a file and servers of its own, in a folder of its own. Nothing else is started, and nothing else is ended."""
+from __future__ import annotations
+
+import contextlib
+import signal
+import socket
+import sqlite3
+import subprocess
+import sys
+import time
+import urllib.request
+from pathlib import Path
+from typing import Any
+
+SERVER = Path(__file__).with_name("server.py")
+
+
+class Sqlite:
+    """A file."""
+
+    def __init__(self, folder: Path) -> None:
+        self.log = str(folder / "pages.sqlite")
+
+    def rows(self, query: str) -> list[tuple[Any, ...]]:
+        with contextlib.closing(sqlite3.connect(self.log)) as file:
+            return file.execute(query).fetchall()
+
+    def size(self) -> int:
+        return Path(self.log).stat().st_size
+
+    def stop(self) -> None:
+        pass
+
+
+class Server:
+    """One server, which is killed and started again at the same address."""
+
+    def __init__(self, folder: Path, words: list[str]) -> None:
+        with socket.socket() as free:
+            free.bind(("127.0.0.1", 0))
+            self.address = f"127.0.0.1:{free.getsockname()[1]}"
+        self._words = [sys.executable, str(SERVER), "--listen", self.address, *words]
+        self._log = open(folder / "servers.log", "a")
+        self._process: subprocess.Popen[bytes] | None = None
+
+    def start(self) -> None:
+        self._process = subprocess.Popen(self._words, stdout=subprocess.DEVNULL, stderr=self._log)
+
+    def ready(self) -> None:
+        until = time.monotonic() + 30
+        while True:
+            try:
+                with socket.create_connection(("127.0.0.1", int(self.address.split(":")[1]))):
+                    return
+            except OSError:
+                if time.monotonic() > until:
+                    raise SystemExit(f"service: no server: see {self._log.name}") from None
+                time.sleep(0.05)
+
+    def send(self, number: signal.Signals) -> None:
+        assert self._process is not None
+        self._process.send_signal(number)
+
+    def kill(self) -> None:
+        self.send(signal.SIGKILL)
+        assert self._process is not None
+        self._process.wait()
+        self._process = None
+
+    def end(self) -> None:
+        if self._process is not None:
+            self.kill()
+
+
+def put(address: str, page: str, html: str) -> None:
+    asked = urllib.request.Request(f"http://{address}/pages/{page}", data=html.encode(), method="PUT")
+    with urllib.request.urlopen(asked) as told:
+        assert told.status == 201
+
+
+def get(address: str, path: str) -> str:
+    with urllib.request.urlopen(f"http://{address}{path}") as told:
+        text: str = told.read().decode()
+        return text
