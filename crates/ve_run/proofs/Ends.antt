@@ -1,13 +1,11 @@
 -- How a run ends, by what its words mean.
-use Rattle.std.proofs.Common.{◌≡◌, ◌≤◌, inl, inr, ◌⊎◌, ℕ, List, [], ◌∷◌, ◌++◌, Bool, true, false, Option, None, Some, arith, refl, sym, ap, ◌∙◌, subst}
-use Rattle.std.specs.Io.KnownBytes.{Appends}
+use Rattle.std.proofs.Common.{◌≡◌, inl, inr, ◌⊎◌, ℕ, List, [], Bool, true, false, Option, None, Some, arith, refl, sym, ap, ◌∙◌, subst}
 use Rattle.std.specs.Option.{IfSome}
 use Rattle.std.proofs.KnownBytes.{Appends-nil, Consumes-nil}
 use Rattle.ve_base.specs.Outside.{Rose}
 use Rattle.model_script.specs.Output.{Meaning}
 use Rattle.model_world.specs.declared.reply.Reply.{Reply}
 use Rattle.ve_words.specs.Words.{Meant, Asks, Refused, HelpWanted, meant}
-use Rattle.ve_words.specs.declared.read.Mode.{Mode}
 use Rattle.ve_words.specs.declared.read.Mode.TheVariants.{Run, Make, Soak}
 use Rattle.ve_run.specs.declared.status.Status.{Status}
 use Rattle.ve_run.specs.declared.status.Status.TheVariants.{Done, Usage, ReadFault, WriteFault, InputTooLong, Memory, Help}

@@ -1,14 +1,14 @@
 -- Lines of a script that a machine takes, and what is counted of its replies.
-use Rattle.std.proofs.Common.{◌≡◌, ◌+◌, ◌≤◌, ◌<◌, ◌==◌, cond, ℕ, List, [], ◌∷◌, ◌++◌, Bool, true, false, Option, map, length, count_by, arith, refl, sym, ap, ◌∙◌, subst, append_assoc, append-nil, length-append, codes, suc, ◌^◌, if◌then◌else◌, add_assoc, MatchBool, Result, Ok, Err, OnOk, OnErr}
+use Rattle.std.proofs.Common.{◌≡◌, ◌+◌, ◌≤◌, ◌<◌, cond, ℕ, List, [], ◌∷◌, ◌++◌, Bool, true, false, Option, map, length, count_by, arith, refl, sym, ap, ◌∙◌, subst, append_assoc, append-nil, length-append, codes, suc, ◌^◌, if◌then◌else◌, MatchBool, Result, Ok, Err, OnErr}
 use Rattle.std.specs.List.{concat}
 use Rattle.std.specs.Io.KnownBytes.{Appends}
-use Rattle.std.proofs.KnownBytes.{Appends-nil, Appends-trans}
+use Rattle.std.proofs.KnownBytes.{Appends-trans}
 use Rattle.std.proofs.lemmas.List.{map-append}
 use Rattle.std.proofs.lemmas.List.Folds.{concat-append}
 use Rattle.std.proofs.lemmas.List.Sums.{count_by-le-length, sum_by_push}
 use Rattle.sha2.specs.Hashers.{Holds256}
-use Rattle.model_script.specs.Lines.{newline, with_newlines}
-use Rattle.model_script.specs.Output.{Meaning, replies, state_after, cost_of}
+use Rattle.model_script.specs.Lines.{with_newlines}
+use Rattle.model_script.specs.Output.{Meaning, replies, state_after}
 use Rattle.model_script.proofs.Turns.{replies_follow_on, state_follows_on, cost_follows_on}
 use Rattle.model_world.specs.declared.reply.Reply.{Reply}
 use Rattle.ve_run.specs.declared.tally.Tally.{Tally}
@@ -97,10 +97,12 @@ prefix_of_whole a b done ahead whole e h = (done, ahead, e, h)
 
 pub prefix_further : (a b c : Option (List ℕ)) (done piece ahead whole : List ℕ) → whole ≡ done ++ (piece ++ ahead) → Appends a b done → AppendsPrefix b c piece → AppendsPrefix a c whole
 prefix_further a b c done piece ahead whole e h k =
-    let (first, rest, parts, appended) = k in
-    (done ++ first, rest ++ ahead,
+    let (first, rest, parts, appended) = k in (
+      done ++ first,
+      rest ++ ahead,
       e ∙ ap (λ x. done ++ (x ++ ahead)) parts ∙ ap (λ x. done ++ x) (append_assoc first rest ahead) ∙ sym (append_assoc done first (rest ++ ahead)),
-      Appends-trans a b c done first h appended)
+      Appends-trans a b c done first h appended,
+    )
 
 -- ---- whether a line comes
 

@@ -1,7 +1,7 @@
 -- What the words after the program's name ask for.
 use Rattle.std.specs.Prelude.{◌≡◌, ℕ, List}
-use Rattle.ve_words.specs.Words.{Meant, Asks, Refused, HelpWanted, meant}
-use Rattle.ve_words.specs.declared.read.Mode.TheVariants.{Run, Make, Soak}
+use Rattle.ve_words.specs.Words.{Meant, Asks, meant}
+use Rattle.ve_words.specs.declared.read.Mode.TheVariants.{Run, Soak}
 
 unfoldable pub asked_for : (words : List (List ℕ)) → Meant
 asked_for words = meant words

@@ -7,7 +7,7 @@ use crate::stop::Stop;
 /// How a run ended.
 #[derive(Clone, Copy, Debug, PartialEq, Eq)]
 pub enum Status {
-    /// The script was read to its end, and every reply was written.
+    /// In mode `run` the script was read to its end, and every reply was written; else the whole text was written.
     Done,
     /// The words weren't understood, and the usage line was written.
     Usage,

@@ -16,6 +16,7 @@ pub struct Tally {
 }
 
 const OK: &[u8] = b"ok";
+
 const NO: &[u8] = b"no";
 
 /// Whether the line begins with the word.

@@ -1,4 +1,4 @@
-use Rattle.std.proofs.Common.{◌≡◌, ◌++◌, ◌∙◌, ap, subst}
+use Rattle.std.proofs.Common.{◌++◌, ◌∙◌, ap, subst}
 use Rattle.ve_gen.specs.Generated.{script_lines}
 use Rattle.ve_run.specs.Soak.{soak_text}
 use Rattle.ve_run.specs.Run.{AppendsPrefix}

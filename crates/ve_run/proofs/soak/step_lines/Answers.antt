@@ -1,4 +1,4 @@
-use Rattle.std.proofs.Common.{◌≡◌, ◌≤◌, ◌+◌, ◌++◌, ◌∷◌, [], ℕ, List, arith, refl, sym, ap, ◌∙◌, subst, append-nil}
+use Rattle.std.proofs.Common.{◌≤◌, ◌+◌, ◌++◌, ◌∷◌, [], arith, refl, sym, ap, ◌∙◌, subst, append-nil}
 use Rattle.ve_run.specs.Run.{reply_line}
 use Rattle.ve_run.specs.Soak.{IsTally, reply_lines}
 use Rattle.ve_run.proofs.Soaks.{done_further, few, line_comes, none_comes, one_less, tally_one_more, took_all, took_none, took_one_more}

@@ -1,5 +1,4 @@
-use Rattle.std.proofs.Common.{◌≡◌, ◌<◌, ◌^◌, ap, subst, sym, arith, ◌∙◌, length}
-use Rattle.ve_gen.specs.Generated.{script_lines}
+use Rattle.std.proofs.Common.{ap, arith, length}
 use Rattle.ve_gen.proofs.LineLemmas.{script_has_two_lines_more}
 use Rattle.ve_run.proofs.soak.sum_up.Goals as goal
 

@@ -1,4 +1,4 @@
-use Rattle.std.proofs.Common.{◌≡◌, inl, inr, refl, ap, ◌∙◌}
+use Rattle.std.proofs.Common.{inl, inr, refl, ap, ◌∙◌}
 use Rattle.ve_words.specs.Words.{Asks, Refused, HelpWanted}
 use Rattle.ve_words.specs.declared.read.Mode.TheVariants.{Run, Make, Soak}
 use Rattle.ve_gen.specs.Generated.{script, script_lines}
