@@ -2,7 +2,7 @@
 //! `caret` and `grid`.
 //!
 //! It knows a page as a `Doc`, its list, tree and values, lent together, and what is left of the page that was first read.
-//! Each call gives the answer that `ve_replies` spells; items are lent, and no list is copied. It knows nothing of lines,
+//! Each call gives the answer that `ve_json` spells; items are lent, and no list is copied. It knows nothing of lines,
 //! of sessions and of who asks. In reading order:
 //!
 //! - `Replies`: what is replied, over items by value;
