@@ -52,7 +52,7 @@ use Rattle.ve_sites.specs.Shared.{Shared, member_at, site_at, sites, with_site_a
 
 -- ---- a page that was read
 
-module _ (text : List ℕ) (read : PageRead) (count : ℕ) (is : IsPage (encode_utf8_all text) read) (may : MayOpen text count) where
+module _ (text : List ℕ) (read : PageRead) (count : ℕ) (is : IsReadPage (encode_utf8_all text) read) (may : MayOpen text count) where
   abbrev pub page : Opened
   page = opened_by (encode_utf8_all text) read
 

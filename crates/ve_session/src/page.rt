@@ -82,7 +82,7 @@ impl OpenPage {
     ) -> Result<OpenPage, Memory>
         requires may { MayOpen text sites }
         requires utf8 { IsUtf8 (encode_utf8_all text) }
-        requires read { IsPage (encode_utf8_all text) read }
+        requires read { IsReadPage (encode_utf8_all text) read }
         requires places { HasPlaces read }
         ensures ok { IfOk result (λ p. (open_page text ≡ Ok p.page) × (p.session ≡ session_of p.page sites)) }
         ensures counted { steps.old ≤ steps.new }
