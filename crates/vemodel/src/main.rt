@@ -49,13 +49,7 @@ fn run_all<L: Ledger>(rt: &HostRuntime, blank: Blank) -> Status
     let mut steps: Steps<L> = Steps::start(rt, blank);
     let mut source = ReadSource::new(rt.stdin());
     let mut sink = WriteSink::new(rt.stdout());
-    run_program(
-        alloc,
-        words.as_slice(),
-        &mut source,
-        &mut sink,
-        &mut steps,
-    )
+    run_program(alloc, words.as_slice(), &mut source, &mut sink, &mut steps)
 }
 
 fn main(rt: HostRuntime) -> ExitCode {

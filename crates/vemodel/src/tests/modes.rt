@@ -112,18 +112,14 @@ fn is_as_said(rt: &HostRuntime, case: &Case) -> Result<bool, Memory> {
     let mut source = MemSource::new(Bytes::new(alloc), Cuts::new(alloc), Calls::new(alloc));
     let mut room = [0u8; ROOM];
     let mut sink = MemSink::new(&mut room, Calls::new(alloc));
-    let status = run_all::<Brand>(
-        rt,
-        Blank::new(1),
-        words.as_slice(),
-        &mut source,
-        &mut sink,
-    );
+    let status = run_all::<Brand>(rt, Blank::new(1), words.as_slice(), &mut source, &mut sink);
     let written = sink.held();
-    Ok(status == case.status
-        && written.len() == case.len
-        && written.starts_with(case.begins)
-        && written.ends_with(case.ends))
+    Ok(
+        status == case.status
+            && written.len() == case.len
+            && written.starts_with(case.begins)
+            && written.ends_with(case.ends),
+    )
 }
 
 #[test]
