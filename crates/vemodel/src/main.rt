@@ -1,20 +1,26 @@
 //! The program: a script from standard input, its replies to standard output.
 //!
-//! It calls `run_program` on the words, standard input and standard output, and ends with the status's number. Standard input and output are adapted
-//! here (`adapters`) in a few lines: each error raises a count, so `run`'s clauses on faults hold of them. What a
-//! terminal or a pipe gave or got is known to no clause, and a stored run of the program shows it. Nothing else may
-//! touch the outside.
+//! It calls `run_program` on the words, standard input and standard output, and ends with the status's number. Standard
+//! input and output are adapted here (`adapters`) in a few lines: each error raises a count, so the clauses on faults hold
+//! of them. `run_all` says of each reader and writer of std that tell their bytes that the promise holds with these lines in
+//! between. What a terminal or a pipe gave or got is known to no clause, nor what the words were: the one generic body is
+//! the evidence for it, and a stored run shows it. Nothing else may touch the outside.
 #![tactic(auto)]
 
 mod adapters;
 #[cfg(test)]
 mod tests;
 
-ghost use Rattle.std.specs.Prelude.{◌≡◌};
+ghost use Rattle.std.specs.Prelude.{◌≡◌, [], Some, IfSome};
+ghost use Rattle.std.specs.Io.KnownBytes.{Appends};
+ghost use Rattle.model_world.specs.World.{Closed, output_of};
+ghost use Rattle.ve_run.specs.Asked.{IsRun};
+ghost use Rattle.ve_run.specs.Ended.{EndsByLength};
+ghost use Rattle.ve_run.specs.Run.{NoFaults};
 
 use adapters::{ReadSource, WriteSink};
 use std::env;
-use std::io::ErrorKind;
+use std::io::{ErrorKind, Read, Write};
 use std::marker::Brand;
 use std::process::ExitCode;
 use std::sync::ledger::{Blank, Ledger};
@@ -36,22 +42,36 @@ fn words(rt: &HostRuntime) -> Result<Vec<Text>, Memory> {
     Ok(words)
 }
 
-/// Runs the program on standard input and output.
-fn run_all<L: Ledger>(rt: &HostRuntime, blank: Blank) -> Status
+/// Runs the program on a reader and a writer of std. It alone owns the steps, and `run_program` the world.
+fn run_all<R: Read + Drop, W: Write + Drop, L: Ledger>(
+    rt: &HostRuntime,
+    words: &[Text],
+    source: &mut ReadSource<R>,
+    sink: &mut WriteSink<W>,
+    blank: Blank,
+) -> Status
     requires name { blank.name ≡ L.name }
     requires parts { blank.parts ≡ L.parts }
     requires one { blank.parts ≡ 1 }
+    // Where reader and writer tell their bytes, what the definitions write for the script is written, and nothing else.
+    ensures headline { IsRun words.now → result ≡ Status.Done → IfSome (R.remaining source.old.reader) (λ script.
+        Appends (W.contents sink.old.writer) (W.contents sink.new.writer) (output_of Closed script)
+        × (R.remaining source.new.reader ≡ Some [])) }
+    // It doesn't give up by itself.
+    ensures complete { IsRun words.now → NoFaults source.old.faults source.new.faults sink.old.faults sink.new.faults
+        → IfSome (R.remaining source.old.reader) (λ script. EndsByLength script result) }
 {
-    let Ok(words) = words(rt) else {
-        return Status::Memory;
-    };
-    let alloc = rt.alloc();
     let mut steps: Steps<L> = Steps::start(rt, blank);
-    let mut source = ReadSource::new(rt.stdin());
-    let mut sink = WriteSink::new(rt.stdout());
-    run_program(alloc, words.as_slice(), &mut source, &mut sink, &mut steps)
+    run_program(rt.alloc(), words, source, sink, &mut steps)
 }
 
 fn main(rt: HostRuntime) -> ExitCode {
-    ExitCode::from(run_all::<Brand>(&rt, Blank::new(1)).number())
+    let Ok(words) = words(&rt) else {
+        return ExitCode::from(Status::Memory.number());
+    };
+    let mut source = ReadSource::new(rt.stdin());
+    let mut sink = WriteSink::new(rt.stdout());
+    let blank = Blank::new(1);
+    let status = run_all::<_, _, Brand>(&rt, words.as_slice(), &mut source, &mut sink, blank);
+    ExitCode::from(status.number())
 }
