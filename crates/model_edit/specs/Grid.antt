@@ -17,7 +17,7 @@ use Rattle.model_edit.specs.Causes.{TableCause, NotTable, Crooked}
 abbrev pub children_of : List Kind → List PlainItem → ℕ → List Open
 children_of kinds items at = filter (λ (node : Open). is_among kinds node.kind) (children items at)
 
--- a tr's place, and how many rows its section has from it on
+-- a tr's position, and how many rows its section has from it on
 pub record TableRow : Type 0 where
   pub at : ℕ
   pub left : ℕ
@@ -90,7 +90,7 @@ placed items before row end cell =
       columns = cell_span (codes "colspan") max_column_span (slice_get items cell.from);
     }
 
--- it covers a place that an earlier one covers, or passes the last row of its section
+-- it covers a position that an earlier one covers, or passes the last row of its section
 abbrev pub is_crooked : (left : ℕ) → List GridCell → GridCell → Bool
 is_crooked left before cell = nat_lt left cell.rows || list_any (cells_meet cell) before
 

@@ -1,4 +1,4 @@
--- What the law tells of the open nodes of a list.
+-- Open nodes of a list, as the law tells them.
 use Rattle.std.specs.Prelude.{slice_get}
 use Rattle.std.proofs.Common.{inl, inr, ◌⊎◌, Result, ◌≡◌, ℕ, zero, suc, ◌+◌, ◌<◌, ◌≤◌, Bool, true, false, not, ◌&&◌, ◌||◌, if◌then◌else◌, nat_lt, List, [], ◌∷◌, ◌++◌, length, map, take, drop, Option, Some, Ok, Err, refl, sym, ap, ◌∙◌, subst, arith, append-nil, zero-add, add-one}
 use Rattle.std.proofs.lemmas.Bool.{cases_Bool, and_parts, and_from, ltb-true, lt-ltb}
@@ -137,7 +137,8 @@ pub slice_get-at : (items : List PlainItem) (x : PlainItem) (rest : List PlainIt
 slice_get-at [] x rest = refl
 slice_get-at (y ∷ items) x rest = slice_get-at items x rest
 
--- Just past the partner of each open node, innermost first: the items so far, and those up to its closing.
+-- Just past the partner of each open node, innermost first: the items so far, and those up to its
+-- closing.
 abbrev pub Ends : ℕ → List PlainItem → List Open → Type 0
 Ends depth done [] = Unit {0}
 Ends depth done (node ∷ nodes) =
@@ -273,8 +274,9 @@ opened_leads s k may other = choose (nat_lt (length s.stack) 100)
           | inr many ↦ inr (0, rw (may, many))
         ]
 
--- The items begin with what stands inside a node of kind k, under the nodes `inner` that are open in it, and its closing.
--- What stands inside may stand so in any node that holds the same, no deeper.
+-- The items begin with what stands inside a node of kind k, under the nodes `inner` that are open
+-- in it, and its closing. What stands inside may stand so in any node that holds the same, no
+-- deeper.
 pub record Closes (inner outer : List Kind) (k : Kind) (items : List PlainItem) : Type 0 where
   pub inside : List PlainItem
   pub pre : List ℕ
@@ -462,7 +464,7 @@ node_parts items at kind head marks pre origin generated lawful h =
     ∙ ap (λ v. at + suc (length v)) c.whole ∙ ap (λ n. at + suc n) (length-append c.inside (Closing kind c.pre ∷ c.rest)) in
     record { before = p.0; reached = p.1; allowed = (q.0, q.1); closed = c; its_partner = far; within = omega arith }
 
--- the place of an item is in the list
+-- the position of an item is in the list
 pub slice_get-within : (items : List PlainItem) (n : ℕ) (x : PlainItem) → slice_get items n ≡ Some x → n < length items
 slice_get-within [] n x h = cc
 slice_get-within (y ∷ items) zero x h = omega arith

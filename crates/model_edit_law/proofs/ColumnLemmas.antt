@@ -167,7 +167,8 @@ module _ (gone : ℕ) where
           ap (λ o. list_any (meet a') (cons_option o (fmc all))) f.1
           ∙ or_from (meet a' f.0) _ (false_from_ne_true (meet a' f.0) (λ t. true≢false (sym (meet_narrow a a' b f.0 x f.2 t) ∙ m))) rest
 
-  -- From the end of the cell before on: the new place is not after the old one, and what lies between is covered.
+  -- From the end of the cell before on: the new position is not after the old one, and what lies
+  -- between is covered.
   record Seam (row end end' : ℕ) (before : List Rectangle) : Type 0 where
     pub low : (d : ℕ) → Slid end d → end' ≤ d
     pub filled : (k c : ℕ) → Beside k c → end' ≤ k → c < end → covered before row c ≡ true
@@ -275,7 +276,7 @@ module _ (gone : ℕ) where
   AllIn row [] = Unit {0}
   AllIn row (r ∷ all) = (r.row ≡ row) × AllIn row all
 
-  -- What a row adds, and what it adds without the column.
+  -- The rectangles that a row adds, and those that it adds without the column.
   record Row (row left end' : ℕ) (B C : List Rectangle) : Type 0 where
     pub more : List Rectangle
     pub whole : C ≡ B ++ more
@@ -361,7 +362,7 @@ module _ (gone : ℕ) where
   From-append row [] (r ∷ ys) a f = let l = f.0 in (omega arith, From-append row [] ys tt f.1)
   From-append row (r ∷ xs) ys a f = let e = a.0 in (omega arith, From-append row xs ys a.1 f)
 
-  -- What all rows add, and what they add without the column.
+  -- The rectangles that all rows add, and those that they add without the column.
   record Rest (lines : List Line) (row : ℕ) (B R : List Rectangle) : Type 0 where
     pub later : List Rectangle
     pub whole : R ≡ B ++ later

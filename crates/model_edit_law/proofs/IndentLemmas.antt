@@ -1,4 +1,5 @@
--- Moving a list item deeper keeps characters and leaves in order, and leaves a lawful list, but for nesting.
+-- Moving a list item deeper keeps characters and leaves in order, and leaves a lawful list, but for
+-- nesting.
 use Rattle.std.proofs.Common.{◌≡◌, ◌⊎◌, inl, inr, ℕ, zero, suc, ◌+◌, ◌-◌, Bool, true, false, cond, if◌then◌else◌, List, [], ◌∷◌, ◌++◌, length, take, drop, Option, Some, None, Result, Ok, Err, refl, sym, ap, ◌∙◌, subst, arith, length-append}
 use Rattle.std.specs.Prelude.{filter, slice_get}
 use Rattle.std.proofs.lemmas.Bool.{and_parts, and_from, cases_Bool}

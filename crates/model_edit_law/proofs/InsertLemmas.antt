@@ -85,14 +85,14 @@ if_ok_else false e r t h = (refl, h)
 sub-zero_lem : (n : ℕ) → n - 0 ≡ n
 sub-zero_lem n = omega arith
 
--- the list with items put in at one place
+-- the list with items put in at one position
 pub edited-put : (items : List PlainItem) (at : ℕ) (new : List PlainItem) → at ≤ length items →
     edited (transaction_of items (Change at 0 new ∷ [])) items ≡ take at items ++ (new ++ drop at items)
 edited-put items at new h =
     edited-transaction_from 0 items (Change at 0 new ∷ []) (omega arith, omega arith)
     ∙ ap (λ n. take n items ++ (new ++ drop n items)) (sub-zero_lem at)
 
--- items put in at a place that lead back to the state there leave the list lawful
+-- items put in at a position that lead back to the state there leave the list lawful
 pub put_lawful : (items : List PlainItem) (at : ℕ) (new : List PlainItem) → at ≤ length items → Lawful items →
     ((s : State) → after start (take at items) ≡ Ok s → after s new ≡ Ok s) →
     Lawful (edited (transaction_of items (Change at 0 new ∷ [])) items)

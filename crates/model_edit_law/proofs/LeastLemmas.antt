@@ -1,4 +1,5 @@
--- A cell's column is the least free one, however many cells were placed before; and which places are covered after a row is taken out.
+-- A cell's column is the least free one, however many cells were placed before; and which positions
+-- are covered after a row is taken out.
 use Rattle.std.specs.Prelude.{filter_map, fold}
 use Rattle.std.specs.List.{cons_option}
 use Rattle.std.proofs.Common.{map, ◌≡◌, ◌⊎◌, inl, inr, ℕ, zero, suc, ◌+◌, ◌-◌, ◌<◌, ◌≤◌, ◌==◌, Bool, true, false, ◌&&◌, ◌||◌, if◌then◌else◌, nat_lt, nat_le, List, [], ◌∷◌, Option, Some, None, refl, sym, ap, ◌∙◌, subst, arith}
@@ -8,7 +9,7 @@ use Rattle.model_edit.specs.Grid.{covers_row, covers_column, is_covered, first_f
 use Rattle.model_edit.specs.Layout.{Rectangle, has_row, has_column, without_row}
 use Rattle.model_edit_law.specs.Spans.{covered, free_from, width, rectangle_of, LowIn}
 
--- how many places from one on pass
+-- how many positions from one on pass
 abbrev count : (ℕ → Bool) → ℕ → ℕ → ℕ
 count p from zero = 0
 count p from (suc n) = (if p from then 1 else 0) + count p (suc from) n
@@ -33,7 +34,7 @@ count_or p q from (suc n) =
     by false true r = omega arith
     by false false r = omega arith
 
--- an interval has no more places than it is long
+-- an interval has no more positions than it is long
 count_interval : (on : Bool) (a w from n : ℕ) → (count (λ c. on && (nat_le a c && nat_lt c (a + w))) from n ≤ w) × (count (λ c. on && (nat_le a c && nat_lt c (a + w))) from n ≤ (a + w) - from)
 count_interval on a w from zero = (omega arith, omega arith)
 count_interval on a w from (suc n) =
@@ -71,7 +72,7 @@ count_covered (cell ∷ cells) row from n =
     let w = width_from (0 + cell.columns) cells in
     omega arith
 
--- the least place from one on that does not pass
+-- the least position from one on that does not pass
 pub record Least (p : ℕ → Bool) (from at : ℕ) : Type 0 where
   pub low : from ≤ at
   pub passed : (c : ℕ) → from ≤ c → c < at → p c ≡ true

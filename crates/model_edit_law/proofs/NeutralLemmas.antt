@@ -1,4 +1,5 @@
--- Edits that set attributes, or put items in the place of others that lead the same way, leave a lawful list lawful.
+-- Edits that set attributes, or put items in the place of others that lead the same way, leave a
+-- lawful list lawful.
 use Rattle.std.proofs.Common.{◌≡◌, ℕ, suc, ◌+◌, ◌-◌, List, [], ◌∷◌, ◌++◌, length, take, drop, Ok, refl, sym, ap, ◌∙◌, subst, arith, zero-add}
 use Rattle.std.proofs.lemmas.List.{take-append-drop}
 use Rattle.model_items.specs.declared.plain_item.PlainItem.{PlainItem}
@@ -45,7 +46,7 @@ after_neutral (Set place name to ∷ edits) at items s u n h =
     after_whole (take (place - at) items) (substituted_from place new edits) s p.0 u p.1
     (after_neutral edits place new p.0 u n (same_after (setting name to rest) p.0 rest ∙ p.2))
 
--- the same, of places of the whole list
+-- the same, of positions of the whole list
 abbrev pub EachNeutral : List PlainItem → List Edit → Type 0
 EachNeutral whole [] = Unit {0}
 EachNeutral whole (Change place count inserted ∷ edits) =

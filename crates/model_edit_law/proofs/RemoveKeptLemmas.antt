@@ -70,7 +70,7 @@ all_close-Closing : (m : ℕ) (kind : Kind) (pre : List ℕ) (items : List Plain
 all_close-Closing zero kind pre items h = refl
 all_close-Closing (suc d) kind pre items h = h
 
--- What stays leads where the items lead, with the nodes that go left out of the stack.
+-- The items that stay lead where the items lead, with the nodes that go left out of the stack.
 pub stays_lead : (items : List PlainItem) (at : ℕ) (inner outer : List Kind) (seen : Bool) (t : State) → all_close (length inner) items ≡ true →
     list_any is_internal_bracket items ≡ false → after (state_of (inner ++ outer) seen) items ≡ Ok t →
     after (state_of outer seen) (map item_of (stays (length inner) at items)) ≡ Ok t
@@ -251,7 +251,7 @@ last_internal (Closing kind pre) [] s f n h =
     let z : (if false then false else false) ≡ true = ap (λ v. if v then false else false) (sym other) ∙ m.1 in
     cc
 
--- the items at places that pass
+-- the items at positions that pass
 abbrev pub picked : (ℕ → Bool) → ℕ → List PlainItem → List PlainItem
 picked u at [] = []
 picked u at (x ∷ items) = cond (u at) (x ∷ picked u (at + 1) items) (picked u (at + 1) items)

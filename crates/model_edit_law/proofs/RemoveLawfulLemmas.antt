@@ -29,7 +29,7 @@ use Rattle.model_edit.specs.Remove.{is_bad_removal, Join, join_by, join_at, remo
 use Rattle.model_edit_law.proofs.RemoveLemmas.{if_ok_else}
 use Rattle.model_edit_law.proofs.RemoveKeptLemmas.{Stay, place_of, item_of, stays, stays_lead, through_none, first_stay, last_internal, picked, Both, Outer, walk}
 
--- edits from a later place on leave the first item
+-- edits from a later position on leave the first item
 skip_one : (edits : List Edit) (at end : ℕ) (x : PlainItem) (items : List PlainItem) → Rising (at + 1) end edits →
     substituted_from at (x ∷ items) edits ≡ x ∷ substituted_from (at + 1) items edits
 skip_one [] at end x items h = refl
@@ -64,7 +64,7 @@ picked_stays u (x ∷ items) rest at =
           ap (λ n. take n (x ∷ L) ++ ([] ++ substituted_from (at + 1) (drop 1 (drop n (x ∷ L))) (map (λ n. Change n 1 []) E))) z ∙ later)
     ]
 
--- nodes that opened before a place
+-- nodes that opened before a position
 abbrev Before : ℕ → List Open → Type 0
 Before at [] = Unit {0}
 Before at (n ∷ nodes) = (n.from < at) × Before at nodes
@@ -240,7 +240,8 @@ joining (Some (Closing k pre)) (Some (Closing l pre')) closing j h = cc
 some_item : {x y : PlainItem} → ◌≡◌ {A = Option PlainItem} (Some x) (Some y) → x ≡ y
 some_item h = cc
 
--- the two states round a range of which a closing and an opening stay, and where the second branch ends
+-- the two states round a range of which a closing and an opening stay, and where the second branch
+-- ends
 record Meeting (items : List PlainItem) (from to : ℕ) (p : Parts items from to) (j : Join) : Type 0 where
   pub base : List Kind
   pub before : p.before ≡ state_of (j.first ∷ base) (p.before).seen

@@ -49,7 +49,7 @@ skip_first (Set place name to ∷ edits) at end x items h =
     let e : place - at ≡ suc (place - suc at) = omega arith in
     ap (λ n. take n (x ∷ items) ++ substituted_from place (on_first (item_changed (setting name to (drop n (x ∷ items)))) (drop n (x ∷ items))) edits) e
 
--- what is put in at a place leads on from the state there
+-- what is put in at a position leads on from the state there
 abbrev EachLed : List PlainItem → List Edit → Type 0
 EachLed whole [] = Unit {0}
 EachLed whole (Change place count inserted ∷ edits) =

@@ -21,7 +21,7 @@ use Rattle.model_edit.specs.Causes.{TableCause, NotTable}
 use Rattle.ve_base.specs.Limits.{max_row_span}
 use Rattle.model_edit.specs.Grid.{children_of, TableRow, section_rows, table_rows, row_cells, placed, is_crooked, number_after, decimal_number, span_by, span_in, cell_span, with_row, with_rows, Grid, grid_with, grid}
 
--- a node of the kind begins at the place
+-- a node of the kind begins at the position
 pub record Opens (items : List PlainItem) (kind : Kind) (at : ℕ) : Type 0 where
   pub head : Head
   pub marks : List Mark
@@ -39,7 +39,7 @@ opens_there items kind head marks pre origin generated at lawful h =
     let far = p.its_partner in
     record { head = head; marks = marks; pre = pre; origin = origin; generated = generated; here = h; ahead = omega arith; within = p.within }
 
--- nodes side by side, from one place to another
+-- nodes side by side, from one position to another
 abbrev pub Kids : List PlainItem → (low high : ℕ) → List Open → Type 0
 Kids items low high [] = low ≤ high
 Kids items low high (n ∷ nodes) = (low ≤ n.from) × Opens items n.kind n.from × Kids items (end_of_node items n.from) high nodes

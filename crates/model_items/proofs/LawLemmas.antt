@@ -1,4 +1,4 @@
--- The law of the piece, and that what follows a place decides the state there.
+-- The law of the piece, and that what follows a position decides the state there.
 use Rattle.std.proofs.Common.{◌≡◌, ℕ, suc, ◌+◌, ◌≤◌, Bool, true, false, not, ◌&&◌, ◌||◌, if◌then◌else◌, nat_lt, List, [], ◌∷◌, ◌++◌, length, Some, None, Result, Ok, Err, refl, sym, ap, ◌∙◌, subst, inl, inr, arith, zero-add, one-add}
 use Rattle.std.proofs.lemmas.Bool.{and_parts, cases_Bool, not-true}
 use Rattle.std.proofs.lemmas.List.{length-append}
@@ -129,7 +129,7 @@ joined-ok n (Ok t) f u h = (t, refl, moved_ok (f t) h)
     moved_ok (Ok v) h = h
     moved_ok (Err e) h = cc
 
--- what follows a place decides the state there
+-- what follows a position decides the state there
 pub after-injective : StateDecided
 after-injective [] s t u p q = Ok-same {E = LawFault} s u p ∙ sym (Ok-same {E = LawFault} t u q)
 after-injective (x ∷ items) s t u p q =
@@ -179,7 +179,7 @@ place_of-fault_moved : (n : ℕ) (f : LawFault) → fault_place (fault_moved n f
 place_of-fault_moved n (Unlawful at) = refl
 place_of-fault_moved n (TooDeep at) = refl
 
--- an offence of one item has place 0
+-- an offence of one item has position 0
 abbrev AtOnce : Result State LawFault → Type 0
 AtOnce r = (f : LawFault) → r ≡ Err f → fault_place f ≡ 0
 

@@ -23,7 +23,8 @@ opened_parts s u k h =
     let q = if_ok (nat_lt (length s.stack) 100) _ _ u p.1 in
     (p.0, ltb-true (length s.stack) 100 q.0, Ok-same {E = LawFault} (record { stack = k ∷ s.stack; seen = s.seen || kind_same k InternalList }) u q.1)
 
--- the forest here and those after each open node stand where they may, and nest no deeper than allowed
+-- the forest here and those after each open node stand where they may, and nest no deeper than
+-- allowed
 abbrev Levels : List Kind → Forest → List Forest → Type 0
 Levels [] here outer = AllHeld Root here × (nesting here ≤ 100)
 Levels (k ∷ ks) here [] = ⊥

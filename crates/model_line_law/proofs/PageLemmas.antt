@@ -1,4 +1,5 @@
--- The page that lines open is UTF-8: its text is a string of a line. So what is said of pages that are UTF-8 holds of each.
+-- The page that lines open is UTF-8: its text is a string of a line. So what is said of pages that
+-- are UTF-8 holds of each.
 use Rattle.std.proofs.Common.{◌≡◌, ℕ, Bool, true, false, if◌then◌else◌, List, [], ◌∷◌, Option, Some, None, Result, Ok, Err, bytes_eq, refl, sym, subst, IsUtf8, Ordering}
 use Rattle.std.specs.Prelude.{codes, map, length, nat_lt, encode_utf8_all, option_and_then, IfSome, IfOk}
 use Rattle.std.specs.Str.{all_scalars}

@@ -1,6 +1,7 @@
--- Lists of the form that reading back speaks of: what has a spelling of its own, and nothing that is kept whole.
--- br and img are the only leaves, the internal list is empty, marks and whitespace stand only where they are written, and no element would be
--- read as one that is held.
+-- Lists of the form that reading back speaks of. Each item has a spelling of its own, and nothing
+-- is kept whole. br and img are the only leaves, and the internal list is empty. Marks and
+-- whitespace stand only where they are written, and no element would be read as one that is kept
+-- whole.
 use Rattle.std.specs.Prelude.{◌≡◌, ℕ, Bool, true, false, ◌||◌, List, [], ◌∷◌, Option, Some, None, is_some, if◌then◌else◌, codes, bytes_eq, encode_utf8_all}
 use Rattle.std.specs.List.{list_any}
 use Rattle.std.specs.Str.{all_scalars}
@@ -54,7 +55,8 @@ pub record IsHead (h : Head) : Type 0 where
 
 -- ---- items
 
--- An opening of a leaf br or img, with characters' marks, or of a branch without marks; there is no internal item.
+-- An opening of a leaf br or img, with characters' marks, or of a branch without marks; there is no
+-- internal item.
 pub record IsFormedOpening (kind : Kind) (h : Head) (marks : List Mark) (pre : List ℕ) : Type 0 where
   pub head : IsHead h
   pub white : is_white pre ≡ true

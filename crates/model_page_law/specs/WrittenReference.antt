@@ -9,7 +9,8 @@ use Rattle.model_page_write.specs.Nodes.{Start}
 use Rattle.model_page_write.specs.Written.{Writer, ref_text}
 use Rattle.model_page_law.specs.Formed.{said}
 
--- Its tag, these children, and attributes which, decoded, say what the head's say, with the composed text for the `data-mw`.
+-- Its tag, these children, and attributes which, decoded, say what the head's say, with the
+-- composed text for the `data-mw`.
 pub record IsWrittenAs (w : Writer) (s : Start) (children : Forest) : Type 0 where
   pub attrs : List Spelled
   pub text_is : ref_text w s ≡ spelling (Element (encode_utf8_all s.head.tag) attrs children Nothing)
@@ -21,7 +22,8 @@ abbrev pub ReferenceIsWritten : Type 0
 ReferenceIsWritten =
     (w : Writer) (s : Start) (children : Forest) → spelling children ≡ encode_utf8_all s.head.raw → IsWrittenAs w s children
 
--- So what the element says is of the same group and name, and has the body that the reference carries, where a forest spells the body's text.
+-- So what the element says is of the same group and name, and has the body that the reference
+-- carries, where a forest spells the body's text.
 abbrev pub ReferenceHasBody : Type 0
 ReferenceHasBody =
     (w : Writer) (s : Start) (children : Forest) (written : IsWrittenAs w s children) (r : RefRead) (html : List ℕ) (f : Forest) →

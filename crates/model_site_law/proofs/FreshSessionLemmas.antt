@@ -1,4 +1,5 @@
--- Over every list of events: a site that has taken nothing and has nothing pending has its first list and store.
+-- Over every list of events: a site that has taken nothing and has nothing pending has its first
+-- list and store.
 use Rattle.std.proofs.Common.{◌≡◌, ℕ, zero, suc, ◌+◌, ◌≤◌, List, [], ◌∷◌, ◌++◌, length, take, replicate, slice_get, Option, Some, None, Result, Ok, Err, ◌<◌, refl, sym, ap, ◌∙◌, subst, arith}
 use Rattle.std.proofs.lemmas.List.{append_assoc, append-nil}
 use Rattle.ve_base.specs.declared.value.Value.{Value}

@@ -1,4 +1,5 @@
--- What holds of each item that is opened or inserted holds of each item of every list: transactions that are undone, joined and taken back insert nothing else.
+-- A property of each item that is opened or inserted holds of each item of every list. Transactions
+-- that are undone, joined and taken back insert nothing else.
 use Rattle.std.specs.List.{AllByRecursion}
 use Rattle.std.proofs.Common.{◌≡◌, ℕ, zero, suc, ◌<◌, ◌==◌, Bool, true, false, if◌then◌else◌, List, [], ◌∷◌, ◌++◌, length, map, take, drop, replicate, slice_get, Option, Some, None, Result, Ok, Err, refl, sym, ap, ◌∙◌, subst, arith}
 use Rattle.std.proofs.lemmas.List.{append_assoc, append-nil, take-append-drop}

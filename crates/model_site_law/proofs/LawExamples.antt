@@ -52,7 +52,8 @@ abbrev is_char : PlainItem → Bool
 is_char (Char c marks) = true
 is_char _ = false
 
--- what is performed is asked for its inserted items alone: the removal passes any test, and of what is undone nothing is asked
+-- what is performed is asked for its inserted items alone: the removal passes any test, and of what
+-- is undone nothing is asked
 one_letter : Inserts is_char (Perform 0 (removal ∷ insertion 1 3 ∷ [])) × Inserts (λ item. false) (Perform 0 (removal ∷ [])) × Inserts (λ item. false) (Undo 0)
 one_letter = ((tt, ((refl, tt), tt)), (tt, tt), tt)
 

@@ -1,4 +1,4 @@
--- What always holds of a site with its queues is kept by what the site does.
+-- The invariant of a site with its queues is kept by what the site does.
 use Rattle.std.proofs.Common.{◌≡◌, ℕ, suc, ◌+◌, List, [], ◌∷◌, ◌++◌, length, take, Option, Some, None, Ok, refl, sym, ap, ◌∙◌, subst}
 use Rattle.std.proofs.lemmas.List.{append_assoc, append-nil, length-append}
 use Rattle.model_items.specs.declared.plain_item.PlainItem.{PlainItem}

@@ -1,4 +1,4 @@
--- What each change of a replica and each cut of its store keeps, is kept by every event.
+-- A property that each change of a replica and each cut of its store keeps, is kept by every event.
 use Rattle.std.proofs.Common.{◌≡◌, ℕ, suc, Bool, true, false, ◌&&◌, ◌==◌, nat_lt, if◌then◌else◌, List, [], ◌∷◌, ◌++◌, length, take, drop, slice_get, Some, Ok, refl, sym, ap, ◌∙◌, subst, append-nil}
 use Rattle.std.proofs.lemmas.List.{take-append-drop}
 use Rattle.ve_base.specs.declared.value.Value.{Value}

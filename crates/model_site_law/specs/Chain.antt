@@ -15,9 +15,9 @@ abbrev pub needed_values : List Transaction → List Value
 needed_values [] = []
 needed_values (t ∷ ts) = cited (all_removed t) ++ needed_values ts
 
--- Over pending entries in order, from a list and with a least number: the numbers of the store rise; what an entry's undo needs is in
--- the store up to its second number; and where the first is the lower one, the store up to it has all that the list before the entry
--- cites.
+-- Pending entries in order, from a list and with a least number. The numbers of the store rise, and
+-- what an entry's undo needs is in the store up to its second number. Where the first is the lower
+-- one, the store up to it has all that the list before the entry cites.
 abbrev pub Chain : (store : List Value) → (least : ℕ) → List PlainItem → List Entry → Type 0
 Chain store least items [] = least ≤ length store
 Chain store least items (e ∷ es) =

@@ -1,4 +1,4 @@
--- What rectangles cover when a column is put in: each is moved, or one wider, or stays.
+-- The area that rectangles cover when a column is put in: each is moved, or one wider, or stays.
 use Rattle.std.specs.Prelude.{filter, nat_le}
 use Rattle.std.specs.List.{list_any}
 use Rattle.std.proofs.Common.{◌≡◌, ◌⊎◌, inl, inr, ℕ, zero, suc, ◌+◌, ◌-◌, ◌<◌, ◌≤◌, Bool, true, false, not, ◌&&◌, ◌||◌, if◌then◌else◌, nat_lt, List, [], ◌∷◌, ◌++◌, map, refl, sym, ap, ◌∙◌, subst, arith}
@@ -117,7 +117,8 @@ module _ (c : ℕ) where
           ap (λ b. nat_le r'.column c && b) (no_less c (r'.column + r'.columns) (omega arith)) ∙ and_no (nat_le r'.column c)
           ∙ sym (ap (λ b. nat_lt r.column c && (nat_le r.column c && b)) (no_less c (r.column + r.columns) (omega arith)) ∙ ap (λ b. nat_lt r.column c && b) (and_no (nat_le r.column c)) ∙ and_no (nat_lt r.column c))
 
-  -- What the rectangles so far cover, and what they cover with the column; in the rows from one on no new cell stands.
+  -- The area that the rectangles so far cover, and that which they cover with the column. In the
+  -- rows from one on no new cell stands.
   pub record Twin (from : ℕ) (B B' : List Rectangle) : Type 0 where
     pub left : (row k : ℕ) → k < c → covered B' row k ≡ covered B row k
     pub right : (row k : ℕ) → c ≤ k → covered B' row (suc k) ≡ covered B row k

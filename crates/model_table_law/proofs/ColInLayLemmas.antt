@@ -18,7 +18,7 @@ EachDeep [] = Unit {0}
 EachDeep (line ∷ lines) = (1 ≤ line.left) × EachDeep lines
 
 module _ (c : ℕ) where
-  -- the next free place at or right of the column
+  -- the next free position at or right of the column
   beyond_new : (row from end end' a : ℕ) (B B' : List Rectangle) → Twin c from B B' → Least (covered B row) end a → c ≤ a → end' ≤ suc a → ((k : ℕ) → end' ≤ k → k ≤ c → covered B' row k ≡ true) →
       ((j : ℕ) → end' ≤ suc j → c ≤ j → end ≤ j) → free_from B' row end' (width B') ≡ suc a
   beyond_new row from end end' a B B' t l at low filled from_end =
@@ -49,7 +49,7 @@ module _ (c : ℕ) where
   none_grows [] row a = refl
   none_grows (r ∷ more) row a = ap (λ b. ((b && has_column r c) && has_row r row) || grown c more row) (no_less r.column c a.0) ∙ none_grows more row a.1
 
-  -- What a row adds right of the column, and what it adds then.
+  -- The rectangles that a row adds right of the column, and those that it adds then.
   record RightRow (row left end' : ℕ) (B B' C : List Rectangle) : Type 0 where
     pub more : List Rectangle
     pub whole : C ≡ B ++ more
@@ -104,7 +104,7 @@ module _ (c : ℕ) where
       right_moved (inr (inl x)) = absurd (let x0 = x.0 in omega arith)
       right_moved (inr (inr x)) = absurd (let x0 = x.0 in omega arith)
 
-  -- What a row adds, and what it adds with the column.
+  -- The rectangles that a row adds, and those that it adds with the column.
   record RowWith (row left end' : ℕ) (B B' C : List Rectangle) : Type 0 where
     pub more : List Rectangle
     pub whole : C ≡ B ++ more
@@ -311,7 +311,8 @@ module _ (c : ℕ) where
           ∙ (λ j. Some ((B' ++ its j) ++ flat_map (row_with c R) (range_with_len (z j) (length lines))))
           ∙ ap Some (append_assoc B' (row_with c R row) rest)
 
-  -- Where each row covers the columns before, the rows with the column lay out the rectangles with it.
+  -- Where each row covers the columns before, the rows with the column lay out the rectangles with
+  -- it.
   pub col_in_lays : (lines : List Line) (all : List Rectangle) → EachSome lines → EachDeep lines → ((row k : ℕ) → row < length lines → k < c → covered all row k ≡ true) →
       lay 0 lines (Some []) ≡ Some all → lay 0 (lines_with c all 0 lines) (Some []) ≡ Some (flat_map (row_with c all) (range_with_len 0 (length lines)))
   col_in_lays lines all some deep full h =

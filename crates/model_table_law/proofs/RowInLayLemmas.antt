@@ -10,7 +10,8 @@ use Rattle.model_edit_law.proofs.LayLemmas.{meet_numbers, next_row}
 use Rattle.model_edit_law.proofs.LeastLemmas.{placed_least, least_one}
 use Rattle.model_table_law.proofs.RowInMoveLemmas.{Shift, moved_alike, has_column_same, any_append, Each, Each-append, rect, row_moved}
 
--- Lines above the row that is put in: a cell that reaches it is one higher, and a line has rows enough left for it.
+-- Lines above the row that is put in: a cell that reaches it is one higher, and a line has rows
+-- enough left for it.
 abbrev pub span_with : (row j : ℕ) → CellSpan → CellSpan
 span_with row j s = if nat_lt row (j + s.rows) then record s { rows = suc s.rows } else s
 
@@ -126,7 +127,7 @@ single = record { rows = 1; columns = 1 }
 abbrev pub not_at : (ℕ → Bool) → (from n : ℕ) → List ℕ
 not_at test from n = filter (λ column. not (test column)) (range_with_len from n)
 
--- a cell of one row and one column meets no other where its place is not covered
+-- a cell of one row and one column meets no other where its position is not covered
 single_apart : (row column : ℕ) (all : List Rectangle) → covered all row column ≡ false → list_any (meet (one_by_one row column)) all ≡ false
 single_apart row column [] h = refl
 single_apart row column (r ∷ all) h =

@@ -1,4 +1,5 @@
--- What is covered, and what meets, where a row is put in among rectangles; and a line laid there.
+-- The area that is covered, and what meets, where a row is put in among rectangles; and a line laid
+-- there.
 use Rattle.std.specs.List.{list_any}
 use Rattle.std.proofs.Common.{◌≡◌, ◌⊎◌, inl, inr, ℕ, suc, ◌+◌, ◌<◌, ◌≤◌, Bool, true, false, ◌&&◌, ◌||◌, if◌then◌else◌, nat_lt, nat_le, List, [], ◌∷◌, ◌++◌, map, Some, None, refl, sym, ap, ◌∙◌, subst, arith, append-nil}
 use Rattle.std.proofs.lemmas.Bool.{cases_Bool, and_parts, and_from, or_parts, or_from, leb-true, ltb-true, leb-false, ltb-false, le-leb, lt-ltb, false_from_ne_true, true≢false}

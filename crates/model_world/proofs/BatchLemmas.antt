@@ -45,7 +45,7 @@ whole_from (c ∷ cs) (t ∷ ts) i r m = ap (with_first i r cs) m.0 ∙ ap (with
 pub whole_is_batch : WholeIsBatch
 whole_is_batch r cmds ts m = whole_from cmds ts 0 r m
 
--- counted from the place i on
+-- counted from the position i on
 pub record StopsFrom (i : ℕ) (r : Replica) (cmds : List Change) (f : BatchRefusal) : Type 0 where
   pub past : ℕ
   pub place : f.at ≡ i + past

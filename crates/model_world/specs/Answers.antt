@@ -1,4 +1,4 @@
--- What a site's request is answered, and what becomes of the session.
+-- The reply to a site's request, and the session after it.
 use Rattle.std.specs.Prelude.{ℕ, suc, ◌+◌, ◌==◌, min, max, chars, nat_lt, Bool, true, false, ◌||◌, if◌then◌else◌, List, [], ◌∷◌, ◌++◌, length, slice_range, Option, Some, None, unwrap_or, Result, Ok, Err}
 use Rattle.model_items.specs.declared.plain_item.PlainItem.{PlainItem}
 use Rattle.model_items.specs.declared.plain_item.PlainItem.TheVariants.{Char}
@@ -113,7 +113,7 @@ abbrev pub edge_or : ℕ → Option ℕ → Result ℕ Refusal
 edge_or at None = Err (Edge at)
 edge_or at (Some place) = Ok place
 
--- the next place of a caret
+-- the next position of a caret
 abbrev pub next_place : List PlainItem → ℕ → Dir → By → Result ℕ Refusal
 next_place items at dir by = elim (is_content items at) [
   | false ↦ Err (NotContent at)
@@ -138,7 +138,7 @@ abbrev pub up_to : ℕ → Result ℕ Refusal → Result Selection Refusal
 up_to at (Err refusal) = Err refusal
 up_to at (Ok place) = Ok (between at place)
 
--- what is erased: the selection, or from the caret to its next place
+-- the range to erase: the selection, or from the caret to its next position
 abbrev pub to_erase : Replica → Dir → By → Result Selection Refusal
 to_erase r dir by = elim (is_collapsed r.selection) [
   | false ↦ Ok r.selection

@@ -104,7 +104,7 @@ changes =
     ∷ (codes "apply", apply_read)
     ∷ []
 
--- what reads the command that `do` names
+-- the reader of the command that `do` names
 abbrev pub reader_in : {A : Type 0} → List (List ℕ × Reader A) → Members → Option (Reader A)
 reader_in rows members = option_and_then (word_in rows) (get_member (field_name field.Do) members)
 

@@ -1,4 +1,4 @@
--- What a line of a script asks.
+-- Commands of a script's lines.
 use Rattle.std.specs.Prelude.{ℕ, ◌&&◌, nat_le, false, if◌then◌else◌, List, [], ◌∷◌, length, map, codes, Bool, Option, Some, None, option_map, Result, Ok, Err}
 use Rattle.ve_base.specs.Limits.{max_batch, max_sites}
 use Rattle.serde_json.specs.Data.{Data, object, Members}
@@ -31,7 +31,7 @@ at_read asked members = do
   at ← needed field.At number_in members
   Ok (asked at)
 
--- a table's place and a row or a column of it
+-- a table's position and a row or a column of it
 abbrev pub table_read : Field → (ℕ → ℕ → Request) → Reader Request
 table_read line asked members = do
   at ← needed field.At number_in members
@@ -153,6 +153,6 @@ abbrev pub command_or_refusal : Option Data → Result Command Refusal
 command_or_refusal None = Err BadJson
 command_or_refusal (Some json) = command_in json
 
--- what a line asks, or why it asks nothing
+-- the command of a line, or why it is none
 abbrev pub command : List ℕ → Result Command Refusal
 command line = command_or_refusal (line_json line)

@@ -33,7 +33,8 @@ use Rattle.model_world.specs.Refusals.{refused_as, html_refusal, build_refusal, 
 abbrev pub built : Result Transaction BuildCause → Result Transaction Refusal
 built result = refused_as build_refusal result
 
--- ---- fragments: the offset is judged first, then the spelling, then the marks, and then the insertion
+-- ---- fragments: the offset is judged first, then the spelling, then the marks, and then the
+-- insertion
 
 abbrev pub forest_inserted : List PlainItem → ℕ → Forest → Result Transaction Refusal
 forest_inserted items at forest = elim (fragment_limit (stack_at items at) forest) [
@@ -62,7 +63,8 @@ needs (op.Retain count ∷ ops) = count + needs ops
 needs (op.Remove count insert ∷ ops) = count + needs ops
 needs (op.Attr name to ∷ ops) = needs ops
 
--- an attribute of the first item, with its old value; where an attribute that is removed stood is found when it is performed
+-- an attribute of the first item, with its old value; where an attribute that is removed stood is
+-- found when it is performed
 abbrev pub set_first : List ℕ → Option (List ℕ) → List PlainItem → AttrChange
 set_first name to items = record { name = name; from = present_value name items; to = to; kept = None }
 
@@ -112,7 +114,7 @@ change_on r c = allowed r (change_of r.items c)
 
 -- ---- batches
 
--- the place of the first change that is refused, and why
+-- the position of the first change that is refused, and why
 pub record BatchRefusal : Type 0 where
   pub at : ℕ
   pub refusal : Refusal

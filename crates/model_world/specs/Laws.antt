@@ -1,4 +1,5 @@
--- The laws of the plain machine: refusals change nothing, and a batch is all of its changes or none.
+-- The laws of the plain machine: refusals change nothing, and a batch is all of its changes or
+-- none.
 use Rattle.std.specs.Prelude.{◌≡◌, ℕ, Bool, true, false, List, [], ◌∷◌, take, slice_get, Some, Ok, Err}
 use Rattle.model_change.specs.Transaction.{Transaction}
 use Rattle.model_site.specs.Replica.{Replica, performed, all_performed}
@@ -13,7 +14,8 @@ is_refusal (No refusal) = true
 is_refusal (NoBatch at refusal) = true
 is_refusal _ = false
 
--- Where the reply to a line is a refusal, the world stays as it is, whatever the world and the line.
+-- Where the reply to a line is a refusal, the world stays as it is, whatever the world and the
+-- line.
 abbrev pub RefusalsChangeNothing : Type 0
 RefusalsChangeNothing = (w : World) (line : List ℕ) → is_refusal (reply w line).0 ≡ true → (reply w line).1 ≡ w
 
@@ -33,7 +35,8 @@ BatchIsWhole = (r : Replica) (cmds : List Change) (ts : List Transaction) → ba
 abbrev pub WholeIsBatch : Type 0
 WholeIsBatch = (r : Replica) (cmds : List Change) (ts : List Transaction) → MadeInTurn cmds ts r → batch_on r cmds ≡ Ok ts
 
--- Else it is refused at the first change that is refused once those before it are made, and for the same cause.
+-- Else it is refused at the first change that is refused once those before it are made, and for the
+-- same cause.
 pub record StopsAt (r : Replica) (cmds : List Change) (f : BatchRefusal) : Type 0 where
   pub made : List Transaction
   pub in_turn : MadeInTurn (take f.at cmds) made r

@@ -5,7 +5,7 @@ use Rattle.model_world.specs.declared.field.Field.{Field}
 use Rattle.model_world.specs.Names.{field_name}
 use Rattle.model_world.specs.Values.{member_in, member_or}
 
--- what reads the members of a command
+-- readers of the members of a command
 abbrev pub Reader : Type 0 → Type 0
 Reader A = Members → Result A Field
 
@@ -27,7 +27,7 @@ needed field read members = or_bad field (member_in (field_name field) read memb
 abbrev pub defaulted : {A : Type 0} → Field → A → (Data → Option A) → Reader A
 defaulted field default read members = or_bad field (member_or (field_name field) default read members)
 
--- what is made of what was read
+-- a reader whose result is mapped
 abbrev pub made : {A B : Type 0} → (A → B) → Reader A → Reader B
 made f read members = do
   x ← read members

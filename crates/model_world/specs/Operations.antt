@@ -1,4 +1,5 @@
--- The operations of a transaction, as a line writes them. What they remove, and the old values of attributes, are the list's.
+-- The operations of a transaction, as a line writes them. What they remove, and the old values of
+-- attributes, are the list's.
 use Rattle.std.specs.Prelude.{◌+◌, Bool, true, false, not, ◌&&◌, nat_lt, List, [], ◌∷◌, length, codes, Option, Some, None, option_map}
 use Rattle.serde_json.specs.Data.{Data, Members}
 use Rattle.serde_json.specs.Find.{get_member, as_object}
@@ -34,7 +35,8 @@ op_in json = do
   members ← as_object json
   op_by members (get_member (codes "retain") members) (get_member (codes "remove") members)
 
--- The normal form, as of transactions: no two retains or removals are neighbours, and the attributes set at one place have different names and are followed by a retain.
+-- The normal form, as of transactions. No two retains or removals are neighbours. The attributes
+-- set at one position have different names and are followed by a retain.
 abbrev pub word_may_precede : OpWords → List OpWords → Bool
 word_may_precede (Retain count) (Retain other ∷ ops) = false
 word_may_precede (Retain count) _ = true

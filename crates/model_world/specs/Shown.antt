@@ -56,7 +56,8 @@ key_text (Auto n) = codes "a:" ++ decimal n
 abbrev pub key_shown : RefKey → Data
 key_shown key = json_list (json_text key.group ∷ json_text (key_text key.key) ∷ [])
 
--- ---- brackets: each member but the first stands only where it is not empty; members stand in the order of their names
+-- ---- brackets: each member but the first stands only where it is not empty; members stand in the
+-- order of their names
 
 abbrev pub with_text : List ℕ → List ℕ → Members → Members
 with_text name [] members = members
@@ -105,7 +106,8 @@ abbrev pub run_shown : List Mark → List ℕ → Data
 run_shown [] text = json_text text
 run_shown (m ∷ marks) text = json_list (json_text text ∷ marks_shown (m ∷ marks) ∷ [])
 
--- the items from a place on: a run of characters with equal marks and what follows it, or what begins with no character
+-- the items from a position on: a run of characters with equal marks and what follows it, or what
+-- begins with no character
 pub data Shown : Type 0 where
   Together : (marks : List Mark) (text : List ℕ) (later : List Data) → Shown
   Apart : (later : List Data) → Shown

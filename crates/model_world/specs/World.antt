@@ -27,8 +27,8 @@ Answer = Result (Reply × World) Reply
 
 -- ---- the answer to a line
 
--- The causes of a refusal come in this order: the line's length, JSON, the first bad member, no page, no such site, and then
--- those of the request.
+-- The causes of a refusal come in this order: the line's length, JSON, the first bad member, no
+-- page, no such site, and then those of the request.
 
 abbrev pub opened_or_no : ℕ → Result Opened Refusal → Answer
 opened_or_no sites (Err refusal) = Err (No refusal)
@@ -69,7 +69,8 @@ reply w line = settled w (answer w line)
 
 -- ---- scripts
 
--- The plain machine: the reply to a line and the world after it. It links no nodes, so it counts no steps.
+-- The plain machine: the reply to a line and the world after it. It links no nodes, so it counts no
+-- steps.
 abbrev pub meaning : Meaning World Reply
 meaning = record { reply = λ w line. (reply w line).0; next = λ w line. (reply w line).1; cost = λ w line. 0 }
 
@@ -77,6 +78,6 @@ meaning = record { reply = λ w line. (reply w line).0; next = λ w line. (reply
 abbrev pub world_after : World → List (List ℕ) → World
 world_after w lines = state_after meaning w lines
 
--- what is written for a script: each reply as a line
+-- the output for a script: each reply as a line
 abbrev pub output_of : World → List ℕ → List ℕ
 output_of w script = output reply_text meaning w script

@@ -13,7 +13,8 @@ pub enum TextMarks {
     Plain,
 }
 
-/// An operation as it is written. The items that it removes, and the old value of an attribute, are the list's.
+/// An operation as it is written. The items that it removes, and the old value of an attribute, are
+/// the list's.
 #[derive(Drop)]
 pub enum OpWords {
     /// Passes so many items.
@@ -27,7 +28,7 @@ pub enum OpWords {
 /// Operations, in order.
 pub type OpWordList = ListOf<OpWords>;
 
-/// A change of the page: what a batch may hold. Offsets, places and ranges count items.
+/// A change of the page: what a batch may hold. Offsets, positions and ranges count items.
 #[derive(Drop)]
 pub enum Change {
     /// `text`: types characters, at least one.

@@ -1,4 +1,5 @@
--- Every change that was read gives, on every sound list, a reduced transaction that puts in names apart; and a page that opens is a sound list.
+-- Every change that was read gives, on every sound list, a reduced transaction that puts in names
+-- apart; and a page that opens is a sound list.
 use Rattle.std.proofs.Common.{◌≡◌, ℕ, zero, suc, ◌+◌, ◌≤◌, ◌==◌, Bool, true, false, not, ◌&&◌, nat_lt, List, [], ◌∷◌, length, take, drop, Option, Some, None, Result, Ok, Err, refl, ap, ◌∙◌, subst, arith}
 use Rattle.std.specs.Prelude.{encode_utf8_all, unwrap_or}
 use Rattle.std.proofs.lemmas.Bool.{and_parts, and_from, eqb-true}

@@ -1,4 +1,4 @@
--- What each change that was read inserts may stand, and so may the items of a page that opens.
+-- The items that a read change inserts may stand, and so may the items of a page that opens.
 use Rattle.std.proofs.Common.{◌≡◌, ℕ, Bool, true, false, ◌==◌, List, [], ◌∷◌, drop, length, Option, Some, None, Result, Ok, Err, refl, sym, ap, ◌∙◌, subst}
 use Rattle.std.specs.List.{list_all}
 use Rattle.std.specs.Prelude.{IsUtf8, encode_utf8_all, unwrap_or}

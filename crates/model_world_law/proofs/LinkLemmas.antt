@@ -262,7 +262,7 @@ moved_leads a s keep (Ok at) stands = selects a s (between (if keep then (replic
     by true = s.selection.anchor
     by false = stands at refl
 
--- a caret's next place is one of its content branch
+-- a caret's next position is one of its content branch
 place_stands : (items : List PlainItem) (at : ℕ) (dir : Dir) (by : By) (to : ℕ) → Lawful items → next_place items at dir by ≡ Ok to → selection.EndStands items to
 place_stands items at dir by to lawful h = in_content (is_content items at) refl h
   where

@@ -1,4 +1,4 @@
--- What each edit inserts may stand, where the list's items may and those that are given.
+-- The items that each edit inserts may stand, where the list's items may and those that are given.
 use Rattle.std.specs.Prelude.{codes, filter, find, flat_map, nat_le, nat_lt, slice_get}
 use Rattle.std.specs.List.{AllByRecursion, enumerate_from, list_all, list_any, range_with_len}
 use Rattle.std.proofs.Common.{◌≡◌, inl, inr, ◌≤◌, ℕ, zero, suc, ◌-◌, ◌==◌, Bool, true, false, not, ◌&&◌, if◌then◌else◌, List, [], ◌∷◌, ◌++◌, length, map, reverse, take, Option, Some, None, Result, Ok, refl, sym, ap, ◌∙◌, subst, arith}

@@ -1,4 +1,5 @@
--- Items that a line writes may stand: they are characters and elements, with at most 64 marks. So may the nodes that a wrap puts in.
+-- Items that a line writes may stand: they are characters and elements, with at most 64 marks. So
+-- may the nodes that a wrap puts in.
 use Rattle.std.specs.Prelude.{codes, nat_le, option_and_then}
 use Rattle.std.proofs.Common.{◌≡◌, ℕ, true, false, List, [], ◌∷◌, length, Option, Some, None, refl}
 use Rattle.serde_json.specs.Data.{Data, Members, array, boolean, null, number, object, string}

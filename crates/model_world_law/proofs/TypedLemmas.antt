@@ -118,7 +118,7 @@ was_suc : (m n : ℕ) → one_more m ≡ suc n → (k : ℕ) × (m ≡ suc k) ×
 was_suc zero n h = cc
 was_suc (suc m) n h = let e = bumped (suc m == 0) (suc m) n h in (m, refl, sym e)
 
--- the item before the place after the last character is one
+-- the item before the position after the last character is one
 abbrev IsChar : List PlainItem → ℕ → Type 0
 IsChar items n = (c : ℕ) × (marks : List Mark) × (slice_get items n ≡ Some (Char c marks))
 
@@ -201,7 +201,7 @@ prefix_get [] ys n x h = cc
 prefix_get (z ∷ xs) ys zero x h = h
 prefix_get (z ∷ xs) ys (suc n) x h = prefix_get xs ys n x h
 
--- the place after the last character that a transaction puts in
+-- the position after the last character that a transaction puts in
 abbrev pub suffix : Transaction → ℕ
 suffix t = first t + to_last_char (all_inserted t)
 
@@ -230,7 +230,7 @@ put_at_stands items at pieces t within h lawful (Some j) e =
     subst (λ u. selection.EndStands (edited u items) (suffix u)) same
     (put_stands items at new within (reopened_has_char (take j (openings_at items at)) pieces h) (subst (λ u. Lawful (edited u items)) (sym same) lawful))
 
--- Typed text stands in the new list, and so does the place after it.
+-- Typed text stands in the new list, and so does the position after it.
 pub typed_stands : (items : List PlainItem) (at : ℕ) (marks : List Mark) (text : List ℕ) (t : Transaction) → 0 < length text → insertion items at (text_pieces marks text) ≡ Ok t → Lawful (edited t items) →
     selection.EndStands (edited t items) (suffix t)
 typed_stands items at marks text t some h lawful =

@@ -1,4 +1,4 @@
--- What reading a line makes sure of: what each command's members say is well written.
+-- Lines that are read: each command's members are well written.
 use Rattle.std.proofs.Common.{◌≡◌, ℕ, ◌<◌, true, false, List, [], ◌∷◌, length, map, Option, Some, None, Result, Ok, Err, subst}
 use Rattle.std.specs.Prelude.{bytes_eq}
 use Rattle.std.proofs.lemmas.Bool.{ltb-true}

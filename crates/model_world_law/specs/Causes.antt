@@ -1,4 +1,5 @@
--- No refusal is told for want of memory, which is no cause, or for an item that differs, which never comes. So `store_full` tells of the store alone.
+-- No refusal is told for want of memory, which is no cause, or for an item that differs, which
+-- never comes. So `store_full` tells of the store alone.
 use Rattle.std.specs.Prelude.{◌≡◌, ◌<◌, ℕ, length, Result, Ok, Err}
 use Rattle.ve_base.specs.Limits.{max_values}
 use Rattle.model_change.specs.Transaction.{Transaction}
@@ -23,7 +24,7 @@ abbrev pub StoreFullIsFull : Type 0
 StoreFullIsFull = (r : Replica) (c : Change) → IsWritten c → Sound r.items → change_on r c ≡ Err StoreFull →
     FillsStore r (change_of r.items c)
 
--- what a call on a table or on a list item gives is refused for a full store
+-- the result of a call on a table or on a list item is refused for a full store
 abbrev pub IsFullFor : {E : Type 0} → (E → Refusal) → Replica → Result Transaction E → Type 0
 IsFullFor named r given = allowed r (refused_as named given) ≡ Err StoreFull
 

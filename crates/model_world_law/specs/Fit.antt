@@ -1,4 +1,5 @@
--- What the layers below the world make sure of: lines are read as written, what they ask gives transactions that are reduced and put in names apart, and pages open as sound lists.
+-- Promises of the layers below the world. Lines are read as written. Their commands give
+-- transactions that are reduced and put in names apart. Pages open as sound lists.
 use Rattle.std.specs.Prelude.{◌≡◌, ◌<◌, ℕ, true, List, [], ◌∷◌, length, Ok, IsUtf8}
 use Rattle.model_items.specs.declared.plain_item.PlainItem.{PlainItem}
 use Rattle.model_change.specs.Attributes.{AllNamesApart}

@@ -21,7 +21,8 @@ use Rattle.model_edit.specs.declared.wrap_plan.WrapPlan.{WrapPlan}
 abbrev pub has_few_marks : PlainItem → Bool
 has_few_marks item = nat_le (length (item_marks item)) max_marks
 
--- a reference has its key and is editable, an internal item has its key, and no item has more than 64 marks
+-- a reference has its key and is editable, an internal item has its key, and no item has more than
+-- 64 marks
 abbrev pub may_stand : PlainItem → Bool
 may_stand item = item_refers item && has_few_marks item
 

@@ -10,7 +10,8 @@ use std::marker::Model;
 use std::sync::ledger::Ledger;
 use ve_base::{Memory, Steps};
 
-/// Nodes under numbers that the arena picks. It is seen as a list of slots: the node under each number from 0 on, or nothing.
+/// Nodes under numbers that the arena picks. It is seen as a list of slots: the node under each
+/// number from 0 on, or nothing.
 #[derive(Drop)]
 pub struct Arena {
     nodes: Slab<ArenaNode>,
@@ -43,8 +44,8 @@ impl Arena {
         &self.nodes[n.0]
     }
 
-    /// A new node without links and of length 0, under a number that had no node. It is one step, also where there is no memory for it; then the
-    /// arena is as before.
+    /// A new node without links and of length 0, under a number that had no node. It is one step,
+    /// also where there is no memory for it; then the arena is as before.
     pub fn make<L: Ledger>(
         &mut self,
         what: NodeWhat,

@@ -21,7 +21,7 @@ IsFullFor free piece = (free ≡ 0) × (0 < length piece)
 abbrev pub FailsAt : Fill → List ℕ → Type 0
 FailsAt fill piece = Contains fill.fails fill.calls ⊎ IsFullFor fill.free piece
 
--- what fits of a piece was taken
+-- as much of a piece as fits was taken
 abbrev pub after_write : Fill → List ℕ → Fill
 after_write fill piece = record {
   held = fill.held ++ take fill.free piece;

@@ -1,4 +1,4 @@
--- What a scanner waits for, as its contract sees it.
+-- The mode of a scanner, as its contract sees it: what it waits for.
 use Rattle.ve_html_scan.specs.declared.scanner.Mode.{Mode}
 use Rattle.ve_html_scan.specs.declared.scanner.Mode.TheVariants as lent
 use Rattle.model_spelling.specs.Reading as g

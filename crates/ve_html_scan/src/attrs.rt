@@ -1,4 +1,4 @@
-//! Attributes of a start tag. `tag` is the place of its `<`.
+//! Attributes of a start tag. `tag` is the position of its `<`.
 
 ghost use Rattle.std.specs.Prelude.{◌≡◌, ◌≤◌, ◌<◌, ◌+◌, ◌-◌, ◌++◌, ◌==◌, ◌||◌, ℕ, List, [], not, length, drop, slice_range, slice_index, IfOk};
 ghost use Rattle.std.specs.List.{flat_map, prefix_len};
@@ -47,7 +47,7 @@ fn attr_name(bytes: &[u8], tag: usize, place: usize) -> Result<usize, ScanFault>
     Ok(to)
 }
 
-/// Where the value ends that begins at that place, just after its quote.
+/// Where the value ends that begins at that position, just after its quote.
 fn attr_value(bytes: &[u8], tag: usize, from: usize) -> Result<usize, ScanFault>
     requires bound { from ≤ length bytes.now }
     requires quote { 0 < from }
@@ -59,7 +59,7 @@ fn attr_value(bytes: &[u8], tag: usize, from: usize) -> Result<usize, ScanFault>
     characters_end(bytes, from, bytes[from - 1], Some(unclosed))
 }
 
-/// The end of a start tag: whether there is a `/`, and the place after the `>`.
+/// The end of a start tag: whether there is a `/`, and the position after the `>`.
 #[tactic(auto, using(crate::proofs::AttrSteps::close_steps))]
 pub fn tag_end(bytes: &[u8], tag: usize, void: bool, at: usize) -> Result<(bool, usize), ScanFault>
     requires { at ≤ length bytes.now }
@@ -96,7 +96,8 @@ pub fn is_quote(b: u8) -> bool
     b == b'"' || b == b'\''
 }
 
-/// Where the attributes end that begin at that place, just after the tag's name. `names` is room for their names.
+/// Where the attributes end that begin at that position, just after the tag's name. `names` is room
+/// for their names.
 pub fn attrs_end<'a>(
     bytes: &'a [u8],
     tag: usize,

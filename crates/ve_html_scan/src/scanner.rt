@@ -16,7 +16,7 @@ use model_spelling::{ScanFault, ScanWhat};
 use std::marker::Model;
 use ve_kinds::is_raw_name;
 
-/// What a scanner waits for.
+/// The mode of a scanner: what it waits for.
 #[derive(Clone, Copy)]
 pub enum Mode<'a> {
     Between,
@@ -211,7 +211,8 @@ impl<'a> Scanner<'a> {
 
     /// The next token; none at the end. After a fault each later call answers it again.
     pub fn next(&mut self) -> Result<Option<Token<'a>>, ScanFault>
-        // The token is what reading the rest of the text gives, and its parts are lent from there.
+        // The token is what reading the rest of the text gives, and its parts are borrowed from
+        // there.
         ensures read { Gives self.old.text self.old.at result (next_of self.old) }
         // The scanner stands after the token, or at its fault.
         ensures place { self.new ≡ scanner_after result self.old }

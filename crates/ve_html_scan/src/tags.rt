@@ -1,4 +1,4 @@
-//! Tokens that begin with `<`. `tag` is the place of that byte.
+//! Tokens that begin with `<`. `tag` is the position of that byte.
 
 ghost use Rattle.std.specs.Prelude.{◌≡◌, ◌≤◌, ◌<◌, ◌+◌, ◌-◌, length, drop, slice_range, slice_index, true, IfOk};
 ghost use Rattle.model_spelling.specs.Grammar.{is_barred, begins_with, is_letter, End, Comment, comment_close};

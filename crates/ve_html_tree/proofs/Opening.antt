@@ -1,4 +1,4 @@
--- What start and end tags make of the open elements.
+-- Start and end tags: their effect on the open elements.
 use Rattle.std.proofs.Common.{◌≡◌, ◌≢◌, ℕ, ◌-◌, Bool, true, false, cond, List, [], ◌∷◌, ◌++◌, map, length, get_or, Result, Ok, Err, OnOk, IfErr, refl, sym, ap, ◌∙◌, subst}
 use Rattle.std.proofs.lemmas.Bool.{ne_eqb}
 use Rattle.model_spelling.specs.Grammar.{name_same}

@@ -38,7 +38,7 @@ use Rattle.ve_html_tree.proofs.Making.{taken_all, makes}
 abbrev pub state_after : g.Token → ℕ → ScannerState → ScannerState
 state_after token to p = record { text = p.text; at = to; mode = mode_after token }
 
--- the token t comes from the place p
+-- the token t comes from the position p
 pub record Comes (p : ScannerState) (t : Placed) : Type 0 where
   pub is : next_of p ≡ Ok (Some (t.token, t.to))
   pub from : t.from ≡ p.at
@@ -73,11 +73,12 @@ stop_at_fault n p f e = ap (tokens_by p.at (on n p)) e
 abbrev pub fault_with : Tokens → List OpenElement → Option ForestFault
 fault_with ts os = fault_in ts.fault os ts.tokens
 
--- what is read from a place, where n is enough
+-- what is read from a position, where n is enough
 abbrev pub from_place : ℕ → ScannerState → Tokens
 from_place n p = tokens_from n p.mode p.at (drop p.at p.text)
 
--- The nodes show nodes of a forest, which the tokens that are left make those of the text; the first fault from here on, with these elements open, is that of the text.
+-- The nodes show nodes of a forest, which the tokens that are left make those of the text. The
+-- first fault from here on, with these elements open, is that of the text.
 pub record SoFar (text : List ℕ) (p : ScannerState) (nodes : List Node) (opened : Opened) : Type 0 where
   pub count : ℕ
   pub enough : length p.text - p.at < count

@@ -1,4 +1,4 @@
--- What the nodes show, as nodes are appended and ended.
+-- Nodes of the forest that are shown, as nodes are appended and ended.
 use Rattle.ve_kinds.specs.Tags.{is_void}
 use Rattle.ve_html_tree.specs.declared.open.Opened.{Opened}
 use Rattle.ve_html_tree.specs.Opened.{open_node_numbers_from, open_node_numbers, opens, LinkedFrom, AreLinked}

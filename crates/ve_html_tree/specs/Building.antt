@@ -1,4 +1,5 @@
--- What the tokens that were read have made: nodes of a forest, of which those of the open elements have no end yet.
+-- The nodes that the tokens so far have made: those of a forest, of which those of the open
+-- elements have no end yet.
 use Rattle.std.specs.Prelude.{ℕ, zero, suc, ◌+◌, ◌-◌, List, [], ◌∷◌, ◌++◌, length, if◌then◌else◌}
 use Rattle.model_spelling.specs.Grammar.{Token, Start, End, Chars, Raw, Comment}
 use Rattle.ve_kinds.specs.Tags.{is_void}
@@ -44,7 +45,8 @@ abbrev pub around : List ℕ → ℕ
 around [] = 0
 around (k ∷ ks) = k
 
--- What a token from these bytes makes of it. Until an element is closed, its node's `next` is the number of the element around it.
+-- The nodes after one more token, from these bytes. Until an element is closed, its node's `next`
+-- is the number of the element around it.
 abbrev pub taken : Token → ℕ → ℕ → Built → Built
 taken (Start name attrs slash) from to b =
     let next = if is_void name then length b.nodes + 1 else around b.open_ in

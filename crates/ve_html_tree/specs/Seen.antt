@@ -1,4 +1,4 @@
--- What the reader answers, as the definitions have it.
+-- Answers of the reader, as the definitions have it.
 use Rattle.std.specs.Prelude.{◌≡◌, List, Option, Some, None, Result, Ok, Err}
 use Rattle.model_spelling.specs.Faults as g
 use Rattle.ve_html_tree.specs.declared.fault.HtmlFault.{HtmlFault}

@@ -9,7 +9,7 @@ use crate::open::{Opened, close_element, open_element};
 use crate::{HtmlFault, Node};
 use ve_html_scan::Token;
 
-/// What a token does to the nodes and to the open elements.
+/// Takes a token: its effect on the nodes and on the open elements.
 pub fn take_token<'a>(
     nodes: &mut Vec<Node<'a>>,
     opened: &mut Opened,

@@ -14,9 +14,9 @@ use ve_base::MAX_OPEN_ELEMENTS;
 use ve_html_scan::{Span, Token};
 use ve_kinds::is_void_name;
 
-/// The elements that are open: how many, and the number of the innermost one's node. Until an element is
-/// closed, its node's `next` is the number of the node of the element around it; so the nodes are all the
-/// memory that reading takes.
+/// The elements that are open: how many, and the number of the innermost one's node. Until an
+/// element is closed, its node's `next` is the number of the node of the element around it. So the
+/// nodes are all the memory that reading takes.
 #[derive(Clone, Copy)]
 pub struct Opened {
     pub count: usize,

@@ -11,7 +11,7 @@ use crate::stack::Stack;
 use crate::table::Table;
 use model_items::Item;
 
-/// Takes items out from a place on. It takes no memory.
+/// Takes items out from a position on. It takes no memory.
 pub fn remove(
     before: &mut Table,
     after: &mut Stack,
@@ -78,7 +78,7 @@ fn insert_in_half(
     }
 }
 
-/// Puts items in at a place, in blocks of the pool. It takes no memory.
+/// Puts items in at a position, in blocks of the pool. It takes no memory.
 pub fn insert(
     before: &mut Table,
     after: &mut Stack,

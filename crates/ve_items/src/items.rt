@@ -1,4 +1,4 @@
-// A plain list of items, as it is lent to a splice or copied out of a page.
+// A plain list of items, as it is borrowed by a splice or copied out of a page.
 ghost use Rattle.std.specs.Prelude.{◌≡◌, ◌++◌, [], ◌∷◌, IfOk, OnOk, OnErr};
 
 use model_items::Item;

@@ -1,4 +1,4 @@
-// How blocks move between the stack before a place and the stack after it, whose top is nearest.
+// How blocks move between the stack before a position and the stack after it, whose top is nearest.
 ghost use Rattle.std.specs.Prelude.{◌≡◌, ◌≤◌, ◌<◌, ◌+◌, ◌/◌, ◌^◌, ◌++◌, ◌∷◌, [], length, take, drop, vec_len, vec_capacity};
 ghost use Rattle.std.specs.List.{All};
 ghost use Rattle.ve_items.specs.Blocks.{joined, IsBlock, AreBlocks};
@@ -12,8 +12,8 @@ use crate::table::Table;
 use model_items::Item;
 use ve_base::{FILLED_BLOCK, MAX_BLOCK};
 
-/// Puts a block after those before the place: into the last one where both fit into one. The block
-/// that is empty then goes to the pool.
+/// Puts a block after those before the position: into the last one where both fit into one. The
+/// block that is empty then goes to the pool.
 pub fn put(before: &mut Table, pool: &mut Vec<Block>, block: Block)
     requires rule { AreBlocks before.old.blocks }
     requires size { IsBlock block }
@@ -52,8 +52,8 @@ fn give_back(pool: &mut Vec<Block>, block: Block)
     prove!(kept);
 }
 
-/// Moves blocks from before the place to after it, until at most `at` items stand before it. Gives
-/// how many of the first block after it stand before `at`.
+/// Moves blocks from before the position to after it, until at most `at` items stand before it.
+/// Gives how many of the first block after it stand before `at`.
 pub fn seek(before: &mut Table, after: &mut Stack, at: usize) -> usize
     requires rule { AreBlocks before.old.blocks }
     requires closed { after.old.blocks ≡ [] }
@@ -77,7 +77,7 @@ pub fn seek(before: &mut Table, after: &mut Stack, at: usize) -> usize
     at - before.items()
 }
 
-/// Puts the blocks after the place after those before it.
+/// Puts the blocks after the position after those before it.
 pub fn gather(before: &mut Table, after: &mut Stack, pool: &mut Vec<Block>)
     requires rule { AreBlocks before.old.blocks }
     requires sizes { All IsBlock after.old.blocks }
@@ -98,7 +98,7 @@ pub fn gather(before: &mut Table, after: &mut Stack, pool: &mut Vec<Block>)
     }
 }
 
-/// Cuts the first block after the place, so that its first items stand before the place.
+/// Cuts the first block after the position, so that its first items stand before the position.
 pub fn cut(before: &mut Table, after: &mut Stack, pool: &mut Vec<Block>, offset: usize)
     requires rule { AreBlocks before.old.blocks }
     requires sizes { All IsBlock after.old.blocks }
@@ -140,7 +140,7 @@ pub fn cut(before: &mut Table, after: &mut Stack, pool: &mut Vec<Block>, offset:
     }
 }
 
-/// Puts items after those before the place, in blocks of the pool.
+/// Puts items after those before the position, in blocks of the pool.
 pub fn fill(before: &mut Table, pool: &mut Vec<Block>, items: &[Item])
     requires rule { AreBlocks before.old.blocks }
     requires room { length before.old.blocks + filled_blocks (length items.now) ≤ before.old.room }
@@ -167,8 +167,8 @@ pub fn fill(before: &mut Table, pool: &mut Vec<Block>, items: &[Item])
     }
 }
 
-/// Takes items out that begin `offset` items after the place. What stands before them in the first
-/// block stands before the place then.
+/// Takes items out that begin `offset` items after the position. What stands before them in the
+/// first block stands before the position then.
 pub fn take_out(
     before: &mut Table,
     after: &mut Stack,

@@ -85,7 +85,8 @@ impl Stack {
         self.blocks.pop()
     }
 
-    /// Parts a block: it keeps its first items, and a block that is put in after it gets the others. It takes no memory.
+    /// Parts a block: it keeps its first items, and a block that is put in after it gets the
+    /// others. It takes no memory.
     pub fn part(&mut self, k: usize, at: usize, second: Block)
         requires among { k < length self.old.blocks }
         requires within { at ≤ length (slice_index_or self.old.blocks k []) }

@@ -35,7 +35,7 @@ step_at_start s (Char ch marks) = elim (is_content_branch (law.top s.stack)) as 
 step_at_start s (Opening kind head marks pre origin generated) = opened_at_start s kind
 step_at_start s (Closing kind pre) = closed_at_start s.stack s.seen kind
 
--- the fault of one item has place 0
+-- the fault of one item has position 0
 pub place_of-step : (s : law.State) (item : Item) (fault : LawFault) → step s item ≡ Err fault → law.fault_place fault ≡ 0
 place_of-step s item fault h = subst IsAtStart h (step_at_start s (plain [] item))
 
@@ -76,7 +76,7 @@ stopped s t items n d fault within before now =
     ∙ ap (λ r. law.outcome_moved (length A) (law.followed 1 r (λ next. law.after next (plain_list [] (drop (suc n) items))))) now
     ∙ ap (λ k. Err (law.fault_moved k fault)) long
 
--- with places that are counted from before the list
+-- with positions that are counted from before the list
 pub stopped_at : (s t : law.State) (items : List Item) (at n : ℕ) (d : Item) (fault moved : LawFault) → n < length items → after s (take n items) ≡ Ok t
     → step t (get_or items n d) ≡ Err fault → (law.fault_place fault ≡ 0 → moved ≡ law.fault_moved (at + n) fault)
     → law.outcome_moved at (after s items) ≡ Err moved

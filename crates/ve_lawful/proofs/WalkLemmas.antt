@@ -1,4 +1,4 @@
--- Going on by a lent piece of a list.
+-- Going on by a borrowed piece of a list.
 use Rattle.std.proofs.Common.{◌≡◌, ℕ, ◌+◌, ◌-◌, ◌≤◌, List, [], ◌++◌, length, take, drop, slice_range, Ok, Err, Some, Result, sym, ap, ◌∙◌, arith, append_assoc, take-append-drop, length-take-le}
 use Rattle.std.proofs.Math.Seq.{take-add}
 use Rattle.std.proofs.lemmas.List.{map-append, length-map}

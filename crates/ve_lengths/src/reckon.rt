@@ -5,7 +5,8 @@ ghost use Rattle.ve_lengths.specs.Starts.{AreStarts, RaisedFrom};
 /// How many lengths stand in a group.
 pub const GROUP: usize = 16;
 
-/// Reckons the starts anew from a group on, which starts at `start`; those before it stand. Gives the sum of all lengths. It takes no memory.
+/// Reckons the starts anew from a group on, which starts at `start`; those before it stand. Gives
+/// the sum of all lengths. It takes no memory.
 pub fn reckon(lens: &[usize], starts: &mut Vec<usize>, group: usize, start: usize) -> usize
     requires before { (g : ℕ) → g < group → slice_index starts.old.items g ≡ sum (take (16 * g) lens.now) }
     requires start { start ≡ sum (take (16 * group) lens.now) }

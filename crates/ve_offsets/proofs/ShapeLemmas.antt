@@ -1,4 +1,5 @@
--- The law along what a tree writes out: whole nodes leave the open kinds as they are, and the kinds name the flag.
+-- The law along what a tree writes out: whole nodes leave the open kinds as they are, and the kinds
+-- name the flag.
 use Rattle.std.proofs.Common.{◌≡◌, ℕ, zero, suc, ◌≤◌, Bool, true, false, not, ◌&&◌, ◌||◌, if◌then◌else◌, List, [], ◌∷◌, ◌++◌, length, map, take, replicate, Result, Ok, Err, refl, sym, ap, ◌∙◌, subst, arith}
 use Rattle.std.proofs.Math.Seq.{take-append_seam}
 use Rattle.std.proofs.lemmas.Bool.{and_parts}
@@ -74,7 +75,8 @@ level (Branch kind inside later) s t h =
     outer : (k : Kind) (xs ys : List Kind) → ◌≡◌ {A = List Kind} (k ∷ xs) (k ∷ ys) → xs ≡ ys
     outer k xs ys e = cc
 
--- the flag where something is open: whether the outermost kind is the internal list, which stands nowhere else
+-- the flag where something is open: whether the outermost kind is the internal list, which stands
+-- nowhere else
 abbrev pub SeenBy : List Kind → Bool → Type 0
 SeenBy [] seen = Unit {0}
 SeenBy (k ∷ []) seen = seen ≡ kind_same k InternalList

@@ -38,7 +38,8 @@ replicate-add : (m n : ℕ) (x : Shape) → replicate (m + n) x ≡ replicate m 
 replicate-add zero n x = let e : 0 + n ≡ n = omega arith in ap (λ k. replicate k x) e
 replicate-add (suc m) n x = let e : suc m + n ≡ suc (m + n) = omega arith in ap (λ k. replicate k x) e ∙ ap (λ xs. x ∷ xs) (replicate-add m n x)
 
--- The walk has passed shapes that lead to the state, and the siblings of a forest are still to be passed, `left` items before the offset.
+-- The walk has passed shapes that lead to the state, and the siblings of a forest are still to be
+-- passed, `left` items before the offset.
 pub record OnTheWay (slots : Slots) (items : List PlainItem) (o : ℕ) (state : State) (next : Option NodeId) (left : ℕ) (f : Named) : Type 0 where
   pub pre : List Shape
   pub rest : List Shape

@@ -87,7 +87,8 @@ fn search(doc: Doc<'_>, o: usize) -> Option<usize>
     }
 }
 
-/// The content offset nearest to an offset, the lower one of two at the same distance, and none where the list has none.
+/// The content offset nearest to an offset, the lower one of two at the same distance, and none
+/// where the list has none.
 pub fn nearest_content(doc: Doc<'_>, o: usize) -> Option<usize>
     requires doc { IsDoc doc }
     requires within { o ≤ length doc.list.now.items }

@@ -43,7 +43,8 @@ fn with_items(counts: (usize, usize), items: &[Item]) -> (usize, usize)
     now
 }
 
-/// How many closings and openings of a range are unmatched: their partners are not in it. It reads the items of the range, and no other.
+/// How many closings and openings of a range are unmatched: their partners are not in it. It reads
+/// the items of the range, and no other.
 pub fn unmatched(doc: Doc<'_>, from: usize, to: usize) -> (usize, usize)
     requires doc { IsDoc doc }
     requires order { from ≤ to }

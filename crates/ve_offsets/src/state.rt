@@ -47,7 +47,8 @@ fn finished() -> State
     }
 }
 
-/// Enters the nodes round a node from the outermost in, and then the node itself; of the root nothing. There are at most so many of them.
+/// Enters the nodes round a node from the outermost in, and then the node itself; of the root
+/// nothing. There are at most so many of them.
 fn enter_round(state: &mut State, doc: Doc<'_>, n: NodeId, levels: usize)
     requires doc { IsDoc doc }
     requires start { state.old ≡ law.start }
@@ -68,7 +69,8 @@ fn enter_round(state: &mut State, doc: Doc<'_>, n: NodeId, levels: usize)
     enter(state, kind);
 }
 
-/// The state before the list's end: the kinds of the nodes round the offset, entered from the root down.
+/// The state before the list's end: the kinds of the nodes round the offset, entered from the root
+/// down.
 fn state_within(doc: Doc<'_>, o: usize) -> State
     requires doc { IsDoc doc }
     requires within { o < length doc.list.now.items }
@@ -79,8 +81,9 @@ fn state_within(doc: Doc<'_>, o: usize) -> State
     state
 }
 
-/// The open kinds at an offset, and whether the internal list was opened before it: the law's state after the
-/// items before the offset. It goes up from the innermost node round the offset, and reads no item.
+/// The open kinds at an offset, and whether the internal list was opened before it: the law's state
+/// after the items before the offset. It goes up from the innermost node round the offset, and
+/// reads no item.
 pub fn state_at(doc: Doc<'_>, o: usize) -> State
     requires doc { IsDoc doc }
     requires within { o ≤ length doc.list.now.items }

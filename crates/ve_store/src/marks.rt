@@ -62,8 +62,8 @@ fn cited_marks<'v>(store: &'v Store, new: &'v NewValues, marks: Option<ValueId>)
     }
 }
 
-/// Cites the marks with one more, inside the others, or the same marks where an equal one is among them. An `Err`
-/// changes nothing.
+/// Cites the marks with one more, inside the others, or the same marks where an equal one is among
+/// them. An `Err` changes nothing.
 pub fn with_mark(
     alloc: Global,
     store: &Store,
@@ -90,7 +90,8 @@ pub fn with_mark(
     Ok(Some(id))
 }
 
-/// Cites the marks without each one that is equal to this, and nothing where none is left. An `Err` changes nothing.
+/// Cites the marks without each one that is equal to this, and nothing where none is left. An `Err`
+/// changes nothing.
 pub fn without_mark(
     alloc: Global,
     store: &Store,

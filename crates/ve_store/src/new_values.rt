@@ -11,7 +11,8 @@ use std::alloc::Global;
 use std::marker::Model;
 use ve_base::{Memory, Value, ValueId};
 
-/// A list of values that are to follow a store of a given length: the first one's place is that length.
+/// A list of values that are to follow a store of a given length: the first one's position is that
+/// length.
 #[derive(Drop)]
 pub struct NewValues {
     after: usize,
@@ -44,7 +45,7 @@ impl NewValues {
         self.values.len()
     }
 
-    /// The value at a place of the store and these values together.
+    /// The value at a position of the store and these values together.
     pub fn get<'v>(&'v self, store: &'v Store, id: ValueId) -> &'v Value
         requires follows { self.now.after ≡ length store.now }
         requires within { id.0 < length (together store.now self.now) }
@@ -57,8 +58,9 @@ impl NewValues {
         }
     }
 
-    /// The place of a value in the store and these values together; it is appended where it is in neither. An `Err`
-    /// changes nothing. A place that no `usize` names is a want of memory like any other.
+    /// The position of a value in the store and these values together; it is appended where it is
+    /// in neither. An `Err` changes nothing. A position that no `usize` names is a want of memory
+    /// like any other.
     pub fn id_of(&mut self, store: &Store, value: Value) -> Result<ValueId, Memory>
         requires { self.old.after ≡ length store.now }
         ensures place { IfOk result (λ id. id.0 ≡ position_or_len (value_same value) (together store.now self.old)) }

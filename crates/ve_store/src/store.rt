@@ -13,7 +13,7 @@ use std::alloc::Global;
 use std::marker::Model;
 use ve_base::{MAX_VALUES, Memory, TryCopy, Value, ValueId};
 
-/// A list of distinct values, which items cite by their places. A value is found by its hash.
+/// A list of distinct values, which items cite by their positions. A value is found by its hash.
 #[derive(Drop)]
 pub struct Store {
     values: IndexSet<Hashed>,
@@ -46,7 +46,7 @@ impl Store {
         self.values.len()
     }
 
-    /// The value at a place.
+    /// The value at a position.
     pub fn get(&self, id: ValueId) -> &Value
         requires { id.0 < length self.now }
         ensures { slice_get self.now id.0 ≡ Some result.now }
@@ -57,7 +57,7 @@ impl Store {
         }
     }
 
-    /// The place of a value, where it is there.
+    /// The position of a value, where it is there.
     pub(crate) fn find(&self, value: &Hashed) -> Option<usize>
         ensures place { IfSome result (λ place. place ≡ position_or_len (value_same value.now) self.now) }
         ensures stored { IfSome result (λ place. slice_get self.now place ≡ Some value.now) }
@@ -66,7 +66,7 @@ impl Store {
         self.values.get_index_of(value)
     }
 
-    /// The place of a value, which is appended where it isn't there. An `Err` changes nothing.
+    /// The position of a value, which is appended where it isn't there. An `Err` changes nothing.
     pub fn admit(&mut self, value: Value) -> Result<ValueId, Memory>
         ensures place { IfOk result (λ id. id.0 ≡ position_or_len (value_same value) self.old) }
         ensures stored { IfOk result (λ id. slice_get self.new id.0 ≡ Some value) }

@@ -1,4 +1,5 @@
-// Building the tree of a list, from the list's end to its start, so that each node is made at its end and becomes the first child of its parent.
+// Building the tree of a list, from the list's end to its start. So each node is made at its end
+// and becomes the first child of its parent.
 ghost use Rattle.std.specs.Prelude.{◌≡◌, ◌≢◌, ◌+◌, ◌-◌, ◌≤◌, ◌<◌, None, IfOk, OnOk, OnErr, IfSome, length};
 ghost use Rattle.model_items.specs.Law.{Lawful};
 ghost use Rattle.model_items.specs.Tree as forest;
@@ -57,8 +58,8 @@ fn pass_run(rest: &mut Unread<'_>) -> usize
     end - rest.left()
 }
 
-/// Reads the siblings that come next, and makes them the children of their parent, which has none yet. What
-/// is left ends with the parent's opening, or is nothing.
+/// Reads the siblings that come next, and makes them the children of their parent, which has none
+/// yet. What is left ends with the parent's opening, or is nothing.
 pub fn read_children<L: Ledger>(
     arena: &mut Arena,
     rest: &mut Unread<'_>,

@@ -10,9 +10,10 @@ use crate::Tree;
 use crate::mark::thicken;
 
 impl Tree {
-    /// Has the landmarks follow a change of the nodes, in which `len` items came for those between two places of
-    /// the list: what began between them is a landmark no more, what begins later has moved, and the gap is filled
-    /// again. To be called when the linked nodes are the tree of the new list.
+    /// Has the landmarks follow a change of the nodes, in which `len` items came for those between
+    /// two positions of the list. A node that began between them is a landmark no more, one that
+    /// begins later has moved, and the gap is filled again. To be called when the linked nodes are
+    /// the tree of the new list.
     pub fn follow(&mut self, from: usize, to: usize, len: usize)
         requires order { from ≤ to }
         requires tree { IsSomeTree self.old.arena self.old.root }
