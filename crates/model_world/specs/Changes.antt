@@ -13,7 +13,7 @@ use Rattle.model_world.specs.Names.{field_name}
 use Rattle.model_world.specs.Values.{such_that, number_in, source_in, text_in, text_or_null_in, is_some_text, word_in}
 use Rattle.model_world.specs.Attributes.{name_in, attrs_in, branch_in, kinds_in, shapes_in}
 use Rattle.model_world.specs.Operations.{ops_in}
-use Rattle.model_world.specs.Members.{Reader, ◌>>=◌, needed, defaulted}
+use Rattle.model_world.specs.Members.{Reader, ◌>>=◌, required_member, optional_member}
 
 abbrev pub some_text_in : Data → Option (List ℕ)
 some_text_in json = such_that is_some_text (text_in json)
@@ -27,66 +27,66 @@ text_marks_in = word_in ((codes "left", text_marks.Left) ∷ (codes "none", text
 
 abbrev pub text_read : Reader Change
 text_read members = do
-  at ← needed field.At number_in members
-  text ← needed field.Text some_text_in members
-  marks ← defaulted field.Marks text_marks.Left text_marks_in members
+  at ← required_member field.At number_in members
+  text ← required_member field.Text some_text_in members
+  marks ← optional_member field.Marks text_marks.Left text_marks_in members
   Ok (change.Text at text marks)
 
 abbrev pub insert_read : Reader Change
 insert_read members = do
-  at ← needed field.At number_in members
-  html ← needed field.Html some_source_in members
+  at ← required_member field.At number_in members
+  html ← required_member field.Html some_source_in members
   Ok (change.Insert at html)
 
 abbrev pub remove_read : Reader Change
 remove_read members = do
-  from ← needed field.From number_in members
-  to ← needed field.To number_in members
+  from ← required_member field.From number_in members
+  to ← required_member field.To number_in members
   Ok (change.Remove from to)
 
 abbrev pub split_read : Reader Change
 split_read members = do
-  at ← needed field.At number_in members
-  depth ← defaulted field.Depth 1 number_in members
+  at ← required_member field.At number_in members
+  depth ← optional_member field.Depth 1 number_in members
   Ok (change.Split at depth)
 
 -- `mark` and `unmark` have the same members
 abbrev pub mark_read : (ℕ → ℕ → base.Mark → Change) → Reader Change
 mark_read changed members = do
-  from ← needed field.From number_in members
-  to ← needed field.To number_in members
-  tag ← needed field.Tag text_in members
-  attrs ← defaulted field.Attrs [] attrs_in members
+  from ← required_member field.From number_in members
+  to ← required_member field.To number_in members
+  tag ← required_member field.Tag text_in members
+  attrs ← optional_member field.Attrs [] attrs_in members
   Ok (changed from to (record { tag = tag; attrs = attrs }))
 
 abbrev pub wrap_read : Reader Change
 wrap_read members = do
-  from ← needed field.From number_in members
-  to ← needed field.To number_in members
-  unwrap_outer ← defaulted field.UnwrapOuter [] kinds_in members
-  wrap_outer ← defaulted field.WrapOuter [] shapes_in members
-  unwrap_each ← defaulted field.UnwrapEach [] kinds_in members
-  wrap_each ← defaulted field.WrapEach [] shapes_in members
+  from ← required_member field.From number_in members
+  to ← required_member field.To number_in members
+  unwrap_outer ← optional_member field.UnwrapOuter [] kinds_in members
+  wrap_outer ← optional_member field.WrapOuter [] shapes_in members
+  unwrap_each ← optional_member field.UnwrapEach [] kinds_in members
+  wrap_each ← optional_member field.WrapEach [] shapes_in members
   Ok (
       change.Wrap from to (record { unwrap_outer = unwrap_outer; wrap_outer = wrap_outer; unwrap_each = unwrap_each; wrap_each = wrap_each })
       )
 
 abbrev pub convert_read : Reader Change
 convert_read members = do
-  at ← needed field.At number_in members
-  kind ← needed field.Kind branch_in members
+  at ← required_member field.At number_in members
+  kind ← required_member field.Kind branch_in members
   Ok (change.Convert at kind)
 
 abbrev pub attr_read : Reader Change
 attr_read members = do
-  at ← needed field.At number_in members
-  name ← needed field.Name name_in members
-  to ← needed field.To text_or_null_in members
+  at ← required_member field.At number_in members
+  name ← required_member field.Name name_in members
+  to ← required_member field.To text_or_null_in members
   Ok (change.Attr at name to)
 
 abbrev pub apply_read : Reader Change
 apply_read members = do
-  ops ← needed field.Ops ops_in members
+  ops ← required_member field.Ops ops_in members
   Ok (change.Apply ops)
 
 -- each with its word

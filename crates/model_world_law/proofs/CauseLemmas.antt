@@ -55,14 +55,14 @@ use Rattle.model_world.specs.declared.refusal.Refusal.{Refusal}
 use Rattle.model_world.specs.declared.refusal.Refusal.TheVariants.{StoreFull, BadOffset, BadLength, TooManyMarks}
 use Rattle.model_world.specs.Operations as operations
 use Rattle.model_world.specs.Refusals.{html_refusal, build_refusal, table_refusal, list_refusal}
-use Rattle.model_world.specs.Edits.{built, forest_inserted, text_inserted, fragment_inserted, needs, set_first, ops_on, applied, text_typed, change_of, unless_faulty, allowed}
+use Rattle.model_world.specs.Edits.{built_transaction, forest_inserted, text_inserted, fragment_inserted, needs, set_first, ops_on, transaction_of_ops, text_typed, change_of, unless_faulty, checked_transaction}
 use Rattle.model_world_law.specs.Fit.{IsWritten}
 use Rattle.model_world_law.specs.Causes.{FillsStore, StoreFullIsFull, IsFullFor, MovesFillStore}
 use Rattle.model_world_law.proofs.ChangeLemmas.{given}
 
 -- ---- no builder is refused as a full store
 
-built_is : (r : Result Transaction BuildCause) → built r ≡ Err StoreFull → ⊥
+built_is : (r : Result Transaction BuildCause) → built_transaction r ≡ Err StoreFull → ⊥
 built_is (Ok t) h = cc
 built_is (Err (build.BadOffset at)) h = cc
 built_is (Err (build.NoPlace at)) h = cc
@@ -90,7 +90,7 @@ forest_is items at f h = by (fragment_limit (stack_at items at) f) h
   where
     by : (o : Option ℕ) → (elim o as (λ _. Result Transaction Refusal) [
       | Some byte ↦ Err (TooManyMarks byte)
-      | None ↦ built (insertion items at (fragment_items (stack_at items at) f))
+      | None ↦ built_transaction (insertion items at (fragment_items (stack_at items at) f))
     ]) ≡ Err StoreFull → ⊥
     by (Some byte) h = cc
     by None h = built_is (insertion items at (fragment_items (stack_at items at) f)) h
@@ -115,7 +115,7 @@ fragment_is items at html h = by (is_bad_offset items at) h
     by true h = cc
     by false h = text_is items at (encode_utf8_all html) h
 
-applied_is : (items : List PlainItem) (ops : List OpWords) → applied items ops ≡ Err StoreFull → ⊥
+applied_is : (items : List PlainItem) (ops : List OpWords) → transaction_of_ops items ops ≡ Err StoreFull → ⊥
 applied_is items ops h = by (needs ops == length items) h
   where
     by : (b : Bool) → (elim b as (λ _. Result Transaction Refusal) [
@@ -209,7 +209,7 @@ forest_match items at f t h = by (fragment_limit (stack_at items at) f) h
   where
     by : (o : Option ℕ) → (elim o as (λ _. Result Transaction Refusal) [
       | Some byte ↦ Err (TooManyMarks byte)
-      | None ↦ built (insertion items at (fragment_items (stack_at items at) f))
+      | None ↦ built_transaction (insertion items at (fragment_items (stack_at items at) f))
     ]) ≡ Ok t → Matches t items
     by (Some byte) h = cc
     by None h = fine_match items t (insertion_fine items at (fragment_items (stack_at items at) f) t (given build_refusal _ t h))
@@ -234,7 +234,7 @@ fragment_match items at html t h = by (is_bad_offset items at) h
     by true h = cc
     by false h = text_match items at (encode_utf8_all html) t h
 
-applied_match : (items : List PlainItem) (ops : List OpWords) (t : Transaction) → operations.words_are_normal ops ≡ true → applied items ops ≡ Ok t → Matches t items
+applied_match : (items : List PlainItem) (ops : List OpWords) (t : Transaction) → operations.words_are_normal ops ≡ true → transaction_of_ops items ops ≡ Ok t → Matches t items
 applied_match items ops t normal h = by (needs ops == length items) h
   where
     by : (b : Bool) → (elim b as (λ _. Result Transaction Refusal) [
@@ -299,7 +299,7 @@ full_left r t matches h =
     (matched_left (old_length t == length r.items) (mismatch_at 0 t r.items) (bad_attribute_at 0 t r.items) (length r.items) (old_length t) _ t matches h)
 
 full_from : (r : Replica) (c : Change) (result : Result Transaction Refusal) → change_of r.items c ≡ result → IsWritten c → Sound r.items →
-    allowed r result ≡ Err StoreFull → FillsStore r (change_of r.items c)
+    checked_transaction r result ≡ Err StoreFull → FillsStore r (change_of r.items c)
 full_from r c (Err refusal) e w s h = absurd (change_is r.items c (e ∙ h))
 full_from r c (Ok t) e w s h = record { t = t; gives = e; full = full_left r t (change_match r.items c t w s e) h }
 

@@ -11,7 +11,7 @@ use Rattle.model_edit.specs.Tables.{row_in, row_out, col_in, col_out}
 use Rattle.model_edit.specs.Lists.{indent, outdent}
 use Rattle.model_world.specs.declared.refusal.Refusal.{Refusal}
 use Rattle.model_world.specs.Refusals.{refused_as, table_refusal, list_refusal}
-use Rattle.model_world.specs.Edits.{change_of, change_on, allowed}
+use Rattle.model_world.specs.Edits.{change_of, change_on, checked_transaction}
 use Rattle.model_world_law.specs.Fit.{IsWritten}
 
 -- it is a transaction with which the store would have too many values
@@ -26,7 +26,7 @@ StoreFullIsFull = (r : Replica) (c : Change) → IsWritten c → Sound r.items �
 
 -- the result of a call on a table or on a list item is refused for a full store
 abbrev pub IsFullFor : {E : Type 0} → (E → Refusal) → Replica → Result Transaction E → Type 0
-IsFullFor named r given = allowed r (refused_as named given) ≡ Err StoreFull
+IsFullFor named r given = checked_transaction r (refused_as named given) ≡ Err StoreFull
 
 -- The same of rows, columns and list items.
 pub record MovesFillStore : Type 0 where

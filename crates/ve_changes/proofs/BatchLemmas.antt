@@ -15,12 +15,12 @@ use Rattle.model_site_law.specs.MayHappen.{EditMayRun}
 use Rattle.model_site_law.specs.Sound.{AllMayRun, MayRun, Sound}
 use Rattle.model_world.specs.declared.change.Change.{Change}
 use Rattle.model_world.specs.declared.refusal.Refusal.{Refusal}
-use Rattle.model_world.specs.Edits.{BatchRefusal, allowed, batch_from, batch_on, change_of, change_on, unless_faulty}
+use Rattle.model_world.specs.Edits.{BatchRefusal, checked_transaction, batch_from, batch_on, change_of, change_on, unless_faulty}
 use Rattle.model_world_law.specs.Fit.{AllWritten, ChangesFit, IsWritten}
 use Rattle.ve_tx.specs.declared.draft.Draft.{Draft}
 use Rattle.ve_tx.specs.declared.entry.Entry.{Entry as KeptEntry}
 use Rattle.ve_tx.specs.Cites.{TxCites}
-use Rattle.ve_tx.specs.Entry.{appended}
+use Rattle.ve_tx.specs.Entry.{entry_with}
 use Rattle.ve_tx.specs.Making.{Extends}
 use Rattle.ve_tx.specs.Operation.{by_value}
 use Rattle.ve_tx.proofs.ValuesLemmas.{extends_by_fill}
@@ -56,14 +56,14 @@ pub drafted_on : (r : Replica) (store : List Value) (items : List PlainItem) (c 
 drafted_on r store items c d s i h = subst (λ v. IsDrafted v (change_of r.items c) d) s (subst (λ l. IsDrafted store (change_of l c) d) i h)
 
 pub undrafted : (r : Replica) (items : List PlainItem) (c : Change) (why : ChangeStop) → items ≡ r.items → IsRefused why (change_of items c) → IsRefused why (change_on r c)
-undrafted r items c (one.Refused why) i h = ap (allowed r) (ap (λ l. change_of l c) (sym i) ∙ h)
+undrafted r items c (one.Refused why) i h = ap (checked_transaction r) (ap (λ l. change_of l c) (sym i) ∙ h)
 undrafted r items c one.Memory i h = tt
 
 pub allowed_is : (r : Replica) (c : Change) (t : Transaction) → change_of r.items c ≡ Ok t → edit_cause t r ≡ None → change_on r c ≡ Ok t
-allowed_is r c t e n = ap (allowed r) e ∙ ap (λ o. unless_faulty o t) n
+allowed_is r c t e n = ap (checked_transaction r) e ∙ ap (λ o. unless_faulty o t) n
 
 pub not_allowed : (r : Replica) (c : Change) (t : Transaction) (why : ChangeStop) → change_of r.items c ≡ Ok t → IsRefused why (unless_faulty (edit_cause t r) t) → IsRefused why (change_on r c)
-not_allowed r c t (one.Refused why) e h = ap (allowed r) e ∙ h
+not_allowed r c t (one.Refused why) e h = ap (checked_transaction r) e ∙ h
 not_allowed r c t one.Memory e h = tt
 
 pub may_run : (fit : ChangesFit) (law : EditMayRun) (r : Replica) (c : Change) (t : Transaction) → IsWritten c → Sound r.items → change_of r.items c ≡ Ok t → edit_cause t r ≡ None →
@@ -156,7 +156,7 @@ module _ (r now new : Replica) (changes rest : List Change) (c : Change) (i : �
   ends : all_performed (s.ts ++ p.t ∷ []) r ≡ new
   ends = performed-append s.ts (p.t ∷ []) r ∙ ap (performed p.t) (sym s.page) ∙ sym p.page
 
-  txs : map (by_value new.store) (appended e later).txs ≡ all_filled (s.ts ++ p.t ∷ []) r.items
+  txs : map (by_value new.store) (entry_with e later).txs ≡ all_filled (s.ts ++ p.t ∷ []) r.items
   txs =
       map-append (by_value new.store) e.txs later.txs
       ∙ ap (λ l. l ++ map (by_value new.store) later.txs) (all_by_value-extended now.store new.store extends e.txs s.cites ∙ ap (λ (x : Entry). x.txs) s.entry)
@@ -167,10 +167,10 @@ module _ (r now new : Replica) (changes rest : List Change) (c : Change) (i : �
   last : later.store_after ≡ length (all_performed (s.ts ++ p.t ∷ []) r).store
   last = ap (λ (x : Entry). x.store_after) p.entry ∙ ap (λ (x : Replica). length x.store) (sym p.page ∙ sym ends)
 
-  as_one : entry_by_value new.store (appended e later) ≡ entry_of (s.ts ++ p.t ∷ []) r
+  as_one : entry_by_value new.store (entry_with e later) ≡ entry_of (s.ts ++ p.t ∷ []) r
   as_one = λ j. record { txs = txs j; store_before = (ap (λ (x : Entry). x.store_before) s.entry) j; store_after = last j }
 
-  pub next_so_far : SoFar r changes rest (suc i) new (appended e later)
+  pub next_so_far : SoFar r changes rest (suc i) new (entry_with e later)
   next_so_far = record {
     ts = s.ts ++ p.t ∷ [];
     meant =
@@ -223,11 +223,11 @@ module _ (r now : Replica) (changes : List Change) (c : Change) (i : ℕ) (e : K
   pub written_at : IsWritten c
   written_at = at_place.written.0
 
-  pub performed_at : (new : Replica) (later next : KeptEntry) → IsPerformed now (change_on now c) new later → next ≡ appended e later → SoFar r changes (drop (i + 1) changes) (i + 1) new next
+  pub performed_at : (new : Replica) (later next : KeptEntry) → IsPerformed now (change_on now c) new later → next ≡ entry_with e later → SoFar r changes (drop (i + 1) changes) (i + 1) new next
   performed_at new later next p same =
       let one : suc i ≡ i + 1 = omega arith in
       subst (SoFar r changes (drop (i + 1) changes) (i + 1) new) (sym same)
-      (subst (λ n. SoFar r changes (drop (i + 1) changes) n new (appended e later)) one (next_so_far r now new changes (drop (i + 1) changes) c i e later at_place p))
+      (subst (λ n. SoFar r changes (drop (i + 1) changes) n new (entry_with e later)) one (next_so_far r now new changes (drop (i + 1) changes) c i e later at_place p))
 
   pub steps_at : (new : Replica) (later : KeptEntry) (old mid end : ℕ) → IsPerformed now (change_on now c) new later → mid + steps_of_changes now (drop i changes) ≤ old + steps_of_changes r changes →
       end ≤ mid + steps_of_change now c → end + steps_of_changes new (drop (i + 1) changes) ≤ old + steps_of_changes r changes

@@ -27,7 +27,7 @@ use ve_tx::{Draft, Op, OpList, Transaction};
 
 /// How many items an operation passes.
 fn passed(op: &OpWords) -> usize
-    ensures { result ≡ words.passed op.now }
+    ensures { result ≡ words.items_passed op.now }
 {
     match op {
         OpWords::Retain(count) => *count,
@@ -73,7 +73,7 @@ fn op_at(
 ) -> Result<Op, Memory>
     requires page { IsPage doc.store.now doc.list.now.items doc.tree.now }
     requires follows { new.old.after ≡ length doc.store.now }
-    requires within { at + words.passed op.now ≤ length doc.list.now.items }
+    requires within { at + words.items_passed op.now ≤ length doc.list.now.items }
     ensures follows { OnOk result (new.new.after ≡ length doc.entry.store.now) }
     ensures cites { IfOk result (λ made. OperationCites (together doc.entry.store.now new.new) (with_position made None)) }
     ensures means { IfOk result (λ made. operation_by_value (together doc.entry.store.now new.new) (with_position made None) ≡ words.op_on op.now (drop at (page_items doc.entry))) }
@@ -131,7 +131,7 @@ fn ops_on(
 pub fn applied_draft(alloc: Global, doc: Doc<'_>, ops: &[OpWords]) -> Result<Draft, ChangeStop>
     requires written { IsWritten (change.Apply ops.now) }
     requires page { IsPage doc.store.now doc.list.now.items doc.tree.now }
-    ensures { Drafts doc.entry.store.now (model.applied (page_items doc.entry) ops.now) result }
+    ensures { Drafts doc.entry.store.now (model.transaction_of_ops (page_items doc.entry) ops.now) result }
 {
     let has = doc.list.len();
     let needs = needs(ops)?;

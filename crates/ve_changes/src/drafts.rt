@@ -1,7 +1,7 @@
 // Changes as drafts.
 ghost use Rattle.std.specs.Prelude.{◌≡◌, IfOk, IfErr};
 ghost use Rattle.std.specs.Str.{chars};
-ghost use Rattle.model_world.specs.Edits.{built, change_of, text_typed};
+ghost use Rattle.model_world.specs.Edits.{built_transaction, change_of, text_typed};
 ghost use Rattle.model_world_law.specs.Fit.{IsWritten};
 ghost use Rattle.ve_build_shape.specs.Setting.{value_spelled};
 ghost use Rattle.ve_editor.specs.Page.{IsPage};
@@ -31,7 +31,7 @@ fn typed(
     marks: TextMarks,
 ) -> Result<Draft, ChangeStop>
     requires page { IsPage doc.store.now doc.list.now.items doc.tree.now }
-    ensures { Drafts doc.entry.store.now (built (text_typed marks (page_items doc.entry) at text.now)) result }
+    ensures { Drafts doc.entry.store.now (built_transaction (text_typed marks (page_items doc.entry) at text.now)) result }
 {
     match marks {
         TextMarks::Left => text_like_left(alloc, doc, at, text.as_str()),

@@ -23,7 +23,7 @@ pub fn spelled_value<'a>(attrs: AttrTokens<'a>, name: &str) -> Option<&'a str>
 
 /// Whether some word of `typeof` passes the test.
 pub fn has_type(attrs: AttrTokens<'_>, test: TypeTest) -> bool
-    ensures { spec.OfAttrs attrs.entry (page.has_type (spec.asked test)) result }
+    ensures { spec.OfAttrs attrs.entry (page.has_type (spec.answer_of_test test)) result }
 {
     match spelled_value(attrs, "typeof") {
         Some(value) => some_word(value.as_bytes(), test),

@@ -5,7 +5,7 @@ ghost use Rattle.model_items.specs.Plain.{CitesWell};
 ghost use Rattle.model_edit.specs.Edits.{retaining};
 ghost use Rattle.ve_tx.specs.Cites.{TxCites};
 ghost use Rattle.ve_tx.specs.Operation.{by_value, unkept};
-ghost use Rattle.ve_edits.specs.Collected.{shown, AreCited, Makes, MakesOneMore, SetsOneMore, IsCollected, IsReplacePut, ReplaceCites};
+ghost use Rattle.ve_edits.specs.Collected.{collected_transaction, AreCited, Makes, MakesOneMore, SetsOneMore, IsCollected, IsReplacePut, ReplaceCites};
 
 use crate::attributes::present_value;
 use std::alloc::Global;
@@ -86,7 +86,7 @@ impl Edits {
 
     /// Puts what is to follow the operations after them.
     fn settle(&mut self) -> Result<(), Memory>
-        ensures means { OnOk result ((values : _) → by_value values (unkept self.new.ops) ≡ shown values self.old []) }
+        ensures means { OnOk result ((values : _) → by_value values (unkept self.new.ops) ≡ collected_transaction values self.old []) }
         ensures at { OnOk result (self.new.at ≡ self.old.at) }
         ensures retained { OnOk result (self.new.retained ≡ 0) }
         ensures removed { OnOk result (self.new.removed ≡ []) }
@@ -105,7 +105,7 @@ impl Edits {
     fn pass(&mut self, place: usize) -> Result<(), Memory>
         requires { self.old.at ≤ place }
         ensures at { OnOk result (self.new.at ≡ place) }
-        ensures means { OnOk result ((values : _) (t : _) → shown values self.new t ≡ shown values self.old (retaining (place - self.old.at) t)) }
+        ensures means { OnOk result ((values : _) (t : _) → collected_transaction values self.new t ≡ collected_transaction values self.old (retaining (place - self.old.at) t)) }
         ensures cites { OnOk result ((values : _) → AreCited values self.old → AreCited values self.new) }
     {
         let gap = place - self.at;

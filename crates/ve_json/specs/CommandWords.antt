@@ -10,7 +10,7 @@ use Rattle.model_world.specs.declared.field.Field.{Field}
 use Rattle.model_world.specs.declared.field.Field.TheVariants as field
 use Rattle.model_world.specs.declared.command.Command.{Command}
 use Rattle.model_world.specs.Values.{word_in}
-use Rattle.model_world.specs.Members.{Reader, made}
+use Rattle.model_world.specs.Members.{Reader, map_reader}
 use Rattle.model_world.specs.Changes as changes
 use Rattle.model_world.specs.Commands as commands
 use Rattle.ve_json.specs.declared.command_words.ChangeWord.{ChangeWord}
@@ -123,7 +123,7 @@ table_read a_table.ColIn = commands.table_read field.Column (λ at column. reque
 table_read a_table.ColOut = commands.table_read field.Column (λ at column. request.ColOut at column)
 
 abbrev pub request_read : RequestWord → Reader Request
-request_read (a_request.Change word) = made (λ change. request.Edit change) (change_read word)
+request_read (a_request.Change word) = map_reader (λ change. request.Edit change) (change_read word)
 request_read (a_request.Bare word) = commands.alone (bare_request word)
 request_read (a_request.Place word) = place_read word
 request_read (a_request.Table word) = table_read word

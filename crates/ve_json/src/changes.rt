@@ -3,7 +3,7 @@ ghost use Rattle.std.specs.Prelude.{◌≡◌};
 ghost use Rattle.serde_json.specs.View.{view, members_view};
 ghost use Rattle.model_world.specs.Changes as changes;
 ghost use Rattle.model_world.specs.Commands as commands;
-ghost use Rattle.model_world.specs.Members.{needed};
+ghost use Rattle.model_world.specs.Members.{required_member};
 ghost use Rattle.model_world.specs.Values as values;
 ghost use Rattle.ve_json.specs.Gives.{Gives, Reads};
 ghost use Rattle.ve_json.specs.CommandWords.{change_by_word, change_read};
@@ -98,7 +98,7 @@ pub fn batch(
     members: &Map<String, Value>,
     field: Field,
 ) -> Result<ChangeList, BadMember>
-    ensures { Gives result (needed field (λ json. values.such_that commands.is_batch (values.list_in changes.change_in json)) (members_view members.now.entries)) }
+    ensures { Gives result (required_member field (λ json. values.such_that commands.is_batch (values.list_in changes.change_in json)) (members_view members.now.entries)) }
 {
     named(field, batch_in(alloc, found(members, field)?))
 }

@@ -96,7 +96,7 @@ pub fn text_or_null_in(alloc: Global, json: &Value) -> Result<Option<Text>, Valu
 
 /// Lends the values of a list.
 pub fn values_in(json: &Value) -> Option<&[Value]>
-    ensures { option_map (λ list. map view list.now) result ≡ option_map values.listed (as_array (view json.now)) }
+    ensures { option_map (λ list. map view list.now) result ≡ option_map values.json_values (as_array (view json.now)) }
 {
     match json {
         Value::Array(list) => Some(list.as_slice()),

@@ -14,8 +14,8 @@ use ve_tree::{NodeId, NodeWhat};
 
 /// Opens a node of a kind, where it may be opened.
 fn enter(state: &mut State, kind: Kind)
-    requires { IsOk (law.opened state.old kind) }
-    ensures { law.opened state.old kind ≡ Ok state.new }
+    requires { IsOk (law.state_opened state.old kind) }
+    ensures { law.state_opened state.old kind ≡ Ok state.new }
 {
     let opening = Item::Opening {
         kind,

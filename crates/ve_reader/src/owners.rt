@@ -2,7 +2,7 @@
 ghost use Rattle.std.specs.Prelude.{◌≡◌, ◌&&◌, ◌<◌, ◌++◌, ◌∷◌, [], false, length, slice_get, Some, IfOk, IfSome, OnOk, OnErr};
 ghost use Rattle.std.specs.Str.{encode_utf8_all};
 ghost use Rattle.model_page.specs.ReferenceNodes.{is_owned};
-ghost use Rattle.ve_reader.specs.Claimed.{claimed, lent_owner, text_key};
+ghost use Rattle.ve_reader.specs.Claimed.{claim_of, lent_owner, text_key};
 ghost use Rattle.ve_reader.specs.Owned.{count_next};
 
 use crate::key::OwnedKey;
@@ -121,7 +121,7 @@ impl Owners {
     /// What a reference is after these owners, by what its `data-mw` says. None where it would own a body that has an owner. It takes no
     /// memory.
     pub fn claim(&self, reading: RefRead) -> Option<Claim>
-        ensures claim { result ≡ claimed self.now reading }
+        ensures claim { result ≡ claim_of self.now reading }
         ensures free { IfSome result (λ c. IfSome c.html (λ _. is_owned self.now c.key ≡ false)) }
     {
         let owned = OwnedKey {

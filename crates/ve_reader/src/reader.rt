@@ -8,7 +8,7 @@ ghost use Rattle.model_page.specs.Heads.{characters};
 ghost use Rattle.model_page.specs.Pieces.{leaf, chars_piece};
 ghost use Rattle.model_page.specs.ReferenceNodes.{is_owned};
 ghost use Rattle.ve_origin.specs.Origins.{source_span};
-ghost use Rattle.ve_reader.specs.Claimed.{claimed};
+ghost use Rattle.ve_reader.specs.Claimed.{claim_of};
 ghost use Rattle.ve_reader.specs.ReadSoFar.{nothing_read, with_piece, piece_after, opening_piece, with_opening, with_closing, node_opened, with_mark, mark_left, bodies_next, owned_at};
 ghost use Rattle.ve_reader.specs.Stops.{Stops, deep_in, mark_limit};
 
@@ -105,7 +105,7 @@ impl Reader {
 
     /// What a reference is here by its `data-mw`. None where it would own a body that has an owner.
     pub fn claim(&self, reading: RefRead) -> Option<Claim>
-        ensures claim { result ≡ claimed self.now.owners reading }
+        ensures claim { result ≡ claim_of self.now.owners reading }
         ensures free { IfSome result (λ c. IfSome c.html (λ _. is_owned self.now.owners c.key ≡ false)) }
     {
         self.owners.claim(reading)

@@ -25,8 +25,8 @@ abbrev pub end : Span → ℕ
 end s = s.first + s.reach
 
 -- between other ends; without an active range all is one first retain
-abbrev pub ended : Span → ℕ → ℕ → Span
-ended s first last = record s { first = first; last = last }
+abbrev pub span_between : Span → ℕ → ℕ → Span
+span_between s first last = record s { first = first; last = last }
 
 abbrev pub inert : ℕ → Span
 inert n = record { active = false; attributes = false; first = n; reach = 0; last = 0; removed = 0; inserted = 0 }
@@ -38,8 +38,8 @@ joined_first a b =
     else (if not a.active then inert (new_size b)
     else (if not b.active then a
     else (if nat_le (end a) b.first
-    then ended a a.first ((a.last + new_size b) - old_size b)
-    else ended a ((a.first + new_size b) - old_size b) a.last)))
+    then span_between a a.first ((a.last + new_size b) - old_size b)
+    else span_between a ((a.first + new_size b) - old_size b) a.last)))
 
 abbrev pub joined_second : Span → Span → Span
 joined_second a b =
@@ -47,8 +47,8 @@ joined_second a b =
     else (if not a.active then b
     else (if not b.active then inert (new_size a)
     else (if nat_le (end a) b.first
-    then ended b ((b.first + new_size a) - old_size a) b.last
-    else ended b b.first ((b.last + new_size a) - old_size a))))
+    then span_between b ((b.first + new_size a) - old_size a) b.last
+    else span_between b b.first ((b.last + new_size a) - old_size a))))
 
 -- the ranges overlap
 abbrev pub meet : Span → Span → Bool

@@ -2,7 +2,7 @@
 ghost use Rattle.std.specs.Prelude.{◌≡◌, ◌≤◌, ◌<◌, ◌+◌, ◌-◌, ◌^◌, ◌&&◌, nat_le};
 ghost use Rattle.ve_base.specs.Limits.{max_total_length};
 ghost use Rattle.ve_rebase.specs.Pair.{FitsIn};
-ghost use Rattle.ve_rebase.specs.Span.{old_size, new_size, end, meet, ended, inert, joined_first, joined_second};
+ghost use Rattle.ve_rebase.specs.Span.{old_size, new_size, end, meet, span_between, inert, joined_first, joined_second};
 
 /// Where a transaction is active, how many items it leaves before and after that, and the lengths of what lies between: the old one and the new
 /// one. `attributes` says that it has attribute operations and no replace; `reach` is the length of the active range, in the old list.
@@ -72,7 +72,7 @@ impl Span {
 
     /// The same between other ends.
     fn ended(self, first: usize, last: usize) -> Span
-        ensures { result ≡ ended self first last }
+        ensures { result ≡ span_between self first last }
     {
         Span {
             active: self.active,

@@ -4,7 +4,7 @@ ghost use Rattle.model_change.specs.Replay.{flattened};
 ghost use Rattle.model_site.specs.Session.{accepted_of, clash_of, feed_for as model_feed_for};
 ghost use Rattle.ve_rebase.specs.Lists.{RunFromOneLength};
 ghost use Rattle.ve_server.specs.Fed.{feed_of, feeds_of, submission_of};
-ghost use Rattle.ve_server.specs.Serving.{answer_to, fed, served};
+ghost use Rattle.ve_server.specs.Serving.{answer_to, first_feed, after_serving};
 ghost use Rattle.ve_server.specs.Waiting.{all_staged, feeds_in, released};
 
 use crate::queue::Queue;
@@ -123,7 +123,7 @@ impl Server {
     pub fn serve(&mut self, submit: &Submit) -> Result<Served, Memory>
         requires base { submit.now.base ≤ length self.old.committed }
         requires run { RunFromOneLength (flattened (drop submit.now.base self.old.committed)) (flattened submit.now.parcels) }
-        ensures server { OnOk result (self.new ≡ served submit.now.site (submission_of submit.now) self.old) }
+        ensures server { OnOk result (self.new ≡ after_serving submit.now.site (submission_of submit.now) self.old) }
         ensures answer { IfOk result (λ answer. answer ≡ answer_to (submission_of submit.now) self.old) }
         ensures kept { OnErr result (self.new ≡ self.old) }
     {
@@ -144,7 +144,7 @@ impl Server {
     /// Lends the next feed of a site, if there is one, and takes nothing.
     pub fn next_feed(&self, site: u32) -> Option<&Feed>
         requires { site < length self.now.queues }
-        ensures { option_map feed_of (option_copied result) ≡ (fed site self.now).0 }
+        ensures { option_map feed_of (option_copied result) ≡ (first_feed site self.now).0 }
     {
         self.queues[site as usize].first()
     }
@@ -152,7 +152,7 @@ impl Server {
     /// Takes the next feed of a site, if there is one. It takes no memory.
     pub fn feed(&mut self, site: u32) -> Option<Feed>
         requires { site < length self.old.queues }
-        ensures { (option_map feed_of result, self.new) ≡ fed site self.old }
+        ensures { (option_map feed_of result, self.new) ≡ first_feed site self.old }
     {
         self.queues[site as usize].pop()
     }

@@ -12,7 +12,7 @@ use Rattle.model_world.specs.Edits.{batch_on}
 use Rattle.ve_changes.specs.Batches.{IsBatch, IsTyped}
 use Rattle.ve_changes.specs.declared.batch.Batch.{Batch}
 use Rattle.ve_changes.specs.declared.typed.Typed.{Typed}
-use Rattle.ve_site.specs.Settled.{settled}
+use Rattle.ve_site.specs.Settled.{with_new_entry}
 use Rattle.ve_site.proofs.SettleLemmas.{settled_is}
 use Rattle.ve_sites.specs.Shared.{Shared, site_at, sites, with_site_at}
 use Rattle.ve_session.proofs.TurnLemmas.{site_put}
@@ -38,7 +38,7 @@ typed_at lent r text t same is = subst (λ (x : Replica). IsTyped x text t) same
 
 pub batch_settled : (k : ℕ) (old new : Shared) (changes : List Change) (b : Batch)
     (is : IsBatch (site_at old k).replica (batch_on (site_at old k).replica changes) b) →
-    new ≡ with_site_at k (settled b.editor b.entry (site_at old k)) old → new ≡ with_site_at k (with_entry is.ts (site_at old k)) old
+    new ≡ with_site_at k (with_new_entry b.editor b.entry (site_at old k)) old → new ≡ with_site_at k (with_entry is.ts (site_at old k)) old
 batch_settled k old new changes b is e = e ∙ ap (λ (s : Site). with_site_at k s old) (settled_is b.editor b.entry (site_at old k)
     (record { ts = is.ts; may = is.may; page = is.editor; entry = is.entry; cites = is.cites }))
 

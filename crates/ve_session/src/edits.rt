@@ -2,7 +2,7 @@
 ghost use Rattle.std.specs.Prelude.{◌≡◌, ◌<◌, ◌≤◌, ◌+◌, ◌∷◌, [], true, length, Ok, IfErr, IfOk, OnErr};
 ghost use Rattle.model_change.specs.Transaction.{InsertedApart};
 ghost use Rattle.model_world.specs.declared.command.Request.TheVariants as request;
-ghost use Rattle.model_world.specs.Edits.{allowed};
+ghost use Rattle.model_world.specs.Edits.{checked_transaction};
 ghost use Rattle.ve_changes.specs.Moves.{is_move};
 ghost use Rattle.ve_changes.specs.Stops.{IsRefused};
 ghost use Rattle.ve_editor.specs.Counted.{steps_after};
@@ -54,7 +54,7 @@ fn perform<L: Ledger>(
     requires draft { IsDraftOf (site_at session.old k).replica.store draft.now }
     requires apart { InsertedApart (drafted (site_at session.old k).replica.store draft.now) }
     ensures answer { IfOk result (λ answer. IsPerformed (drafted (site_at session.old k).replica.store draft.now) k session.old answer session.new) }
-    ensures refused { IfErr result (λ stop. IsRefused stop (allowed (site_at session.old k).replica (Ok (drafted (site_at session.old k).replica.store draft.now)))) }
+    ensures refused { IfErr result (λ stop. IsRefused stop (checked_transaction (site_at session.old k).replica (Ok (drafted (site_at session.old k).replica.store draft.now)))) }
     ensures kept { OnErr result (session.new ≡ session.old) }
     ensures counted { steps.old ≤ steps.new }
     ensures steps { steps.new ≤ steps.old + steps_after (drafted (site_at session.old k).replica.store draft.now ∷ []) (site_at session.old k).replica.items }

@@ -6,7 +6,7 @@ ghost use Rattle.model_world.specs.Opening.{open_page, session_of};
 ghost use Rattle.model_world.specs.Spelled.{reply_text};
 ghost use Rattle.ve_changes.specs.Stops.{IsRefused};
 ghost use Rattle.ve_read.specs.Pages.{HasPlaces, IsReadPage};
-ghost use Rattle.ve_session.specs.Asked.{is_shown, obeyed, IsAsked};
+ghost use Rattle.ve_session.specs.Asked.{is_shown, reply_and_world, IsAsked};
 ghost use Rattle.ve_session.specs.Cost.{steps_of, steps_to_open};
 ghost use Rattle.ve_session.specs.Opened.{world_on, HasUtf8Page, IsLed, MayOpen};
 
@@ -139,7 +139,7 @@ impl OpenPage {
     fn show_opened(&self, alloc: Global, k: usize, out: &mut Bytes) -> Result<(), Memory>
         requires site { k < length self.now.session.members }
         requires unedited { option_map (λ m. m.site.replica.items) (slice_get self.now.session.members k) ≡ Some self.now.page.items }
-        ensures reply { OnOk result (out.new ≡ out.old ++ (reply_text (obeyed (world_on self.now) (Ask request.Html k)).0 ++ 10 ∷ [])) }
+        ensures reply { OnOk result (out.new ≡ out.old ++ (reply_text (reply_and_world (world_on self.now) (Ask request.Html k)).0 ++ 10 ∷ [])) }
         ensures err { OnErr result (out.new ≡ out.old) }
     {
         unedited_page_is_told();
@@ -150,8 +150,8 @@ impl OpenPage {
     /// Appends the page that a site's list gives, as the reply to `html`. Where the list is as it was opened, no node of it is looked for.
     fn show_html(&self, alloc: Global, k: usize, out: &mut Bytes) -> Result<(), Memory>
         requires site { k < length self.now.session.members }
-        ensures reply { OnOk result (out.new ≡ out.old ++ (reply_text (obeyed (world_on self.now) (Ask request.Html k)).0 ++ 10 ∷ [])) }
-        ensures same { (obeyed (world_on self.now) (Ask request.Html k)).1 ≡ world_on self.now }
+        ensures reply { OnOk result (out.new ≡ out.old ++ (reply_text (reply_and_world (world_on self.now) (Ask request.Html k)).0 ++ 10 ∷ [])) }
+        ensures same { (reply_and_world (world_on self.now) (Ask request.Html k)).1 ≡ world_on self.now }
         ensures err { OnErr result (out.new ≡ out.old) }
     {
         // in every world that lines lead to references are editable, and stores begin with the first one
@@ -187,8 +187,8 @@ impl OpenPage {
     ) -> Result<(), Memory>
         requires site { k < length self.now.session.members }
         requires shown { is_shown request.now ≡ true }
-        ensures reply { OnOk result (out.new ≡ out.old ++ (reply_text (obeyed (world_on self.now) (Ask request.now k)).0 ++ 10 ∷ [])) }
-        ensures same { OnOk result ((obeyed (world_on self.now) (Ask request.now k)).1 ≡ world_on self.now) }
+        ensures reply { OnOk result (out.new ≡ out.old ++ (reply_text (reply_and_world (world_on self.now) (Ask request.now k)).0 ++ 10 ∷ [])) }
+        ensures same { OnOk result ((reply_and_world (world_on self.now) (Ask request.now k)).1 ≡ world_on self.now) }
         ensures err { OnErr result (out.new ≡ out.old) }
     {
         if let Request::Html = request {
@@ -210,8 +210,8 @@ impl OpenPage {
         requires asked { IsAsked (Ask request.now k) }
         requires site { k < length self.old.session.members }
         requires acts { is_shown request.now ≡ false }
-        ensures reply { OnOk result (out.new ≡ out.old ++ (reply_text (obeyed (world_on self.old) (Ask request.now k)).0 ++ 10 ∷ [])) }
-        ensures world { OnOk result (world_on self.new ≡ (obeyed (world_on self.old) (Ask request.now k)).1) }
+        ensures reply { OnOk result (out.new ≡ out.old ++ (reply_text (reply_and_world (world_on self.old) (Ask request.now k)).0 ++ 10 ∷ [])) }
+        ensures world { OnOk result (world_on self.new ≡ (reply_and_world (world_on self.old) (Ask request.now k)).1) }
         ensures unsaid { OnErr result (out.new ≡ out.old) }
         ensures counted { steps.old ≤ steps.new }
         ensures cost { steps.new ≤ steps.old + steps_of (world_on self.old) (Ok (Ask request.now k)) }
@@ -233,8 +233,8 @@ impl OpenPage {
     ) -> Result<(), Memory>
         requires asked { IsAsked (Ask request.now k) }
         requires site { k < length self.old.session.members }
-        ensures reply { OnOk result (out.new ≡ out.old ++ (reply_text (obeyed (world_on self.old) (Ask request.now k)).0 ++ 10 ∷ [])) }
-        ensures world { OnOk result (world_on self.new ≡ (obeyed (world_on self.old) (Ask request.now k)).1) }
+        ensures reply { OnOk result (out.new ≡ out.old ++ (reply_text (reply_and_world (world_on self.old) (Ask request.now k)).0 ++ 10 ∷ [])) }
+        ensures world { OnOk result (world_on self.new ≡ (reply_and_world (world_on self.old) (Ask request.now k)).1) }
         ensures unsaid { OnErr result (out.new ≡ out.old) }
         ensures counted { steps.old ≤ steps.new }
         ensures cost { steps.new ≤ steps.old + steps_of (world_on self.old) (Ok (Ask request.now k)) }

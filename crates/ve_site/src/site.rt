@@ -73,7 +73,7 @@ impl Site {
     ghost use Rattle.ve_site.specs.Ground.{ground_of};
     ghost use Rattle.ve_site.specs.Taking.{MayTake, steps_of_feed, steps_of_take, steps_to_take, steps_to_take_all};
     ghost use Rattle.ve_site.specs.Numbered.{with_site};
-    ghost use Rattle.ve_site.specs.Settled.{settled, Settles};
+    ghost use Rattle.ve_site.specs.Settled.{with_new_entry, Settles};
     ghost use Rattle.ve_site.specs.Refusal.{IsUndoRefusal, IsRedoRefusal, IsSendRefusal};
     ghost use Rattle.model_site.specs.Refused.{edit_cause};
 
@@ -154,7 +154,7 @@ impl Site {
     /// then. An `Err` changes nothing.
     pub fn settle(&mut self, editor: Editor, entry: Entry) -> Result<(), Memory>
         requires settles { Settles self.old.site.replica editor entry }
-        ensures site { OnOk result (self.new ≡ with_site (settled editor entry self.old.site) self.old) }
+        ensures site { OnOk result (self.new ≡ with_site (with_new_entry editor entry self.old.site) self.old) }
         ensures kept { OnErr result (self.new ≡ self.old) }
     {
         self.history.reserve()?;

@@ -11,7 +11,7 @@ ghost use Rattle.ve_editor.specs.Refusal.{IsEditRefusal};
 ghost use Rattle.ve_peer_undo.specs.Refusal.{IsRevokeRefusal};
 ghost use Rattle.ve_site.specs.Counted.{redoing, undoing};
 ghost use Rattle.ve_site.specs.Refusal.{IsRedoRefusal, IsUndoRefusal};
-ghost use Rattle.ve_site.specs.Settled.{settled, Settles};
+ghost use Rattle.ve_site.specs.Settled.{with_new_entry, Settles};
 ghost use Rattle.ve_sites.specs.Shared.{site_at, sites, with_site_at};
 ghost use Rattle.ve_sites.specs.Turns.{revoking};
 
@@ -68,7 +68,7 @@ impl Sites {
     pub fn settle(&mut self, k: usize, editor: Editor, entry: Entry) -> Result<(), Memory>
         requires site { k < sites self.old }
         requires settles { Settles (site_at self.old k).replica editor entry }
-        ensures site { OnOk result (self.new ≡ with_site_at k (settled editor entry (site_at self.old k)) self.old) }
+        ensures site { OnOk result (self.new ≡ with_site_at k (with_new_entry editor entry (site_at self.old k)) self.old) }
         ensures kept { OnErr result (self.new ≡ self.old) }
     {
         self.members[k].settle(editor, entry)

@@ -12,7 +12,7 @@ ghost use Rattle.ve_editor.specs.Refusal.{IsEditRefusal};
 ghost use Rattle.ve_server.specs.Fed.{feed_of, submission_of};
 ghost use Rattle.ve_site.specs.Counted.{redoing, undoing};
 ghost use Rattle.ve_site.specs.Refusal.{IsRedoRefusal, IsSendRefusal, IsUndoRefusal};
-ghost use Rattle.ve_site.specs.Settled.{settled, Settles};
+ghost use Rattle.ve_site.specs.Settled.{with_new_entry, Settles};
 ghost use Rattle.ve_site.specs.Taking.{MayTake, steps_of_take};
 ghost use Rattle.ve_sites.specs.Senders.{at_site, HasGone};
 ghost use Rattle.ve_tx.specs.ByValue.{parcel_by_value, ParcelCites};
@@ -90,7 +90,7 @@ impl Member {
     /// As `Site::settle`.
     pub fn settle(&mut self, editor: Editor, entry: Entry) -> Result<(), Memory>
         requires settles { Settles self.old.site.replica editor entry }
-        ensures site { OnOk result (self.new ≡ at_site (settled editor entry self.old.site) self.old) }
+        ensures site { OnOk result (self.new ≡ at_site (with_new_entry editor entry self.old.site) self.old) }
         ensures kept { OnErr result (self.new ≡ self.old) }
     {
         self.site.settle(editor, entry)

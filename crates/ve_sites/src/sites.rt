@@ -8,7 +8,7 @@ ghost use Rattle.model_site.specs.Site.{starting};
 ghost use Rattle.model_site_law.specs.Sound.{Sound};
 ghost use Rattle.ve_editor.specs.Page.{page_of};
 ghost use Rattle.ve_tree.specs.TreeOf.{most_steps};
-ghost use Rattle.ve_sites.specs.Senders.{begun};
+ghost use Rattle.ve_sites.specs.Senders.{first_senders};
 ghost use Rattle.ve_sites.specs.Shared.{site_at, sites as sites_of};
 
 use crate::member::Member;
@@ -75,7 +75,7 @@ fn all_begun<L: Ledger>(
 ) -> Result<Vec<Member>, Memory>
     requires sound { Sound (plain_list values.now list.now.items) }
     requires cites { All (CitesWell values.now) list.now.items }
-    ensures ok { IfOk result (λ members. members.items ≡ begun 0 sites (starting (page_of values.now list.now.items (between 0 0)))) }
+    ensures ok { IfOk result (λ members. members.items ≡ first_senders 0 sites (starting (page_of values.now list.now.items (between 0 0)))) }
     ensures counted { steps.old ≤ steps.new }
     ensures steps { steps.new ≤ steps.old + sites * most_steps (plain_list values.now list.now.items) }
 {

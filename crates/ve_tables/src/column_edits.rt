@@ -8,7 +8,7 @@ ghost use Rattle.model_edit.specs.Tables.{cell_removed};
 ghost use Rattle.ve_offsets.specs.Docs.{IsDoc, page_items};
 ghost use Rattle.ve_tx.specs.Cites.{TxCites};
 ghost use Rattle.ve_tx.specs.Operation.{by_value};
-ghost use Rattle.ve_tables.specs.CellQuestions.{asked};
+ghost use Rattle.ve_tables.specs.CellQuestions.{cell_answer};
 ghost use Rattle.ve_tables.specs.declared.cell_questions.CellQuestion.TheVariants.{IsFullAtColumn};
 ghost use Rattle.ve_tables.specs.Covered.{AreInRows, IsRun, floor_with, floor_of};
 ghost use Rattle.ve_tables.specs.PartWay.{AreNone, CollectsIn, MakesEdits, MayMake, column_put, column_taken, grown_columns, row_widened};
@@ -75,7 +75,7 @@ fn grow_cells(
 ) -> Result<(), Memory>
     requires cites { All (CitesWell doc.store.now) doc.list.now.items }
     requires order { InOrder edits.old.at (length doc.list.now.items) (grown_columns column cells.now) }
-    requires room { AreNone (asked (IsFullAtColumn column)) cells.now }
+    requires room { AreNone (cell_answer (IsFullAtColumn column)) cells.now }
     ensures { OnOk result (CollectsIn doc.entry (grown_columns column cells.now) edits.old edits.new) }
 {
     for cell in cells {
@@ -121,7 +121,7 @@ fn widen_row(
     requires row { row.at < length doc.list.now.items }
     requires within { All (λ cell. cell.at < length doc.list.now.items) cells.now }
     requires order { InOrder edits.old.at (length doc.list.now.items) (row_widened (page_items doc) (row_of row) column cells.now grown) }
-    requires room { AreNone (asked (IsFullAtColumn column)) cells.now }
+    requires room { AreNone (cell_answer (IsFullAtColumn column)) cells.now }
     ensures { OnOk result (CollectsIn doc.entry (row_widened (page_items doc.entry) (row_of row) column cells.now grown) edits.old edits.new) }
 {
     grow_cells(alloc, doc, edits, cells, column)?;
@@ -146,7 +146,7 @@ fn put_column(
     requires places { All (λ row. row.at < length doc.list.now.items) table.now.rows }
     requires within { All (λ cell. cell.at < length doc.list.now.items) table.now.grid.cells }
     requires order { MayMake doc (column_put table.now column) }
-    requires room { AreNone (asked (IsFullAtColumn column)) table.now.grid.cells }
+    requires room { AreNone (cell_answer (IsFullAtColumn column)) table.now.grid.cells }
     ensures means { IfOk result (MakesEdits doc.entry (column_put table.now column)) }
     ensures cites { IfOk result (TxCites doc.entry.store.now) }
 {

@@ -6,7 +6,7 @@ ghost use Rattle.model_edit.specs.Tables as model;
 ghost use Rattle.ve_offsets.specs.Docs.{IsDoc, page_items};
 ghost use Rattle.ve_tx.specs.Cites.{TxCites};
 ghost use Rattle.ve_tx.specs.Operation.{by_value};
-ghost use Rattle.ve_tables.specs.CellQuestions.{asked};
+ghost use Rattle.ve_tables.specs.CellQuestions.{cell_answer};
 ghost use Rattle.ve_tables.specs.declared.cell_questions.CellQuestion.TheVariants.{IsFullAtRow};
 ghost use Rattle.ve_tables.specs.PartWay.{AreNone, MakesEdits, MayMake, row_put, row_taken};
 ghost use Rattle.ve_tables.specs.Refused.{IsTableRefusal};
@@ -50,7 +50,7 @@ fn put_row(
     requires some { 0 < length table.now.rows }
     requires within { All (λ row. row.at < length doc.list.now.items) table.now.rows }
     requires order { MayMake doc (row_put table.now row) }
-    requires room { AreNone (asked (IsFullAtRow row)) table.now.grid.cells }
+    requires room { AreNone (cell_answer (IsFullAtRow row)) table.now.grid.cells }
     ensures means { IfOk result (MakesEdits doc.entry (row_put table.now row)) }
     ensures cites { IfOk result (TxCites doc.entry.store.now) }
 {

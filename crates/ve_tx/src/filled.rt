@@ -7,7 +7,7 @@ ghost use Rattle.model_change.specs.Attributes.{position_kept};
 ghost use Rattle.model_change.specs.Fault.{bad_attribute_at};
 ghost use Rattle.ve_tx.specs.Applied.{IsFilledOn};
 ghost use Rattle.ve_tx.specs.Filled.{MayPass, Passes, Fills};
-ghost use Rattle.ve_tx.specs.Making.{headed, standing, IsOpening};
+ghost use Rattle.ve_tx.specs.Making.{item_with_head, standing, IsOpening};
 ghost use Rattle.ve_tx.specs.Normal.{size, total_size};
 ghost use Rattle.ve_tx.specs.Gathered.{gathered};
 ghost use Rattle.ve_tx.specs.Operation.{by_value, with_position, with_positions};
@@ -52,7 +52,7 @@ fn position_to_keep(
     from: &Option<Text>,
     to: &Option<Text>,
 ) -> Option<usize>
-    ensures { (item : PlainItem) → IsOpening item → result ≡ position_kept from.now to.now name.now kept (headed (Some head.now) item) }
+    ensures { (item : PlainItem) → IsOpening item → result ≡ position_kept from.now to.now name.now kept (item_with_head (Some head.now) item) }
 {
     match (from, to) {
         (Some(_), None) => Some(position(head.attrs.as_slice(), name)),

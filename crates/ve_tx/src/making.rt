@@ -10,7 +10,7 @@ ghost use Rattle.ve_tx.specs.Applied.{AppliesTo, IsOverActive, MakesEdited, stor
 ghost use Rattle.ve_tx.specs.Changed.{brought_by, brought_count};
 ghost use Rattle.ve_tx.specs.Checked.{change_of};
 ghost use Rattle.ve_tx.specs.Cites.{TxCites};
-ghost use Rattle.ve_tx.specs.Making.{Extends, headed, headed_from, MayHead, IsHeadChanged, IsHeaded, IsSettled};
+ghost use Rattle.ve_tx.specs.Making.{Extends, item_with_head, headed_from, MayHead, IsHeadChanged, IsHeaded, IsSettled};
 ghost use Rattle.ve_tx.specs.Normal.{total_size};
 ghost use Rattle.ve_tx.specs.Operation.{by_value, with_positions, IsNormal};
 ghost use Rattle.ve_tx.specs.Spliced.{AllCite, LieBetween, come_count};
@@ -46,7 +46,7 @@ pub fn present_head(
     head: Option<Head>,
 ) -> Result<Head, Memory>
     requires { CitesWell store.now item }
-    ensures { IfOk result (λ present. headed (Some present) (plain store.now item) ≡ headed head (plain store.now item)) }
+    ensures { IfOk result (λ present. item_with_head (Some present) (plain store.now item) ≡ item_with_head head (plain store.now item)) }
 {
     if let Some(head) = head {
         return Ok(head);
