@@ -13,7 +13,7 @@ use Rattle.model_site.specs.declared.taken.Taken.{Taken}
 use Rattle.model_site.specs.declared.taken.Taken.TheVariants as taken
 use Rattle.model_site.specs.Site.{Site, Submission, undo, redo, send, revoke_entry}
 use Rattle.model_site.specs.Session.{Session, Member, serve_next, take_next}
-use Rattle.model_world.specs.declared.change.Change.TheVariants as change
+use Rattle.model_world.specs.declared.edit_command.EditCommand.TheVariants as change
 use Rattle.model_world.specs.declared.command.Request.{Request}
 use Rattle.model_world.specs.declared.command.Request.TheVariants as request
 use Rattle.model_world.specs.declared.command.Command.{Command}

@@ -25,9 +25,9 @@ use Rattle.model_site.specs.declared.taken.Taken.TheVariants as taken
 use Rattle.model_site.specs.Replica.{Replica}
 use Rattle.model_site.specs.Site.{Site, with_entry, with_selection, undo, redo, send, revoke_entry, Submission}
 use Rattle.model_site.specs.Session.{Session, Member, with_member, serve_next, take_next}
-use Rattle.model_world.specs.declared.change.TextMarks.TheVariants.{Left}
-use Rattle.model_world.specs.declared.change.Change.{Change}
-use Rattle.model_world.specs.declared.change.Change.TheVariants as change
+use Rattle.model_world.specs.declared.edit_command.TextMarks.TheVariants.{Left}
+use Rattle.model_world.specs.declared.edit_command.EditCommand.{EditCommand}
+use Rattle.model_world.specs.declared.edit_command.EditCommand.TheVariants as change
 use Rattle.model_world.specs.declared.command.Request.{Request}
 use Rattle.model_world.specs.declared.command.Request.TheVariants as request
 use Rattle.model_world.specs.declared.refusal.Refusal.{Refusal}
@@ -152,7 +152,7 @@ erased_or_no a (Ok s) = performed_or_no a (change_on (replica_of a) (change.Remo
 -- ---- typing
 
 -- the selection is removed, where there is one, and the text stands at its lower end
-abbrev pub typing : Selection → List ℕ → List Change
+abbrev pub typing : Selection → List ℕ → List EditCommand
 typing s text =
     let put = change.Text (lower s) text Left ∷ [] in
     if is_collapsed s then put else change.Remove (lower s) (higher s) ∷ put

@@ -7,7 +7,7 @@ use Rattle.model_edit.specs.declared.selection.Dir.{Dir}
 use Rattle.model_edit.specs.declared.selection.Dir.TheVariants.{Back, Ahead}
 use Rattle.model_edit.specs.declared.selection.By.{By}
 use Rattle.model_edit.specs.declared.selection.By.TheVariants.{Cluster, Word}
-use Rattle.model_world.specs.declared.change.Change.{Change}
+use Rattle.model_world.specs.declared.edit_command.EditCommand.{EditCommand}
 use Rattle.model_world.specs.declared.command.Request.{Request}
 use Rattle.model_world.specs.declared.command.Request.TheVariants as request
 use Rattle.model_world.specs.declared.command.Command.{Command}
@@ -47,7 +47,7 @@ show_read members = do
   to ← optional_member field.To None some_number_in members
   Ok (request.ShowItems from to)
 
-abbrev pub is_batch : List Change → Bool
+abbrev pub is_batch : List EditCommand → Bool
 is_batch cmds = nat_le 1 (length cmds) && nat_le (length cmds) max_batch
 
 abbrev pub batch_read : Reader Request
@@ -117,7 +117,7 @@ requests =
     ∷ (codes "indent", at_read (λ at. request.Indent at))
     ∷ (codes "outdent", at_read (λ at. request.Outdent at))
     ∷ (codes "revoke", revoke_read)
-    ∷ map (λ (row : List ℕ × Reader Change). (row.0, map_reader (λ change. request.Edit change) row.1)) changes
+    ∷ map (λ (row : List ℕ × Reader EditCommand). (row.0, map_reader (λ change. request.Edit change) row.1)) changes
 
 -- ---- commands
 

@@ -20,12 +20,12 @@ use Rattle.model_edit.specs.Convert.{convert, attribute}
 use Rattle.model_site.specs.Causes.{EditCause}
 use Rattle.model_site.specs.Replica.{Replica, performed}
 use Rattle.model_site.specs.Refused.{edit_cause}
-use Rattle.model_world.specs.declared.change.TextMarks.{TextMarks}
-use Rattle.model_world.specs.declared.change.TextMarks.TheVariants.{Left, Plain}
-use Rattle.model_world.specs.declared.change.OpWords.{OpWords}
-use Rattle.model_world.specs.declared.change.OpWords.TheVariants as op
-use Rattle.model_world.specs.declared.change.Change.{Change}
-use Rattle.model_world.specs.declared.change.Change.TheVariants as change
+use Rattle.model_world.specs.declared.edit_command.TextMarks.{TextMarks}
+use Rattle.model_world.specs.declared.edit_command.TextMarks.TheVariants.{Left, Plain}
+use Rattle.model_world.specs.declared.edit_command.OpWords.{OpWords}
+use Rattle.model_world.specs.declared.edit_command.OpWords.TheVariants as op
+use Rattle.model_world.specs.declared.edit_command.EditCommand.{EditCommand}
+use Rattle.model_world.specs.declared.edit_command.EditCommand.TheVariants as change
 use Rattle.model_world.specs.declared.refusal.Refusal.{Refusal}
 use Rattle.model_world.specs.declared.refusal.Refusal.TheVariants.{BadOffset, BadLength, TooManyMarks}
 use Rattle.model_world.specs.Refusals.{refused_as, html_refusal, build_refusal, edit_refusal}
@@ -88,7 +88,7 @@ text_typed Left items at text = text_insertion items at text
 text_typed Plain items at text = plain_text_insertion items at text
 
 -- the transaction that a change of this list is, or why there is none
-abbrev pub change_of : List PlainItem → Change → Result Transaction Refusal
+abbrev pub change_of : List PlainItem → EditCommand → Result Transaction Refusal
 change_of items (change.Text at text marks) = built_transaction (text_typed marks items at text)
 change_of items (change.Insert at html) = fragment_inserted items at html
 change_of items (change.Remove from to) = built_transaction (removal items from to)
@@ -109,7 +109,7 @@ abbrev pub checked_transaction : Replica → Result Transaction Refusal → Resu
 checked_transaction r (Err refusal) = Err refusal
 checked_transaction r (Ok t) = unless_faulty (edit_cause t r) t
 
-abbrev pub change_on : Replica → Change → Result Transaction Refusal
+abbrev pub change_on : Replica → EditCommand → Result Transaction Refusal
 change_on r c = checked_transaction r (change_of r.items c)
 
 -- ---- batches
@@ -120,7 +120,7 @@ pub record BatchRefusal : Type 0 where
   pub refusal : Refusal
 
 -- changes in turn, each on what those before it make; the first has the number i
-abbrev pub batch_from : ℕ → List Change → Replica → Result (List Transaction) BatchRefusal
+abbrev pub batch_from : ℕ → List EditCommand → Replica → Result (List Transaction) BatchRefusal
 batch_from i [] r = Ok []
 batch_from i (c ∷ cs) r = elim (change_on r c) [
   | Err refusal ↦ Err (record { at = i; refusal = refusal })
@@ -130,5 +130,5 @@ batch_from i (c ∷ cs) r = elim (change_on r c) [
   ]
 ]
 
-abbrev pub batch_on : Replica → List Change → Result (List Transaction) BatchRefusal
+abbrev pub batch_on : Replica → List EditCommand → Result (List Transaction) BatchRefusal
 batch_on r cmds = batch_from 0 cmds r

@@ -45,12 +45,12 @@ use Rattle.model_site.specs.Causes as edit
 use Rattle.model_site.specs.Replica.{Replica, performed}
 use Rattle.model_site.specs.Refused.{law_cause, items_cause, store_cause, edit_cause}
 use Rattle.model_site_law.specs.Sound.{Sound}
-use Rattle.model_world.specs.declared.change.TextMarks.{TextMarks}
-use Rattle.model_world.specs.declared.change.TextMarks.TheVariants.{Left, Plain}
-use Rattle.model_world.specs.declared.change.OpWords.{OpWords}
-use Rattle.model_world.specs.declared.change.OpWords.TheVariants as op
-use Rattle.model_world.specs.declared.change.Change.{Change}
-use Rattle.model_world.specs.declared.change.Change.TheVariants as change
+use Rattle.model_world.specs.declared.edit_command.TextMarks.{TextMarks}
+use Rattle.model_world.specs.declared.edit_command.TextMarks.TheVariants.{Left, Plain}
+use Rattle.model_world.specs.declared.edit_command.OpWords.{OpWords}
+use Rattle.model_world.specs.declared.edit_command.OpWords.TheVariants as op
+use Rattle.model_world.specs.declared.edit_command.EditCommand.{EditCommand}
+use Rattle.model_world.specs.declared.edit_command.EditCommand.TheVariants as change
 use Rattle.model_world.specs.declared.refusal.Refusal.{Refusal}
 use Rattle.model_world.specs.declared.refusal.Refusal.TheVariants.{StoreFull, BadOffset, BadLength, TooManyMarks}
 use Rattle.model_world.specs.Operations as operations
@@ -125,7 +125,7 @@ applied_is items ops h = by (needs ops == length items) h
     by true h = cc
     by false h = cc
 
-change_is : (items : List PlainItem) (c : Change) → change_of items c ≡ Err StoreFull → ⊥
+change_is : (items : List PlainItem) (c : EditCommand) → change_of items c ≡ Err StoreFull → ⊥
 change_is items (change.Text at text marks) h = built_is (text_typed marks items at text) h
 change_is items (change.Insert at html) h = fragment_is items at html h
 change_is items (change.Remove from to) h = built_is (removal items from to) h
@@ -248,7 +248,7 @@ typed_match : (marks : TextMarks) (items : List PlainItem) (at : ℕ) (text : Li
 typed_match Left items at text t h = fine_match items t (insertion_fine items at (text_pieces (marks_before items at) text) t h)
 typed_match Plain items at text t h = fine_match items t (insertion_fine items at (text_pieces [] text) t h)
 
-change_match : (items : List PlainItem) (c : Change) (t : Transaction) → IsWritten c → Sound items → change_of items c ≡ Ok t → Matches t items
+change_match : (items : List PlainItem) (c : EditCommand) (t : Transaction) → IsWritten c → Sound items → change_of items c ≡ Ok t → Matches t items
 change_match items (change.Text at text marks) t w s h = typed_match marks items at text t (given build_refusal _ t h)
 change_match items (change.Insert at html) t w s h = fragment_match items at html t h
 change_match items (change.Remove from to) t w s h = fine_match items t (removal_fine items from to t s.lawful (given build_refusal _ t h))
@@ -298,7 +298,7 @@ full_left r t matches h =
     law_left (verdict new.items) (length new.items) (length new.store) t
     (matched_left (old_length t == length r.items) (mismatch_at 0 t r.items) (bad_attribute_at 0 t r.items) (length r.items) (old_length t) _ t matches h)
 
-full_from : (r : Replica) (c : Change) (result : Result Transaction Refusal) → change_of r.items c ≡ result → IsWritten c → Sound r.items →
+full_from : (r : Replica) (c : EditCommand) (result : Result Transaction Refusal) → change_of r.items c ≡ result → IsWritten c → Sound r.items →
     checked_transaction r result ≡ Err StoreFull → FillsStore r (change_of r.items c)
 full_from r c (Err refusal) e w s h = absurd (change_is r.items c (e ∙ h))
 full_from r c (Ok t) e w s h = record { t = t; gives = e; full = full_left r t (change_match r.items c t w s e) h }

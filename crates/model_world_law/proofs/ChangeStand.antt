@@ -24,11 +24,11 @@ use Rattle.model_page_law.proofs.PageRefers.{opened_refers}
 use Rattle.model_site_law.specs.Sound.{Sound}
 use Rattle.model_world.specs.Edits.{transaction_of_ops, built_transaction, forest_inserted, fragment_inserted, needs, ops_on, text_inserted, text_typed}
 use Rattle.model_world.specs.Refusals.{build_refusal, html_refusal, open_refusal}
-use Rattle.model_world.specs.declared.change.Change.TheVariants as change
-use Rattle.model_world.specs.declared.change.OpWords.{OpWords}
-use Rattle.model_world.specs.declared.change.OpWords.TheVariants as op
-use Rattle.model_world.specs.declared.change.TextMarks.{TextMarks}
-use Rattle.model_world.specs.declared.change.TextMarks.TheVariants.{Left, Plain}
+use Rattle.model_world.specs.declared.edit_command.EditCommand.TheVariants as change
+use Rattle.model_world.specs.declared.edit_command.OpWords.{OpWords}
+use Rattle.model_world.specs.declared.edit_command.OpWords.TheVariants as op
+use Rattle.model_world.specs.declared.edit_command.TextMarks.{TextMarks}
+use Rattle.model_world.specs.declared.edit_command.TextMarks.TheVariants.{Left, Plain}
 use Rattle.model_world.specs.declared.refusal.Refusal.{Refusal}
 use Rattle.model_world.specs.declared.refusal.Refusal.TheVariants.{BadLength, BadOffset, TooManyMarks}
 use Rattle.model_world_law.specs.Fit.{ChangesStand, InsertsStanding, MovesStand, PagesStand}

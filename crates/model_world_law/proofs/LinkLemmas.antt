@@ -33,9 +33,9 @@ use Rattle.model_site_law.specs.MayHappen.{MayHappen}
 use Rattle.model_site_law.specs.SelectionLaws.{StandsIn, SelectsWithin}
 use Rattle.model_site_law.specs.SelectionLaws as selection
 use Rattle.model_site_law.proofs.EditLemmas.{edit_may_run}
-use Rattle.model_world.specs.declared.change.TextMarks.TheVariants.{Left}
-use Rattle.model_world.specs.declared.change.Change.{Change}
-use Rattle.model_world.specs.declared.change.Change.TheVariants as change
+use Rattle.model_world.specs.declared.edit_command.TextMarks.TheVariants.{Left}
+use Rattle.model_world.specs.declared.edit_command.EditCommand.{EditCommand}
+use Rattle.model_world.specs.declared.edit_command.EditCommand.TheVariants as change
 use Rattle.model_world.specs.declared.command.Request.{Request}
 use Rattle.model_world.specs.declared.command.Request.TheVariants as request
 use Rattle.model_world.specs.declared.refusal.Refusal.{Refusal}
@@ -84,7 +84,7 @@ may_run r result t fit h =
 sound_next : (t : Transaction) (items : List PlainItem) → Sound items → MayRun t items → Sound (edited t items)
 sound_next t items s m = record { lawful = m.lawful; apart = names_stay_apart t items m.applies m.apart s.apart }
 
-batch_may : LayersFit → (i : ℕ) (cs : List Change) (r : Replica) (ts : List Transaction) → AllWritten cs → Sound r.items → batch_from i cs r ≡ Ok ts → AllMayRun ts r.items
+batch_may : LayersFit → (i : ℕ) (cs : List EditCommand) (r : Replica) (ts : List Transaction) → AllWritten cs → Sound r.items → batch_from i cs r ≡ Ok ts → AllMayRun ts r.items
 batch_may fit i [] r ts written sound h = let e : ◌≡◌ {A = List Transaction} [] ts = cc in subst (λ us. AllMayRun us r.items) e tt
 batch_may fit i (c ∷ cs) r ts written sound h = by_first (λ j s us. batch_may fit j cs s us written.1) (change_on r c) refl h
   where
@@ -106,7 +106,7 @@ batch_may fit i (c ∷ cs) r ts written sound h = by_first (λ j s us. batch_may
             subst (λ vs. AllMayRun vs r.items) same (may, rest_may (suc i) (performed t r) us (sound_next t r.items sound may) d)
 
 -- each change of a batch inserts such items, since those before it leave such items
-batch_stand : LayersFit → (i : ℕ) (cs : List Change) (r : Replica) (ts : List Transaction) → AllWritten cs → Sound r.items → AllPass may_stand r.items → batch_from i cs r ≡ Ok ts → AllInsert may_stand ts
+batch_stand : LayersFit → (i : ℕ) (cs : List EditCommand) (r : Replica) (ts : List Transaction) → AllWritten cs → Sound r.items → AllPass may_stand r.items → batch_from i cs r ≡ Ok ts → AllInsert may_stand ts
 batch_stand fit i [] r ts written sound p h = let e : ◌≡◌ {A = List Transaction} [] ts = cc in subst (AllInsert may_stand) e tt
 batch_stand fit i (c ∷ cs) r ts written sound p h = by_first (λ j s us. batch_stand fit j cs s us written.1) (change_on r c) refl h
   where
@@ -338,7 +338,7 @@ list_leads : (a : Asked) → Stands a → (r : Result Transaction ListCause) →
 list_leads a s r fit inserts =
     allowed_leads a s (refused_as list_refusal r) (λ u e. fit u (given list_refusal r u e)) (λ u e p. inserts u (given list_refusal r u e))
 
-change_leads : LayersFit → (a : Asked) → Stands a → (c : Change) → IsWritten c → Leads a (performed_or_no a (change_on (replica_of a) c))
+change_leads : LayersFit → (a : Asked) → Stands a → (c : EditCommand) → IsWritten c → Leads a (performed_or_no a (change_on (replica_of a) c))
 change_leads fit a s c written =
     allowed_leads a s (change_of (site_items a) c) (λ u e. fit.changes (site_items a) c u written s.sound e) (λ u e p. fit.changes_stand (site_items a) c u written s.sound p e)
 

@@ -15,8 +15,8 @@ use Rattle.model_items.specs.Same.{text_same}
 use Rattle.model_items.proofs.SameLemmas.{Means-text_same}
 use Rattle.model_change.specs.Attributes.{NamesApartIn, AllNamesApart}
 use Rattle.model_edit.specs.declared.wrap_plan.Shape.{Shape}
-use Rattle.model_world.specs.declared.change.OpWords.{OpWords}
-use Rattle.model_world.specs.declared.change.OpWords.TheVariants as op
+use Rattle.model_world.specs.declared.edit_command.OpWords.{OpWords}
+use Rattle.model_world.specs.declared.edit_command.OpWords.TheVariants as op
 use Rattle.model_world.specs.Values.{such_that, number_in, text_in, text_or_null_in, list_in, json_values, all_read, pair_in, member_in, read_or, member_or}
 use Rattle.model_world.specs.Attributes.{name_in, attr_in, attrs_in, are_apart, are_free, free_attrs_in, marks_in, element_in, branch_in, shape_in, shapes_in}
 use Rattle.model_edit.specs.Insert.{text_pieces}

@@ -7,9 +7,9 @@ use Rattle.serde_json.specs.Data.{Data, null, boolean, number, string, array, ob
 use Rattle.serde_json.specs.Find.{get_member, as_str, as_bool, as_object}
 use Rattle.ve_base.specs.declared.marks.Mark as base
 use Rattle.model_edit.specs.declared.selection.By.TheVariants.{Cluster}
-use Rattle.model_world.specs.declared.change.TextMarks.TheVariants as text_marks
-use Rattle.model_world.specs.declared.change.Change.{Change}
-use Rattle.model_world.specs.declared.change.Change.TheVariants as change
+use Rattle.model_world.specs.declared.edit_command.TextMarks.TheVariants as text_marks
+use Rattle.model_world.specs.declared.edit_command.EditCommand.{EditCommand}
+use Rattle.model_world.specs.declared.edit_command.EditCommand.TheVariants as change
 use Rattle.model_world.specs.declared.command.Request.{Request}
 use Rattle.model_world.specs.declared.command.Request.TheVariants as request
 use Rattle.model_world.specs.declared.command.Command.{Command}
@@ -26,7 +26,7 @@ use Rattle.model_world.specs.Changes.{some_text_in, some_source_in, text_marks_i
 use Rattle.model_world.specs.Commands.{some_number_in, dir_in, by_in, at_read, table_read, show_read, is_batch, batch_read, select_read, move_read, type_read, erase_read, revoke_read, requests, ask_read, open_read, commands, or_bad_command, read_by, command_in, command_or_refusal}
 use Rattle.model_world.specs.Values.{line_json}
 use Rattle.model_edit.specs.declared.wrap_plan.Shape.{Shape}
-use Rattle.model_world.specs.declared.change.OpWords.{OpWords}
+use Rattle.model_world.specs.declared.edit_command.OpWords.{OpWords}
 use Rattle.model_world_law.specs.Standing.{OpsStand, ShapesOfElements}
 use Rattle.model_world_law.proofs.StandReadLemmas.{ops_stand, shapes_of_elements}
 use Rattle.model_world_law.specs.Fit.{IsWritten, AllWritten, RequestWritten, LinesAreWritten}
@@ -70,7 +70,7 @@ remove_written ms = bind IsWritten (required_member field.From number_in ms) _ (
 split_written : Reads IsWritten split_read
 split_written ms = bind IsWritten (required_member field.At number_in ms) _ (λ at. bind IsWritten (optional_member field.Depth 1 number_in ms) _ (λ depth. tt))
 
-mark_written : (changed : ℕ → ℕ → base.Mark → Change) → ((from to : ℕ) (mark : base.Mark) → IsWritten (changed from to mark)) → Reads IsWritten (mark_read changed)
+mark_written : (changed : ℕ → ℕ → base.Mark → EditCommand) → ((from to : ℕ) (mark : base.Mark) → IsWritten (changed from to mark)) → Reads IsWritten (mark_read changed)
 mark_written changed h ms = bind IsWritten (required_member field.From number_in ms) _ (λ from. bind IsWritten (required_member field.To number_in ms) _ (λ to. bind IsWritten (required_member field.Tag text_in ms) _ (λ tag. bind IsWritten (optional_member field.Attrs [] attrs_in ms) _ (λ attrs. h from to (record { tag = tag; attrs = attrs })))))
 
 both : {A : Type 0} (P Q : A → Type 0) (o : Option A) → Of P o → Of Q o → Of (λ x. P x × Q x) o
@@ -147,7 +147,7 @@ change_written json =
 
 -- ---- requests
 
-each_change : (cmds : List Change) → Each IsWritten cmds → AllWritten cmds
+each_change : (cmds : List EditCommand) → Each IsWritten cmds → AllWritten cmds
 each_change [] p = tt
 each_change (c ∷ cmds) p = (p.0, each_change cmds p.1)
 
@@ -187,7 +187,7 @@ erase_written ms = bind RequestWritten (required_member field.Dir dir_in ms) _ (
 revoke_written : Reads RequestWritten revoke_read
 revoke_written ms = bind RequestWritten (required_member field.Entry number_in ms) _ (λ entry. tt)
 
-edit_rows : (rows : List (List ℕ × Reader Change)) → Rows IsWritten rows → Rows RequestWritten (map (λ (row : List ℕ × Reader Change). (row.0, map_reader (λ c. request.Edit c) row.1)) rows)
+edit_rows : (rows : List (List ℕ × Reader EditCommand)) → Rows IsWritten rows → Rows RequestWritten (map (λ (row : List ℕ × Reader EditCommand). (row.0, map_reader (λ c. request.Edit c) row.1)) rows)
 edit_rows [] h = tt
 edit_rows (row ∷ rows) h = ((λ ms. bind_with IsWritten RequestWritten (row.1 ms) _ (h.0 ms) (λ c p. p)), edit_rows rows h.1)
 

@@ -5,7 +5,7 @@ use Rattle.ve_base.specs.Limits.{max_values}
 use Rattle.model_change.specs.Transaction.{Transaction}
 use Rattle.model_site.specs.Replica.{Replica, performed}
 use Rattle.model_site_law.specs.Sound.{Sound}
-use Rattle.model_world.specs.declared.change.Change.{Change}
+use Rattle.model_world.specs.declared.edit_command.EditCommand.{EditCommand}
 use Rattle.model_world.specs.declared.refusal.Refusal.TheVariants.{StoreFull}
 use Rattle.model_edit.specs.Tables.{row_in, row_out, col_in, col_out}
 use Rattle.model_edit.specs.Lists.{indent, outdent}
@@ -21,7 +21,7 @@ pub record FillsStore {E : Type 0} (r : Replica) (given : Result Transaction E) 
   pub full : max_values < length (performed t r).store
 
 abbrev pub StoreFullIsFull : Type 0
-StoreFullIsFull = (r : Replica) (c : Change) → IsWritten c → Sound r.items → change_on r c ≡ Err StoreFull →
+StoreFullIsFull = (r : Replica) (c : EditCommand) → IsWritten c → Sound r.items → change_on r c ≡ Err StoreFull →
     FillsStore r (change_of r.items c)
 
 -- the result of a call on a table or on a list item is refused for a full store

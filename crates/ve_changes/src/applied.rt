@@ -4,7 +4,7 @@ ghost use Rattle.std.specs.Prelude.{◌≡◌, ◌≤◌, ◌+◌, None, IfOk, O
 ghost use Rattle.model_change.specs.Store.{cited, fill};
 ghost use Rattle.model_change.specs.Transaction.{all_inserted};
 ghost use Rattle.model_edit.specs.Edits as model_edits;
-ghost use Rattle.model_world.specs.declared.change.Change.TheVariants as change;
+ghost use Rattle.model_world.specs.declared.edit_command.EditCommand.TheVariants as change;
 ghost use Rattle.model_world.specs.Edits as model;
 ghost use Rattle.model_world_law.specs.Fit.{IsWritten};
 ghost use Rattle.ve_store.specs.Following.{together};

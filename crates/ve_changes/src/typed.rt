@@ -11,7 +11,7 @@ use crate::BatchStop;
 use crate::batch::{Batch, perform_all};
 use crate::caret::after_text;
 use model_edit::Selection;
-use model_world::{Change, ChangeList, TextMarks};
+use model_world::{EditCommand, EditCommandList, TextMarks};
 use std::alloc::Global;
 use std::sync::ledger::Ledger;
 use ve_base::{Memory, Steps, Text, TryCopy};
@@ -26,17 +26,17 @@ pub struct Typed {
 }
 
 /// The changes that typing a text is.
-fn typing(alloc: Global, selection: Selection, text: &Text) -> Result<ChangeList, Memory>
+fn typing(alloc: Global, selection: Selection, text: &Text) -> Result<EditCommandList, Memory>
     ensures { IfOk result (λ changes. changes ≡ model.typing selection text.now) }
 {
     let from = selection.anchor.min(selection.focus);
     let to = selection.anchor.max(selection.focus);
-    let mut changes = ChangeList::new(alloc);
+    let mut changes = EditCommandList::new(alloc);
     if selection.anchor != selection.focus {
-        changes.push(Change::Remove { from, to })?;
+        changes.push(EditCommand::Remove { from, to })?;
     }
     let text = text.copy(alloc)?;
-    changes.push(Change::Text {
+    changes.push(EditCommand::Text {
         at: from,
         text,
         marks: TextMarks::Left,

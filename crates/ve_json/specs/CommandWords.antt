@@ -2,8 +2,8 @@
 use Rattle.std.specs.Prelude.{ℕ, List, [], ◌∷◌, ◌++◌, map, codes, Option, Some, None, option_and_then, Result, Err}
 use Rattle.serde_json.specs.Data.{Data, object, Members}
 use Rattle.serde_json.specs.Find.{get_member}
-use Rattle.model_world.specs.declared.change.Change.{Change}
-use Rattle.model_world.specs.declared.change.Change.TheVariants as change
+use Rattle.model_world.specs.declared.edit_command.EditCommand.{EditCommand}
+use Rattle.model_world.specs.declared.edit_command.EditCommand.TheVariants as change
 use Rattle.model_world.specs.declared.command.Request.{Request}
 use Rattle.model_world.specs.declared.command.Request.TheVariants as request
 use Rattle.model_world.specs.declared.field.Field.{Field}
@@ -40,7 +40,7 @@ change_words =
     ∷ (codes "apply", a_change.Apply)
     ∷ []
 
-abbrev pub change_read : ChangeWord → Reader Change
+abbrev pub change_read : ChangeWord → Reader EditCommand
 change_read a_change.Text = changes.text_read
 change_read a_change.Insert = changes.insert_read
 change_read a_change.Remove = changes.remove_read
@@ -53,7 +53,7 @@ change_read a_change.Attr = changes.attr_read
 change_read a_change.Apply = changes.apply_read
 
 -- the change that `do` names
-abbrev pub change_by_word : Members → Option Change
+abbrev pub change_by_word : Members → Option EditCommand
 change_by_word members =
     option_and_then (λ word. changes.if_well_formed (change_read word members)) (option_and_then (word_in change_words) (get_member (codes "do") members))
 

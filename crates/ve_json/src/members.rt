@@ -12,7 +12,7 @@ ghost use Rattle.model_world.specs.Members.{required_member, optional_member};
 ghost use Rattle.model_world.specs.Names.{field_name};
 ghost use Rattle.model_world.specs.Operations as operations;
 ghost use Rattle.model_world.specs.Values as values;
-ghost use Rattle.model_world.specs.declared.change.TextMarks.TheVariants as text_marks;
+ghost use Rattle.model_world.specs.declared.edit_command.TextMarks.TheVariants as text_marks;
 ghost use Rattle.ve_json.specs.Gives.{Gives, or_bad_member};
 ghost use Rattle.ve_json.specs.declared.fault.BadMember.TheVariants as bad;
 

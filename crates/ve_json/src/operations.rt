@@ -1,7 +1,7 @@
 // The operations of a transaction, as a line writes them. What they remove, and the old values of attributes, are the list's.
 ghost use Rattle.std.specs.Prelude.{◌≡◌, None};
 ghost use Rattle.serde_json.specs.View.{view, members_view};
-ghost use Rattle.model_world.specs.declared.change.OpWords.TheVariants as words;
+ghost use Rattle.model_world.specs.declared.edit_command.OpWords.TheVariants as words;
 ghost use Rattle.model_world.specs.Operations as operations;
 ghost use Rattle.ve_json.specs.Gives.{Reads};
 

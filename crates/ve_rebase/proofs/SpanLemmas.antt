@@ -6,7 +6,7 @@ use Rattle.model_change.specs.Transaction.{Retain, Replace, Attribute, Op, Trans
 use Rattle.model_change.specs.Join.{first, without_first, end_retain, without_end, last, core, reach, retained, with_ends, has_some, has_attribute, has_replace, is_active, is_attribute_transaction, both_attributes, start_of, end_of, moved_on, with_new_end}
 use Rattle.model_change.specs.Transaction.{is_reduced}
 use Rattle.model_change.proofs.InverseLemmas.{reduced_parts}
-use Rattle.ve_rebase.specs.declared.span.Span.{Span}
+use Rattle.ve_rebase.specs.declared.span.ActiveSpan.{ActiveSpan}
 use Rattle.ve_rebase.specs.Span.{span_of, old_size, new_size, span_between, inert}
 use Rattle.ve_rebase.specs.Laws.{SpansAdd, SpansMeet, SpansJoin}
 
@@ -208,7 +208,7 @@ choose both active active_too near unmet first_idle second_idle left right =
 module _ (a b : Transaction) (h : is_reduced a ≡ true) (k : is_reduced b ≡ true) where
   first_by : (both active active_too near : Bool) → is_active a ≡ active →
       span_of (choose {A = Transaction × Transaction} both active active_too near (a, b) (retained (new_length b), b) (a, retained (new_length a)) (with_new_end a b, moved_on b a) (moved_on a b, with_new_end b a)).0
-      ≡ choose {A = Span} both active active_too near (span_of a) (inert (new_size (span_of b))) (span_of a)
+      ≡ choose {A = ActiveSpan} both active active_too near (span_of a) (inert (new_size (span_of b))) (span_of a)
       (span_between (span_of a) (first a) ((last a + new_size (span_of b)) - old_size (span_of b)))
       (span_between (span_of a) ((first a + new_size (span_of b)) - old_size (span_of b)) (last a))
   first_by true active active_too near q = refl
@@ -219,7 +219,7 @@ module _ (a b : Transaction) (h : is_reduced a ≡ true) (k : is_reduced b ≡ t
 
   second_by : (both active active_too near : Bool) → is_active b ≡ active_too →
       span_of (choose {A = Transaction × Transaction} both active active_too near (a, b) (retained (new_length b), b) (a, retained (new_length a)) (with_new_end a b, moved_on b a) (moved_on a b, with_new_end b a)).1
-      ≡ choose {A = Span} both active active_too near (span_of b) (span_of b) (inert (new_size (span_of a)))
+      ≡ choose {A = ActiveSpan} both active active_too near (span_of b) (span_of b) (inert (new_size (span_of a)))
       (span_between (span_of b) ((first b + new_size (span_of a)) - old_size (span_of a)) (last b))
       (span_between (span_of b) (first b) ((last b + new_size (span_of a)) - old_size (span_of a)))
   second_by true active active_too near r = refl

@@ -10,7 +10,7 @@ ghost use Rattle.ve_rebase.specs.Span.{span_of, old_size, end};
 use crate::RebaseFault;
 use crate::places::attributes_meet;
 use crate::read::span_of;
-use crate::span::{Span, joined_first, joined_second};
+use crate::span::{ActiveSpan, joined_first, joined_second};
 use crate::totals::inserted_count;
 use std::alloc::Global;
 use ve_base::{MAX_TOTAL_LENGTH, Memory};
@@ -25,7 +25,7 @@ pub fn conflict(a: &Transaction, b: &Transaction) -> bool
 }
 
 /// The same, where the spans of both are known.
-fn clash(a: &Transaction, span: Span, b: &Transaction, other: Span) -> bool
+fn clash(a: &Transaction, span: ActiveSpan, b: &Transaction, other: ActiveSpan) -> bool
     requires span { (values : _) → span ≡ span_of (by_value values a.now) }
     requires other { (values : _) → other ≡ span_of (by_value values b.now) }
     requires span_fits { end span < 2 ^ 64 }
@@ -77,7 +77,7 @@ pub fn pair(
 }
 
 /// The transaction's operations between the ends of a span.
-pub fn reshaped(alloc: Global, tx: &Transaction, span: Span) -> Result<Transaction, Memory>
+pub fn reshaped(alloc: Global, tx: &Transaction, span: ActiveSpan) -> Result<Transaction, Memory>
     requires stands { (values : _) → MayStandIn span (by_value values tx.now) }
     requires small { old_size span ≤ 2 ^ 62 }
     ensures made { IfOk result (λ made. (values : _) → by_value values made ≡ between span (by_value values tx.now)) }

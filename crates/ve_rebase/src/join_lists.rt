@@ -8,12 +8,12 @@ ghost use Rattle.ve_rebase.specs.Span.{old_size};
 
 use crate::RebaseFault;
 use crate::shifted::{Shifted, begun, paired, written};
-use crate::span::Span;
+use crate::span::ActiveSpan;
 use std::alloc::Global;
 use ve_tx::TxList;
 
 /// The committed ones in turn over one of mine: they become what they are over it, and the span is that of mine over them.
-fn row(committed: &mut Vec<Shifted<'_>>, mine: Shifted<'_>) -> Result<Span, RebaseFault>
+fn row(committed: &mut Vec<Shifted<'_>>, mine: Shifted<'_>) -> Result<ActiveSpan, RebaseFault>
     requires shifted { All IsShifted committed.old.items }
     requires follow { FollowFrom (old_size mine.span) committed.old.items }
     requires mine { IsShifted mine }

@@ -10,7 +10,7 @@
 //! It knows transactions by their operations and reads no value that these cite, so its clauses hold over every list of values; it knows neither
 //! lists of items nor stores.
 //!
-//! Definitions, in reading order: `Span` (what a transaction leaves before and after its active range, and
+//! Definitions, in reading order: `ActiveSpan` (what a transaction leaves before and after its active range, and
 //! the lengths between), `Totals` and `Places` (what one pass over operations finds), `Pair` (both results by
 //! value, and when they are refused), `Lists` (when lists may be joined, and what a refusal names), `Entries`
 //! (entries by value, and what stays of them), `Shifted` (transactions as joining has moved them so far, and

@@ -12,7 +12,7 @@ use crate::RebaseFault;
 use crate::join::reshaped;
 use crate::places::attributes_meet;
 use crate::read::span_of;
-use crate::span::{Span, joined_first, joined_second};
+use crate::span::{ActiveSpan, joined_first, joined_second};
 use std::alloc::Global;
 use ve_base::{MAX_TOTAL_LENGTH, Memory};
 use ve_tx::{Op, Transaction, TxList};
@@ -22,7 +22,7 @@ use ve_tx::{Op, Transaction, TxList};
 #[derive(Clone, Copy)]
 pub struct Shifted<'a> {
     pub tx: &'a Transaction,
-    pub span: Span,
+    pub span: ActiveSpan,
 }
 
 /// The operations after the first retain.
@@ -54,7 +54,7 @@ fn conflicts(a: Shifted<'_>, b: Shifted<'_>) -> bool
 }
 
 /// What joining makes of the spans of two on lists of one length, or both active ranges where they conflict.
-pub fn paired(a: Shifted<'_>, b: Shifted<'_>) -> Result<(Span, Span), RebaseFault>
+pub fn paired(a: Shifted<'_>, b: Shifted<'_>) -> Result<(ActiveSpan, ActiveSpan), RebaseFault>
     requires first { IsShifted a }
     requires second { IsShifted b }
     requires lengths { old_size a.span ≡ old_size b.span }

@@ -18,7 +18,7 @@ use crate::cursor::Cursor;
 use crate::free::free_nodes;
 use crate::plan::Plan;
 use crate::range::ChangedRange;
-use crate::read::Reader;
+use crate::read::ChangeReader;
 use crate::script::How;
 use crate::sizes::Sizes;
 use crate::start::Start;
@@ -40,7 +40,7 @@ pub(crate) struct Begun {
 
 /// The script of operations, with so many items in front of them that stand in one text with theirs.
 fn read_all<L: Ledger>(
-    reader: &mut Reader,
+    reader: &mut ChangeReader,
     arena: &mut Arena,
     front: usize,
     ops: &[Op],
@@ -61,7 +61,7 @@ fn read_all<L: Ledger>(
 fn planned(
     arena: &Arena,
     root: NodeId,
-    reader: &Reader,
+    reader: &ChangeReader,
     plan: Plan,
     sizes: Sizes,
 ) -> Result<Vec<Write>, Memory>
@@ -80,7 +80,7 @@ fn planned(
 }
 
 /// Want of memory: the nodes that were made for a script are freed.
-fn undone<L: Ledger>(arena: &mut Arena, reader: &Reader, steps: &mut Steps<L>) -> Result<(), Memory>
+fn undone<L: Ledger>(arena: &mut Arena, reader: &ChangeReader, steps: &mut Steps<L>) -> Result<(), Memory>
     requires made { SomeMade arena.old reader.now.script }
     ensures same { (before : Slots) → HasMade before arena.old (nodes_of How.Put reader.now.script) → SameNodes before arena.new }
     ensures err { OnOk result ⊥ }
@@ -116,7 +116,7 @@ pub(crate) fn relink_nodes<L: Ledger>(
 {
     let ops = tx.ops();
     let start = begun.start;
-    let mut reader = Reader::new(
+    let mut reader = ChangeReader::new(
         alloc,
         Cursor {
             parent: start.parent,

@@ -17,7 +17,7 @@
 //! private functions and lemmas: `Acts`, `Spelled`, `Changed`, `Script` (what is done with each item, and the script of
 //! that), `Tokens`, `Work`, `Relink`, `Repair`, `Numbers`, `Whole` (a script that is carried out gives the tree),
 //! `Plan`, `Agree`, `Ready`, `Closing`, `Ending`, `Stacks`, `Writes`, `Labels`, `Frees` (writes), `Sizes`, `SizesRight`,
-//! `Sizing`, `Lengths` (lengths), `Cursor`, `Cursors`, `Start`, `Begun`, `Range` (places), `Reader`, `Courses`, `Made`
+//! `Sizing`, `Lengths` (lengths), `Cursor`, `Cursors`, `Start`, `Begun`, `Range` (places), `ChangeReader`, `Courses`, `Made`
 //! (reading), `Pieces`, `Traced`, `Moved`, `Numbered`, `Matching`, `Charged`, `Bounded` (nodes that match, and the
 //! bound), `Assembly`, `Scene` (all of it). The law is `nodes_outside_stand` (`Outside`).
 #![tactic(auto)]

@@ -37,14 +37,14 @@ pub struct TextRun {
 
 /// The cursor in the old tree, the text node of the last retained character, the run of the new list, and the script so far.
 #[derive(Drop)]
-pub(crate) struct Reader {
+pub(crate) struct ChangeReader {
     at: Cursor,
     seen: Option<NodeId>,
     run: Option<TextRun>,
     script: Vec<Step>,
 }
 
-impl Model for Reader {
+impl Model for ChangeReader {
     ghost use Rattle.ve_repair.specs.Reader.{Reading};
 
     ghost Value = { Reading };
@@ -71,12 +71,12 @@ fn is_same(one: Option<NodeId>, n: NodeId) -> bool
     }
 }
 
-impl Reader {
+impl ChangeReader {
     /// Nothing is read, from a cursor on. It takes no memory.
-    pub(crate) fn new(alloc: Global, at: Cursor) -> Reader
+    pub(crate) fn new(alloc: Global, at: Cursor) -> ChangeReader
         ensures { result ≡ record { at = at; seen = None; run = None; script = [] } }
     {
-        Reader {
+        ChangeReader {
             at,
             seen: None,
             run: None,
@@ -143,7 +143,7 @@ impl Reader {
     }
 }
 
-impl Reader {
+impl ChangeReader {
     /// The run of the new list ends: its text is the one that it keeps, or one that is made.
     fn end_run<L: Ledger>(&mut self, arena: &mut Arena, steps: &mut Steps<L>) -> Result<(), Memory>
         requires { letters_in self.old.run < 2 ^ 64 }
@@ -257,7 +257,7 @@ impl Reader {
     }
 }
 
-impl Reader {
+impl ChangeReader {
     /// What the cursor passes stays.
     fn retain_passed<L: Ledger>(
         &mut self,
@@ -383,7 +383,7 @@ impl Reader {
     }
 }
 
-impl Reader {
+impl ChangeReader {
     /// An item comes.
     fn come<L: Ledger>(
         &mut self,
@@ -432,7 +432,7 @@ impl Reader {
     }
 }
 
-impl Reader {
+impl ChangeReader {
     /// The text that the cursor is in stays to its end, and the run ends.
     fn rest_of_run<L: Ledger>(
         &mut self,

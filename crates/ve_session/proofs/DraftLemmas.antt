@@ -11,7 +11,7 @@ use Rattle.model_page.specs.PageItems.{Opened}
 use Rattle.model_site.specs.Entries.{Parcel}
 use Rattle.model_site.specs.Session.{Member}
 use Rattle.model_site_law.specs.Sound.{Sound}
-use Rattle.model_world.specs.declared.change.Change.TheVariants as change
+use Rattle.model_world.specs.declared.edit_command.EditCommand.TheVariants as change
 use Rattle.model_world.specs.declared.command.Request.{Request}
 use Rattle.model_world.specs.declared.command.Request.TheVariants as request
 use Rattle.model_world.specs.declared.refusal.Refusal.{Refusal}

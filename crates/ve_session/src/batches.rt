@@ -7,7 +7,7 @@ ghost use Rattle.ve_session.specs.Turning.{MayTurn};
 ghost use Rattle.ve_sites.specs.Shared.{member_at, site_at, sites};
 
 use crate::edits::len_at;
-use model_world::ChangeList;
+use model_world::EditCommandList;
 use std::alloc::Global;
 use std::sync::ledger::Ledger;
 use ve_base::Steps;
@@ -20,7 +20,7 @@ pub fn batch<L: Ledger>(
     alloc: Global,
     session: &mut Sites,
     k: usize,
-    changes: &ChangeList,
+    changes: &EditCommandList,
     steps: &mut Steps<L>,
 ) -> Result<Answer<'static>, ChangeStop>
     requires site { k < sites session.old }

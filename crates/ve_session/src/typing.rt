@@ -2,8 +2,8 @@
 ghost use Rattle.std.specs.Prelude.{◌≡◌, ◌<◌, ◌≤◌, ◌+◌, IfErr, IfOk, OnErr};
 ghost use Rattle.model_world.specs.Answers.{lower};
 ghost use Rattle.model_world.specs.Edits.{change_of};
-ghost use Rattle.model_world.specs.declared.change.Change.TheVariants as change;
-ghost use Rattle.model_world.specs.declared.change.TextMarks.TheVariants.{Left};
+ghost use Rattle.model_world.specs.declared.edit_command.EditCommand.TheVariants as change;
+ghost use Rattle.model_world.specs.declared.edit_command.TextMarks.TheVariants.{Left};
 ghost use Rattle.model_world.specs.declared.command.Request.TheVariants as request;
 ghost use Rattle.ve_changes.specs.Drafts.{IsDrafted};
 ghost use Rattle.ve_changes.specs.Stops.{IsRefused};
@@ -21,7 +21,7 @@ use model_world_law::layers_fit;
 use std::alloc::Global;
 use std::sync::ledger::Ledger;
 use ve_base::{Steps, Text, TryCopy};
-use ve_changes::{BatchStop, Change, ChangeStop, after_inserted, change_draft, type_text};
+use ve_changes::{BatchStop, EditCommand, ChangeStop, after_inserted, change_draft, type_text};
 use ve_json::Answer;
 use ve_offsets::Doc;
 use ve_sites::Sites;
@@ -33,7 +33,7 @@ fn put_draft(alloc: Global, doc: Doc<'_>, at: usize, text: &Text) -> Result<Draf
     ensures ok { IfOk result (IsDrafted doc.entry.store.now (change_of (page_items doc.entry) (change.Text at text.now Left))) }
     ensures refused { IfErr result (λ why. IsRefused why (change_of (page_items doc.entry) (change.Text at text.now Left))) }
 {
-    let change = Change::Text {
+    let change = EditCommand::Text {
         at,
         text: text.copy(alloc)?,
         marks: TextMarks::Left,

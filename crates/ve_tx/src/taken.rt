@@ -21,20 +21,20 @@ use ve_store::Store;
 
 /// Values of a list that a store has, each since it was cited for the first time.
 #[derive(Drop)]
-pub struct Taken {
+pub struct CitedValues {
     // where each value stands in the list
     pub places: IndexSet<usize>,
     // beside it, what cites it in the store
     pub ids: Vec<ValueId>,
 }
 
-impl Taken {
+impl CitedValues {
     /// None yet. It takes no memory.
-    pub fn new(alloc: Global) -> Taken
+    pub fn new(alloc: Global) -> CitedValues
         ensures places { result.places.keys ≡ [] }
         ensures ids { result.ids.items ≡ [] }
     {
-        Taken {
+        CitedValues {
             places: IndexSet::new(alloc),
             ids: Vec::new(alloc),
         }

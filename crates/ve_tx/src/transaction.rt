@@ -22,7 +22,7 @@ use crate::filled::filled;
 use crate::inverse::inverted;
 use crate::normal::is_normal;
 use crate::range::range_of;
-use crate::taken::Taken;
+use crate::taken::CitedValues;
 use crate::{Change, Op, OpList};
 use model_change::TxFault;
 use std::alloc::Global;
@@ -125,7 +125,7 @@ impl Transaction {
         ensures kept { OnErr result (store.new ≡ store.old) }
     {
         let before = store.len();
-        let mut taken = Taken::new(alloc);
+        let mut taken = CitedValues::new(alloc);
         match taken.ops(
             alloc,
             values,
