@@ -68,7 +68,9 @@ fn opened(depth: usize, item: Item) -> usize
 
 /// Whether each piece that stands in no other is so.
 pub fn all_outer(pieces: &[Item], question: Question) -> bool
-    ensures { (values : _) → result ≡ list_all (item_answer question) (model.outer_items 0 (plain_list values pieces.now)) }
+    ensures { (values : _)
+        → result
+        ≡ list_all (item_answer question) (model.outer_items 0 (plain_list values pieces.now)) }
 {
     let mut depth: usize = 0;
     for item in pieces {
@@ -91,7 +93,10 @@ pub fn is_mixed(pieces: &[Item]) -> bool
 
 /// Whether the pieces are content that a node of the kind doesn't hold.
 fn wants_paragraph(parent: Kind, pieces: &[Item]) -> bool
-    ensures { (values : _) → result ≡ (model.is_content_pieces (plain_list values pieces.now) && not (table.is_content_branch parent)) }
+    ensures { (values : _)
+        → result
+        ≡ (model.is_content_pieces (plain_list values pieces.now)
+        && not (table.is_content_branch parent)) }
 {
     if is_content_branch(parent) {
         return false;

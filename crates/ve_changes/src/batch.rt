@@ -61,7 +61,8 @@ fn perform_each<L: Ledger>(
     requires sound { Sound editor.old.items }
     requires written { AllWritten changes.now }
     requires nothing { entry.old ≡ no_entry (length editor.old.store) }
-    ensures ok { OnOk result (IsMade editor.old (batch_on editor.old changes.now) editor.new entry.new) }
+    ensures ok { OnOk result (
+        IsMade editor.old (batch_on editor.old changes.now) editor.new entry.new) }
     ensures refused { IfErr result (IsBatchRefused (batch_on editor.old changes.now)) }
     ensures counted { steps.old ≤ steps.new }
     ensures steps { steps.new ≤ steps.old + steps_of_changes editor.old changes.now }

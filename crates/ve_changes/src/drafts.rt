@@ -31,7 +31,8 @@ fn typed(
     marks: TextMarks,
 ) -> Result<Draft, ChangeStop>
     requires page { IsPage doc.store.now doc.list.now.items doc.tree.now }
-    ensures { Drafts doc.entry.store.now (built_transaction (text_typed marks (page_items doc.entry) at text.now)) result }
+    ensures { Drafts doc.entry.store.now
+        (built_transaction (text_typed marks (page_items doc.entry) at text.now)) result }
 {
     match marks {
         TextMarks::Left => text_like_left(alloc, doc, at, text.as_str()),
@@ -58,8 +59,10 @@ fn spelled(value: &Option<Text>) -> Option<&str>
 pub fn change_draft(alloc: Global, doc: Doc<'_>, change: &EditCommand) -> Result<Draft, ChangeStop>
     requires written { IsWritten change.now }
     requires page { IsPage doc.store.now doc.list.now.items doc.tree.now }
-    ensures ok { IfOk result (IsDrafted doc.entry.store.now (change_of (page_items doc.entry) change.now)) }
-    ensures refused { IfErr result (λ why. IsRefused why (change_of (page_items doc.entry) change.now)) }
+    ensures ok { IfOk result (
+        IsDrafted doc.entry.store.now (change_of (page_items doc.entry) change.now)) }
+    ensures refused { IfErr result (λ why.
+        IsRefused why (change_of (page_items doc.entry) change.now)) }
 {
     match change {
         EditCommand::Text { at, text, marks } => typed(alloc, doc, *at, text, *marks),

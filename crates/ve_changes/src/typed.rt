@@ -46,7 +46,10 @@ fn typing(alloc: Global, selection: Selection, text: &Text) -> Result<EditComman
 
 /// A batch of typing, with the caret after the text.
 fn with_caret(batch: Batch) -> Result<Typed, Memory>
-    ensures { IfOk result (λ typed. (r : Replica) (text : _) → IsBatch r (batch_on r (model.typing r.selection text)) batch → IsTyped r text typed) }
+    ensures { IfOk result (λ typed.
+        (r : Replica) (text : _)
+        → IsBatch r (batch_on r (model.typing r.selection text)) batch
+        → IsTyped r text typed) }
 {
     match after_text(&batch.entry) {
         Ok(caret) => Ok(Typed { batch, caret }),
@@ -66,9 +69,11 @@ pub fn type_text<L: Ledger>(
 ) -> Result<Typed, BatchStop>
     requires sound { Sound editor.now.items }
     ensures ok { IfOk result (IsTyped editor.now text.now) }
-    ensures refused { IfErr result (IsBatchRefused (batch_on editor.now (model.typing editor.now.selection text.now))) }
+    ensures refused { IfErr result (
+        IsBatchRefused (batch_on editor.now (model.typing editor.now.selection text.now))) }
     ensures counted { steps.old ≤ steps.new }
-    ensures steps { steps.new ≤ steps.old + steps_of_batch editor.now (model.typing editor.now.selection text.now) }
+    ensures steps { steps.new
+        ≤ steps.old + steps_of_batch editor.now (model.typing editor.now.selection text.now) }
 {
     let changes = typing(alloc, editor.selection(), text)?;
     match perform_all(alloc, editor, changes.as_slice(), steps) {

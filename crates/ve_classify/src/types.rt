@@ -52,7 +52,8 @@ fn word_end(value: &[u8], from: usize) -> usize
     ensures end { result ≡ from + prefix_len (λ c. not (is_white_char c)) (drop from value.now) }
     ensures more { from ≤ result }
     ensures bound { result ≤ length value.now }
-    ensures found { result < length value.now → is_white_char (slice_index value.now result) ≡ true }
+    ensures found { result < length value.now
+        → is_white_char (slice_index value.now result) ≡ true }
 {
     let mut at = from;
     while at < value.len() && !is_white_byte(value[at]) {

@@ -11,7 +11,8 @@ use ve_html_scan::{AttrTokens, Token};
 
 /// The value of the attribute of a name, as it is spelled.
 pub fn spelled_value<'a>(attrs: AttrTokens<'a>, name: &str) -> Option<&'a str>
-    ensures { spec.OfAttrs attrs.entry (spec.spelled_value name.now) (option_map (λ v. v.now) result) }
+    ensures { spec.OfAttrs attrs.entry (spec.spelled_value name.now) (
+        option_map (λ v. v.now) result) }
 {
     for attr in attrs {
         if attr.name == name {

@@ -76,7 +76,9 @@ fn marked_range(alloc: Global, members: &Map<String, Value>) -> Result<MarkedRan
 
 /// The members of `mark`.
 pub fn mark_members(alloc: Global, members: &Map<String, Value>) -> Result<EditCommand, BadMember>
-    ensures { Gives result (changes.mark_read (λ from to mark. change.Mark from to mark) (members_view members.now.entries)) }
+    ensures { Gives result (
+        changes.mark_read (λ from to mark. change.Mark from to mark)
+        (members_view members.now.entries)) }
 {
     let MarkedRange { from, to, mark } = marked_range(alloc, members)?;
     Ok(EditCommand::Mark { from, to, mark })
@@ -84,7 +86,9 @@ pub fn mark_members(alloc: Global, members: &Map<String, Value>) -> Result<EditC
 
 /// The members of `unmark`.
 pub fn unmark_members(alloc: Global, members: &Map<String, Value>) -> Result<EditCommand, BadMember>
-    ensures { Gives result (changes.mark_read (λ from to mark. change.Unmark from to mark) (members_view members.now.entries)) }
+    ensures { Gives result (
+        changes.mark_read (λ from to mark. change.Unmark from to mark)
+        (members_view members.now.entries)) }
 {
     let MarkedRange { from, to, mark } = marked_range(alloc, members)?;
     Ok(EditCommand::Unmark { from, to, mark })

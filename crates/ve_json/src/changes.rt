@@ -77,7 +77,8 @@ fn change_in(alloc: Global, json: &Value) -> Result<EditCommand, ValueFault>
 
 /// The changes of a batch: 1 to 1,000.
 fn batch_in(alloc: Global, json: &Value) -> Result<EditCommandList, ValueFault>
-    ensures { Reads result (values.such_that commands.is_batch (values.list_in changes.change_in (view json.now))) }
+    ensures { Reads result (
+        values.such_that commands.is_batch (values.list_in changes.change_in (view json.now))) }
 {
     let list = values_in(json).ok_or(ValueFault::IllFormed)?;
     let mut changes = EditCommandList::new(alloc);
@@ -98,7 +99,10 @@ pub fn batch(
     members: &Map<String, Value>,
     field: Field,
 ) -> Result<EditCommandList, BadMember>
-    ensures { Gives result (required_member field (λ json. values.such_that commands.is_batch (values.list_in changes.change_in json)) (members_view members.now.entries)) }
+    ensures { Gives result (
+        required_member field
+        (λ json. values.such_that commands.is_batch (values.list_in changes.change_in json))
+        (members_view members.now.entries)) }
 {
     named(field, batch_in(alloc, found(members, field)?))
 }

@@ -21,7 +21,8 @@ fn removal_in(
     members: &Map<String, Value>,
     counted: &Value,
 ) -> Result<OpWords, ValueFault>
-    ensures { Reads result (operations.removal_in (members_view members.now.entries) (view counted.now)) }
+    ensures { Reads result (
+        operations.removal_in (members_view members.now.entries) (view counted.now)) }
 {
     let count = number_in(counted).ok_or(ValueFault::IllFormed)?;
     let insert = all_items_in(

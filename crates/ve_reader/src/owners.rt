@@ -140,7 +140,9 @@ impl Owners {
     /// One owner more, of a key that none has: it starts at a byte of the page, and its body has this text. An `Err` changes nothing.
     pub fn push(&mut self, at: usize, key: RefKey, html: Text) -> Result<(), Memory>
         requires { is_owned self.old key ≡ false }
-        ensures ok { OnOk result (self.new ≡ self.old ++ record { at = at; key = key; html = encode_utf8_all html } ∷ []) }
+        ensures ok { OnOk result (
+            self.new
+            ≡ self.old ++ record { at = at; key = key; html = encode_utf8_all html } ∷ []) }
         ensures err { OnErr result (self.new ≡ self.old) }
     {
         let unnamed = count_with(self.unnamed, &key)?;

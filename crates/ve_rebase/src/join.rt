@@ -56,12 +56,19 @@ pub fn pair(
     a: &Transaction,
     b: &Transaction,
 ) -> Result<(Transaction, Transaction), RebaseFault>
-    requires { (values : _) → old_length (by_value values a.now) ≡ old_length (by_value values b.now) }
-    ensures joined { IfOk result (λ two. (values : _) → both_by_value values two ≡ join (by_value values a.now) (by_value values b.now)) }
-    ensures apart { IfOk result (λ two. (values : _) → conflict (by_value values a.now) (by_value values b.now) ≡ false) }
-    ensures first_cites { IfOk result (λ two. (values : _) → TxCites values a.now → TxCites values two.0) }
-    ensures second_cites { IfOk result (λ two. (values : _) → TxCites values b.now → TxCites values two.1) }
-    ensures refused { IfErr result (λ why. (values : _) → IsRefused (by_value values a.now) (by_value values b.now) why) }
+    requires { (values : _)
+        → old_length (by_value values a.now) ≡ old_length (by_value values b.now) }
+    ensures joined { IfOk result (λ two.
+        (values : _)
+        → both_by_value values two ≡ join (by_value values a.now) (by_value values b.now)) }
+    ensures apart { IfOk result (λ two.
+        (values : _) → conflict (by_value values a.now) (by_value values b.now) ≡ false) }
+    ensures first_cites { IfOk result (λ two.
+        (values : _) → TxCites values a.now → TxCites values two.0) }
+    ensures second_cites { IfOk result (λ two.
+        (values : _) → TxCites values b.now → TxCites values two.1) }
+    ensures refused { IfErr result (λ why.
+        (values : _) → IsRefused (by_value values a.now) (by_value values b.now) why) }
 {
     let span = span_of(a);
     let other = span_of(b);
@@ -80,8 +87,10 @@ pub fn pair(
 pub fn reshaped(alloc: Global, tx: &Transaction, span: ActiveSpan) -> Result<Transaction, Memory>
     requires stands { (values : _) → MayStandIn span (by_value values tx.now) }
     requires small { old_size span ≤ 2 ^ 62 }
-    ensures made { IfOk result (λ made. (values : _) → by_value values made ≡ between span (by_value values tx.now)) }
-    ensures cites { IfOk result (λ made. (values : _) → TxCites values tx.now → TxCites values made) }
+    ensures made { IfOk result (λ made.
+        (values : _) → by_value values made ≡ between span (by_value values tx.now)) }
+    ensures cites { IfOk result (λ made.
+        (values : _) → TxCites values tx.now → TxCites values made) }
 {
     let total = span.old_size() + inserted_count(tx.ops());
     if total > MAX_TOTAL_LENGTH {

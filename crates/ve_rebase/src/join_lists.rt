@@ -17,8 +17,11 @@ fn row(committed: &mut Vec<Shifted<'_>>, mine: Shifted<'_>) -> Result<ActiveSpan
     requires shifted { All IsShifted committed.old.items }
     requires follow { FollowFrom (old_size mine.span) committed.old.items }
     requires mine { IsShifted mine }
-    ensures row { IfOk result (λ span. IsRow committed.old.items mine.entry committed.new.items span) }
-    ensures refused { IfErr result (λ why. (values others : _) → IsRefusedAs (joined_row values others committed.old.items mine.entry) why) }
+    ensures row { IfOk result (λ span.
+        IsRow committed.old.items mine.entry committed.new.items span) }
+    ensures refused { IfErr result (λ why.
+        (values others : _)
+        → IsRefusedAs (joined_row values others committed.old.items mine.entry) why) }
 {
     let mut span = mine.span;
     for i in 0..committed.len() {
@@ -41,8 +44,11 @@ pub fn rows(
     requires shifted { All IsShifted committed.old.items }
     requires mine_shifted { All IsShifted mine.old.items }
     requires one_length { StartTogether committed.old.items mine.old.items }
-    ensures rows { OnOk result (AreRows committed.old.items mine.old.items committed.new.items mine.new.items) }
-    ensures refused { IfErr result (λ why. (values others : _) → IsRefusedAs (joined_rows values others committed.old.items mine.old.items) why) }
+    ensures rows { OnOk result (
+        AreRows committed.old.items mine.old.items committed.new.items mine.new.items) }
+    ensures refused { IfErr result (λ why.
+        (values others : _)
+        → IsRefusedAs (joined_rows values others committed.old.items mine.old.items) why) }
 {
     for j in 0..mine.len() {
         let one = mine[j];
@@ -66,10 +72,13 @@ pub fn lists(
     committed: &TxList,
     mine: &TxList,
 ) -> Result<(TxList, TxList), RebaseFault>
-    requires { (values : _) → RunFromOneLength (map (by_value values) committed.now) (map (by_value values) mine.now) }
+    requires { (values : _)
+        → RunFromOneLength (map (by_value values) committed.now) (map (by_value values) mine.now) }
     ensures joined { IfOk result (AreListsJoined committed.now mine.now) }
-    ensures committed_cite { IfOk result (λ two. (values : _) → All (TxCites values) committed.now → All (TxCites values) two.0) }
-    ensures mine_cite { IfOk result (λ two. (values : _) → All (TxCites values) mine.now → All (TxCites values) two.1) }
+    ensures committed_cite { IfOk result (λ two.
+        (values : _) → All (TxCites values) committed.now → All (TxCites values) two.0) }
+    ensures mine_cite { IfOk result (λ two.
+        (values : _) → All (TxCites values) mine.now → All (TxCites values) two.1) }
     ensures refused { IfErr result (AreListsRefused committed.now mine.now) }
 {
     let mut over = begun(alloc, committed.as_slice())?;

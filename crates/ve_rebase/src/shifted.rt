@@ -39,7 +39,8 @@ fn after_first(ops: &[Op]) -> &[Op]
 fn conflicts(a: Shifted<'_>, b: Shifted<'_>) -> bool
     requires first { IsShifted a }
     requires second { IsShifted b }
-    ensures { (values others : _) → result ≡ conflict (shifted_by_value values a.entry) (shifted_by_value others b.entry) }
+    ensures { (values others : _)
+        → result ≡ conflict (shifted_by_value values a.entry) (shifted_by_value others b.entry) }
 {
     if !a.span.meets(b.span) {
         return false;
@@ -59,7 +60,8 @@ pub fn paired(a: Shifted<'_>, b: Shifted<'_>) -> Result<(ActiveSpan, ActiveSpan)
     requires second { IsShifted b }
     requires lengths { old_size a.span ≡ old_size b.span }
     ensures paired { IfOk result (λ two. ArePaired a.entry b.entry two.0 two.1) }
-    ensures refused { IfErr result (λ why. (values others : _) → IsRefusedAs (joined_pair values others a.entry b.entry) why) }
+    ensures refused { IfErr result (λ why.
+        (values others : _) → IsRefusedAs (joined_pair values others a.entry b.entry) why) }
 {
     if conflicts(a, b) {
         return Err(RebaseFault::Conflict {
@@ -93,7 +95,10 @@ pub fn begun<'a>(alloc: Global, txs: &'a [Transaction]) -> Result<Vec<Shifted<'a
 pub fn written(alloc: Global, all: &[Shifted<'_>]) -> Result<TxList, Memory>
     requires { All IsShifted all.now }
     ensures written { IfOk result (λ txs. AreWritten txs all.now) }
-    ensures cite { IfOk result (λ txs. (values : _) → All (TxCites values) (map operations all.now) → All (TxCites values) txs) }
+    ensures cite { IfOk result (λ txs.
+        (values : _)
+        → All (TxCites values) (map operations all.now)
+        → All (TxCites values) txs) }
 {
     let mut txs = TxList::new(alloc);
     for one in all {

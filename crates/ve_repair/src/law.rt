@@ -38,8 +38,10 @@ fn pass(state: &mut State, items: &[Item]) -> Result<(), LawFault>
 fn pass_range(state: &mut State, list: &Linear, at: usize, count: usize) -> Result<(), LawFault>
     requires within { at + count ≤ length list.now.items }
     requires fits { at + count < 2 ^ 64 }
-    ensures ok { OnOk result (after state.old (take count (drop at list.now.items)) ≡ Ok state.new) }
-    ensures err { IfErr result (λ fault. after state.old (take count (drop at list.now.items)) ≡ Err fault) }
+    ensures ok { OnOk result (
+        after state.old (take count (drop at list.now.items)) ≡ Ok state.new) }
+    ensures err { IfErr result (λ fault.
+        after state.old (take count (drop at list.now.items)) ≡ Err fault) }
 {
     let mut done = 0;
     while done < count {
@@ -83,8 +85,10 @@ fn pass_retained(
     requires doc { IsDoc doc }
     requires within { at + count ≤ length doc.list.now.items }
     requires fits { at + count < 2 ^ 64 }
-    ensures ok { OnOk result (after state.old (take count (drop at doc.entry.list.now.items)) ≡ Ok state.new) }
-    ensures err { IfErr result (λ fault. after state.old (take count (drop at doc.entry.list.now.items)) ≡ Err fault) }
+    ensures ok { OnOk result (
+        after state.old (take count (drop at doc.entry.list.now.items)) ≡ Ok state.new) }
+    ensures err { IfErr result (λ fault.
+        after state.old (take count (drop at doc.entry.list.now.items)) ≡ Err fault) }
 {
     if is_outer || count > NEAR {
         let old = state_at(doc, at);
@@ -107,8 +111,10 @@ fn pass_op(
     requires doc { IsDoc doc }
     requires within { at + items_taken op.now ≤ length doc.list.now.items }
     requires fits { at + items_taken op.now < 2 ^ 64 }
-    ensures ok { OnOk result (after state.old (piece_of op.now (drop at doc.entry.list.now.items)) ≡ Ok state.new) }
-    ensures err { IfErr result (λ fault. after state.old (piece_of op.now (drop at doc.entry.list.now.items)) ≡ Err fault) }
+    ensures ok { OnOk result (
+        after state.old (piece_of op.now (drop at doc.entry.list.now.items)) ≡ Ok state.new) }
+    ensures err { IfErr result (λ fault.
+        after state.old (piece_of op.now (drop at doc.entry.list.now.items)) ≡ Err fault) }
 {
     match op {
         Op::Retain(count) => pass_retained(state, doc, at, *count, is_outer),

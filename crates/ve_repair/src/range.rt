@@ -41,7 +41,9 @@ fn with_op(
     requires old_fits { at + items_taken op.now < 2 ^ 64 }
     requires new_fits { new_at + items_made op.now < 2 ^ 64 }
     requires begins { BeginsBefore found at new_at }
-    ensures { (before : List Op) → HasSeen before found k at new_at → FindsRange (before ++ (op.now ∷ [])) result }
+    ensures { (before : List Op)
+        → HasSeen before found k at new_at
+        → FindsRange (before ++ (op.now ∷ [])) result }
 {
     if !is_replace(op) {
         return found;

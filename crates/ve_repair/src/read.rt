@@ -110,7 +110,8 @@ impl ChangeReader {
         ensures keeps { Keeps arena.old arena.new }
         ensures made { MakesOn arena.old self.old.script arena.new self.new.script }
         ensures paid { OnOk result (IsPaid steps.old self.old.script steps.new self.new.script) }
-        ensures at_most { OnErr result (IsPaidOrOne steps.old self.old.script steps.new self.new.script) }
+        ensures at_most { OnErr result (
+            IsPaidOrOne steps.old self.old.script steps.new self.new.script) }
         ensures same { OnErr result (self.new.script ≡ self.old.script) }
     {
         self.script.reserve(1)?;
@@ -150,7 +151,8 @@ impl ChangeReader {
         ensures ends { OnOk result (RunEnds arena.old arena.new self.old [] self.new) }
         ensures made { MakesOn arena.old self.old.script arena.new self.new.script }
         ensures paid { OnOk result (IsPaid steps.old self.old.script steps.new self.new.script) }
-        ensures at_most { OnErr result (IsPaidOrOne steps.old self.old.script steps.new self.new.script) }
+        ensures at_most { OnErr result (
+            IsPaidOrOne steps.old self.old.script steps.new self.new.script) }
         ensures stopped { OnErr result (made_count self.new.script ≤ made_when_ended self.old) }
     {
         let Some(run) = self.run else {
@@ -175,7 +177,8 @@ impl ChangeReader {
         ensures ends { OnOk result (RunEnds arena.old arena.new self.old (step ∷ []) self.new) }
         ensures made { MakesOn arena.old self.old.script arena.new self.new.script }
         ensures paid { OnOk result (IsPaid steps.old self.old.script steps.new self.new.script) }
-        ensures at_most { OnErr result (IsPaidOrOne steps.old self.old.script steps.new self.new.script) }
+        ensures at_most { OnErr result (
+            IsPaidOrOne steps.old self.old.script steps.new self.new.script) }
         ensures stopped { OnErr result (made_count self.new.script ≤ made_when_ended self.old) }
     {
         self.end_run(arena, steps)?;
@@ -190,11 +193,15 @@ impl ChangeReader {
         steps: &mut Steps<L>,
     ) -> Result<NodeId, Memory>
         requires { letters_in self.old.run < 2 ^ 64 }
-        ensures ends { IfOk result (λ n. RunEnds arena.old arena.new self.old (put_step (NodeWhat.Node kind) n ∷ []) self.new) }
-        ensures node { IfOk result (λ n. slot_at arena.new n.0 ≡ Some (new_node (NodeWhat.Node kind))) }
+        ensures ends { IfOk result (λ n.
+            RunEnds arena.old arena.new self.old (put_step (NodeWhat.Node kind) n ∷ [])
+            self.new) }
+        ensures node { IfOk result (λ n.
+            slot_at arena.new n.0 ≡ Some (new_node (NodeWhat.Node kind))) }
         ensures made { MakesOn arena.old self.old.script arena.new self.new.script }
         ensures paid { OnOk result (IsPaid steps.old self.old.script steps.new self.new.script) }
-        ensures at_most { OnErr result (IsPaidOrOne steps.old self.old.script steps.new self.new.script) }
+        ensures at_most { OnErr result (
+            IsPaidOrOne steps.old self.old.script steps.new self.new.script) }
         ensures stopped { OnErr result (made_count self.new.script ≤ made_when_ended self.old) }
     {
         self.end_run(arena, steps)?;
@@ -270,7 +277,8 @@ impl ChangeReader {
         ensures read { OnOk result (RetainsPassed arena.old self.old passed arena.new self.new) }
         ensures made { MakesOn arena.old self.old.script arena.new self.new.script }
         ensures paid { OnOk result (IsPaid steps.old self.old.script steps.new self.new.script) }
-        ensures at_most { OnErr result (IsPaidOrOne steps.old self.old.script steps.new self.new.script) }
+        ensures at_most { OnErr result (
+            IsPaidOrOne steps.old self.old.script steps.new self.new.script) }
         ensures part { OnErr result (StopsAtPassed arena.old self.old passed self.new.script) }
     {
         self.at = passed.at;
@@ -297,11 +305,20 @@ impl ChangeReader {
         requires reads { IsReading arena.old self.old most 0 }
         ensures some { IfOk result (λ k. 1 ≤ k) }
         ensures few { IfOk result (λ k. k ≤ most) }
-        ensures read { IfOk result (λ k. (c : Course) → HasRead c arena.old self.old → most ≤ items_in c.spot.rest → HasRead (with_stays k c) arena.new self.new) }
+        ensures read { IfOk result (λ k.
+            (c : Course)
+            → HasRead c arena.old self.old
+            → most ≤ items_in c.spot.rest
+            → HasRead (with_stays k c) arena.new self.new) }
         ensures made { MakesOn arena.old self.old.script arena.new self.new.script }
         ensures paid { OnOk result (IsPaid steps.old self.old.script steps.new self.new.script) }
-        ensures at_most { OnErr result (IsPaidOrOne steps.old self.old.script steps.new self.new.script) }
-        ensures part { OnErr result ((c : Course) → HasRead c arena.old self.old → most ≤ items_in c.spot.rest → IsPart c (replicate most Stay) self.new.script) }
+        ensures at_most { OnErr result (
+            IsPaidOrOne steps.old self.old.script steps.new self.new.script) }
+        ensures part { OnErr result (
+            (c : Course)
+            → HasRead c arena.old self.old
+            → most ≤ items_in c.spot.rest
+            → IsPart c (replicate most Stay) self.new.script) }
     {
         let passed = self.at.pass(arena, most);
         self.retain_passed(arena, passed, steps)?;
@@ -316,11 +333,20 @@ impl ChangeReader {
         steps: &mut Steps<L>,
     ) -> Result<(), Memory>
         requires reads { IsReading arena.old self.old count 0 }
-        ensures read { OnOk result ((c : Course) → HasRead c arena.old self.old → count ≤ items_in c.spot.rest → HasRead (with_stays count c) arena.new self.new) }
+        ensures read { OnOk result (
+            (c : Course)
+            → HasRead c arena.old self.old
+            → count ≤ items_in c.spot.rest
+            → HasRead (with_stays count c) arena.new self.new) }
         ensures made { MakesOn arena.old self.old.script arena.new self.new.script }
         ensures paid { OnOk result (IsPaid steps.old self.old.script steps.new self.new.script) }
-        ensures at_most { OnErr result (IsPaidOrOne steps.old self.old.script steps.new self.new.script) }
-        ensures part { OnErr result ((c : Course) → HasRead c arena.old self.old → count ≤ items_in c.spot.rest → IsPart c (replicate count Stay) self.new.script) }
+        ensures at_most { OnErr result (
+            IsPaidOrOne steps.old self.old.script steps.new self.new.script) }
+        ensures part { OnErr result (
+            (c : Course)
+            → HasRead c arena.old self.old
+            → count ≤ items_in c.spot.rest
+            → IsPart c (replicate count Stay) self.new.script) }
     {
         let mut left = count;
         while left > 0 {
@@ -332,7 +358,10 @@ impl ChangeReader {
 
     /// Characters of a text go. Its node goes with the last of them, unless one was retained.
     fn cut_text(&mut self, n: NodeId, ends: bool) -> Result<(), Memory>
-        ensures reader { OnOk result (self.new ≡ with_steps (cut_steps (is_seen (option_map number_of self.old.seen) n.0) ends n) self.old) }
+        ensures reader { OnOk result (
+            self.new
+            ≡ with_steps (cut_steps (is_seen (option_map number_of self.old.seen) n.0) ends n)
+            self.old) }
         ensures same { MakesSame self.old.script self.new.script }
     {
         if !ends || is_same(self.seen, n) {
@@ -360,7 +389,11 @@ impl ChangeReader {
         requires reads { IsReading arena.now self.old most 0 }
         ensures some { IfOk result (λ k. 1 ≤ k) }
         ensures few { IfOk result (λ k. k ≤ most) }
-        ensures read { IfOk result (λ k. (c : Course) → HasRead c arena.now self.old → most ≤ items_in c.spot.rest → HasRead (with_gone k c) arena.now self.new) }
+        ensures read { IfOk result (λ k.
+            (c : Course)
+            → HasRead c arena.now self.old
+            → most ≤ items_in c.spot.rest
+            → HasRead (with_gone k c) arena.now self.new) }
         ensures same { MakesSame self.old.script self.new.script }
     {
         let passed = self.at.pass(arena, most);
@@ -371,7 +404,11 @@ impl ChangeReader {
     /// So many items go.
     pub(crate) fn remove(&mut self, arena: &Arena, count: usize) -> Result<(), Memory>
         requires reads { IsReading arena.now self.old count 0 }
-        ensures read { OnOk result ((c : Course) → HasRead c arena.now self.old → count ≤ items_in c.spot.rest → HasRead (with_gone count c) arena.now self.new) }
+        ensures read { OnOk result (
+            (c : Course)
+            → HasRead c arena.now self.old
+            → count ≤ items_in c.spot.rest
+            → HasRead (with_gone count c) arena.now self.new) }
         ensures same { MakesSame self.old.script self.new.script }
     {
         let mut left = count;
@@ -392,11 +429,18 @@ impl ChangeReader {
         steps: &mut Steps<L>,
     ) -> Result<(), Memory>
         requires reads { IsReading arena.old self.old 0 1 }
-        ensures read { OnOk result ((c : Course) → HasRead c arena.old self.old → HaveCome (item ∷ []) c arena.new self.new) }
+        ensures read { OnOk result (
+            (c : Course)
+            → HasRead c arena.old self.old
+            → HaveCome (item ∷ []) c arena.new self.new) }
         ensures made { MakesOn arena.old self.old.script arena.new self.new.script }
         ensures paid { OnOk result (IsPaid steps.old self.old.script steps.new self.new.script) }
-        ensures at_most { OnErr result (IsPaidOrOne steps.old self.old.script steps.new self.new.script) }
-        ensures part { OnErr result ((c : Course) → HasRead c arena.old self.old → IsPart c (come (item ∷ []) []) self.new.script) }
+        ensures at_most { OnErr result (
+            IsPaidOrOne steps.old self.old.script steps.new self.new.script) }
+        ensures part { OnErr result (
+            (c : Course)
+            → HasRead c arena.old self.old
+            → IsPart c (come (item ∷ []) []) self.new.script) }
     {
         match item {
             Item::Char { .. } => {
@@ -419,11 +463,18 @@ impl ChangeReader {
         steps: &mut Steps<L>,
     ) -> Result<(), Memory>
         requires reads { IsReading arena.old self.old 0 (length items.now) }
-        ensures read { OnOk result ((c : Course) → HasRead c arena.old self.old → HaveCome items.now c arena.new self.new) }
+        ensures read { OnOk result (
+            (c : Course)
+            → HasRead c arena.old self.old
+            → HaveCome items.now c arena.new self.new) }
         ensures made { MakesOn arena.old self.old.script arena.new self.new.script }
         ensures paid { OnOk result (IsPaid steps.old self.old.script steps.new self.new.script) }
-        ensures at_most { OnErr result (IsPaidOrOne steps.old self.old.script steps.new self.new.script) }
-        ensures part { OnErr result ((c : Course) → HasRead c arena.old self.old → IsPart c (come items.now []) self.new.script) }
+        ensures at_most { OnErr result (
+            IsPaidOrOne steps.old self.old.script steps.new self.new.script) }
+        ensures part { OnErr result (
+            (c : Course)
+            → HasRead c arena.old self.old
+            → IsPart c (come items.now []) self.new.script) }
     {
         for item in items {
             self.come(arena, *item, steps)?;
@@ -440,11 +491,14 @@ impl ChangeReader {
         steps: &mut Steps<L>,
     ) -> Result<(), Memory>
         requires reads { IsReading arena.old self.old 0 0 }
-        ensures read { OnOk result ((c : Course) → HasRead c arena.old self.old → IsReadOut c arena.new self.new) }
+        ensures read { OnOk result (
+            (c : Course) → HasRead c arena.old self.old → IsReadOut c arena.new self.new) }
         ensures made { MakesOn arena.old self.old.script arena.new self.new.script }
         ensures paid { OnOk result (IsPaid steps.old self.old.script steps.new self.new.script) }
-        ensures at_most { OnErr result (IsPaidOrOne steps.old self.old.script steps.new self.new.script) }
-        ensures part { OnErr result ((c : Course) → HasRead c arena.old self.old → IsPartOut [] c self.new.script) }
+        ensures at_most { OnErr result (
+            IsPaidOrOne steps.old self.old.script steps.new self.new.script) }
+        ensures part { OnErr result (
+            (c : Course) → HasRead c arena.old self.old → IsPartOut [] c self.new.script) }
     {
         let count = self.at.rest_of_text(arena);
         self.retain(arena, count, steps)?;
@@ -460,11 +514,17 @@ impl ChangeReader {
         steps: &mut Steps<L>,
     ) -> Result<(), Memory>
         requires reads { IsReading arena.old self.old removed (length inserted.now) }
-        ensures read { OnOk result ((c : Course) → HasRead c arena.old self.old → removed ≤ items_in c.spot.rest → HaveCome inserted.now (with_gone removed c) arena.new self.new) }
+        ensures read { OnOk result (
+            (c : Course)
+            → HasRead c arena.old self.old
+            → removed ≤ items_in c.spot.rest
+            → HaveCome inserted.now (with_gone removed c) arena.new self.new) }
         ensures made { MakesOn arena.old self.old.script arena.new self.new.script }
         ensures paid { OnOk result (IsPaid steps.old self.old.script steps.new self.new.script) }
-        ensures at_most { OnErr result (IsPaidOrOne steps.old self.old.script steps.new self.new.script) }
-        ensures part { OnErr result (StopsAtReplace arena.old self.old removed inserted.now self.new.script) }
+        ensures at_most { OnErr result (
+            IsPaidOrOne steps.old self.old.script steps.new self.new.script) }
+        ensures part { OnErr result (
+            StopsAtReplace arena.old self.old removed inserted.now self.new.script) }
     {
         self.remove(arena, removed)?;
         self.insert(arena, inserted, steps)
@@ -476,12 +536,22 @@ impl ChangeReader {
         op: &Op,
         steps: &mut Steps<L>,
     ) -> Result<(), Memory>
-        requires reads { IsReading arena.old self.old (old_size (op.now ∷ [])) (come_size (op.now ∷ [])) }
-        ensures read { OnOk result ((c : Course) → HasRead c arena.old self.old → old_size (op.now ∷ []) ≤ items_in c.spot.rest → AreDone (op.now ∷ []) c arena.new self.new) }
+        requires reads { IsReading arena.old self.old (old_size (op.now ∷ [])) (
+            come_size (op.now ∷ [])) }
+        ensures read { OnOk result (
+            (c : Course)
+            → HasRead c arena.old self.old
+            → old_size (op.now ∷ []) ≤ items_in c.spot.rest
+            → AreDone (op.now ∷ []) c arena.new self.new) }
         ensures made { MakesOn arena.old self.old.script arena.new self.new.script }
         ensures paid { OnOk result (IsPaid steps.old self.old.script steps.new self.new.script) }
-        ensures at_most { OnErr result (IsPaidOrOne steps.old self.old.script steps.new self.new.script) }
-        ensures part { OnErr result ((c : Course) → HasRead c arena.old self.old → old_size (op.now ∷ []) ≤ items_in c.spot.rest → IsPart c (acts_of (op.now ∷ []) []) self.new.script) }
+        ensures at_most { OnErr result (
+            IsPaidOrOne steps.old self.old.script steps.new self.new.script) }
+        ensures part { OnErr result (
+            (c : Course)
+            → HasRead c arena.old self.old
+            → old_size (op.now ∷ []) ≤ items_in c.spot.rest
+            → IsPart c (acts_of (op.now ∷ []) []) self.new.script) }
     {
         match op {
             Op::Retain(count) => self.retain(arena, *count, steps),
@@ -500,11 +570,20 @@ impl ChangeReader {
         steps: &mut Steps<L>,
     ) -> Result<(), Memory>
         requires reads { IsReading arena.old self.old (old_size ops.now) (come_size ops.now) }
-        ensures read { OnOk result ((c : Course) → HasRead c arena.old self.old → old_size ops.now ≤ items_in c.spot.rest → AreDone ops.now c arena.new self.new) }
+        ensures read { OnOk result (
+            (c : Course)
+            → HasRead c arena.old self.old
+            → old_size ops.now ≤ items_in c.spot.rest
+            → AreDone ops.now c arena.new self.new) }
         ensures made { MakesOn arena.old self.old.script arena.new self.new.script }
         ensures paid { OnOk result (IsPaid steps.old self.old.script steps.new self.new.script) }
-        ensures at_most { OnErr result (IsPaidOrOne steps.old self.old.script steps.new self.new.script) }
-        ensures part { OnErr result ((c : Course) → HasRead c arena.old self.old → old_size ops.now ≤ items_in c.spot.rest → IsPart c (acts_of ops.now []) self.new.script) }
+        ensures at_most { OnErr result (
+            IsPaidOrOne steps.old self.old.script steps.new self.new.script) }
+        ensures part { OnErr result (
+            (c : Course)
+            → HasRead c arena.old self.old
+            → old_size ops.now ≤ items_in c.spot.rest
+            → IsPart c (acts_of ops.now []) self.new.script) }
     {
         for op in ops {
             self.pass_op(arena, op, steps)?;
@@ -520,11 +599,20 @@ impl ChangeReader {
         steps: &mut Steps<L>,
     ) -> Result<(), Memory>
         requires reads { IsReading arena.old self.old (old_size ops.now) (come_size ops.now) }
-        ensures read { OnOk result ((c : Course) → HasRead c arena.old self.old → old_size ops.now ≤ items_in c.spot.rest → AreReadOut ops.now c arena.new self.new) }
+        ensures read { OnOk result (
+            (c : Course)
+            → HasRead c arena.old self.old
+            → old_size ops.now ≤ items_in c.spot.rest
+            → AreReadOut ops.now c arena.new self.new) }
         ensures made { MakesOn arena.old self.old.script arena.new self.new.script }
         ensures paid { OnOk result (IsPaid steps.old self.old.script steps.new self.new.script) }
-        ensures at_most { OnErr result (IsPaidOrOne steps.old self.old.script steps.new self.new.script) }
-        ensures part { OnErr result ((c : Course) → HasRead c arena.old self.old → old_size ops.now ≤ items_in c.spot.rest → IsPartOut ops.now c self.new.script) }
+        ensures at_most { OnErr result (
+            IsPaidOrOne steps.old self.old.script steps.new self.new.script) }
+        ensures part { OnErr result (
+            (c : Course)
+            → HasRead c arena.old self.old
+            → old_size ops.now ≤ items_in c.spot.rest
+            → IsPartOut ops.now c self.new.script) }
     {
         self.pass_ops(arena, ops, steps)?;
         self.rest_of_run(arena, steps)

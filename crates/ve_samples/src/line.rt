@@ -145,7 +145,8 @@ fn page_of(alloc: Global, items: &Items) -> Result<Linear, Memory>
 /// The page that a line spells, with the internal list at its end, and the offset of its mark.
 pub fn sample(alloc: Global, line: &str) -> Result<MarkedPage, Memory>
     ensures cites { IfOk result (λ sample. CitesNothing sample.list.items) }
-    ensures offset { IfOk result (λ sample. IfSome sample.offset (λ o. o ≤ length sample.list.items)) }
+    ensures offset { IfOk result (λ sample.
+        IfSome sample.offset (λ o. o ≤ length sample.list.items)) }
 {
     let mut reader = read_all(alloc, line)?;
     put_internal_list(&mut reader.items)?;

@@ -38,9 +38,12 @@ fn accepted(
     submit: &Submit,
 ) -> Result<(Parcels, Option<Clash>), Memory>
     requires base { submit.now.base ≤ length committed.now }
-    requires run { RunFromOneLength (flattened (drop submit.now.base committed.now)) (flattened submit.now.parcels) }
-    ensures kept { IfOk result (λ two. two.0 ≡ (accepted_of committed.now (submission_of submit.now)).kept) }
-    ensures clash { IfOk result (λ two. two.1 ≡ clash_of (accepted_of committed.now (submission_of submit.now)).clash) }
+    requires run { RunFromOneLength (flattened (drop submit.now.base committed.now))
+        (flattened submit.now.parcels) }
+    ensures kept { IfOk result (λ two.
+        two.0 ≡ (accepted_of committed.now (submission_of submit.now)).kept) }
+    ensures clash { IfOk result (λ two.
+        two.1 ≡ clash_of (accepted_of committed.now (submission_of submit.now)).clash) }
 {
     let since = &committed.as_slice()[submit.base..];
     let JoinedEntries { kept, clash } = entries_over_list(alloc, since, submit.parcels.as_slice())?;
@@ -95,7 +98,8 @@ fn release_all(queues: &mut [Queue])
 impl Server {
     /// A server of so many sites, which has no entry yet.
     pub fn new(alloc: Global, sites: usize) -> Result<Server, Memory>
-        ensures { IfOk result (λ server. server ≡ record { committed = []; queues = replicate sites [] }) }
+        ensures { IfOk result (λ server.
+            server ≡ record { committed = []; queues = replicate sites [] }) }
     {
         let mut queues = Vec::new(alloc);
         for _site in 0..sites {
@@ -122,9 +126,12 @@ impl Server {
     /// Only memory can be short, and then nothing changes.
     pub fn serve(&mut self, submit: &Submit) -> Result<Served, Memory>
         requires base { submit.now.base ≤ length self.old.committed }
-        requires run { RunFromOneLength (flattened (drop submit.now.base self.old.committed)) (flattened submit.now.parcels) }
-        ensures server { OnOk result (self.new ≡ after_serving submit.now.site (submission_of submit.now) self.old) }
-        ensures answer { IfOk result (λ answer. answer ≡ answer_to (submission_of submit.now) self.old) }
+        requires run { RunFromOneLength (flattened (drop submit.now.base self.old.committed))
+            (flattened submit.now.parcels) }
+        ensures server { OnOk result (
+            self.new ≡ after_serving submit.now.site (submission_of submit.now) self.old) }
+        ensures answer { IfOk result (λ answer.
+            answer ≡ answer_to (submission_of submit.now) self.old) }
         ensures kept { OnErr result (self.new ≡ self.old) }
     {
         let alloc = *self.queues.allocator();

@@ -94,8 +94,16 @@ impl World {
         steps: &mut Steps<L>,
     ) -> Result<(), Memory>
         requires asked { IsAsked (OpensPage text sites) }
-        ensures reply { OnOk result (out.new ≡ out.old ++ (reply_text (reply_and_world self.old.world (OpensPage text sites)).0 ++ 10 ∷ [])) }
-        ensures world { OnOk result (self.new ≡ record self.old { world = (reply_and_world self.old.world (OpensPage text sites)).1 }) }
+        ensures reply { OnOk result (
+            out.new
+            ≡ out.old
+            ++ (reply_text (reply_and_world self.old.world (OpensPage text sites)).0
+            ++ 10
+            ∷ [])) }
+        ensures world { OnOk result (
+            self.new ≡ record self.old {
+              world = (reply_and_world self.old.world (OpensPage text sites)).1;
+            }) }
         ensures unsaid { OnErr result (out.new ≡ out.old) }
         ensures counted { steps.old ≤ steps.new }
         ensures cost { steps.new ≤ steps.old + steps_of self.old.world (Ok (OpensPage text sites)) }
@@ -121,8 +129,16 @@ impl World {
         steps: &mut Steps<L>,
     ) -> Result<(), Memory>
         requires asked { IsAsked (Ask request.now site) }
-        ensures reply { OnOk result (out.new ≡ out.old ++ (reply_text (reply_and_world self.old.world (Ask request.now site)).0 ++ 10 ∷ [])) }
-        ensures world { OnOk result (self.new ≡ record self.old { world = (reply_and_world self.old.world (Ask request.now site)).1 }) }
+        ensures reply { OnOk result (
+            out.new
+            ≡ out.old
+            ++ (reply_text (reply_and_world self.old.world (Ask request.now site)).0
+            ++ 10
+            ∷ [])) }
+        ensures world { OnOk result (
+            self.new ≡ record self.old {
+              world = (reply_and_world self.old.world (Ask request.now site)).1;
+            }) }
         ensures unsaid { OnErr result (out.new ≡ out.old) }
         ensures counted { steps.old ≤ steps.new }
         ensures cost { steps.new ≤ steps.old + steps_of self.old.world (Ok (Ask request.now site)) }
@@ -145,8 +161,11 @@ impl World {
         steps: &mut Steps<L>,
     ) -> Result<(), Memory>
         requires asked { IsAsked command }
-        ensures reply { OnOk result (out.new ≡ out.old ++ (reply_text (reply_and_world self.old.world command).0 ++ 10 ∷ [])) }
-        ensures world { OnOk result (self.new ≡ record self.old { world = (reply_and_world self.old.world command).1 }) }
+        ensures reply { OnOk result (
+            out.new
+            ≡ out.old ++ (reply_text (reply_and_world self.old.world command).0 ++ 10 ∷ [])) }
+        ensures world { OnOk result (
+            self.new ≡ record self.old { world = (reply_and_world self.old.world command).1 }) }
         ensures unsaid { OnErr result (out.new ≡ out.old) }
         ensures counted { steps.old ≤ steps.new }
         ensures cost { steps.new ≤ steps.old + steps_of self.old.world (Ok command) }
@@ -164,7 +183,9 @@ impl World {
         out: &mut Bytes,
         steps: &mut Steps<L>,
     ) -> Result<(), Memory>
-        ensures reply { OnOk result (out.new ≡ out.old ++ (reply_text (model_reply self.old.world line.now).0 ++ 10 ∷ [])) }
+        ensures reply { OnOk result (
+            out.new
+            ≡ out.old ++ (reply_text (model_reply self.old.world line.now).0 ++ 10 ∷ [])) }
         ensures state { OnOk result (self.new ≡ after self.old line.now) }
         ensures unsaid { OnErr result (out.new ≡ out.old) }
         ensures stays_spent { self.old.is_spent ≡ true → IsErr result }
@@ -193,7 +214,9 @@ impl World {
         out: &mut Bytes,
         steps: &mut Steps<L>,
     ) -> Result<(), Memory>
-        ensures reply { OnOk result (out.new ≡ out.old ++ (reply_text (model_reply self.old.world line.now).0 ++ 10 ∷ [])) }
+        ensures reply { OnOk result (
+            out.new
+            ≡ out.old ++ (reply_text (model_reply self.old.world line.now).0 ++ 10 ∷ [])) }
         ensures state { OnOk result (self.new ≡ after self.old line.now) }
         ensures unsaid { OnErr result (out.new ≡ out.old) }
         ensures spent_state { OnErr result (self.new ≡ spent_state) }

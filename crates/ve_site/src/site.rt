@@ -54,7 +54,8 @@ impl Model for Site {
 
 /// Why a site that has nothing unsent undoes nothing, where it sent so many entries.
 fn nothing_to_undo(sent: usize) -> UndoFault
-    ensures { result ≡ (if sent == 0 then UndoFault.NothingToUndo else UndoFault.AlreadyShared sent) }
+    ensures { result
+        ≡ (if sent == 0 then UndoFault.NothingToUndo else UndoFault.AlreadyShared sent) }
 {
     if sent == 0 {
         return UndoFault::NothingToUndo;
@@ -131,12 +132,20 @@ impl Site {
     pub fn edit<L: Ledger>(&mut self, draft: &Draft, steps: &mut Steps<L>) -> Result<(), EditFault>
         requires draft { IsDraftOf self.old.site.replica.store draft.now }
         requires apart { InsertedApart (drafted self.old.site.replica.store draft.now) }
-        ensures site { OnOk result (edit (drafted self.old.site.replica.store draft.now) self.old.site ≡ Ok self.new.site) }
+        ensures site { OnOk result (
+            edit (drafted self.old.site.replica.store draft.now) self.old.site
+            ≡ Ok self.new.site) }
         ensures number { self.new.number ≡ self.old.number }
-        ensures refused { IfErr result (IsEditRefusal (edit_cause (drafted self.old.site.replica.store draft.now) self.old.site.replica)) }
+        ensures refused { IfErr result (
+            IsEditRefusal (
+            edit_cause (drafted self.old.site.replica.store draft.now)
+            self.old.site.replica)) }
         ensures kept { OnErr result (self.new ≡ self.old) }
         ensures counted { steps.old ≤ steps.new }
-        ensures steps { steps.new ≤ steps.old + steps_after (drafted self.old.site.replica.store draft.now ∷ []) self.old.site.replica.items }
+        ensures steps { steps.new
+            ≤ steps.old
+            + steps_after (drafted self.old.site.replica.store draft.now ∷ [])
+            self.old.site.replica.items }
     {
         if self.history.reserve().is_err() {
             return Err(EditFault::Memory);
@@ -154,7 +163,8 @@ impl Site {
     /// then. An `Err` changes nothing.
     pub fn settle(&mut self, editor: Editor, entry: Entry) -> Result<(), Memory>
         requires settles { Settles self.old.site.replica editor entry }
-        ensures site { OnOk result (self.new ≡ with_site (with_new_entry editor entry self.old.site) self.old) }
+        ensures site { OnOk result (
+            self.new ≡ with_site (with_new_entry editor entry self.old.site) self.old) }
         ensures kept { OnErr result (self.new ≡ self.old) }
     {
         self.history.reserve()?;
@@ -174,7 +184,8 @@ impl Site {
         ensures refused { IfErr result (IsUndoRefusal (undo self.old.site)) }
         ensures kept { OnErr result (self.new ≡ self.old) }
         ensures counted { steps.old ≤ steps.new }
-        ensures steps { steps.new ≤ steps.old + steps_over (undoing self.old.site.unsent) self.old.site.replica.items }
+        ensures steps { steps.new
+            ≤ steps.old + steps_over (undoing self.old.site.unsent) self.old.site.replica.items }
     {
         if self.history.reserve().is_err() {
             return Err(UndoFault::Memory);
@@ -201,7 +212,8 @@ impl Site {
         ensures refused { IfErr result (IsRedoRefusal (redo self.old.site)) }
         ensures kept { OnErr result (self.new ≡ self.old) }
         ensures counted { steps.old ≤ steps.new }
-        ensures steps { steps.new ≤ steps.old + steps_over (redoing self.old.site.undone) self.old.site.replica.items }
+        ensures steps { steps.new
+            ≤ steps.old + steps_over (redoing self.old.site.undone) self.old.site.replica.items }
     {
         if self.history.reserve().is_err() {
             return Err(RedoFault::Memory);
@@ -246,10 +258,13 @@ impl Site {
     pub fn adopt<L: Ledger>(&mut self, back: &Parcel, steps: &mut Steps<L>) -> Result<(), Memory>
         requires cites { ParcelCites back.now }
         requires run { AllRun (parcel_by_value back.now) self.old.site.replica.items }
-        ensures site { OnOk result (self.new ≡ with_site (with_entry (parcel_by_value back.now) self.old.site) self.old) }
+        ensures site { OnOk result (
+            self.new
+            ≡ with_site (with_entry (parcel_by_value back.now) self.old.site) self.old) }
         ensures kept { OnErr result (self.new ≡ self.old) }
         ensures counted { steps.old ≤ steps.new }
-        ensures steps { steps.new ≤ steps.old + steps_over (parcel_by_value back.now) self.old.site.replica.items }
+        ensures steps { steps.new
+            ≤ steps.old + steps_over (parcel_by_value back.now) self.old.site.replica.items }
     {
         self.history.reserve()?;
         let entry = self.editor.admit(back, steps)?;
@@ -262,7 +277,8 @@ impl Site {
     /// `InFlight` comes exactly where a submission is not acknowledged yet, and else `NothingToSend` exactly
     /// where nothing is unsent. An `Err` changes nothing.
     pub fn send(&mut self) -> Result<Submit, SendFault>
-        ensures sent { IfOk result (λ sent. send self.old.site ≡ Ok (self.new.site, submission_of sent)) }
+        ensures sent { IfOk result (λ sent.
+            send self.old.site ≡ Ok (self.new.site, submission_of sent)) }
         ensures from { IfOk result (λ sent. sent.site ≡ self.old.number) }
         ensures number { self.new.number ≡ self.old.number }
         ensures refused { IfErr result (IsSendRefusal (send self.old.site)) }
@@ -310,7 +326,8 @@ impl Site {
 
     /// The same site with nothing undone.
     fn copy<L: Ledger>(&self, steps: &mut Steps<L>) -> Result<Site, Memory>
-        ensures ok { IfOk result (λ copy. copy ≡ with_site (record self.now.site { undone = [] }) self.now) }
+        ensures ok { IfOk result (λ copy.
+            copy ≡ with_site (record self.now.site { undone = [] }) self.now) }
         ensures counted { steps.old ≤ steps.new }
         ensures steps { steps.new ≤ steps.old + most_steps self.now.site.replica.items }
     {
@@ -340,11 +357,14 @@ impl Site {
     ) -> Result<usize, Memory>
         requires cites { ParcelCites foreign.now }
         requires run { AllRun (parcel_by_value foreign.now) (ground_of self.old.site) }
-        ensures site { OnOk result (self.new ≡ with_site (take_entry (parcel_by_value foreign.now) self.old.site) self.old) }
+        ensures site { OnOk result (
+            self.new
+            ≡ with_site (take_entry (parcel_by_value foreign.now) self.old.site) self.old) }
         ensures left { IfOk result (λ left. left ≡ length (pending self.new.site)) }
         ensures kept { OnErr result (self.new ≡ self.old) }
         ensures counted { steps.old ≤ steps.new }
-        ensures steps { steps.new ≤ steps.old + steps_to_take (parcel_by_value foreign.now) self.old.site }
+        ensures steps { steps.new
+            ≤ steps.old + steps_to_take (parcel_by_value foreign.now) self.old.site }
     {
         let Some(seen) = self.seen.checked_add(1) else {
             return Err(Memory);
@@ -380,11 +400,15 @@ impl Site {
         steps: &mut Steps<L>,
     ) -> Result<usize, Memory>
         requires run { AllRun (flattened entries.now) (ground_of self.old.site) }
-        ensures site { OnOk result (self.new ≡ with_site (take_foreign entries.now self.old.site) self.old) }
+        ensures site { OnOk result (
+            self.new ≡ with_site (take_foreign entries.now self.old.site) self.old) }
         ensures left { IfOk result (λ left. left ≡ length (pending self.new.site)) }
         ensures kept { OnErr result (self.new ≡ self.old) }
         ensures counted { steps.old ≤ steps.new }
-        ensures steps { steps.new ≤ steps.old + (steps_of_feed entries.now self.old.site.replica.items + steps_to_take_all entries.now self.old.site) }
+        ensures steps { steps.new
+            ≤ steps.old
+            + (steps_of_feed entries.now self.old.site.replica.items
+            + steps_to_take_all entries.now self.old.site) }
     {
         let parcels = entries.as_slice();
         if parcels.len() == 1 {
@@ -427,8 +451,10 @@ impl Site {
     /// transaction may be. An `Err` changes nothing.
     pub fn take<L: Ledger>(&mut self, feed: &Feed, steps: &mut Steps<L>) -> Result<Taken, Memory>
         requires may { MayTake (feed_of feed.now) self.old.site }
-        ensures site { OnOk result (self.new ≡ with_site (site_after (feed_of feed.now) self.old.site) self.old) }
-        ensures taken { IfOk result (λ taken. taken ≡ taken_as (feed_of feed.now) self.old.site self.new.site) }
+        ensures site { OnOk result (
+            self.new ≡ with_site (site_after (feed_of feed.now) self.old.site) self.old) }
+        ensures taken { IfOk result (λ taken.
+            taken ≡ taken_as (feed_of feed.now) self.old.site self.new.site) }
         ensures kept { OnErr result (self.new ≡ self.old) }
         ensures counted { steps.old ≤ steps.new }
         ensures steps { steps.new ≤ steps.old + steps_of_take (feed_of feed.now) self.old.site }

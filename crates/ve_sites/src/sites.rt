@@ -55,7 +55,12 @@ fn begin<L: Ledger>(
 ) -> Result<Member, Memory>
     requires sound { Sound (plain_list values.now list.now.items) }
     requires cites { All (CitesWell values.now) list.now.items }
-    ensures ok { IfOk result (λ member. member ≡ record { number = number; site = starting (page_of values.now list.now.items (between 0 0)); submissions = [] }) }
+    ensures ok { IfOk result (λ member.
+        member ≡ record {
+          number = number;
+          site = starting (page_of values.now list.now.items (between 0 0));
+          submissions = [];
+        }) }
     ensures counted { steps.old ≤ steps.new }
     ensures steps { steps.new ≤ steps.old + most_steps (plain_list values.now list.now.items) }
 {
@@ -75,9 +80,12 @@ fn all_begun<L: Ledger>(
 ) -> Result<Vec<Member>, Memory>
     requires sound { Sound (plain_list values.now list.now.items) }
     requires cites { All (CitesWell values.now) list.now.items }
-    ensures ok { IfOk result (λ members. members.items ≡ first_senders 0 sites (starting (page_of values.now list.now.items (between 0 0)))) }
+    ensures ok { IfOk result (λ members.
+        members.items
+        ≡ first_senders 0 sites (starting (page_of values.now list.now.items (between 0 0)))) }
     ensures counted { steps.old ≤ steps.new }
-    ensures steps { steps.new ≤ steps.old + sites * most_steps (plain_list values.now list.now.items) }
+    ensures steps { steps.new
+        ≤ steps.old + sites * most_steps (plain_list values.now list.now.items) }
 {
     let mut members = Vec::new(alloc);
     for number in 0..sites {
@@ -100,7 +108,11 @@ impl Sites {
         requires sound { Sound (plain_list values list.items) }
         requires cites { All (CitesWell values) list.items }
         requires filled { values ≡ (opened_with (plain_list values list.items)).store }
-        ensures ok { IfOk result (λ s. s ≡ record { first = list.items; session = started (opened_with (plain_list values list.items)) sites }) }
+        ensures ok { IfOk result (λ s.
+            s ≡ record {
+              first = list.items;
+              session = started (opened_with (plain_list values list.items)) sites;
+            }) }
         ensures counted { steps.old ≤ steps.new }
         ensures steps { steps.new ≤ steps.old + sites * most_steps (plain_list values list.items) }
     {
@@ -125,7 +137,8 @@ impl Sites {
     pub fn first(&self) -> &Linear
         ensures same { result.now.items ≡ self.now.first }
         ensures cites { All (CitesWell self.now.session.base.store) self.now.first }
-        ensures items { plain_list self.now.session.base.store self.now.first ≡ self.now.session.base.items }
+        ensures items { plain_list self.now.session.base.store self.now.first
+            ≡ self.now.session.base.items }
     {
         &self.first
     }

@@ -92,7 +92,8 @@ fn answer(question: CellQuestion, cell: GridCell) -> bool
 
 /// The place of the first cell of which the answer is yes.
 pub fn first_cell(cells: &[GridCell], question: CellQuestion) -> Option<usize>
-    ensures { (named : _) → first_fault (at_first (cell_answer question) cells.now named) ≡ option_map named result }
+    ensures { (named : _)
+        → first_fault (at_first (cell_answer question) cells.now named) ≡ option_map named result }
 {
     for cell in cells {
         if answer(question, *cell) {

@@ -37,7 +37,9 @@ fn closes(item: Item) -> bool
 
 /// Appends the place of an item that opens a node of one of these kinds.
 fn note(places: &mut ListOf<usize>, place: usize, item: Item, kinds: &[Kind]) -> Result<(), Memory>
-    ensures { OnOk result ((values : _) → places.new ≡ places.old ++ place_if_among kinds.now place (plain values item)) }
+    ensures { OnOk result (
+        (values : _)
+        → places.new ≡ places.old ++ place_if_among kinds.now place (plain values item)) }
 {
     match item {
         Item::Opening { kind, .. } => {

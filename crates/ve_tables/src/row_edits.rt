@@ -108,7 +108,8 @@ fn take_row(
 pub fn row_in(alloc: Global, doc: Doc<'_>, at: usize, row: usize) -> Result<Transaction, TableFault>
     requires doc { IsDoc doc }
     requires cites { All (CitesWell doc.store.now) doc.list.now.items }
-    ensures means { IfOk result (λ tx. model.row_in (page_items doc.entry) at row ≡ Ok (by_value doc.entry.store.now tx)) }
+    ensures means { IfOk result (λ tx.
+        model.row_in (page_items doc.entry) at row ≡ Ok (by_value doc.entry.store.now tx)) }
     ensures cites { IfOk result (TxCites doc.entry.store.now) }
     ensures refused { IfErr result (IsTableRefusal (model.row_in (page_items doc.entry) at row)) }
 {
@@ -135,7 +136,8 @@ pub fn row_out(
 ) -> Result<Transaction, TableFault>
     requires doc { IsDoc doc }
     requires cites { All (CitesWell doc.store.now) doc.list.now.items }
-    ensures means { IfOk result (λ tx. model.row_out (page_items doc.entry) at row ≡ Ok (by_value doc.entry.store.now tx)) }
+    ensures means { IfOk result (λ tx.
+        model.row_out (page_items doc.entry) at row ≡ Ok (by_value doc.entry.store.now tx)) }
     ensures cites { IfOk result (TxCites doc.entry.store.now) }
     ensures refused { IfErr result (IsTableRefusal (model.row_out (page_items doc.entry) at row)) }
 {

@@ -25,7 +25,8 @@ fn spelled<'a>(alloc: Global, words: &'a [Text]) -> Result<Vec<&'a str>, AllocEr
 ///
 /// `start` is below 2^64 and 0 where it isn't given; `edits` is at most 100,000, and 100 where it isn't given.
 pub fn asked(alloc: Global, words: &[Text]) -> Result<Asked, Unasked>
-    ensures ok { IfOk result (λ asked. meaning_of words.now ≡ Meant.Asks asked.mode asked.start asked.edits) }
+    ensures ok { IfOk result (λ asked.
+        meaning_of words.now ≡ Meant.Asks asked.mode asked.start asked.edits) }
     ensures help { IsErrOf result Unasked.Help → meaning_of words.now ≡ Meant.HelpWanted }
     ensures usage { IsErrOf result Unasked.Usage → meaning_of words.now ≡ Meant.Refused }
 {
