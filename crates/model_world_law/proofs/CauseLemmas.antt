@@ -3,7 +3,7 @@ use Rattle.std.specs.Option.{option_or}
 use Rattle.std.proofs.Common.{◌≡◌, ◌<◌, ℕ, zero, suc, ◌+◌, ◌==◌, Bool, true, false, ◌&&◌, nat_lt, if◌then◌else◌, List, [], ◌∷◌, length, take, drop, Option, Some, None, Result, Ok, Err, refl, sym, ap, ◌∙◌, subst}
 use Rattle.std.specs.Prelude.{encode_utf8_all, option_map}
 use Rattle.std.proofs.lemmas.Bool.{and_parts, ltb-true}
-use Rattle.ve_base.specs.Limits.{max_values}
+use Rattle.ve_base.specs.Limits.{max_values, max_items}
 use Rattle.model_spelling.specs.Forest.{Forest}
 use Rattle.model_spelling.specs.Faults.{ForestFault, fault_of}
 use Rattle.model_spelling.specs.Faults as forest
@@ -265,21 +265,21 @@ change_match items (change.Apply ops) t w s h = applied_match items ops t w.0 h
 abbrev Told : Option EditCause → Transaction → Type 0
 Told o t = unless_faulty o t ≡ Err StoreFull
 
-store_left : (count : ℕ) (t : Transaction) → Told (store_cause count) t → 1048576 < count
-store_left count t h = by (nat_lt 1048576 count) refl h
+store_left : (count : ℕ) (t : Transaction) → Told (store_cause count) t → max_values < count
+store_left count t h = by (nat_lt max_values count) refl h
   where
-    by : (b : Bool) → nat_lt 1048576 count ≡ b → Told (if b then Some edit.StoreFull else None) t → 1048576 < count
-    by true e h = ltb-true 1048576 count e
+    by : (b : Bool) → nat_lt max_values count ≡ b → Told (if b then Some edit.StoreFull else None) t → max_values < count
+    by true e h = ltb-true max_values count e
     by false e h = cc
 
-items_left : (count stored : ℕ) (t : Transaction) → Told (option_or (items_cause count) (store_cause stored)) t → 1048576 < stored
-items_left count stored t h = by (nat_lt 4194304 count) h
+items_left : (count stored : ℕ) (t : Transaction) → Told (option_or (items_cause count) (store_cause stored)) t → max_values < stored
+items_left count stored t h = by (nat_lt max_items count) h
   where
-    by : (b : Bool) → Told (option_or (if b then Some (edit.TooManyItems count) else None) (store_cause stored)) t → 1048576 < stored
+    by : (b : Bool) → Told (option_or (if b then Some (edit.TooManyItems count) else None) (store_cause stored)) t → max_values < stored
     by true h = cc
     by false h = store_left stored t h
 
-law_left : (o : Option LawFault) (count stored : ℕ) (t : Transaction) → Told (option_or (law_cause o) (option_or (items_cause count) (store_cause stored))) t → 1048576 < stored
+law_left : (o : Option LawFault) (count stored : ℕ) (t : Transaction) → Told (option_or (law_cause o) (option_or (items_cause count) (store_cause stored))) t → max_values < stored
 law_left None count stored t h = items_left count stored t h
 law_left (Some (law.Unlawful at)) count stored t h = cc
 law_left (Some (law.TooDeep at)) count stored t h = cc
