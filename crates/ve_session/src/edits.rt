@@ -19,7 +19,7 @@ use model_world_law::layers_fit;
 use std::alloc::Global;
 use std::sync::ledger::Ledger;
 use ve_base::Steps;
-use ve_changes::{Change, ChangeStop, change_draft, erased_range, move_draft, moves_are_asked};
+use ve_changes::{ChangeStop, EditCommand, change_draft, erased_range, move_draft, moves_are_asked};
 use ve_json::{Answer, Request};
 use ve_offsets::Doc;
 use ve_sites::Sites;
@@ -78,7 +78,7 @@ pub fn edit<L: Ledger>(
     alloc: Global,
     session: &mut Sites,
     k: usize,
-    change: &Change,
+    change: &EditCommand,
     steps: &mut Steps<L>,
 ) -> Result<Answer<'static>, ChangeStop>
     requires site { k < sites session.old }
@@ -148,7 +148,7 @@ pub fn erase<L: Ledger>(
     layers_fit();
     let selection = session.site(k).editor().selection();
     let range = erased_range(alloc, doc_at(session, k), selection, dir, by)?;
-    let removal = Change::Remove {
+    let removal = EditCommand::Remove {
         from: range.anchor.min(range.focus),
         to: range.anchor.max(range.focus),
     };
