@@ -12,9 +12,15 @@ use ve_base::{Memory, Steps};
 
 /// Nodes under numbers that the arena picks. It is seen as a list of slots: the node under each
 /// number from 0 on, or nothing.
-#[derive(Drop)]
 pub struct Arena {
     nodes: Slab<ArenaNode>,
+}
+
+impl Drop for Arena {
+    fn drop(self) {
+        let Arena { nodes } = self;
+        drop(nodes);
+    }
 }
 
 impl Model for Arena {

@@ -9,12 +9,19 @@ use ve_tx::{Entry, EntryList, Parcel};
 
 /// The entries that are done and can be undone, and the parcels that were undone and can be redone. `spare` is how many more either stack takes
 /// without memory.
-#[derive(Drop)]
 pub struct History {
     done: Vec<Entry>,
     // the last one undone at the end, so that it is taken off without moving the others
     undone: Vec<Parcel>,
     spare: usize,
+}
+
+impl Drop for History {
+    fn drop(self) {
+        let History { done, undone, spare: _ } = self;
+        drop(done);
+        drop(undone);
+    }
 }
 
 impl Model for History {

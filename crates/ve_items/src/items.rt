@@ -7,9 +7,15 @@ use std::marker::Model;
 use ve_base::Memory;
 
 /// A list of items, seen as the list of its members.
-#[derive(Drop)]
 pub struct Items {
     list: Vec<Item>,
+}
+
+impl Drop for Items {
+    fn drop(self) {
+        let Items { list } = self;
+        drop(list);
+    }
 }
 
 impl Model for Items {

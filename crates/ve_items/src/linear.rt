@@ -23,7 +23,6 @@ use ve_base::Memory;
 /// Where a block is full, half of it goes into a block of its own. Another splice moves the items
 /// of the blocks that it touches, and the table of blocks from there on. Blocks are made with
 /// `FILLED_BLOCK` items, so that later ones find room. Those that get empty stay with the list.
-#[derive(Drop)]
 pub struct Linear {
     table: Table,
     // where a splice sets the blocks after its position aside, empty else
@@ -32,6 +31,16 @@ pub struct Linear {
     pool: Vec<Block>,
     spare: usize,
     alloc: Global,
+}
+
+impl Drop for Linear {
+    fn drop(self) {
+        let Linear { table, aside, pool, spare: _, alloc } = self;
+        drop(table);
+        drop(aside);
+        drop(pool);
+        drop(alloc);
+    }
 }
 
 impl Model for Linear {

@@ -26,7 +26,6 @@ use ve_tx::{Draft, Entry, EntryList, Parcel};
 
 /// A site: its editor, the entries that it sent and has no answer for, those that it has not sent, and what
 /// it undid. It is seen as its number beside the model's site.
-#[derive(Drop)]
 pub struct Site {
     number: u32,
     editor: Editor,
@@ -40,6 +39,16 @@ pub struct Site {
     // how many entries the submission has that is on its way
     in_flight: Option<usize>,
     alloc: Global,
+}
+
+impl Drop for Site {
+    fn drop(self) {
+        let Site { number: _, editor, seen: _, sent, history, shared: _, in_flight: _, alloc } = self;
+        drop(editor);
+        drop(sent);
+        drop(history);
+        drop(alloc);
+    }
 }
 
 impl Model for Site {

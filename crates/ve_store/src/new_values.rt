@@ -13,10 +13,16 @@ use ve_base::{Memory, Value, ValueId};
 
 /// A list of values that are to follow a store of a given length: the first one's position is that
 /// length.
-#[derive(Drop)]
 pub struct NewValues {
     after: usize,
     values: Store,
+}
+
+impl Drop for NewValues {
+    fn drop(self) {
+        let NewValues { after: _, values } = self;
+        drop(values);
+    }
 }
 
 impl Model for NewValues {

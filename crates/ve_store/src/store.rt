@@ -14,9 +14,15 @@ use std::marker::Model;
 use ve_base::{MAX_VALUES, Memory, TryCopy, Value, ValueId};
 
 /// A list of distinct values, which items cite by their positions. A value is found by its hash.
-#[derive(Drop)]
 pub struct Store {
     values: IndexSet<Hashed>,
+}
+
+impl Drop for Store {
+    fn drop(self) {
+        let Store { values } = self;
+        drop(values);
+    }
 }
 
 impl Model for Store {

@@ -22,11 +22,19 @@ use ve_kinds::Kind;
 
 /// Linked nodes and the number of their root, with some nodes whose positions are known. That they
 /// are the tree of a list is a condition or a promise of each call.
-#[derive(Drop)]
 pub struct Tree {
     pub arena: Arena,
     pub root: NodeId,
     pub(crate) landmarks: Landmarks,
+}
+
+impl Drop for Tree {
+    fn drop(self) {
+        let Tree { arena, root, landmarks } = self;
+        drop(arena);
+        drop(root);
+        drop(landmarks);
+    }
 }
 
 impl Tree {
