@@ -13,7 +13,7 @@ use Rattle.ve_kinds.specs.Table.{kind_same, is_content_branch}
 use Rattle.model_items.proofs.SameLemmas.{Means-kind_same}
 use Rattle.model_items.specs.declared.law_fault.LawFault.{LawFault}
 use Rattle.model_items.specs.declared.law_fault.LawFault.TheVariants.{Unlawful}
-use Rattle.model_items.specs.Law.{State, start, finish, step, followed, after, Lawful}
+use Rattle.model_items.specs.Law.{State, start, finish, step, outcome_then, after, Lawful}
 use Rattle.model_items.proofs.LawLemmas.{Ok-same, joined-ok, after_parts, after_whole, after_from_Lawful, piece_fits, closed_before}
 use Rattle.model_items.specs.Tree.{Open, opens_after, length_to_close}
 use Rattle.model_change.specs.Transaction.{Transaction, edited}
@@ -348,7 +348,7 @@ joined_changed items from to p j lawful m =
     let b = state_of (j.second ∷ m.base) seen in
     let u = state_of m.base seen in
     let closes_with : (k : Kind) (pre : List ℕ) → after (state_of (k ∷ m.base) seen) (Closing k pre ∷ []) ≡ Ok u =
-    λ k pre. ap (λ b. followed 1 (if b then Ok u else Err (Unlawful 0)) (λ next. Ok next)) (Means-kind_same.itself k) in
+    λ k pre. ap (λ b. outcome_then 1 (if b then Ok u else Err (Unlawful 0)) (λ next. Ok next)) (Means-kind_same.itself k) in
     let old_inside : after p.later c.inside ≡ Ok b = ap (λ v. after v c.inside) m.later ∙ c.kept j.second m.base seen (HoldsSame-itself j.second) (omega arith) in
     let new_inside : after p.before c.inside ≡ Ok a = ap (λ v. after v c.inside) m.before ∙ c.kept j.first m.base seen (HoldsSame-content j.second j.first m.content' m.content) (omega arith) in
     let old_end : after p.later (c.inside ++ old ∷ []) ≡ Ok u = after_whole c.inside (old ∷ []) p.later b u old_inside (closes_with j.second c.pre) in

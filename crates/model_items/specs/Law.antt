@@ -45,8 +45,8 @@ may_open s k =
     && (if kind_same k InternalList then is_empty s.stack && not s.seen else not (is_over s))
 
 -- an opening goes on top, where it may and is not one too many
-abbrev pub opened : State → Kind → Result State LawFault
-opened s k =
+abbrev pub state_opened : State → Kind → Result State LawFault
+state_opened s k =
     if may_open s k
     then (if nat_lt (length s.stack) max_open_kinds
     then Ok (record { stack = k ∷ s.stack; seen = s.seen || kind_same k InternalList })
@@ -54,16 +54,16 @@ opened s k =
     else Err (Unlawful 0)
 
 -- a closing takes its kind off the top
-abbrev pub closed : List Kind → Bool → Kind → Result State LawFault
-closed [] seen k = Err (Unlawful 0)
-closed (inner ∷ outer) seen k = if kind_same inner k then Ok (record { stack = outer; seen = seen }) else Err (Unlawful 0)
+abbrev pub state_closed : List Kind → Bool → Kind → Result State LawFault
+state_closed [] seen k = Err (Unlawful 0)
+state_closed (inner ∷ outer) seen k = if kind_same inner k then Ok (record { stack = outer; seen = seen }) else Err (Unlawful 0)
 
 -- The state after one item, or why it is not allowed, with position 0. A character needs a content
 -- branch round it.
 abbrev pub step : State → PlainItem → Result State LawFault
 step s (Char c marks) = if is_content_branch (top s.stack) then Ok s else Err (Unlawful 0)
-step s (Opening kind head marks pre origin generated) = opened s kind
-step s (Closing kind pre) = closed s.stack s.seen kind
+step s (Opening kind head marks pre origin generated) = state_opened s kind
+step s (Closing kind pre) = state_closed s.stack s.seen kind
 
 abbrev pub fault_place : LawFault → ℕ
 fault_place (Unlawful at) = at
@@ -79,14 +79,14 @@ outcome_moved n (Ok s) = Ok s
 outcome_moved n (Err fault) = Err (fault_moved n fault)
 
 -- the outcome of n items, and then of the rest
-abbrev pub followed : ℕ → Result State LawFault → (State → Result State LawFault) → Result State LawFault
-followed n (Err fault) rest = Err fault
-followed n (Ok s) rest = outcome_moved n (rest s)
+abbrev pub outcome_then : ℕ → Result State LawFault → (State → Result State LawFault) → Result State LawFault
+outcome_then n (Err fault) rest = Err fault
+outcome_then n (Ok s) rest = outcome_moved n (rest s)
 
 -- the state after the items, or the first offence, with its position counted from where they begin
 abbrev pub after : State → List PlainItem → Result State LawFault
 after s [] = Ok s
-after s (item ∷ items) = followed 1 (step s item) (λ next. after next items)
+after s (item ∷ items) = outcome_then 1 (step s item) (λ next. after next items)
 
 -- a list ends well with all nodes closed and the internal list seen
 abbrev pub verdict_at : ℕ → Result State LawFault → Option LawFault

@@ -100,8 +100,8 @@ abbrev pub unmatched_places : List PlainItem → ℕ → ℕ → List ℕ
 unmatched_places items from to = filter (is_unmatched items from to) (places_in from to)
 
 -- how many closings and openings of a range are unmatched
-abbrev pub unmatched : List PlainItem → ℕ → ℕ → ℕ × ℕ
-unmatched items from to =
+abbrev pub unmatched_counts : List PlainItem → ℕ → ℕ → ℕ × ℕ
+unmatched_counts items from to =
     let all = unmatched_places items from to in (
       count_by (λ at. passes is_closing (slice_get items at)) all,
       count_by (λ at. passes is_opening (slice_get items at)) all,

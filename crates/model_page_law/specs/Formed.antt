@@ -21,13 +21,13 @@ use Rattle.model_page.specs.Elements.{is_white, words_in}
 -- ---- attributes, marks and heads
 
 -- the value of the first attribute of this name
-abbrev pub said : List ℕ → List Attr → Option (List ℕ)
-said name [] = None
-said name (a ∷ attrs) = if bytes_eq (encode_utf8_all a.name) name then Some (encode_utf8_all a.value) else said name attrs
+abbrev pub value_of_first : List ℕ → List Attr → Option (List ℕ)
+value_of_first name [] = None
+value_of_first name (a ∷ attrs) = if bytes_eq (encode_utf8_all a.name) name then Some (encode_utf8_all a.value) else value_of_first name attrs
 
 -- there is an `about`, or a word of `typeof` that begins `mw:`
 abbrev pub says_held : List Attr → Bool
-says_held attrs = is_some (said (codes "about") attrs) || list_any (begins_with (codes "mw:")) (words_in (said (codes "typeof") attrs))
+says_held attrs = is_some (value_of_first (codes "about") attrs) || list_any (begins_with (codes "mw:")) (words_in (value_of_first (codes "typeof") attrs))
 
 -- names and values are characters, and each name may be spelled
 abbrev pub AreNamed : List Attr → Type 0

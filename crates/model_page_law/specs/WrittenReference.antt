@@ -7,7 +7,7 @@ use Rattle.model_page.specs.DataMw.{RefRead, reference_of, composed_mw}
 use Rattle.model_page.specs.Editable.{data_mw}
 use Rattle.model_page_write.specs.Nodes.{Start}
 use Rattle.model_page_write.specs.Written.{Writer, ref_text}
-use Rattle.model_page_law.specs.Formed.{said}
+use Rattle.model_page_law.specs.Formed.{value_of_first}
 
 -- Its tag, these children, and attributes which, decoded, say what the head's say, with the
 -- composed text for the `data-mw`.
@@ -15,7 +15,7 @@ pub record IsWrittenAs (w : Writer) (s : Start) (children : Forest) : Type 0 whe
   pub attrs : List Spelled
   pub text_is : ref_text w s ≡ spelling (Element (encode_utf8_all s.head.tag) attrs children Nothing)
   pub mw : value_named (codes "data-mw") attrs ≡ option_map (λ mw. composed_mw mw (option_map w.html s.body)) (data_mw s.head.attrs)
-  pub others : (name : List ℕ) → (name ≡ codes "data-mw" → ⊥) → value_named name attrs ≡ said name s.head.attrs
+  pub others : (name : List ℕ) → (name ≡ codes "data-mw" → ⊥) → value_named name attrs ≡ value_of_first name s.head.attrs
 
 -- Each reference is written so, where these children spell its source.
 abbrev pub ReferenceIsWritten : Type 0

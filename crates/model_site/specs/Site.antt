@@ -52,13 +52,13 @@ abbrev pub edit : Transaction → Site → Result Site EditCause
 edit t site = edit_unless (edit_cause t site.replica) t site
 
 -- entries but for the last, and the last
-abbrev pub parted : Entry → List Entry → List Entry × Entry
-parted e [] = ([], e)
-parted e (f ∷ es) = let r = parted f es in (e ∷ r.0, r.1)
+abbrev pub init_and_last : Entry → List Entry → List Entry × Entry
+init_and_last e [] = ([], e)
+init_and_last e (f ∷ es) = let r = init_and_last f es in (e ∷ r.0, r.1)
 
 abbrev pub undo_last : List Entry → Site → Result Site UndoCause
 undo_last [] site = Err (if site.shared == 0 then NothingToUndo else AlreadyShared site.shared)
-undo_last (e ∷ es) site = let p = parted e es in
+undo_last (e ∷ es) site = let p = init_and_last e es in
     Ok (record site { replica = reverted p.1 site.replica; unsent = p.0; undone = p.1.txs ∷ site.undone })
 
 -- the last unsent entry is taken back

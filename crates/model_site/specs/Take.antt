@@ -8,15 +8,15 @@ use Rattle.model_site.specs.Joined.{Joined, join_entries}
 
 -- as entries, with one length of the store before and after, so that taking them back cuts nothing
 -- off
-abbrev pub noted : ℕ → List Parcel → List Entry
-noted stored = map (λ (p : Parcel). record { txs = p; store_before = stored; store_after = stored })
+abbrev pub parcel_entries : ℕ → List Parcel → List Entry
+parcel_entries stored = map (λ (p : Parcel). record { txs = p; store_before = stored; store_after = stored })
 
 -- The pending entries that are not kept are taken back, the last first; the foreign entry is
 -- performed over those kept; and these are joined over it.
 abbrev pub with_joined : Joined → Site → Site
 with_joined j site =
     let replica = all_performed j.committed (all_reverted (drop (length j.kept) (pending site)) site.replica) in
-    let kept = noted (length replica.store) j.kept in
+    let kept = parcel_entries (length replica.store) j.kept in
     record site {
       replica = replica;
       seen = suc site.seen;

@@ -4,7 +4,7 @@ use Rattle.std.proofs.Common.{◌≡◌, inl, inr, ℕ, suc, ◌+◌, ◌-◌, �
 use Rattle.std.proofs.lemmas.Bool.{cases_eq, and_from, or_parts, or_from, ltb-true, ltb-false, le-leb, lt-ltb, eq-eqb, ne_eqb, false_from_ne_true, true≢false}
 use Rattle.std.proofs.lemmas.List.{append_assoc}
 use Rattle.model_edit.specs.Layout.{Rectangle, has_row, has_column}
-use Rattle.model_edit_law.specs.Spans.{CellSpan, Line, covered, free_from, width, meet, laid, bent, lay_row, lay, size_of, of_row}
+use Rattle.model_edit_law.specs.Spans.{CellSpan, Line, covers_cell, free_from, width, meet, laid, bent, lay_row, lay, size_of, of_row}
 use Rattle.model_edit_law.proofs.LeastLemmas.{placed_least}
 use Rattle.model_edit_law.proofs.LayLemmas.{meet_numbers, next_row, not_bent}
 
@@ -22,7 +22,7 @@ Sized-later row [] x = tt
 Sized-later row (r ∷ xs) x = let l = x.0 in (omega arith, x.1, Sized-later row xs x.2)
 
 -- what covers only free positions meets nothing
-pub free_apart : (one : Rectangle) (B : List Rectangle) → 1 ≤ one.columns → Sized one.row B → ((k : ℕ) → one.column ≤ k → k < one.column + one.columns → covered B one.row k ≡ false) →
+pub free_apart : (one : Rectangle) (B : List Rectangle) → 1 ≤ one.columns → Sized one.row B → ((k : ℕ) → one.column ≤ k → k < one.column + one.columns → covers_cell B one.row k ≡ false) →
     list_any (meet one) B ≡ false
 free_apart one [] wide sized free = refl
 free_apart one (b ∷ B) wide sized free =

@@ -20,15 +20,15 @@ or_bad field None = Err field
 or_bad field (Some x) = Ok x
 
 -- a member that has to be there
-abbrev pub needed : {A : Type 0} → Field → (Data → Option A) → Reader A
-needed field read members = or_bad field (member_in (field_name field) read members)
+abbrev pub required_member : {A : Type 0} → Field → (Data → Option A) → Reader A
+required_member field read members = or_bad field (member_in (field_name field) read members)
 
 -- a member that may be absent; `null` is not an absent one
-abbrev pub defaulted : {A : Type 0} → Field → A → (Data → Option A) → Reader A
-defaulted field default read members = or_bad field (member_or (field_name field) default read members)
+abbrev pub optional_member : {A : Type 0} → Field → A → (Data → Option A) → Reader A
+optional_member field default read members = or_bad field (member_or (field_name field) default read members)
 
 -- a reader whose result is mapped
-abbrev pub made : {A B : Type 0} → (A → B) → Reader A → Reader B
-made f read members = do
+abbrev pub map_reader : {A B : Type 0} → (A → B) → Reader A → Reader B
+map_reader f read members = do
   x ← read members
   Ok (f x)

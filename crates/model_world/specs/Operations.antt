@@ -4,8 +4,8 @@ use Rattle.std.specs.Prelude.{◌+◌, Bool, true, false, not, ◌&&◌, nat_lt,
 use Rattle.serde_json.specs.Data.{Data, Members}
 use Rattle.serde_json.specs.Find.{get_member, as_object}
 use Rattle.model_items.specs.Same.{text_same}
-use Rattle.model_world.specs.declared.change.OpWords.{OpWords}
-use Rattle.model_world.specs.declared.change.OpWords.TheVariants.{Retain, Remove, Attr}
+use Rattle.model_world.specs.declared.edit_command.OpWords.{OpWords}
+use Rattle.model_world.specs.declared.edit_command.OpWords.TheVariants.{Retain, Remove, Attr}
 use Rattle.model_world.specs.Values.{◌>>=◌, such_that, number_in, text_or_null_in, list_in, member_in}
 use Rattle.model_world.specs.Attributes.{name_in}
 use Rattle.model_world.specs.ItemWords.{all_items_in}

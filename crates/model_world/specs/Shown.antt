@@ -124,15 +124,15 @@ char_shown c marks (Together others text later) =
     else Together marks (c ∷ []) (run_shown others text ∷ later)
 char_shown c marks (Apart later) = Together marks (c ∷ []) later
 
-abbrev pub shown : List PlainItem → Shown
-shown [] = Apart []
-shown (Char c marks ∷ items) = char_shown c marks (shown items)
-shown (Opening kind head marks pre origin generated ∷ items) =
-    Apart (object (opening_shown kind head marks pre origin generated) ∷ all_shown (shown items))
-shown (Closing kind pre ∷ items) = Apart (object (closing_shown kind pre) ∷ all_shown (shown items))
+abbrev pub as_shown : List PlainItem → Shown
+as_shown [] = Apart []
+as_shown (Char c marks ∷ items) = char_shown c marks (as_shown items)
+as_shown (Opening kind head marks pre origin generated ∷ items) =
+    Apart (object (opening_shown kind head marks pre origin generated) ∷ all_shown (as_shown items))
+as_shown (Closing kind pre ∷ items) = Apart (object (closing_shown kind pre) ∷ all_shown (as_shown items))
 
 abbrev pub items_shown : List PlainItem → Data
-items_shown items = json_list (all_shown (shown items))
+items_shown items = json_list (all_shown (as_shown items))
 
 -- ---- references and cells
 

@@ -58,9 +58,9 @@ abbrev pub word_in : {A : Type 0} → List (List ℕ × A) → Data → Option A
 word_in rows json = option_and_then (meant_by rows) (as_str json)
 
 -- the values of a list
-abbrev pub listed : Items → List Data
-listed no_items = []
-listed (item json items) = json ∷ listed items
+abbrev pub json_values : Items → List Data
+json_values no_items = []
+json_values (item json items) = json ∷ json_values items
 
 -- all of them, where each is well formed
 abbrev pub all_read : {A : Type 0} → (Data → Option A) → List Data → Option (List A)
@@ -68,7 +68,7 @@ all_read read [] = Some []
 all_read read (json ∷ more) = option_and_then (λ x. option_map (λ xs. x ∷ xs) (all_read read more)) (read json)
 
 abbrev pub list_in : {A : Type 0} → (Data → Option A) → Data → Option (List A)
-list_in read json = option_and_then (λ items. all_read read (listed items)) (as_array json)
+list_in read json = option_and_then (λ items. all_read read (json_values items)) (as_array json)
 
 abbrev pub two_of : List Data → Option (Data × Data)
 two_of (one ∷ other ∷ []) = Some (one, other)
@@ -76,7 +76,7 @@ two_of _ = None
 
 -- a list of exactly two
 abbrev pub pair_in : Data → Option (Data × Data)
-pair_in json = option_and_then (λ items. two_of (listed items)) (as_array json)
+pair_in json = option_and_then (λ items. two_of (json_values items)) (as_array json)
 
 -- a member that has to be there
 abbrev pub member_in : {A : Type 0} → List ℕ → (Data → Option A) → Members → Option A

@@ -1,5 +1,5 @@
 // Commands: all that a line of a script can ask.
-use crate::{Change, ChangeList};
+use crate::{EditCommand, EditCommandList};
 use model_edit::{By, Dir};
 use ve_base::Text;
 
@@ -29,9 +29,9 @@ pub enum Request {
     /// `at`: the innermost node at an offset, and what the offset is.
     At { at: usize },
     /// One of the ten commands that a batch may hold.
-    Edit { change: Change },
+    Edit { change: EditCommand },
     /// `batch`: 1 to 1,000 changes as one entry.
-    Batch { cmds: ChangeList },
+    Batch { cmds: EditCommandList },
     /// `select`: puts both ends of the selection.
     Select { anchor: usize, focus: usize },
     /// `move`: moves the focus to the next position, and the anchor too unless `keep`.

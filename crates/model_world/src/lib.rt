@@ -19,7 +19,7 @@
 //! holds of every world is `model_world_law`'s.
 #![tactic(auto)]
 
-mod change;
+mod edit_command;
 mod command;
 mod field;
 mod laws;
@@ -28,7 +28,7 @@ mod refusal;
 mod reply;
 mod shown;
 
-pub use change::{Change, ChangeList, OpWordList, OpWords, TextMarks};
+pub use edit_command::{EditCommand, EditCommandList, OpWordList, OpWords, TextMarks};
 pub use command::{Command, Request};
 pub use field::Field;
 pub use laws::{batches_are_whole, refusals_change_nothing};

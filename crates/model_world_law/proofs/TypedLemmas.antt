@@ -10,7 +10,7 @@ use Rattle.ve_base.specs.declared.marks.Mark.{Mark}
 use Rattle.model_items.specs.declared.plain_item.PlainItem.{PlainItem}
 use Rattle.model_items.specs.declared.plain_item.PlainItem.TheVariants.{Char, Opening, Closing}
 use Rattle.model_items.specs.declared.law_fault.LawFault.{LawFault}
-use Rattle.model_items.specs.Law.{State, start, finish, top, followed, step, after, Lawful}
+use Rattle.model_items.specs.Law.{State, start, finish, top, outcome_then, step, after, Lawful}
 use Rattle.model_items.proofs.LawLemmas.{if_ok, Ok-same, joined-ok, after_parts, after_whole, after_from_Lawful}
 use Rattle.model_change.specs.Transaction.{Retain, Replace, Attribute, Transaction, all_inserted, edited}
 use Rattle.model_change.specs.Join.{first}
@@ -92,7 +92,7 @@ char_after items n c marks lawful h =
     let s = p.0 in
     let q = joined-ok 1 (step s x) (λ next. after next (drop (suc n) items)) finish p.2 in
     let r = char_step s q.0 c marks q.1 in
-    let one : after s (x ∷ []) ≡ Ok s = ap (λ (o : Result State LawFault). followed 1 o (λ next. Ok next)) (q.1 ∙ ap (λ v. Ok v) (sym r.1)) in
+    let one : after s (x ∷ []) ≡ Ok s = ap (λ (o : Result State LawFault). outcome_then 1 o (λ next. Ok next)) (q.1 ∙ ap (λ v. Ok v) (sym r.1)) in
     let there : after start (take (suc n) items) ≡ Ok s = ap (after start) (take_more items n x h) ∙ after_whole (take n items) (x ∷ []) start s s p.1 one in
     let stack : stack_at items (suc n) ≡ s.stack = stack_at-after items (suc n) s there in
     let below = found_below items n x h in

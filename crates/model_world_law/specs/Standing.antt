@@ -11,8 +11,8 @@ use Rattle.model_page.specs.Fragment.{fragment_items}
 use Rattle.model_page.specs.Limits.{fragment_limit, page_limit}
 use Rattle.model_page.specs.PageItems.{items_of_page, page_made}
 use Rattle.model_site_law.specs.ItemLaws.{AllPass}
-use Rattle.model_world.specs.declared.change.OpWords.{OpWords}
-use Rattle.model_world.specs.declared.change.OpWords.TheVariants as op
+use Rattle.model_world.specs.declared.edit_command.OpWords.{OpWords}
+use Rattle.model_world.specs.declared.edit_command.OpWords.TheVariants as op
 use Rattle.model_edit.specs.Marking.{item_marks}
 use Rattle.model_edit.specs.declared.wrap_plan.Shape.{Shape}
 use Rattle.model_edit.specs.declared.wrap_plan.WrapPlan.{WrapPlan}

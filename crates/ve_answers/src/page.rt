@@ -27,7 +27,10 @@ pub fn html<'a, 'b>(
     requires cites { All (CitesWell doc.store.now) doc.list.now.items }
     requires refers { all_refer (page_items doc) ≡ true }
     requires first { IsFirst doc.store.now origins.now }
-    ensures reply { IfOk result (λ answer. reply_of answer ≡ html_reply (opened_over doc.entry.store.now origins.entry.now) (page_items doc.entry)) }
+    ensures reply { IfOk result (λ answer.
+        reply_of answer
+        ≡ html_reply (opened_over doc.entry.store.now origins.entry.now)
+        (page_items doc.entry)) }
     ensures cites { IfOk result AnswerCites }
 {
     let mut written = Bytes::new(alloc);

@@ -17,7 +17,8 @@ use ve_offsets::Doc;
 /// list. They are lent.
 pub fn items<'a>(doc: Doc<'a>, from: usize, to: Option<usize>) -> Answer<'a>
     requires cites { All (CitesWell doc.store.now) doc.list.now.items }
-    ensures reply { reply_of result ≡ items_reply (page_items doc.entry) from (unwrap_or to (length (page_items doc.entry))) }
+    ensures reply { reply_of result
+        ≡ items_reply (page_items doc.entry) from (unwrap_or to (length (page_items doc.entry))) }
     ensures cites { AnswerCites result }
 {
     let len = doc.list.len();

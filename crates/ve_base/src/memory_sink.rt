@@ -47,7 +47,13 @@ fn put(room: &mut [u8], len: usize, piece: &[u8]) -> usize
 impl<'a> MemSink<'a> {
     /// A sink that holds nothing, before its first call. It takes no memory.
     pub fn new(room: &'a mut [u8], fails: Calls) -> MemSink<'a>
-        ensures { result ≡ record { held = []; free = length room.entry.now; fails = fails; calls = 0; faults = 0 } }
+        ensures { result ≡ record {
+          held = [];
+          free = length room.entry.now;
+          fails = fails;
+          calls = 0;
+          faults = 0;
+        } }
     {
         MemSink {
             room,

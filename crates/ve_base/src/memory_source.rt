@@ -36,7 +36,8 @@ impl Model for MemSource {
 impl MemSource {
     /// A source of these bytes, before its first call. It takes no memory.
     pub fn new(bytes: Bytes, cuts: Cuts, fails: Calls) -> MemSource
-        ensures { result ≡ record { left = bytes; cuts = cuts; fails = fails; calls = 0; faults = 0 } }
+        ensures { result
+            ≡ record { left = bytes; cuts = cuts; fails = fails; calls = 0; faults = 0 } }
     {
         MemSource {
             bytes,

@@ -37,11 +37,14 @@ pub fn insertion(
     requires cites { All (CitesWell doc.store.now) doc.list.now.items }
     requires follows { new.old.after ≡ length doc.store.now }
     requires pieces { All (CitesWell (together doc.store.now new.old)) pieces.now }
-    ensures means { IfOk result (λ tx. insertion_meant doc.entry new.old at pieces.now ≡ Ok (by_value (together doc.entry.store.now new.new) tx)) }
+    ensures means { IfOk result (λ tx.
+        insertion_meant doc.entry new.old at pieces.now
+        ≡ Ok (by_value (together doc.entry.store.now new.new) tx)) }
     ensures cites { IfOk result (TxCites (together doc.entry.store.now new.new)) }
     ensures values { IfOk result (BringsInserted doc.entry.store.now new.old new.new) }
     ensures grows { Grows new.old new.new }
-    ensures refused { IfErr result (λ fault. IsRefusal fault (insertion_meant doc.entry new.old at pieces.now)) }
+    ensures refused { IfErr result (λ fault.
+        IsRefusal fault (insertion_meant doc.entry new.old at pieces.now)) }
 {
     let Some(state) = open_at(doc, at) else {
         return Err(BuildFault::BadOffset { at });

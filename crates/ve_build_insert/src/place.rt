@@ -34,7 +34,9 @@ pub fn innermost(state: &State) -> Kind
 /// The open kinds at an offset, unless nothing can be put there: it is the list's end or past it, or inside a leaf.
 pub fn open_at(doc: Doc<'_>, at: usize) -> Option<State>
     requires doc { IsDoc doc }
-    ensures none { result ≡ None → (values : _) → model.is_bad_offset (plain_list values doc.entry.list.now.items) at ≡ true }
+    ensures none { result ≡ None
+        → (values : _)
+        → model.is_bad_offset (plain_list values doc.entry.list.now.items) at ≡ true }
     ensures some { IfSome result (IsOpenAt doc.entry.list.now.items at) }
 {
     if at >= doc.list.len() {
@@ -50,7 +52,8 @@ pub fn open_at(doc: Doc<'_>, at: usize) -> Option<State>
 /// How far out the innermost kind stands that may hold the pieces, the root past the outermost. No internal list or item
 /// is left.
 fn levels_up(state: &State, pieces: &[Item]) -> Option<usize>
-    ensures means { (values : _) → result ≡ model.levels_up (plain_list values pieces.now) state.now.stack }
+    ensures means { (values : _)
+        → result ≡ model.levels_up (plain_list values pieces.now) state.now.stack }
     ensures within { IfSome result (λ levels. levels ≤ length state.now.stack) }
 {
     let depth = state.depth();

@@ -52,11 +52,14 @@ pub fn split(
     requires doc { IsDoc doc }
     requires cites { All (CitesWell doc.store.now) doc.list.now.items }
     requires follows { new.old.after ≡ length doc.store.now }
-    ensures means { IfOk result (λ tx. model.split (page_items doc.entry) at depth ≡ Ok (by_value (together doc.entry.store.now new.new) tx)) }
+    ensures means { IfOk result (λ tx.
+        model.split (page_items doc.entry) at depth
+        ≡ Ok (by_value (together doc.entry.store.now new.new) tx)) }
     ensures cites { IfOk result (TxCites (together doc.entry.store.now new.new)) }
     ensures values { IfOk result (BringsInserted doc.entry.store.now new.old new.new) }
     ensures grows { Grows new.old new.new }
-    ensures refused { IfErr result (λ fault. IsRefusal fault (model.split (page_items doc.entry) at depth)) }
+    ensures refused { IfErr result (λ fault.
+        IsRefusal fault (model.split (page_items doc.entry) at depth)) }
 {
     let Some(state) = open_at(doc, at) else {
         return Err(BuildFault::BadOffset { at });

@@ -77,7 +77,9 @@ pub fn text_insertion(
     requires doc { IsDoc doc }
     requires cites { All (CitesWell doc.store.now) doc.list.now.items }
     requires follows { new.old.after ≡ length doc.store.now }
-    ensures means { IfOk result (λ tx. text_meant doc.entry at text.now ≡ Ok (by_value (together doc.entry.store.now new.new) tx)) }
+    ensures means { IfOk result (λ tx.
+        text_meant doc.entry at text.now
+        ≡ Ok (by_value (together doc.entry.store.now new.new) tx)) }
     ensures cites { IfOk result (TxCites (together doc.entry.store.now new.new)) }
     ensures values { IfOk result (BringsInserted doc.entry.store.now new.old new.new) }
     ensures grows { Grows new.old new.new }
@@ -100,11 +102,14 @@ pub fn plain_text_insertion(
     requires doc { IsDoc doc }
     requires cites { All (CitesWell doc.store.now) doc.list.now.items }
     requires follows { new.old.after ≡ length doc.store.now }
-    ensures means { IfOk result (λ tx. plain_text_meant doc.entry at text.now ≡ Ok (by_value (together doc.entry.store.now new.new) tx)) }
+    ensures means { IfOk result (λ tx.
+        plain_text_meant doc.entry at text.now
+        ≡ Ok (by_value (together doc.entry.store.now new.new) tx)) }
     ensures cites { IfOk result (TxCites (together doc.entry.store.now new.new)) }
     ensures values { IfOk result (BringsInserted doc.entry.store.now new.old new.new) }
     ensures grows { Grows new.old new.new }
-    ensures refused { IfErr result (λ fault. IsRefusal fault (plain_text_meant doc.entry at text.now)) }
+    ensures refused { IfErr result (λ fault.
+        IsRefusal fault (plain_text_meant doc.entry at text.now)) }
 {
     let Ok(pieces) = letters(alloc, None, text) else {
         return Err(BuildFault::Memory);

@@ -30,7 +30,10 @@ fn unmatched_places(
     requires doc { IsDoc doc }
     requires order { from ≤ to }
     requires within { to ≤ length doc.list.now.items }
-    ensures { IfOk result (λ all. (values : _) → all.items ≡ offsets.unmatched_places (plain_list values doc.entry.list.now.items) from to) }
+    ensures { IfOk result (λ all.
+        (values : _)
+        → all.items
+        ≡ offsets.unmatched_places (plain_list values doc.entry.list.now.items) from to) }
 {
     let mut all = Vec::new(alloc);
     for at in from..to {
@@ -52,7 +55,8 @@ fn matched_removed(
     requires doc { IsDoc doc }
     requires order { from ≤ to }
     requires within { to ≤ length doc.list.now.items }
-    ensures means { IfOk result (IsTransactionOf doc.entry.list.now.items (λ all. removal_edits all from to None)) }
+    ensures means { IfOk result (
+        IsTransactionOf doc.entry.list.now.items (λ all. removal_edits all from to None)) }
     ensures cites { IfOk result (CitesAsItems doc.entry.list.now.items) }
 {
     let mut edits = Edits::new(alloc);
@@ -77,7 +81,9 @@ fn joined(
     requires order { from ≤ to }
     requires past { to ≤ join.second_closing }
     requires within { join.second_closing < length doc.list.now.items }
-    ensures means { IfOk result (IsTransactionOf doc.entry.list.now.items (λ all. removal_edits all from to (Some (join_of join)))) }
+    ensures means { IfOk result (
+        IsTransactionOf doc.entry.list.now.items (λ all.
+        removal_edits all from to (Some (join_of join)))) }
     ensures cites { IfOk result (CitesAsItems doc.entry.list.now.items) }
 {
     let mut edits = Edits::new(alloc);
@@ -128,9 +134,11 @@ pub fn removal(
 ) -> Result<Transaction, BuildFault>
     requires doc { IsDoc doc }
     requires cites { All (CitesWell doc.store.now) doc.list.now.items }
-    ensures means { IfOk result (λ tx. model.removal (page_items doc.entry) from to ≡ Ok (by_value doc.entry.store.now tx)) }
+    ensures means { IfOk result (λ tx.
+        model.removal (page_items doc.entry) from to ≡ Ok (by_value doc.entry.store.now tx)) }
     ensures cites { IfOk result (λ tx. TxCites doc.entry.store.now tx) }
-    ensures refused { IfErr result (λ fault. IsRefusal fault (model.removal (page_items doc.entry) from to)) }
+    ensures refused { IfErr result (λ fault.
+        IsRefusal fault (model.removal (page_items doc.entry) from to)) }
 {
     if is_bad_span(doc, from, to) {
         return Err(BuildFault::BadRange { from, to });

@@ -17,7 +17,7 @@ use Rattle.model_items.specs.declared.plain_item.PlainItem.TheVariants.{Char, Op
 use Rattle.model_items.specs.declared.offset_class.OffsetClass.{OffsetClass}
 use Rattle.model_items.specs.declared.offset_class.OffsetClass.TheVariants.{Content, Structural, Inside}
 use Rattle.model_items.specs.Law.{start, finish, top, step, after, Lawful}
-use Rattle.model_items.specs.Offsets.{is_closing, is_opening, passes, opens_at, stack_at, kind_at, is_content, first_from, partner, is_unmatched, places_in, siblings, unmatched}
+use Rattle.model_items.specs.Offsets.{is_closing, is_opening, passes, opens_at, stack_at, kind_at, is_content, first_from, partner, is_unmatched, places_in, siblings, unmatched_counts}
 use Rattle.model_items.specs.Plain.{plain, plain_list}
 use Rattle.model_items.specs.Tree.{Open, opens_with, opens_after, class_at, node_at, place_with}
 use Rattle.model_items.proofs.LawLemmas.{if_ok, after_parts, joined-ok, closed_before, after_from_Lawful}
@@ -154,14 +154,14 @@ any_same values items from to a (suc n) high =
     ap (λ b. b || list_any (is_unmatched (unvalued items) from to) (range_with_len (a + 1) n)) here
     ∙ ap (λ b. is_unmatched (plain_list values items) from to a || b) (any_same values items from to (a + 1) n (omega arith))
 
-matched_by_counts : (values : List Value) (items : List Item) (from to : ℕ) (counts : ℕ × ℕ) → from ≤ to → to ≤ length items → counts ≡ unmatched (unvalued items) from to →
+matched_by_counts : (values : List Value) (items : List Item) (from to : ℕ) (counts : ℕ × ℕ) → from ≤ to → to ≤ length items → counts ≡ unmatched_counts (unvalued items) from to →
     ((counts.0 == 0) && (counts.1 == 0)) ≡ is_matched (plain_list values items) from to
 matched_by_counts values items from to counts order within is =
     ap (λ (p : ℕ × ℕ). (p.0 == 0) && (p.1 == 0)) is
     ∙ none_by_counts (unvalued items) from to (omega (arith, length-map items (plain []))) from (to - from) (omega arith) (omega arith)
     ∙ ap not (any_same values items from to from (to - from) (omega arith))
 
-module _ (values : List Value) (items : List Item) (from to : ℕ) (counts : ℕ × ℕ) (order : from ≤ to) (within : to ≤ length items) (is : counts ≡ unmatched (unvalued items) from to) where
+module _ (values : List Value) (items : List Item) (from to : ℕ) (counts : ℕ × ℕ) (order : from ≤ to) (within : to ≤ length items) (is : counts ≡ unmatched_counts (unvalued items) from to) where
   pub matched_then : counts.0 ≡ 0 → (counts.1 == 0) ≡ is_matched (plain_list values items) from to
   matched_then none = sym (ap (λ n. (n == 0) && (counts.1 == 0)) none) ∙ matched_by_counts values items from to counts order within is
 

@@ -32,7 +32,8 @@ fn opens_element(item: Item) -> bool
 /// Whether an element begins at a place.
 fn begins_element(doc: Doc<'_>, at: usize) -> bool
     ensures within { result ≡ true → at < length doc.entry.list.now.items }
-    ensures means { (values : _) → result ≡ begins_element (plain_list values doc.entry.list.now.items) at }
+    ensures means { (values : _)
+        → result ≡ begins_element (plain_list values doc.entry.list.now.items) at }
 {
     if at >= doc.list.len() {
         return false;
@@ -93,7 +94,9 @@ fn set(
     requires within { at < length doc.list.now.items }
     requires cites { All (CitesWell doc.store.now) doc.list.now.items }
     requires may { MaySetAt doc.list.now.items at name }
-    ensures means { IfOk result (λ tx. IsSetting (page_items doc.entry) at name (value_spelled to.entry) (by_value doc.entry.store.now tx)) }
+    ensures means { IfOk result (λ tx.
+        IsSetting (page_items doc.entry) at name (value_spelled to.entry)
+        (by_value doc.entry.store.now tx)) }
     ensures cites { IfOk result (TxCites doc.entry.store.now) }
 {
     let from = present_value(alloc, doc.store, doc.list.get(at), &name)?;
@@ -119,9 +122,12 @@ pub fn attribute(
 ) -> Result<Transaction, BuildFault>
     requires doc { IsDoc doc }
     requires cites { All (CitesWell doc.store.now) doc.list.now.items }
-    ensures means { IfOk result (λ tx. attribute_spelled (page_items doc.entry) at name.now to.entry ≡ Ok (by_value doc.entry.store.now tx)) }
+    ensures means { IfOk result (λ tx.
+        attribute_spelled (page_items doc.entry) at name.now to.entry
+        ≡ Ok (by_value doc.entry.store.now tx)) }
     ensures cites { IfOk result (TxCites doc.entry.store.now) }
-    ensures refused { IfErr result (λ fault. IsRefusal fault (attribute_spelled (page_items doc.entry) at name.now to.entry)) }
+    ensures refused { IfErr result (λ fault.
+        IsRefusal fault (attribute_spelled (page_items doc.entry) at name.now to.entry)) }
 {
     if !begins_element(doc, at) {
         return Err(BuildFault::NotOpening { at });

@@ -26,7 +26,8 @@ fn opens(item: Item, kind: Kind) -> bool
 /// Whether a node of the kind begins at a place.
 fn begins(doc: Doc<'_>, at: usize, kind: Kind) -> bool
     ensures within { result ≡ true → at < length doc.entry.list.now.items }
-    ensures means { (values : _) → result ≡ begins_kind kind (plain_list values doc.entry.list.now.items) at }
+    ensures means { (values : _)
+        → result ≡ begins_kind kind (plain_list values doc.entry.list.now.items) at }
 {
     if at >= doc.list.len() {
         return false;
@@ -39,7 +40,8 @@ pub fn end_of_node(doc: Doc<'_>, at: usize) -> usize
     requires doc { IsDoc doc }
     requires within { at < length doc.list.now.items }
     ensures within { result ≤ length doc.entry.list.now.items }
-    ensures means { (values : _) → result ≡ offsets.end_of_node (plain_list values doc.entry.list.now.items) at }
+    ensures means { (values : _)
+        → result ≡ offsets.end_of_node (plain_list values doc.entry.list.now.items) at }
 {
     let other = partner(doc, at);
     let len = doc.list.len();
@@ -50,7 +52,9 @@ pub fn end_of_node(doc: Doc<'_>, at: usize) -> usize
 /// The first place, from one on, where no node of the next kind begins.
 fn wrong_opening(doc: Doc<'_>, at: usize, kinds: &[Kind]) -> Option<usize>
     requires within { at ≤ length doc.list.now.items }
-    ensures means { (values : _) → result ≡ first_wrong (opening_claims (plain_list values doc.entry.list.now.items) at kinds.now) }
+    ensures means { (values : _)
+        → result
+        ≡ first_wrong (opening_claims (plain_list values doc.entry.list.now.items) at kinds.now) }
     ensures room { result ≡ None → at + length kinds.now ≤ length doc.entry.list.now.items }
 {
     let len = doc.list.len();
@@ -69,7 +73,8 @@ fn ends_with(doc: Doc<'_>, opening: usize, place: usize) -> bool
     requires doc { IsDoc doc }
     requires within { opening < length doc.list.now.items }
     ensures within { result ≡ true → place < length doc.entry.list.now.items }
-    ensures means { (values : _) → result ≡ (offsets.partner (plain_list values doc.entry.list.now.items) opening == place) }
+    ensures means { (values : _)
+        → result ≡ (offsets.partner (plain_list values doc.entry.list.now.items) opening == place) }
 {
     partner(doc, opening) == place
 }
@@ -80,7 +85,9 @@ fn wrong_closing(doc: Doc<'_>, first: usize, count: usize, at: usize) -> Option<
     requires doc { IsDoc doc }
     requires openings { first + count ≤ length doc.list.now.items }
     requires within { at ≤ length doc.list.now.items }
-    ensures { (values : _) → result ≡ first_wrong (closing_claims (plain_list values doc.entry.list.now.items) first count at) }
+    ensures { (values : _)
+        → result ≡ first_wrong (
+        closing_claims (plain_list values doc.entry.list.now.items) first count at) }
 {
     let len = doc.list.len();
     let mut left = count;
@@ -101,7 +108,9 @@ fn wrong_closing(doc: Doc<'_>, first: usize, count: usize, at: usize) -> Option<
 fn wrong_in_node(doc: Doc<'_>, at: usize, kinds: &[Kind]) -> Option<usize>
     requires doc { IsDoc doc }
     requires within { at < length doc.list.now.items }
-    ensures { (values : _) → result ≡ first_wrong (node_claims (plain_list values doc.entry.list.now.items) kinds.now at) }
+    ensures { (values : _)
+        → result
+        ≡ first_wrong (node_claims (plain_list values doc.entry.list.now.items) kinds.now at) }
 {
     if let Some(place) = wrong_opening(doc, at, kinds) {
         return Some(place);
@@ -116,7 +125,10 @@ fn wrong_in_node(doc: Doc<'_>, at: usize, kinds: &[Kind]) -> Option<usize>
 fn wrong_in_nodes(doc: Doc<'_>, nodes: &[usize], kinds: &[Kind]) -> Option<usize>
     requires doc { IsDoc doc }
     requires within { AreWithin doc.list.now.items nodes.now }
-    ensures { (values : _) → result ≡ first_wrong (flat_map (node_claims (plain_list values doc.entry.list.now.items) kinds.now) nodes.now) }
+    ensures { (values : _)
+        → result ≡ first_wrong (
+        flat_map (node_claims (plain_list values doc.entry.list.now.items) kinds.now)
+        nodes.now) }
 {
     for i in 0..nodes.len() {
         if let Some(place) = wrong_in_node(doc, nodes[i], kinds) {
@@ -140,7 +152,10 @@ pub fn wrong_place(
     requires order { from ≤ to }
     requires within { to ≤ length doc.list.now.items }
     requires nodes { AreWithin doc.list.now.items nodes.now }
-    ensures { (values : _) → result ≡ wrong_among (plain_list values doc.entry.list.now.items) from to outer.now each.now nodes.now }
+    ensures { (values : _)
+        → result
+        ≡ wrong_among (plain_list values doc.entry.list.now.items) from to outer.now each.now
+        nodes.now }
 {
     let count = outer.len();
     if from < count {

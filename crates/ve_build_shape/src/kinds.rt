@@ -34,7 +34,10 @@ fn opens_content(item: Item) -> bool
 /// Whether a branch of content begins at a place, and the kind is one of content.
 fn may_convert(doc: Doc<'_>, at: usize, kind: Kind) -> bool
     ensures within { result ≡ true → at < length doc.entry.list.now.items }
-    ensures means { (values : _) → result ≡ (begins_branch (plain_list values doc.entry.list.now.items) at && table.is_content_branch kind) }
+    ensures means { (values : _)
+        → result
+        ≡ (begins_branch (plain_list values doc.entry.list.now.items) at
+        && table.is_content_branch kind) }
 {
     if at >= doc.list.len() {
         return false;
@@ -98,9 +101,11 @@ pub fn convert(
 ) -> Result<Transaction, BuildFault>
     requires doc { IsDoc doc }
     requires cites { All (CitesWell doc.store.now) doc.list.now.items }
-    ensures means { IfOk result (λ tx. model.convert (page_items doc.entry) at kind ≡ Ok (by_value doc.entry.store.now tx)) }
+    ensures means { IfOk result (λ tx.
+        model.convert (page_items doc.entry) at kind ≡ Ok (by_value doc.entry.store.now tx)) }
     ensures cites { IfOk result (λ tx. TxCites doc.entry.store.now tx) }
-    ensures refused { IfErr result (λ fault. IsRefusal fault (model.convert (page_items doc.entry) at kind)) }
+    ensures refused { IfErr result (λ fault.
+        IsRefusal fault (model.convert (page_items doc.entry) at kind)) }
 {
     if !may_convert(doc, at, kind) {
         return Err(BuildFault::NotBranch { at });

@@ -119,9 +119,13 @@ fn changed_marks(
 ) -> Result<Option<ValueId>, Memory>
     requires follows { new.old.after ≡ length store.now }
     requires cites { CitesMarks (together store.now new.old) marks }
-    ensures cited { IfOk result (λ id. marks_cited store.now new.new id ≡ marks_after remark mark.now (marks_cited store.now new.old marks)) }
+    ensures cited { IfOk result (λ id.
+        marks_cited store.now new.new id
+        ≡ marks_after remark mark.now (marks_cited store.now new.old marks)) }
     ensures cites { IfOk result (CitesMarks (together store.now new.new)) }
-    ensures fills { IfOk result (IsMarksFilled store.now new.old new.new (marks_after remark mark.now (marks_cited store.now new.old marks))) }
+    ensures fills { IfOk result (
+        IsMarksFilled store.now new.old new.new (
+        marks_after remark mark.now (marks_cited store.now new.old marks))) }
     ensures grows { Grows new.old new.new }
 {
     match remark {
@@ -173,9 +177,13 @@ pub fn remarked(
     requires follows { new.old.after ≡ length store.now }
     requires cites { CitesWell store.now item }
     requires may { insert.is_content_item (plain store.now item) ≡ true }
-    ensures means { IfOk result (λ other. plain (together store.now new.new) other ≡ model.remarked (marks_after remark mark.now) (plain store.now item)) }
+    ensures means { IfOk result (λ other.
+        plain (together store.now new.new) other
+        ≡ model.remarked (marks_after remark mark.now) (plain store.now item)) }
     ensures cites { IfOk result (CitesWell (together store.now new.new)) }
-    ensures fills { IfOk result (IsItemFilled store.now new.old new.new (model.remarked (marks_after remark mark.now) (plain store.now item))) }
+    ensures fills { IfOk result (
+        IsItemFilled store.now new.old new.new (
+        model.remarked (marks_after remark mark.now) (plain store.now item))) }
     ensures grows { Grows new.old new.new }
 {
     let marks = changed_marks(alloc, store, new, marks_id(item), remark, mark)?;

@@ -37,7 +37,8 @@ fn put_round(
     requires order { edits.old.at ≤ at }
     requires room { at + count ≤ offsets.end_of_node (page_items doc) at - count }
     ensures at { OnOk result (edits.new.at ≡ offsets.end_of_node (page_items doc.entry) at) }
-    ensures puts { OnOk result (PutsRound doc.entry.list.now.items count brackets.now (at ∷ []) edits.old edits.new) }
+    ensures puts { OnOk result (
+        PutsRound doc.entry.list.now.items count brackets.now (at ∷ []) edits.old edits.new) }
 {
     let end = end_of_node(doc, at);
     let openings = brackets.openings.as_slice();
@@ -60,7 +61,8 @@ fn put_round_each(
     requires within { AreWithin doc.list.now.items nodes.now }
     requires room { HaveRoom (page_items doc) count edits.old.at end nodes.now }
     ensures at { OnOk result (edits.new.at ≤ end) }
-    ensures puts { OnOk result (PutsRound doc.entry.list.now.items count brackets.now nodes.now edits.old edits.new) }
+    ensures puts { OnOk result (
+        PutsRound doc.entry.list.now.items count brackets.now nodes.now edits.old edits.new) }
 {
     for i in 0..nodes.len() {
         put_round(doc, edits, nodes[i], count, brackets)?;
@@ -82,7 +84,8 @@ fn put_all(
     requires doc { IsDoc doc }
     requires within { AreWithin doc.list.now.items nodes.now }
     requires fits { Fits (page_items doc) from to plan.now nodes.now }
-    ensures { IfOk result (IsRound doc.entry.list.now.items from to plan.now nodes.now outer.now each.now) }
+    ensures { IfOk result (
+        IsRound doc.entry.list.now.items from to plan.now nodes.now outer.now each.now) }
 {
     let outer_kinds = plan.unwrap_outer.as_slice();
     let each_kinds = plan.unwrap_each.as_slice();
@@ -147,12 +150,15 @@ pub fn wrap(
     requires doc { IsDoc doc }
     requires cites { All (CitesWell doc.store.now) doc.list.now.items }
     requires follows { new.old.after ≡ length doc.store.now }
-    ensures means { IfOk result (λ tx. model.wrap (page_items doc.entry) from to plan.now ≡ Ok (by_value (together doc.entry.store.now new.new) tx)) }
+    ensures means { IfOk result (λ tx.
+        model.wrap (page_items doc.entry) from to plan.now
+        ≡ Ok (by_value (together doc.entry.store.now new.new) tx)) }
     ensures cites { IfOk result (TxCites (together doc.entry.store.now new.new)) }
     ensures brings { IfOk result (BringsInserted doc.entry.store.now new.old new.new) }
     ensures grows { Grows new.old new.new }
     ensures kept { IfErr result (λ fault. fault ≢ BuildFault.Memory → new.new ≡ new.old) }
-    ensures refused { IfErr result (λ fault. IsRefusal fault (model.wrap (page_items doc.entry) from to plan.now)) }
+    ensures refused { IfErr result (λ fault.
+        IsRefusal fault (model.wrap (page_items doc.entry) from to plan.now)) }
 {
     if is_bad_wrap(doc, from, to) {
         return Err(BuildFault::BadRange { from, to });

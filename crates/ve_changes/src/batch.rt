@@ -10,7 +10,7 @@ ghost use Rattle.ve_changes.specs.Costs.{steps_of_batch, steps_of_change, steps_
 use crate::batch_stop::stop_at;
 use crate::{BatchStop, ChangeStop, change_draft};
 use model_site_law::events_keep;
-use model_world::Change;
+use model_world::EditCommand;
 use model_world_law::layers_fit;
 use std::alloc::Global;
 use std::sync::ledger::Ledger;
@@ -29,7 +29,7 @@ pub struct Batch {
 fn perform_one<L: Ledger>(
     alloc: Global,
     editor: &mut Editor,
-    change: &Change,
+    change: &EditCommand,
     steps: &mut Steps<L>,
 ) -> Result<Entry, ChangeStop>
     requires sound { Sound editor.old.items }
@@ -55,13 +55,14 @@ fn perform_each<L: Ledger>(
     alloc: Global,
     editor: &mut Editor,
     entry: &mut Entry,
-    changes: &[Change],
+    changes: &[EditCommand],
     steps: &mut Steps<L>,
 ) -> Result<(), BatchStop>
     requires sound { Sound editor.old.items }
     requires written { AllWritten changes.now }
     requires nothing { entry.old ≡ no_entry (length editor.old.store) }
-    ensures ok { OnOk result (IsMade editor.old (batch_on editor.old changes.now) editor.new entry.new) }
+    ensures ok { OnOk result (
+        IsMade editor.old (batch_on editor.old changes.now) editor.new entry.new) }
     ensures refused { IfErr result (IsBatchRefused (batch_on editor.old changes.now)) }
     ensures counted { steps.old ≤ steps.new }
     ensures steps { steps.new ≤ steps.old + steps_of_changes editor.old changes.now }
@@ -91,7 +92,7 @@ fn nothing_yet(alloc: Global, editor: &Editor) -> Entry
 fn perform_on<L: Ledger>(
     alloc: Global,
     mut editor: Editor,
-    changes: &[Change],
+    changes: &[EditCommand],
     steps: &mut Steps<L>,
 ) -> Result<Batch, BatchStop>
     requires sound { Sound editor.items }
@@ -115,7 +116,7 @@ fn perform_on<L: Ledger>(
 pub fn perform_all<L: Ledger>(
     alloc: Global,
     editor: &Editor,
-    changes: &[Change],
+    changes: &[EditCommand],
     steps: &mut Steps<L>,
 ) -> Result<Batch, BatchStop>
     requires sound { Sound editor.now.items }

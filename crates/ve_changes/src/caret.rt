@@ -81,7 +81,11 @@ fn first_passed(ops: &[Op]) -> usize
 
 /// The offset just after the last character that a transaction inserts.
 pub fn after_inserted(tx: &Transaction) -> Result<usize, Memory>
-    ensures { IfOk result (λ at. (values : List Value) → at ≡ first (by_value values tx.now) + model.to_last_char (all_inserted (by_value values tx.now))) }
+    ensures { IfOk result (λ at.
+        (values : List Value)
+        → at
+        ≡ first (by_value values tx.now)
+        + model.to_last_char (all_inserted (by_value values tx.now))) }
 {
     let seen = inserted(tx.ops())?;
     match first_passed(tx.ops()).checked_add(seen.last) {
@@ -92,7 +96,8 @@ pub fn after_inserted(tx: &Transaction) -> Result<usize, Memory>
 
 /// The offset just after the last character that the last transaction of an entry inserts.
 pub fn after_text(entry: &Entry) -> Result<usize, Memory>
-    ensures { IfOk result (λ at. (values : List Value) → at ≡ model.after_text (map (by_value values) entry.now.txs)) }
+    ensures { IfOk result (λ at.
+        (values : List Value) → at ≡ model.after_text (map (by_value values) entry.now.txs)) }
 {
     match entry.txs.as_slice().last() {
         Some(tx) => after_inserted(tx),

@@ -86,9 +86,11 @@ pub fn next_place(
 ) -> Result<usize, ChangeStop>
     requires doc { IsDoc doc }
     requires within { at ≤ length doc.list.now.items }
-    ensures ok { IfOk result (λ place. model.next_place (page_items doc.entry) at dir by ≡ Ok place) }
+    ensures ok { IfOk result (λ place.
+        model.next_place (page_items doc.entry) at dir by ≡ Ok place) }
     ensures stands { IfOk result (EndStands (page_items doc.entry)) }
-    ensures refused { IfErr result (λ why. IsRefused why (model.next_place (page_items doc.entry) at dir by)) }
+    ensures refused { IfErr result (λ why.
+        IsRefused why (model.next_place (page_items doc.entry) at dir by)) }
 {
     if !holds_content(doc, at) {
         return Err(ChangeStop::Refused(Refusal::NotContent { at }));
@@ -110,8 +112,10 @@ pub fn erased_range(
 ) -> Result<Selection, ChangeStop>
     requires doc { IsDoc doc }
     requires within { selection.focus ≤ length doc.list.now.items }
-    ensures ok { IfOk result (λ range. range_to_erase (page_items doc.entry) selection dir by ≡ Ok range) }
-    ensures refused { IfErr result (λ why. IsRefused why (range_to_erase (page_items doc.entry) selection dir by)) }
+    ensures ok { IfOk result (λ range.
+        range_to_erase (page_items doc.entry) selection dir by ≡ Ok range) }
+    ensures refused { IfErr result (λ why.
+        IsRefused why (range_to_erase (page_items doc.entry) selection dir by)) }
 {
     if selection.anchor != selection.focus {
         return Ok(selection);

@@ -20,8 +20,10 @@ fn head_id(
     requires follows { new.old.after ≡ length store.now }
     ensures follows { OnOk result (new.new.after ≡ length store.now) }
     ensures cites { IfOk result (CitesHead (together store.now new.new)) }
-    ensures means { IfOk result (λ id. head_in (value_at (together store.now new.new) id) ≡ head.now) }
-    ensures values { OnOk result (together store.now new.new ≡ fill (together store.now new.old) (head_cited head.now)) }
+    ensures means { IfOk result (λ id.
+        head_in (value_at (together store.now new.new) id) ≡ head.now) }
+    ensures values { OnOk result (
+        together store.now new.new ≡ fill (together store.now new.old) (head_cited head.now)) }
 {
     if head.is_empty() {
         return Ok(None);
@@ -41,8 +43,11 @@ fn marks_id(
     requires follows { new.old.after ≡ length store.now }
     ensures follows { OnOk result (new.new.after ≡ length store.now) }
     ensures cites { IfOk result (CitesMarks (together store.now new.new)) }
-    ensures means { IfOk result (λ id. marks_in (value_at (together store.now new.new) id) ≡ marks.now) }
-    ensures values { OnOk result (together store.now new.new ≡ fill (together store.now new.old) (marks_cited marks.now)) }
+    ensures means { IfOk result (λ id.
+        marks_in (value_at (together store.now new.new) id) ≡ marks.now) }
+    ensures values { OnOk result (
+        together store.now new.new
+        ≡ fill (together store.now new.old) (marks_cited marks.now)) }
 {
     if marks.as_slice().is_empty() {
         return Ok(None);
@@ -62,8 +67,11 @@ fn white_id(
     requires follows { new.old.after ≡ length store.now }
     ensures follows { OnOk result (new.new.after ≡ length store.now) }
     ensures cites { IfOk result (CitesWhite (together store.now new.new)) }
-    ensures means { IfOk result (λ id. white_in (value_at (together store.now new.new) id) ≡ white.now) }
-    ensures values { OnOk result (together store.now new.new ≡ fill (together store.now new.old) (white_cited white.now)) }
+    ensures means { IfOk result (λ id.
+        white_in (value_at (together store.now new.new) id) ≡ white.now) }
+    ensures values { OnOk result (
+        together store.now new.new
+        ≡ fill (together store.now new.old) (white_cited white.now)) }
 {
     if white.is_empty() {
         return Ok(None);
@@ -84,7 +92,8 @@ fn cited_item(
     ensures follows { OnOk result (new.new.after ≡ length store.now) }
     ensures cites { IfOk result (CitesWell (together store.now new.new)) }
     ensures means { IfOk result (λ made. plain (together store.now new.new) made ≡ item.now) }
-    ensures values { OnOk result (together store.now new.new ≡ fill (together store.now new.old) (cited_by item.now)) }
+    ensures values { OnOk result (
+        together store.now new.new ≡ fill (together store.now new.old) (cited_by item.now)) }
 {
     match item {
         PlainItem::Char { ch, marks } => {
@@ -129,7 +138,8 @@ pub fn cited_items(
     ensures follows { OnOk result (new.new.after ≡ length store.now) }
     ensures cites { IfOk result (All (CitesWell (together store.now new.new))) }
     ensures means { IfOk result (λ made. plain_list (together store.now new.new) made ≡ items.now) }
-    ensures values { OnOk result (together store.now new.new ≡ fill (together store.now new.old) (cited items.now)) }
+    ensures values { OnOk result (
+        together store.now new.new ≡ fill (together store.now new.old) (cited items.now)) }
 {
     let mut made = Items::new(alloc);
     for item in items {

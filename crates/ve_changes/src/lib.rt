@@ -37,6 +37,6 @@ pub use carets::{carets_are_asked, erased_range, may_select, next_place};
 pub use drafts::change_draft;
 pub use faults::ChangeStop;
 pub use laws::moves_are_asked;
-pub use model_world::{Change, Refusal, Request};
+pub use model_world::{EditCommand, Refusal, Request};
 pub use moves::{is_move, move_draft};
 pub use typed::{Typed, type_text};

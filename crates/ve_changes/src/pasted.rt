@@ -23,7 +23,8 @@ pub fn pasted_draft(
     html: &Text,
 ) -> Result<Draft, ChangeStop>
     requires page { IsPage doc.store.now doc.list.now.items doc.tree.now }
-    ensures { Drafts doc.entry.store.now (fragment_inserted (page_items doc.entry) at html.now) result }
+    ensures { Drafts doc.entry.store.now (fragment_inserted (page_items doc.entry) at html.now)
+        result }
 {
     let Some(state) = open_at(doc, at) else {
         return Err(ChangeStop::Refused(Refusal::BadOffset { at }));

@@ -45,7 +45,8 @@ fn passes(token: &Token<'_>, test: GroupTest) -> bool
 fn some_element(forest: &Forest<'_>, from: usize, to: usize, test: GroupTest) -> bool
     requires within { to ≤ length forest.now }
     requires leads { LeadsOn forest.now }
-    ensures { spec.OfSiblings forest.now from to (model.some_element (spec.element_passes test)) result }
+    ensures { spec.OfSiblings forest.now from to (model.some_element (spec.element_passes test))
+        result }
 {
     let mut n = from;
     while n < to {
@@ -116,7 +117,8 @@ fn first_child(forest: &Forest<'_>, n: usize) -> usize
 fn block_fit(forest: &Forest<'_>, n: usize, name: &str, parent: Kind) -> Fit
     requires within { n < length forest.now }
     requires leads { LeadsOn forest.now }
-    ensures fit { spec.OfChildren forest.now n (λ parts. spec.block_fit parent parts (kind_spelled name.now)) result }
+    ensures fit { spec.OfChildren forest.now n
+        (λ parts. spec.block_fit parent parts (kind_spelled name.now)) result }
     ensures none { kind_spelled name.now ≡ None → result ≡ spec.block_fit parent Ended None }
 {
     let first = first_child(forest, n);
@@ -149,8 +151,10 @@ fn stands_in_line(name: &str) -> bool
 fn element_fit(forest: &Forest<'_>, n: usize, name: &str, around: Around) -> Fit
     requires within { n < length forest.now }
     requires leads { LeadsOn forest.now }
-    ensures fit { spec.OfChildren forest.now n (spec.element_fit (spec.parent_of around) name.now) result }
-    ensures raw { is_raw name.now ≡ true → result ≡ spec.element_fit (spec.parent_of around) name.now Ended }
+    ensures fit { spec.OfChildren forest.now n (spec.element_fit (spec.parent_of around) name.now)
+        result }
+    ensures raw { is_raw name.now ≡ true
+        → result ≡ spec.element_fit (spec.parent_of around) name.now Ended }
 {
     let has_child = first_child(forest, n) < forest.node(n).next;
     match around {

@@ -13,7 +13,9 @@ use ve_html_tree::Forest;
 
 /// The value of `about`, as it is spelled, of an element that has one.
 pub fn about_of<'a>(token: &Token<'a>) -> Option<&'a str>
-    ensures { (k : g.Token) → ShowsToken token.now k → option_map (λ v. written.decoded v.now) result ≡ token_about k }
+    ensures { (k : g.Token)
+        → ShowsToken token.now k
+        → option_map (λ v. written.decoded v.now) result ≡ token_about k }
 {
     match *token {
         Token::StartTag { attrs, .. } => spelled_value(attrs, "about"),
@@ -23,7 +25,9 @@ pub fn about_of<'a>(token: &Token<'a>) -> Option<&'a str>
 
 /// Whether an element has an `about` that says the same.
 fn shares(token: &Token<'_>, about: &str) -> bool
-    ensures { (k : g.Token) → ShowsToken token.now k → result ≡ is_shared (Some (written.decoded about.now)) (token_about k) }
+    ensures { (k : g.Token)
+        → ShowsToken token.now k
+        → result ≡ is_shared (Some (written.decoded about.now)) (token_about k) }
 {
     match about_of(token) {
         Some(other) => decoded_same(about, other),

@@ -38,7 +38,10 @@ fn part_end(forest: &Forest<'_>, n: usize) -> usize
 /// The byte where a part ends: where the next node begins, or that of the range's end.
 fn byte_at(forest: &Forest<'_>, end: usize, to: usize, byte: usize) -> usize
     requires { to ≤ length forest.now }
-    ensures inside { (x : Node) → slice_get forest.now end ≡ Some x → end < to → result ≡ x.span.from }
+    ensures inside { (x : Node)
+        → slice_get forest.now end ≡ Some x
+        → end < to
+        → result ≡ x.span.from }
     ensures last { to ≤ end → result ≡ byte }
 {
     if end < to {

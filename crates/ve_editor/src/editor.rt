@@ -144,14 +144,20 @@ impl Editor {
         steps: &mut Steps<L>,
     ) -> Result<Entry, EditFault>
         requires draft { IsDraftOf self.old.store draft.now }
-        ensures allowed { OnOk result (edit_cause (drafted self.old.store draft.now) self.old ≡ None) }
-        ensures page { OnOk result (self.new ≡ performed (drafted self.old.store draft.now) self.old) }
-        ensures entry { IfOk result (λ entry. entry_by_value self.new.store entry ≡ entry_of (drafted self.old.store draft.now ∷ []) self.old) }
+        ensures allowed { OnOk result (
+            edit_cause (drafted self.old.store draft.now) self.old ≡ None) }
+        ensures page { OnOk result (
+            self.new ≡ performed (drafted self.old.store draft.now) self.old) }
+        ensures entry { IfOk result (λ entry.
+            entry_by_value self.new.store entry
+            ≡ entry_of (drafted self.old.store draft.now ∷ []) self.old) }
         ensures cites { IfOk result (EntryCites self.new.store) }
-        ensures refused { IfErr result (IsEditRefusal (edit_cause (drafted self.old.store draft.now) self.old)) }
+        ensures refused { IfErr result (
+            IsEditRefusal (edit_cause (drafted self.old.store draft.now) self.old)) }
         ensures kept { OnErr result (self.new ≡ self.old) }
         ensures counted { steps.old ≤ steps.new }
-        ensures steps { steps.new ≤ steps.old + steps_of (drafted self.old.store draft.now) self.old.items }
+        ensures steps { steps.new
+            ≤ steps.old + steps_of (drafted self.old.store draft.now) self.old.items }
         ensures unstepped { IfErr result (λ why. why ≢ EditFault.Memory → steps.new ≡ steps.old) }
     {
         let before = self.store.len();
@@ -189,7 +195,8 @@ impl Editor {
         ensures page { OnOk result (self.new ≡ put_back (by_value self.old.store tx.now) self.old) }
         ensures kept { OnErr result (self.new ≡ self.old) }
         ensures counted { steps.old ≤ steps.new }
-        ensures steps { steps.new ≤ steps.old + steps_of (by_value self.old.store tx.now) self.old.items }
+        ensures steps { steps.new
+            ≤ steps.old + steps_of (by_value self.old.store tx.now) self.old.items }
     {
         let before = self.store.len();
         match ready_back(
@@ -222,7 +229,9 @@ impl Editor {
     fn cut_back(&mut self, entry: &Entry, was: usize)
         requires distinct { AreDistinct self.old.store }
         requires uncited { IsUncited (entry_by_value self.old.store entry.now) was self.old }
-        ensures { self.new ≡ record self.old { store = cut_back (entry_by_value self.old.store entry.now) was self.old.store } }
+        ensures { self.new ≡ record self.old {
+          store = cut_back (entry_by_value self.old.store entry.now) was self.old.store;
+        } }
     {
         if was == entry.store_after && entry.store_before < entry.store_after {
             self.store.truncate(entry.store_before);
@@ -238,9 +247,11 @@ impl Editor {
     ) -> Result<(), Memory>
         requires cites { All (TxCites self.old.store) txs.now }
         requires stands { AllStand (reversal_over self.old.store txs.now) self.old.items }
-        ensures page { OnOk result (self.new ≡ all_put_back (reversal_over self.old.store txs.now) self.old) }
+        ensures page { OnOk result (
+            self.new ≡ all_put_back (reversal_over self.old.store txs.now) self.old) }
         ensures counted { steps.old ≤ steps.new }
-        ensures steps { steps.new ≤ steps.old + steps_after (reversal_over self.old.store txs.now) self.old.items }
+        ensures steps { steps.new
+            ≤ steps.old + steps_after (reversal_over self.old.store txs.now) self.old.items }
     {
         for n in 0..txs.len() {
             let tx = &txs[txs.len() - 1 - n];
@@ -259,10 +270,12 @@ impl Editor {
     ) -> Result<(), Memory>
         requires cites { All (TxCites self.old.store) txs.now }
         requires stands { AllStand (reversal_over self.old.store txs.now) self.old.items }
-        ensures page { OnOk result (self.new ≡ all_put_back (reversal_over self.old.store txs.now) self.old) }
+        ensures page { OnOk result (
+            self.new ≡ all_put_back (reversal_over self.old.store txs.now) self.old) }
         ensures kept { OnErr result (self.new ≡ self.old) }
         ensures counted { steps.old ≤ steps.new }
-        ensures steps { steps.new ≤ steps.old + steps_over (reversal_over self.old.store txs.now) self.old.items }
+        ensures steps { steps.new
+            ≤ steps.old + steps_over (reversal_over self.old.store txs.now) self.old.items }
     {
         if txs.len() == 1 {
             let back = txs[0].inverse(self.alloc)?;
@@ -286,11 +299,14 @@ impl Editor {
         requires applies { Applies (by_value values.now tx.now) self.old.items }
         requires lawful { Lawful (edited (by_value values.now tx.now) self.old.items) }
         ensures page { OnOk result (self.new ≡ performed (by_value values.now tx.now) self.old) }
-        ensures txs { IfOk result (λ txs. map (by_value self.new.store) txs ≡ filled (by_value values.now tx.now) self.old.items ∷ []) }
+        ensures txs { IfOk result (λ txs.
+            map (by_value self.new.store) txs
+            ≡ filled (by_value values.now tx.now) self.old.items ∷ []) }
         ensures cites { IfOk result (λ txs. All (TxCites self.new.store) txs) }
         ensures kept { OnErr result (self.new ≡ self.old) }
         ensures counted { steps.old ≤ steps.new }
-        ensures steps { steps.new ≤ steps.old + steps_of (by_value values.now tx.now) self.old.items }
+        ensures steps { steps.new
+            ≤ steps.old + steps_of (by_value values.now tx.now) self.old.items }
     {
         let stored = self.store.len();
         match ready_other(
@@ -330,11 +346,15 @@ impl Editor {
     ) -> Result<TxList, Memory>
         requires cites { All (TxCites values.now) txs.now }
         requires stands { AllStand (map (by_value values.now) txs.now) self.old.items }
-        ensures page { OnOk result (self.new ≡ all_performed (map (by_value values.now) txs.now) self.old) }
-        ensures txs { IfOk result (λ kept. map (by_value self.new.store) kept ≡ all_filled (map (by_value values.now) txs.now) self.old.items) }
+        ensures page { OnOk result (
+            self.new ≡ all_performed (map (by_value values.now) txs.now) self.old) }
+        ensures txs { IfOk result (λ kept.
+            map (by_value self.new.store) kept
+            ≡ all_filled (map (by_value values.now) txs.now) self.old.items) }
         ensures cites { IfOk result (λ kept. All (TxCites self.new.store) kept) }
         ensures counted { steps.old ≤ steps.new }
-        ensures steps { steps.new ≤ steps.old + steps_after (map (by_value values.now) txs.now) self.old.items }
+        ensures steps { steps.new
+            ≤ steps.old + steps_after (map (by_value values.now) txs.now) self.old.items }
     {
         let mut kept = TxList::new(self.alloc);
         for tx in txs {
@@ -354,12 +374,16 @@ impl Editor {
     ) -> Result<TxList, Memory>
         requires cites { All (TxCites values.now) txs.now }
         requires stands { AllStand (map (by_value values.now) txs.now) self.old.items }
-        ensures page { OnOk result (self.new ≡ all_performed (map (by_value values.now) txs.now) self.old) }
-        ensures txs { IfOk result (λ kept. map (by_value self.new.store) kept ≡ all_filled (map (by_value values.now) txs.now) self.old.items) }
+        ensures page { OnOk result (
+            self.new ≡ all_performed (map (by_value values.now) txs.now) self.old) }
+        ensures txs { IfOk result (λ kept.
+            map (by_value self.new.store) kept
+            ≡ all_filled (map (by_value values.now) txs.now) self.old.items) }
         ensures cites { IfOk result (λ kept. All (TxCites self.new.store) kept) }
         ensures kept { OnErr result (self.new ≡ self.old) }
         ensures counted { steps.old ≤ steps.new }
-        ensures steps { steps.new ≤ steps.old + steps_over (map (by_value values.now) txs.now) self.old.items }
+        ensures steps { steps.new
+            ≤ steps.old + steps_over (map (by_value values.now) txs.now) self.old.items }
     {
         if txs.len() == 1 {
             return self.perform_other(&txs[0], values, steps);
@@ -382,12 +406,16 @@ impl Editor {
     ) -> Result<Entry, Memory>
         requires cites { ParcelCites parcel.now }
         requires stands { AllStand (parcel_by_value parcel.now) self.old.items }
-        ensures page { OnOk result (self.new ≡ all_performed (parcel_by_value parcel.now) self.old) }
-        ensures entry { IfOk result (λ entry. entry_by_value self.new.store entry ≡ entry_of (parcel_by_value parcel.now) self.old) }
+        ensures page { OnOk result (
+            self.new ≡ all_performed (parcel_by_value parcel.now) self.old) }
+        ensures entry { IfOk result (λ entry.
+            entry_by_value self.new.store entry
+            ≡ entry_of (parcel_by_value parcel.now) self.old) }
         ensures cites { IfOk result (EntryCites self.new.store) }
         ensures kept { OnErr result (self.new ≡ self.old) }
         ensures counted { steps.old ≤ steps.new }
-        ensures steps { steps.new ≤ steps.old + steps_over (parcel_by_value parcel.now) self.old.items }
+        ensures steps { steps.new
+            ≤ steps.old + steps_over (parcel_by_value parcel.now) self.old.items }
     {
         let store_before = self.store.len();
         let txs = self.admit_all(parcel.entry.txs.as_slice(), parcel.values.as_slice(), steps)?;
@@ -406,10 +434,12 @@ impl Editor {
         requires cites { EntryCites self.old.store entry.now }
         requires stands { CanBeReverted (entry_by_value self.old.store entry.now) self.old }
         requires uncited { CutsUncited (entry_by_value self.old.store entry.now) self.old }
-        ensures page { OnOk result (self.new ≡ reverted (entry_by_value self.old.store entry.now) self.old) }
+        ensures page { OnOk result (
+            self.new ≡ reverted (entry_by_value self.old.store entry.now) self.old) }
         ensures kept { OnErr result (self.new ≡ self.old) }
         ensures counted { steps.old ≤ steps.new }
-        ensures steps { steps.new ≤ steps.old + steps_over (reversal_over self.old.store entry.now.txs) self.old.items }
+        ensures steps { steps.new
+            ≤ steps.old + steps_over (reversal_over self.old.store entry.now.txs) self.old.items }
     {
         let was = self.store.len();
         self.put_entry_back(entry.txs.as_slice(), steps)?;

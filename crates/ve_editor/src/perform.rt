@@ -61,7 +61,8 @@ fn one_filled(
     requires list { All (CitesWell store.now) list.now.items }
     requires applies { AppliesTo store.now tx.now list.now.items }
     requires cites { TxCites store.now tx.now }
-    ensures txs { IfOk result (λ txs. map (by_value store.now) txs ≡ filled_on store.now tx.now list.now.items ∷ []) }
+    ensures txs { IfOk result (λ txs.
+        map (by_value store.now) txs ≡ filled_on store.now tx.now list.now.items ∷ []) }
     ensures cites { IfOk result (λ txs. All (TxCites store.now) txs) }
 {
     let filled = tx.filled(alloc, list, store)?;
@@ -81,7 +82,8 @@ fn entry_of(
     requires list { All (CitesWell store.now) list.now.items }
     requires applies { AppliesTo store.now tx.now list.now.items }
     requires cites { TxCites store.now tx.now }
-    ensures txs { IfOk result (λ entry. map (by_value store.now) entry.txs ≡ filled_on store.now tx.now list.now.items ∷ []) }
+    ensures txs { IfOk result (λ entry.
+        map (by_value store.now) entry.txs ≡ filled_on store.now tx.now list.now.items ∷ []) }
     ensures before { IfOk result (λ entry. entry.store_before ≡ store_before) }
     ensures after { IfOk result (λ entry. entry.store_after ≡ length store.now) }
     ensures cites { IfOk result (λ entry. All (TxCites store.now) entry.txs) }
@@ -111,13 +113,16 @@ fn with_entry<L: Ledger>(
     requires applies { AppliesTo store.now tx.now list.now.items }
     requires cites { TxCites store.now tx.now }
     requires lawful { LawfulAfter tx.now list.now.items }
-    ensures txs { IfOk result (λ ready. map (by_value store.now) ready.entry.txs ≡ filled_on store.now tx.now list.now.items ∷ []) }
+    ensures txs { IfOk result (λ ready.
+        map (by_value store.now) ready.entry.txs
+        ≡ filled_on store.now tx.now list.now.items ∷ []) }
     ensures before { IfOk result (λ ready. ready.entry.store_before ≡ store_before) }
     ensures after { IfOk result (λ ready. ready.entry.store_after ≡ length store.now) }
     ensures cites { IfOk result (λ ready. All (TxCites store.now) ready.entry.txs) }
     ensures change { IfOk result (λ ready. ready.change ≡ change) }
     ensures tree { OnOk result (IsTreeOfAfter tree.new tx.now list.now.items) }
-    ensures numbers { OnOk result (KeepsNumbers tree.old.arena tree.new.arena tree.old.root tx.now list.now.items) }
+    ensures numbers { OnOk result (
+        KeepsNumbers tree.old.arena tree.new.arena tree.old.root tx.now list.now.items) }
     ensures kept { OnErr result (IsTreeOf tree.new (unvalued list.now.items)) }
     ensures counted { steps.old ≤ steps.new }
     ensures steps { IsWithinTouch steps.old steps.new tx.now list.now.items }
@@ -142,13 +147,18 @@ pub fn ready<L: Ledger>(
     requires page { IsPage store.old list.old.items tree.old }
     requires draft { IsDraftOf store.old draft.now }
     ensures ok { IfOk result (MayPerform draft.now store.old store.new list.new tree.new) }
-    ensures numbers { OnOk result (KeepsNumbers tree.old.arena tree.new.arena tree.old.root draft.now.tx list.old.items) }
-    ensures refused { IfErr result (IsEditRefusal (edit_cause (drafted store.old draft.now) (page_of store.old list.old.items (between 0 0)))) }
+    ensures numbers { OnOk result (
+        KeepsNumbers tree.old.arena tree.new.arena tree.old.root draft.now.tx list.old.items) }
+    ensures refused { IfErr result (
+        IsEditRefusal (
+        edit_cause (drafted store.old draft.now) (
+        page_of store.old list.old.items (between 0 0)))) }
     ensures kept { OnErr result (IsTreeOf tree.new (unvalued list.old.items)) }
     ensures items { list.new.items ≡ list.old.items }
     ensures extends { Extends store.old store.new }
     ensures counted { steps.old ≤ steps.new }
-    ensures steps { steps.new ≤ steps.old + steps_of (drafted store.old draft.now) (plain_list store.old list.old.items) }
+    ensures steps { steps.new
+        ≤ steps.old + steps_of (drafted store.old draft.now) (plain_list store.old list.old.items) }
     ensures unstepped { IfErr result (λ why. why ≢ EditFault.Memory → steps.new ≡ steps.old) }
 {
     let before = store.len();
@@ -191,14 +201,18 @@ pub fn ready_back<L: Ledger>(
     requires list { All (CitesWell store.old) list.old.items }
     requires cites { TxCites store.old tx.now }
     requires applies { AppliesTo store.old tx.now list.old.items }
-    requires lawful { Lawful (edited (by_value store.old tx.now) (plain_list store.old list.old.items)) }
-    ensures ok { IfOk result (IsReadyBack (by_value store.old tx.now) store.old store.new list.new tree.new) }
-    ensures numbers { OnOk result (KeepsNumbers tree.old.arena tree.new.arena tree.old.root tx.now list.old.items) }
+    requires lawful { Lawful (
+        edited (by_value store.old tx.now) (plain_list store.old list.old.items)) }
+    ensures ok { IfOk result (
+        IsReadyBack (by_value store.old tx.now) store.old store.new list.new tree.new) }
+    ensures numbers { OnOk result (
+        KeepsNumbers tree.old.arena tree.new.arena tree.old.root tx.now list.old.items) }
     ensures kept { OnErr result (IsTreeOf tree.new (unvalued list.old.items)) }
     ensures items { list.new.items ≡ list.old.items }
     ensures extends { Extends store.old store.new }
     ensures counted { steps.old ≤ steps.new }
-    ensures steps { steps.new ≤ steps.old + steps_of (by_value store.old tx.now) (plain_list store.old list.old.items) }
+    ensures steps { steps.new
+        ≤ steps.old + steps_of (by_value store.old tx.now) (plain_list store.old list.old.items) }
 {
     match tx.change(alloc, list, store) {
         Ok(change) => {
@@ -225,13 +239,16 @@ pub fn ready_other<L: Ledger>(
     requires list { All (CitesWell store.old) list.old.items }
     requires cites { TxCites values.now tx.now }
     requires applies { Applies (by_value values.now tx.now) (plain_list store.old list.old.items) }
-    requires lawful { Lawful (edited (by_value values.now tx.now) (plain_list store.old list.old.items)) }
-    ensures ok { IfOk result (IsReadyOther (by_value values.now tx.now) store.old store.new list.new tree.new) }
+    requires lawful { Lawful (
+        edited (by_value values.now tx.now) (plain_list store.old list.old.items)) }
+    ensures ok { IfOk result (
+        IsReadyOther (by_value values.now tx.now) store.old store.new list.new tree.new) }
     ensures kept { OnErr result (IsTreeOf tree.new (unvalued list.old.items)) }
     ensures items { list.new.items ≡ list.old.items }
     ensures extends { Extends store.old store.new }
     ensures counted { steps.old ≤ steps.new }
-    ensures steps { steps.new ≤ steps.old + steps_of (by_value values.now tx.now) (plain_list store.old list.old.items) }
+    ensures steps { steps.new
+        ≤ steps.old + steps_of (by_value values.now tx.now) (plain_list store.old list.old.items) }
 {
     // its type keeps that it is in normal form, which `ops` tells
     let _ops = tx.ops();

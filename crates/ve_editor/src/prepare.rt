@@ -31,7 +31,8 @@ pub fn prepare<L: Ledger>(
     requires applies { CanApply tx.now list.now.items }
     requires lawful { LawfulAfter tx.now list.now.items }
     ensures tree { OnOk result (IsTreeOfAfter tree.new tx.now list.now.items) }
-    ensures numbers { OnOk result (KeepsNumbers tree.old.arena tree.new.arena tree.old.root tx.now list.now.items) }
+    ensures numbers { OnOk result (
+        KeepsNumbers tree.old.arena tree.new.arena tree.old.root tx.now list.now.items) }
     ensures kept { OnErr result (IsTreeOf tree.new (unvalued list.now.items)) }
     ensures counted { steps.old ≤ steps.new }
     ensures steps { IsWithinTouch steps.old steps.new tx.now list.now.items }

@@ -14,7 +14,8 @@ use ve_tx::Transaction;
 /// Whether any number, past the list's end too, is an offset inside a leaf.
 fn is_inside(doc: Doc<'_>, at: usize) -> bool
     requires { IsDoc doc }
-    ensures means { (values : _) → result ≡ offsets.is_inside_leaf (plain_list values doc.entry.list.now.items) at }
+    ensures means { (values : _)
+        → result ≡ offsets.is_inside_leaf (plain_list values doc.entry.list.now.items) at }
     ensures fits { result ≡ true → at + 1 < 2 ^ 64 }
 {
     if at >= doc.list.len() {
@@ -26,7 +27,8 @@ fn is_inside(doc: Doc<'_>, at: usize) -> bool
 /// An offset, or where it is inside a leaf the one past the leaf's closing.
 fn past_leaf(doc: Doc<'_>, at: usize) -> usize
     requires { IsDoc doc }
-    ensures { (values : _) → result ≡ model.past_leaf (plain_list values doc.entry.list.now.items) at }
+    ensures { (values : _)
+        → result ≡ model.past_leaf (plain_list values doc.entry.list.now.items) at }
 {
     if is_inside(doc, at) { at + 1 } else { at }
 }
@@ -34,7 +36,10 @@ fn past_leaf(doc: Doc<'_>, at: usize) -> usize
 /// The selection on a page after the transaction that made it.
 pub fn moved(doc: Doc<'_>, tx: &Transaction, selection: Selection) -> Selection
     requires { IsDoc doc }
-    ensures { (values others : _) → result ≡ moved_selection (by_value others tx.now) (plain_list values doc.entry.list.now.items) selection }
+    ensures { (values others : _)
+        → result
+        ≡ moved_selection (by_value others tx.now) (plain_list values doc.entry.list.now.items)
+        selection }
 {
     let ends = translate_range(tx, selection);
     Selection {

@@ -19,8 +19,10 @@ use ve_tx::{Change, Transaction};
 /// How many items a list has after a change, where a `usize` names the number.
 fn length_after(list: &Linear, change: &Change) -> Option<usize>
     requires { LieBetween 0 (length list.now.items) change.now.splices.items }
-    ensures some { IfSome result (λ count. count ≡ length (spliced_by list.now.items change.now.splices.items)) }
-    ensures none { IfNone result (2 ^ 64 ≤ length (spliced_by list.now.items change.now.splices.items)) }
+    ensures some { IfSome result (λ count.
+        count ≡ length (spliced_by list.now.items change.now.splices.items)) }
+    ensures none { IfNone result (
+        2 ^ 64 ≤ length (spliced_by list.now.items change.now.splices.items)) }
 {
     let mut kept = list.len();
     let mut come = 0usize;
@@ -35,10 +37,13 @@ fn length_after(list: &Linear, change: &Change) -> Option<usize>
 fn law_after(doc: Doc<'_>, tx: &Transaction, change: &Change) -> Result<(), LawFault>
     requires doc { IsDoc doc }
     requires applies { CanApply tx.now doc.list.now.items }
-    requires made { MakesEdited doc.store.now doc.store.now tx.now doc.list.now.items change.now.splices.items }
-    ensures ok { OnOk result (verdict (spliced_by doc.entry.list.now.items change.now.splices.items) ≡ None) }
+    requires made { MakesEdited doc.store.now doc.store.now tx.now doc.list.now.items
+        change.now.splices.items }
+    ensures ok { OnOk result (
+        verdict (spliced_by doc.entry.list.now.items change.now.splices.items) ≡ None) }
     ensures lawful { OnOk result (LawfulAfter tx.now doc.entry.list.now.items) }
-    ensures err { IfErr result (λ fault. verdict (spliced_by doc.entry.list.now.items change.now.splices.items) ≡ Some fault) }
+    ensures err { IfErr result (λ fault.
+        verdict (spliced_by doc.entry.list.now.items change.now.splices.items) ≡ Some fault) }
 {
     check_change(doc, tx)
 }
@@ -49,11 +54,18 @@ fn law_after(doc: Doc<'_>, tx: &Transaction, change: &Change) -> Result<(), LawF
 pub fn may_become(doc: Doc<'_>, tx: &Transaction, change: &Change) -> Result<(), EditFault>
     requires doc { IsDoc doc }
     requires applies { CanApply tx.now doc.list.now.items }
-    requires made { MakesEdited doc.store.now doc.store.now tx.now doc.list.now.items change.now.splices.items }
+    requires made { MakesEdited doc.store.now doc.store.now tx.now doc.list.now.items
+        change.now.splices.items }
     requires within { LieBetween 0 (length doc.list.now.items) change.now.splices.items }
-    ensures ok { OnOk result (list_cause (spliced_by doc.entry.list.now.items change.now.splices.items) (length doc.entry.store.now) ≡ None) }
+    ensures ok { OnOk result (
+        list_cause (spliced_by doc.entry.list.now.items change.now.splices.items)
+        (length doc.entry.store.now)
+        ≡ None) }
     ensures lawful { OnOk result (LawfulAfter tx.now doc.entry.list.now.items) }
-    ensures err { IfErr result (IsEditRefusal (list_cause (spliced_by doc.entry.list.now.items change.now.splices.items) (length doc.entry.store.now))) }
+    ensures err { IfErr result (
+        IsEditRefusal (
+        list_cause (spliced_by doc.entry.list.now.items change.now.splices.items)
+        (length doc.entry.store.now))) }
 {
     let Some(count) = length_after(doc.list, change) else {
         return Err(EditFault::Memory);

@@ -20,8 +20,8 @@ pub record Collected : Type 0 where
   pub inserted : List Item
 
 -- the transaction that they begin, where `t` follows
-abbrev pub shown : List Value → Collected → Transaction → Transaction
-shown values c t =
+abbrev pub collected_transaction : List Value → Collected → Transaction → Transaction
+collected_transaction values c t =
     by_value values (unkept c.ops) ++ retaining c.retained (replacing (plain_list values c.removed) (plain_list values c.inserted) t)
 
 -- all of their items cite values of the list
@@ -33,7 +33,7 @@ pub record AreCited (values : List Value) (c : Collected) : Type 0 where
 -- So far these edits of the items are collected: whatever edits follow, the transaction is what is collected and then the edits of what is left of the list.
 pub record Makes (values : List Value) (items : List Item) (edits : List Edit) (c : Collected) : Type 0 where
   pub within : c.at ≤ length items
-  pub means : (more : List Edit) → transaction_of (plain_list values items) (edits ++ more) ≡ shown values c (transaction_from c.at (drop c.at (plain_list values items)) more)
+  pub means : (more : List Edit) → transaction_of (plain_list values items) (edits ++ more) ≡ collected_transaction values c (transaction_from c.at (drop c.at (plain_list values items)) more)
   pub cited : AreCited values c
 
 -- One edit more is collected, the items of the list and the inserted ones citing well.

@@ -23,7 +23,8 @@ pub fn same_kind(one: Kind, other: Kind) -> bool
 pub fn range_round(doc: Doc<'_>, o: usize) -> (usize, usize)
     requires doc { IsDoc doc }
     requires within { o ≤ length doc.list.now.items }
-    ensures { let place = node_at (unvalued doc.entry.list.now.items) o in result ≡ (place.from, place.to) }
+    ensures { let place = node_at (unvalued doc.entry.list.now.items) o in result
+        ≡ (place.from, place.to) }
 {
     doc.tree.range_of(doc.tree.node_at(o))
 }
@@ -44,7 +45,8 @@ pub fn opening_round(doc: Doc<'_>, o: usize) -> usize
 pub fn partner(doc: Doc<'_>, at: usize) -> usize
     requires doc { IsDoc doc }
     requires within { at < length doc.list.now.items }
-    ensures { (values : _) → result ≡ model.partner (plain_list values doc.entry.list.now.items) at }
+    ensures { (values : _)
+        → result ≡ model.partner (plain_list values doc.entry.list.now.items) at }
 {
     match doc.list.get(at) {
         Item::Char { .. } => at,
@@ -75,7 +77,8 @@ fn is_outside(place: usize, from: usize, to: usize) -> bool
 pub fn is_unmatched(doc: Doc<'_>, from: usize, to: usize, at: usize) -> bool
     requires doc { IsDoc doc }
     requires within { at < length doc.list.now.items }
-    ensures { (values : _) → result ≡ model.is_unmatched (plain_list values doc.entry.list.now.items) from to at }
+    ensures { (values : _)
+        → result ≡ model.is_unmatched (plain_list values doc.entry.list.now.items) from to at }
 {
     is_outside(partner(doc, at), from, to)
 }

@@ -5,7 +5,7 @@ ghost use Rattle.model_items.specs.Plain.{CitesWell};
 ghost use Rattle.model_edit.specs.Edits.{retaining};
 ghost use Rattle.ve_tx.specs.Cites.{TxCites};
 ghost use Rattle.ve_tx.specs.Operation.{by_value, unkept};
-ghost use Rattle.ve_edits.specs.Collected.{shown, AreCited, Makes, MakesOneMore, SetsOneMore, IsCollected, IsReplacePut, ReplaceCites};
+ghost use Rattle.ve_edits.specs.Collected.{collected_transaction, AreCited, Makes, MakesOneMore, SetsOneMore, IsCollected, IsReplacePut, ReplaceCites};
 
 use crate::attributes::present_value;
 use std::alloc::Global;
@@ -41,8 +41,12 @@ impl Model for Edits {
 
 /// Puts a retain after operations; one of nothing is left out.
 fn put_retain(ops: &mut OpList, count: usize) -> Result<(), Memory>
-    ensures means { OnOk result ((values : _) → by_value values (unkept ops.new) ≡ by_value values (unkept ops.old) ++ retaining count []) }
-    ensures cites { OnOk result ((values : _) → TxCites values (unkept ops.old) → TxCites values (unkept ops.new)) }
+    ensures means { OnOk result (
+        (values : _)
+        → by_value values (unkept ops.new)
+        ≡ by_value values (unkept ops.old) ++ retaining count []) }
+    ensures cites { OnOk result (
+        (values : _) → TxCites values (unkept ops.old) → TxCites values (unkept ops.new)) }
 {
     if count == 0 {
         return Ok(());
@@ -86,12 +90,16 @@ impl Edits {
 
     /// Puts what is to follow the operations after them.
     fn settle(&mut self) -> Result<(), Memory>
-        ensures means { OnOk result ((values : _) → by_value values (unkept self.new.ops) ≡ shown values self.old []) }
+        ensures means { OnOk result (
+            (values : _)
+            → by_value values (unkept self.new.ops)
+            ≡ collected_transaction values self.old []) }
         ensures at { OnOk result (self.new.at ≡ self.old.at) }
         ensures retained { OnOk result (self.new.retained ≡ 0) }
         ensures removed { OnOk result (self.new.removed ≡ []) }
         ensures inserted { OnOk result (self.new.inserted ≡ []) }
-        ensures cites { OnOk result ((values : _) → AreCited values self.old → AreCited values self.new) }
+        ensures cites { OnOk result (
+            (values : _) → AreCited values self.old → AreCited values self.new) }
     {
         let removed = mem::replace(&mut self.removed, Items::new(self.alloc));
         let inserted = mem::replace(&mut self.inserted, Items::new(self.alloc));
@@ -105,8 +113,12 @@ impl Edits {
     fn pass(&mut self, place: usize) -> Result<(), Memory>
         requires { self.old.at ≤ place }
         ensures at { OnOk result (self.new.at ≡ place) }
-        ensures means { OnOk result ((values : _) (t : _) → shown values self.new t ≡ shown values self.old (retaining (place - self.old.at) t)) }
-        ensures cites { OnOk result ((values : _) → AreCited values self.old → AreCited values self.new) }
+        ensures means { OnOk result (
+            (values : _) (t : _)
+            → collected_transaction values self.new t
+            ≡ collected_transaction values self.old (retaining (place - self.old.at) t)) }
+        ensures cites { OnOk result (
+            (values : _) → AreCited values self.old → AreCited values self.new) }
     {
         let gap = place - self.at;
         if gap == 0 {
@@ -134,7 +146,8 @@ impl Edits {
         requires order { self.old.at ≤ at }
         requires within { at + count ≤ length list.now.items }
         ensures at { OnOk result (self.new.at ≡ at + count) }
-        ensures makes { OnOk result (MakesOneMore list.now.items at count inserted.now self.old self.new) }
+        ensures makes { OnOk result (
+            MakesOneMore list.now.items at count inserted.now self.old self.new) }
     {
         let len = list.len();
         prove!(at <= len);
@@ -160,7 +173,8 @@ impl Edits {
         requires within { at < length list.now.items }
         requires cites { All (CitesWell store.now) list.now.items }
         ensures at { OnOk result (self.new.at ≡ at) }
-        ensures makes { OnOk result (SetsOneMore store.now list.now.items at (chars name.now) to self.old self.new) }
+        ensures makes { OnOk result (
+            SetsOneMore store.now list.now.items at (chars name.now) to self.old self.new) }
     {
         let name = Text::from_str(self.alloc, name)?;
         let from = present_value(self.alloc, store, list.get(at), &name)?;
@@ -176,7 +190,10 @@ impl Edits {
     pub fn transaction(self, list: &Linear) -> Result<Transaction, Memory>
         requires { self.at ≤ length list.now.items }
         ensures means { IfOk result (IsCollected list.now.items self) }
-        ensures cites { IfOk result (λ tx. (values : _) (edits : _) → Makes values list.now.items edits self → TxCites values tx) }
+        ensures cites { IfOk result (λ tx.
+            (values : _) (edits : _)
+            → Makes values list.now.items edits self
+            → TxCites values tx) }
     {
         let mut rest = self;
         rest.pass(list.len())?;

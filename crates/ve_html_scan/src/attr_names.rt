@@ -66,7 +66,8 @@ impl<'a> AttrNames<'a> {
     pub fn insert(&mut self, name: &'a [u8]) -> bool
         requires { length self.old < max_attributes }
         ensures added { result ≡ not (is_one_of self.old name.now) }
-        ensures known { (x : List ℕ) → is_one_of self.new x ≡ (name_same name.now x || is_one_of self.old x) }
+        ensures known { (x : List ℕ)
+            → is_one_of self.new x ≡ (name_same name.now x || is_one_of self.old x) }
         ensures len { length self.new ≡ (if result then length self.old + 1 else length self.old) }
     {
         let len = self.len;

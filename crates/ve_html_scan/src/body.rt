@@ -59,7 +59,8 @@ fn last_body_end(page: &[u8], from: usize) -> Option<usize>
 /// start tag and the last `</body>` after that; every other page is all body.
 pub fn body_of(text: &str) -> Result<Span, ScanFault>
     ensures read { Finds (λ s. (s.from, s.to)) result (body_at text.now) }
-    ensures cuts { IfOk result (λ s. IsCharBoundary text.now s.from × IsCharBoundary text.now s.to × (s.from ≤ s.to)) }
+    ensures cuts { IfOk result (λ s.
+        IsCharBoundary text.now s.from × IsCharBoundary text.now s.to × (s.from ≤ s.to)) }
 {
     let page = text.as_bytes();
     if !is_whole_page(page) {

@@ -20,7 +20,8 @@ struct Reference {
 #[tactic(auto, using(crate::proofs::Decoding::prefix_steps))]
 fn first_reference(text: &[u8]) -> Reference
     requires { slice_index text.now 0 ≡ 38 }
-    ensures decoded { written.decoded text.now ≡ result.meaning.now ++ written.decoded (drop result.len text.now) }
+    ensures decoded { written.decoded text.now
+        ≡ result.meaning.now ++ written.decoded (drop result.len text.now) }
     ensures some { 0 < result.len }
     ensures inside { result.len ≤ length text.now }
     ensures ascii { slice_index text.now (result.len - 1) < 128 }
@@ -79,7 +80,8 @@ struct Piece<'a> {
 fn piece_at<'a>(spelled: &'a str, at: usize) -> Piece<'a>
     requires inside { at < length spelled.now }
     requires boundary { IsCharBoundary spelled.now at }
-    ensures decoded { written.decoded (drop at spelled.now) ≡ result.text.now ++ written.decoded (drop result.to spelled.now) }
+    ensures decoded { written.decoded (drop at spelled.now)
+        ≡ result.text.now ++ written.decoded (drop result.to spelled.now) }
     ensures boundary { IsCharBoundary spelled.now result.to }
     ensures more { at < result.to }
     ensures bound { result.to ≤ length spelled.now }

@@ -208,9 +208,12 @@ pub fn closing_at(
     unclosed: ScanFault,
 ) -> Result<usize, ScanFault>
     requires { from ≤ length bytes.now }
-    ensures read { result ≡ verbatim_end (closing_text close.entry) unclosed from (drop from bytes.now) }
-    ensures bound { IfOk result (λ to. (from ≤ to) × (to + length (closing_text close.entry) ≤ length bytes.now)) }
-    ensures found { IfOk result (λ to. begins_with (closing_text close.entry) (drop to bytes.now) ≡ true) }
+    ensures read { result
+        ≡ verbatim_end (closing_text close.entry) unclosed from (drop from bytes.now) }
+    ensures bound { IfOk result (λ to.
+        (from ≤ to) × (to + length (closing_text close.entry) ≤ length bytes.now)) }
+    ensures found { IfOk result (λ to.
+        begins_with (closing_text close.entry) (drop to bytes.now) ≡ true) }
 {
     let mut at = from;
     while at < bytes.len() {

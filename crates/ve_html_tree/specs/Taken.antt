@@ -9,7 +9,7 @@ use Rattle.ve_html_scan.specs.declared.token.Token.{Token}
 use Rattle.ve_html_tree.specs.declared.fault.HtmlFault.{HtmlFault}
 use Rattle.ve_html_tree.specs.declared.node.Node.{Node}
 use Rattle.ve_html_tree.specs.declared.open.Opened.{Opened}
-use Rattle.ve_html_tree.specs.Building.{Built, building, taken}
+use Rattle.ve_html_tree.specs.Building.{Built, building, built_with}
 use Rattle.ve_html_tree.specs.Nodes.{HasText, ShowNodes}
 use Rattle.ve_html_tree.specs.Opened.{opens, open_node_numbers}
 use Rattle.ve_html_tree.specs.Seen.{StepsTo}
@@ -17,7 +17,7 @@ use Rattle.ve_html_tree.specs.Seen.{StepsTo}
 -- the nodes of the forest after the token k, which t shows, where these were there before and those
 -- of these numbers are open
 abbrev pub built_after : Token → g.Token → List ForestNode → List ℕ → Built
-built_after t k made numbers = taken k (token_span t).from (token_span t).to (building made numbers)
+built_after t k made numbers = built_with k (token_span t).from (token_span t).to (building made numbers)
 
 -- It went on to the elements that are open after the token, or it met the token's fault.
 abbrev pub TakesFaults : {A : Type 0} → Result A HtmlFault → Token → List Node → Opened → List Node → Opened → Type 0

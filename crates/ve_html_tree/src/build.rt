@@ -17,9 +17,11 @@ pub fn take_token<'a>(
 ) -> Result<(), HtmlFault>
     requires room { HasRoom token.now }
     requires linked { AreLinked nodes.old.items opened.old }
-    ensures faults { TakesFaults result token.now nodes.old.items opened.old nodes.new.items opened.new }
+    ensures faults { TakesFaults result token.now nodes.old.items opened.old nodes.new.items
+        opened.new }
     ensures nodes { TakesNodes result token.now nodes.old.items opened.old nodes.new.items }
-    ensures numbers { TakesNumbers result token.now nodes.old.items opened.old nodes.new.items opened.new }
+    ensures numbers { TakesNumbers result token.now nodes.old.items opened.old nodes.new.items
+        opened.new }
     ensures linked { OnOk result (AreLinked nodes.new.items opened.new) }
 {
     match *token {

@@ -92,7 +92,8 @@ pub fn push_node<'a>(
 /// Ends the element of that number by its end tag.
 pub fn end_node(nodes: &mut Vec<Node<'_>>, number: usize, end: Span)
     requires { number < length nodes.old.items }
-    ensures { nodes.new.items ≡ ended_at number end.from end.to (length nodes.old.items) nodes.old.items }
+    ensures { nodes.new.items
+        ≡ ended_at number end.from end.to (length nodes.old.items) nodes.old.items }
 {
     let next = nodes.len();
     let node = &mut nodes[number];

@@ -16,7 +16,10 @@ use ve_html_scan::Scanner;
 /// and not recursed into.
 pub fn read<'a>(alloc: Global, text: &'a str) -> Result<Forest<'a>, HtmlFault>
     // A forest spells the text, and the nodes show its nodes.
-    ensures found { IfOk result (λ nodes. (f : spelled.Forest) × spelled.Spells text.now f × ShowNodes nodes (forest_nodes 0 0 f)) }
+    ensures found { IfOk result (λ nodes.
+        (f : spelled.Forest)
+        × spelled.Spells text.now f
+        × ShowNodes nodes (forest_nodes 0 0 f)) }
     // No forest spells it, and this is the first fault.
     ensures fault { IfErr result (λ e. IsFirstFault e (fault_of text.now)) }
 {

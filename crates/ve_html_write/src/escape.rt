@@ -18,10 +18,12 @@ struct Reference {
 #[tactic(auto, using(crate::proofs::Escaping::reference_steps))]
 fn reference_at(bytes: &[u8], at: usize, in_value: bool) -> Option<Reference>
     requires { at < length bytes.now }
-    ensures some { IfSome result (λ r. IsSpelledAs in_value bytes.now at (at + r.len) r.spelled.now) }
+    ensures some { IfSome result (λ r.
+        IsSpelledAs in_value bytes.now at (at + r.len) r.spelled.now) }
     ensures more { IfSome result (λ r. 0 < r.len) }
     ensures bound { IfSome result (λ r. at + r.len ≤ length bytes.now) }
-    ensures none { IfNone result (IsSpelledAs in_value bytes.now at (at + 1) (slice_index bytes.now at ∷ [])) }
+    ensures none { IfNone result (
+        IsSpelledAs in_value bytes.now at (at + 1) (slice_index bytes.now at ∷ [])) }
 {
     let (spelled, len): (&'static [u8], usize) = match bytes[at] {
         b'&' => (b"&amp;", 1),

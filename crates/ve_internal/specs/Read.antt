@@ -26,8 +26,8 @@ BodyIsUtf8 (Some r) = TextIsUtf8 r.html
 -- ---- as the code asks
 
 -- the value that is lent, if there is one
-abbrev pub seen : Option (Bor Value) → Option Data
-seen value = option_map (λ (v : Bor Value). view v.now) value
+abbrev pub seen_value : Option (Bor Value) → Option Data
+seen_value value = option_map (λ (v : Bor Value). view v.now) value
 
 abbrev pub or_no_members : Option Members → Members
 or_no_members None = no_members

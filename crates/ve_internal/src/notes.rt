@@ -135,7 +135,8 @@ impl<'a> Notes<'a> {
     }
 
     fn note_reference(&mut self, cited: Cited<'a>, owner: bool) -> Result<(), Memory>
-        ensures { OnOk result (NotesReference self.old self.new cited.entry.at cited.entry.key.now owner) }
+        ensures { OnOk result (
+            NotesReference self.old self.new cited.entry.at cited.entry.key.now owner) }
     {
         let seen = see(&self.keys, &mut self.groups, cited, owner)?;
         self.keys.insert(LentKey { key: cited.key }, seen)?;
@@ -152,7 +153,8 @@ impl<'a> Notes<'a> {
         head: Option<ValueId>,
     ) -> Result<(), Memory>
         requires { CitesHead store.now head }
-        ensures { OnOk result (NotesOpening self.old self.new at kind (head_in (value_at store.now head))) }
+        ensures { OnOk result (
+            NotesOpening self.old self.new at kind (head_in (value_at store.now head))) }
     {
         let Some(id) = head else {
             return Ok(());

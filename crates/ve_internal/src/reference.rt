@@ -39,8 +39,10 @@ fn unless_empty<'a>(text: &'a str) -> Option<&'a str>
 
 /// What the members of a `data-mw` say.
 fn reference_in(alloc: Global, members: &Map<String, Value>) -> Result<Option<RefRead>, Memory>
-    ensures reference { IfOk result (λ r. r ≡ option_map as_texts (in_members (members_view members.now.entries))) }
-    ensures body { IfOk result (λ r. IfSome r (λ _. BodyIsUtf8 (in_members (members_view members.now.entries)))) }
+    ensures reference { IfOk result (λ r.
+        r ≡ option_map as_texts (in_members (members_view members.now.entries))) }
+    ensures body { IfOk result (λ r.
+        IfSome r (λ _. BodyIsUtf8 (in_members (members_view members.now.entries)))) }
 {
     let Some(attrs) = members_or_none(member_of(members, "attrs")) else {
         return Ok(None);

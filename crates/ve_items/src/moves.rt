@@ -24,7 +24,8 @@ pub fn put(before: &mut Table, pool: &mut Vec<Block>, block: Block)
     ensures items { joined before.new.blocks ≡ joined before.old.blocks ++ block }
     ensures count { length before.new.blocks ≤ length before.old.blocks + 1 }
     ensures room { before.new.room ≡ before.old.room }
-    ensures kept { length before.new.blocks + vec_len pool.new ≡ length before.old.blocks + vec_len pool.old + 1 }
+    ensures kept { length before.new.blocks + vec_len pool.new
+        ≡ length before.old.blocks + vec_len pool.old + 1 }
     ensures capacity { vec_capacity pool.old ≤ vec_capacity pool.new }
 {
     let Some(mut last) = before.pop() else {
@@ -61,7 +62,8 @@ pub fn seek(before: &mut Table, after: &mut Stack, at: usize) -> usize
     requires within { at ≤ length (joined before.old.blocks) }
     ensures rule { AreBlocks before.new.blocks }
     ensures sizes { All IsBlock after.new.blocks }
-    ensures items { joined before.new.blocks ++ from_top after.new.blocks ≡ joined before.old.blocks }
+    ensures items { joined before.new.blocks ++ from_top after.new.blocks
+        ≡ joined before.old.blocks }
     ensures place { length (joined before.new.blocks) + result ≡ at }
     ensures inside { result ≤ length (top after.new.blocks) }
     ensures count { length before.new.blocks + length after.new.blocks ≡ length before.old.blocks }
@@ -83,14 +85,17 @@ pub fn gather(before: &mut Table, after: &mut Stack, pool: &mut Vec<Block>)
     requires sizes { All IsBlock after.old.blocks }
     requires room { length before.old.blocks + length after.old.blocks ≤ before.old.room }
     requires pool { all_blocks before.old after.old (vec_len pool.old) ≤ vec_capacity pool.old }
-    requires fits { length (joined before.old.blocks) + length (from_top after.old.blocks) < 2 ^ 64 }
+    requires fits { length (joined before.old.blocks) + length (from_top after.old.blocks)
+        < 2 ^ 64 }
     ensures rule { AreBlocks before.new.blocks }
     ensures closed { after.new.blocks ≡ [] }
-    ensures items { joined before.new.blocks ≡ joined before.old.blocks ++ from_top after.old.blocks }
+    ensures items { joined before.new.blocks
+        ≡ joined before.old.blocks ++ from_top after.old.blocks }
     ensures count { length before.new.blocks ≤ length before.old.blocks + length after.old.blocks }
     ensures room_before { before.new.room ≡ before.old.room }
     ensures room_after { after.new.room ≡ after.old.room }
-    ensures kept { length before.new.blocks + vec_len pool.new ≡ all_blocks before.old after.old (vec_len pool.old) }
+    ensures kept { length before.new.blocks + vec_len pool.new
+        ≡ all_blocks before.old after.old (vec_len pool.old) }
     ensures capacity { vec_capacity pool.old ≤ vec_capacity pool.new }
 {
     while let Some(block) = after.pop() {
@@ -107,17 +112,21 @@ pub fn cut(before: &mut Table, after: &mut Stack, pool: &mut Vec<Block>, offset:
     requires room_after { length after.old.blocks ≤ after.old.room }
     requires pool { 0 < vec_len pool.old }
     requires capacity { all_blocks before.old after.old (vec_len pool.old) ≤ vec_capacity pool.old }
-    requires fits { length (joined before.old.blocks) + length (from_top after.old.blocks) < 2 ^ 64 }
+    requires fits { length (joined before.old.blocks) + length (from_top after.old.blocks)
+        < 2 ^ 64 }
     ensures rule { AreBlocks before.new.blocks }
     ensures sizes { All IsBlock after.new.blocks }
-    ensures items_before { joined before.new.blocks ≡ joined before.old.blocks ++ take offset (from_top after.old.blocks) }
+    ensures items_before { joined before.new.blocks
+        ≡ joined before.old.blocks ++ take offset (from_top after.old.blocks) }
     ensures items_after { from_top after.new.blocks ≡ drop offset (from_top after.old.blocks) }
-    ensures count { length before.new.blocks + length after.new.blocks ≤ length before.old.blocks + length after.old.blocks + 1 }
+    ensures count { length before.new.blocks + length after.new.blocks
+        ≤ length before.old.blocks + length after.old.blocks + 1 }
     ensures count_after { length after.new.blocks ≤ length after.old.blocks }
     ensures room_before { before.new.room ≡ before.old.room }
     ensures room_after { after.new.room ≡ after.old.room }
     ensures pool { vec_len pool.old ≤ vec_len pool.new + 1 }
-    ensures kept { all_blocks before.new after.new (vec_len pool.new) ≡ all_blocks before.old after.old (vec_len pool.old) }
+    ensures kept { all_blocks before.new after.new (vec_len pool.new)
+        ≡ all_blocks before.old after.old (vec_len pool.old) }
     ensures capacity { vec_capacity pool.old ≤ vec_capacity pool.new }
 {
     if offset == 0 {
@@ -149,9 +158,11 @@ pub fn fill(before: &mut Table, pool: &mut Vec<Block>, items: &[Item])
     requires fits { length (joined before.old.blocks) + length items.now < 2 ^ 64 }
     ensures rule { AreBlocks before.new.blocks }
     ensures items { joined before.new.blocks ≡ joined before.old.blocks ++ items.now }
-    ensures count { length before.new.blocks ≤ length before.old.blocks + filled_blocks (length items.now) }
+    ensures count { length before.new.blocks
+        ≤ length before.old.blocks + filled_blocks (length items.now) }
     ensures room { before.new.room ≡ before.old.room }
-    ensures kept { length before.new.blocks + vec_len pool.new ≡ length before.old.blocks + vec_len pool.old }
+    ensures kept { length before.new.blocks + vec_len pool.new
+        ≡ length before.old.blocks + vec_len pool.old }
     ensures capacity { vec_capacity pool.old ≤ vec_capacity pool.new }
 {
     let mut done = 0;
@@ -182,14 +193,18 @@ pub fn take_out(
     requires within { offset + removed ≤ length (from_top after.old.blocks) }
     requires room { length before.old.blocks + length after.old.blocks ≤ before.old.room }
     requires pool { all_blocks before.old after.old (vec_len pool.old) ≤ vec_capacity pool.old }
-    requires fits { length (joined before.old.blocks) + length (from_top after.old.blocks) < 2 ^ 64 }
+    requires fits { length (joined before.old.blocks) + length (from_top after.old.blocks)
+        < 2 ^ 64 }
     ensures rule { AreBlocks before.new.blocks }
     ensures sizes { All IsBlock after.new.blocks }
-    ensures items { AreTakenOut before.old.blocks after.old.blocks before.new.blocks after.new.blocks offset removed }
-    ensures count { length before.new.blocks + length after.new.blocks ≤ length before.old.blocks + length after.old.blocks }
+    ensures items { AreTakenOut before.old.blocks after.old.blocks before.new.blocks
+        after.new.blocks offset removed }
+    ensures count { length before.new.blocks + length after.new.blocks
+        ≤ length before.old.blocks + length after.old.blocks }
     ensures room_before { before.new.room ≡ before.old.room }
     ensures room_after { after.new.room ≡ after.old.room }
-    ensures kept { all_blocks before.new after.new (vec_len pool.new) ≡ all_blocks before.old after.old (vec_len pool.old) }
+    ensures kept { all_blocks before.new after.new (vec_len pool.new)
+        ≡ all_blocks before.old after.old (vec_len pool.old) }
     ensures capacity { vec_capacity pool.old ≤ vec_capacity pool.new }
 {
     let mut offset = offset;

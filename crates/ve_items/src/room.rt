@@ -39,7 +39,8 @@ pub fn take_for_one(
     requires { IsReady table.old aside.old (vec_len pool.old) (vec_capacity pool.old) spare }
     ensures blocks { table.new.blocks ≡ table.old.blocks }
     ensures ready { IsReady table.new aside.new (vec_len pool.new) (vec_capacity pool.new) spare }
-    ensures ok { OnOk result (CanTake table.new aside.new (vec_len pool.new) (vec_capacity pool.new) many) }
+    ensures ok { OnOk result (
+        CanTake table.new aside.new (vec_len pool.new) (vec_capacity pool.new) many) }
     ensures fits { many ≤ spare → IsOk result }
 {
     if many <= spare {
@@ -66,7 +67,8 @@ pub fn take_for_all(
     requires { IsReady table.old aside.old (vec_len pool.old) (vec_capacity pool.old) spare }
     ensures blocks { table.new.blocks ≡ table.old.blocks }
     ensures ready { IsReady table.new aside.new (vec_len pool.new) (vec_capacity pool.new) spare }
-    ensures ok { OnOk result (IsReady table.new aside.new (vec_len pool.new) (vec_capacity pool.new) many) }
+    ensures ok { OnOk result (
+        IsReady table.new aside.new (vec_len pool.new) (vec_capacity pool.new) many) }
 {
     let items = table.items();
     if many > usize::MAX - items {

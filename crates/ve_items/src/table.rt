@@ -70,7 +70,8 @@ impl Table {
     /// Takes room for so many blocks more. An `Err` changes nothing.
     pub fn reserve(&mut self, more: usize) -> Result<(), Memory>
         ensures blocks { self.new.blocks ≡ self.old.blocks }
-        ensures ok { OnOk result (self.new.room ≡ max self.old.room (length self.old.blocks + more)) }
+        ensures ok { OnOk result (
+            self.new.room ≡ max self.old.room (length self.old.blocks + more)) }
         ensures err { OnErr result (self.new ≡ self.old) }
     {
         self.sizes.reserve(more)?;
@@ -132,7 +133,8 @@ impl Table {
     /// other block changes, if there is one.
     pub fn place_for(&self, at: usize, removed: usize, more: usize) -> Option<(usize, usize)>
         requires { at + removed ≤ length (joined self.now.blocks) }
-        ensures place { IfSome result (λ place. MayChange self.now.blocks at removed more place.0 place.1) }
+        ensures place { IfSome result (λ place.
+            MayChange self.now.blocks at removed more place.0 place.1) }
         ensures fits { IsSome result → length (joined self.now.blocks) + more < 2 ^ 64 }
     {
         let (k, offset) = self.touched(at)?;
@@ -167,7 +169,8 @@ impl Table {
     pub fn splice(&mut self, k: usize, at: usize, removed: usize, items: &[Item])
         requires among { k < length self.old.blocks }
         requires within { at + removed ≤ length (slice_index_or self.old.blocks k []) }
-        requires small { length (slice_index_or self.old.blocks k []) - removed + length items.now ≤ max_block }
+        requires small { length (slice_index_or self.old.blocks k []) - removed + length items.now
+            ≤ max_block }
         requires fits { length (joined self.old.blocks) + length items.now < 2 ^ 64 }
         ensures blocks { self.new.blocks ≡ spliced_block self.old.blocks k at removed items.now }
         ensures room { self.new.room ≡ self.old.room }

@@ -33,10 +33,10 @@ made_of f (Ok x) = Ok (f x)
 made_of f (Err why) = Err why
 
 -- a value that isn't well formed makes its member a bad one
-abbrev pub named : {A : Type 0} → Field → Result A ValueFault → Result A BadMember
-named field (Ok x) = Ok x
-named field (Err unread.IllFormed) = Err (bad.Named field)
-named field (Err unread.Memory) = Err bad.Memory
+abbrev pub or_bad_member : {A : Type 0} → Field → Result A ValueFault → Result A BadMember
+or_bad_member field (Ok x) = Ok x
+or_bad_member field (Err unread.IllFormed) = Err (bad.Named field)
+or_bad_member field (Err unread.Memory) = Err bad.Memory
 
 -- a bad member is named in the refusal of its line
 abbrev pub refusal_of : BadMember → CommandFault

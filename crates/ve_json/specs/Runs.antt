@@ -10,7 +10,7 @@ use Rattle.model_items.specs.declared.plain_item.PlainItem.{PlainItem}
 use Rattle.model_items.specs.declared.plain_item.PlainItem.TheVariants.{Char, Opening, Closing}
 use Rattle.model_items.specs.Same.{marks_same}
 use Rattle.model_edit.specs.Insert.{text_pieces}
-use Rattle.model_world.specs.Shown.{all_shown, closing_shown, opening_shown, shown}
+use Rattle.model_world.specs.Shown.{all_shown, closing_shown, opening_shown, as_shown}
 use Rattle.ve_json.specs.declared.brackets.OpeningParts.{OpeningParts}
 use Rattle.ve_json.specs.ReplyMembers.{opening_json}
 
@@ -46,5 +46,5 @@ pub record AddsFirst (items : List PlainItem) (at end : ℕ) (old new : List ℕ
   pub first : Data
   pub on : at < end
   pub within : end ≤ length items
-  pub all : all_shown (shown (drop at items)) ≡ first ∷ all_shown (shown (drop end items))
+  pub all : all_shown (as_shown (drop at items)) ≡ first ∷ all_shown (as_shown (drop end items))
   pub text_is : new ≡ old ++ compact_text first

@@ -95,7 +95,8 @@ fn push_count(
     numbers: Numbers,
     out: &mut Spelling,
 ) -> Result<(), Memory>
-    ensures ok { OnOk result (out.new.text ≡ out.old.text ++ with_numbers word.now (number_list numbers)) }
+    ensures ok { OnOk result (
+        out.new.text ≡ out.old.text ++ with_numbers word.now (number_list numbers)) }
     ensures before { out.new.before ≡ out.old.before }
 {
     let words = Words {
@@ -126,7 +127,12 @@ fn push_data(
     requires cites { All (CitesWell store.now) list.now.items }
     requires order { range.0 ≤ range.1 }
     requires within { range.1 ≤ length list.now.items }
-    ensures ok { OnOk result (out.new.text ≡ out.old.text ++ model.ok_json (items_shown (slice_range (plain_list store.now list.now.items) range.0 range.1))) }
+    ensures ok { OnOk result (
+        out.new.text
+        ≡ out.old.text
+        ++ model.ok_json (
+        items_shown (
+        slice_range (plain_list store.now list.now.items) range.0 range.1))) }
     ensures before { out.new.before ≡ out.old.before }
 {
     out.push(b"ok ")?;
@@ -141,7 +147,8 @@ fn push_at(
     class: OffsetClass,
     out: &mut Spelling,
 ) -> Result<(), Memory>
-    ensures ok { OnOk result (out.new.text ≡ out.old.text ++ model.reply_text (reply.At kind range.0 range.1 class)) }
+    ensures ok { OnOk result (
+        out.new.text ≡ out.old.text ++ model.reply_text (reply.At kind range.0 range.1 class)) }
     ensures before { out.new.before ≡ out.old.before }
 {
     let words = Words {
@@ -178,7 +185,8 @@ fn push_served(
     clash: Option<((usize, usize), (usize, usize))>,
     out: &mut Spelling,
 ) -> Result<(), Memory>
-    ensures ok { OnOk result (out.new.text ≡ out.old.text ++ model.reply_text (reply.Served accepted total clash)) }
+    ensures ok { OnOk result (
+        out.new.text ≡ out.old.text ++ model.reply_text (reply.Served accepted total clash)) }
     ensures before { out.new.before ≡ out.old.before }
 {
     push_count(alloc, "ok", Numbers::One(accepted), out)?;
@@ -193,7 +201,8 @@ fn push_took(
     dropped: usize,
     out: &mut Spelling,
 ) -> Result<(), Memory>
-    ensures ok { OnOk result (out.new.text ≡ out.old.text ++ model.reply_text (reply.TookForeign entries dropped)) }
+    ensures ok { OnOk result (
+        out.new.text ≡ out.old.text ++ model.reply_text (reply.TookForeign entries dropped)) }
     ensures before { out.new.before ≡ out.old.before }
 {
     push_count(alloc, "ok foreign", Numbers::One(entries), out)?;
@@ -208,7 +217,8 @@ fn push_grid(
     cells: &[GridCell],
     out: &mut Spelling,
 ) -> Result<(), Memory>
-    ensures ok { OnOk result (out.new.text ≡ out.old.text ++ model.reply_text (reply.Grid rows columns cells.now)) }
+    ensures ok { OnOk result (
+        out.new.text ≡ out.old.text ++ model.reply_text (reply.Grid rows columns cells.now)) }
     ensures before { out.new.before ≡ out.old.before }
 {
     push_count(alloc, "ok", Numbers::Two(rows, columns), out)?;
@@ -232,7 +242,8 @@ fn push_batch_refusal(
     refusal: Refusal,
     out: &mut Spelling,
 ) -> Result<(), Memory>
-    ensures ok { OnOk result (out.new.text ≡ out.old.text ++ model.reply_text (reply.NoBatch at refusal)) }
+    ensures ok { OnOk result (
+        out.new.text ≡ out.old.text ++ model.reply_text (reply.NoBatch at refusal)) }
     ensures before { out.new.before ≡ out.old.before }
 {
     push_count(alloc, "no batch", Numbers::One(at), out)?;
@@ -242,7 +253,8 @@ fn push_batch_refusal(
 
 /// Appends `ok` and references.
 fn push_rows(alloc: Global, rows: &[RefRow], out: &mut Spelling) -> Result<(), Memory>
-    ensures ok { OnOk result (out.new.text ≡ out.old.text ++ model.reply_text (reply.Refs rows.now)) }
+    ensures ok { OnOk result (
+        out.new.text ≡ out.old.text ++ model.reply_text (reply.Refs rows.now)) }
     ensures before { out.new.before ≡ out.old.before }
 {
     out.push(b"ok ")?;
@@ -251,7 +263,8 @@ fn push_rows(alloc: Global, rows: &[RefRow], out: &mut Spelling) -> Result<(), M
 
 /// Appends `ok` and the words of a tree.
 fn push_words_of_tree(alloc: Global, words: &[TreeWord], out: &mut Spelling) -> Result<(), Memory>
-    ensures ok { OnOk result (out.new.text ≡ out.old.text ++ model.reply_text (reply.Tree words.now)) }
+    ensures ok { OnOk result (
+        out.new.text ≡ out.old.text ++ model.reply_text (reply.Tree words.now)) }
     ensures before { out.new.before ≡ out.old.before }
 {
     out.push(b"ok")?;
@@ -261,7 +274,8 @@ fn push_words_of_tree(alloc: Global, words: &[TreeWord], out: &mut Spelling) -> 
 /// Appends the text of an answer. After an `Err` some of it may stand after what stood there.
 fn push_answer(alloc: Global, answer: &Answer<'_>, out: &mut Spelling) -> Result<(), Memory>
     requires { AnswerCites answer.now }
-    ensures ok { OnOk result (out.new.text ≡ out.old.text ++ model.reply_text (reply_of answer.now)) }
+    ensures ok { OnOk result (
+        out.new.text ≡ out.old.text ++ model.reply_text (reply_of answer.now)) }
     ensures before { out.new.before ≡ out.old.before }
 {
     match answer {
@@ -307,7 +321,8 @@ fn push_answer(alloc: Global, answer: &Answer<'_>, out: &mut Spelling) -> Result
 /// Appends the answer and a newline. After an `Err` some of it may stand after what stood there.
 fn push_line(alloc: Global, answer: &Answer<'_>, out: &mut Spelling) -> Result<(), Memory>
     requires { AnswerCites answer.now }
-    ensures ok { OnOk result (out.new.text ≡ out.old.text ++ (model.reply_text (reply_of answer.now) ++ 10 ∷ [])) }
+    ensures ok { OnOk result (
+        out.new.text ≡ out.old.text ++ (model.reply_text (reply_of answer.now) ++ 10 ∷ [])) }
     ensures before { out.new.before ≡ out.old.before }
 {
     push_answer(alloc, answer, out)?;
@@ -317,7 +332,8 @@ fn push_line(alloc: Global, answer: &Answer<'_>, out: &mut Spelling) -> Result<(
 /// Appends the text of an answer and a newline. An `Err` changes nothing.
 pub fn reply_text(alloc: Global, answer: &Answer<'_>, out: &mut Bytes) -> Result<(), Memory>
     requires { AnswerCites answer.now }
-    ensures ok { OnOk result (out.new ≡ out.old ++ (model.reply_text (reply_of answer.now) ++ 10 ∷ [])) }
+    ensures ok { OnOk result (
+        out.new ≡ out.old ++ (model.reply_text (reply_of answer.now) ++ 10 ∷ [])) }
     ensures err { OnErr result (out.new ≡ out.old) }
 {
     let mut spelling = Spelling::after(replace(out, Bytes::new(alloc)));

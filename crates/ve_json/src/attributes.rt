@@ -67,7 +67,9 @@ fn attr_in(alloc: Global, json: &Value) -> Result<Attr, ValueFault>
 
 /// The attributes that values are read as, where their names are distinct.
 fn attrs_of(alloc: Global, list: &[Value]) -> Result<Attrs, ValueFault>
-    ensures { Reads result (values.such_that attributes.are_apart (values.all_read attributes.attr_in (map view list.now))) }
+    ensures { Reads result (
+        values.such_that attributes.are_apart (
+        values.all_read attributes.attr_in (map view list.now))) }
 {
     let mut attrs = Attrs::new(alloc);
     for json in list {

@@ -76,7 +76,8 @@ fn push_generated(generated: bool, out: &mut Spelling) -> Result<(), Memory>
 
 /// Appends a comma and a text, where that isn't empty.
 fn push_text(name: &str, text: &str, out: &mut Spelling) -> Result<(), Memory>
-    ensures ok { OnOk result (out.new.text ≡ out.old.text ++ comma_and_member name.now (some_string text.now)) }
+    ensures ok { OnOk result (
+        out.new.text ≡ out.old.text ++ comma_and_member name.now (some_string text.now)) }
     ensures before { out.new.before ≡ out.old.before }
 {
     if text.is_empty() {
@@ -130,7 +131,9 @@ fn push_reference(alloc: Global, key: &Option<RefKey>, out: &mut Spelling) -> Re
 
 /// Appends the member that names the kind.
 fn push_kind(name: &str, kind: Kind, out: &mut Spelling) -> Result<(), Memory>
-    ensures ok { OnOk result (out.new.text ≡ out.old.text ++ member_text name.now (json_text (names.kind_name kind))) }
+    ensures ok { OnOk result (
+        out.new.text
+        ≡ out.old.text ++ member_text name.now (json_text (names.kind_name kind))) }
     ensures before { out.new.before ≡ out.old.before }
 {
     push_name(name, out)?;
@@ -139,7 +142,10 @@ fn push_kind(name: &str, kind: Kind, out: &mut Spelling) -> Result<(), Memory>
 
 /// Appends the members of an opening that stand after its kind.
 fn push_later(alloc: Global, opening: OpeningParts<'_>, out: &mut Spelling) -> Result<(), Memory>
-    ensures ok { OnOk result (out.new.text ≡ out.old.text ++ later_text opening.entry.head.now opening.entry.pre.now opening.entry.origin) }
+    ensures ok { OnOk result (
+        out.new.text
+        ≡ out.old.text
+        ++ later_text opening.entry.head.now opening.entry.pre.now opening.entry.origin) }
     ensures before { out.new.before ≡ out.old.before }
 {
     push_origin(alloc, opening.origin, out)?;

@@ -44,7 +44,8 @@ fn equal_marks(one: &[Mark], other: &[Mark]) -> bool
 fn same_marks(store: &Store, one: Option<ValueId>, other: Option<ValueId>) -> bool
     requires one { CitesMarks store.now one }
     requires other { CitesMarks store.now other }
-    ensures { result ≡ marks_same (marks_in (value_at store.now one)) (marks_in (value_at store.now other)) }
+    ensures { result
+        ≡ marks_same (marks_in (value_at store.now one)) (marks_in (value_at store.now other)) }
 {
     if let (Some(first), Some(second)) = (one, other) {
         if first.0 == second.0 {
@@ -83,7 +84,9 @@ fn run_at(
     requires marks { CitesMarks store.now cited }
     requires order { range.0 ≤ range.1 }
     requires within { range.1 ≤ length list.now.items }
-    ensures { IfOk result (λ run. IsMarkedRun (plain_before range.1 store.now list.now.items) (marks_in (value_at store.now cited)) range.0 run.end run.text) }
+    ensures { IfOk result (λ run.
+        IsMarkedRun (plain_before range.1 store.now list.now.items)
+        (marks_in (value_at store.now cited)) range.0 run.end run.text) }
 {
     let (at, to) = range;
     let mut text = Text::new(alloc);
@@ -98,7 +101,8 @@ fn run_at(
 
 /// Appends a run: its text, with its marks where there are some.
 fn push_run(alloc: Global, text: &Text, marks: &[Mark], out: &mut Spelling) -> Result<(), Memory>
-    ensures ok { OnOk result (out.new.text ≡ out.old.text ++ compact_text (run_shown marks.now text.now)) }
+    ensures ok { OnOk result (
+        out.new.text ≡ out.old.text ++ compact_text (run_shown marks.now text.now)) }
     ensures before { out.new.before ≡ out.old.before }
 {
     if marks.is_empty() {
@@ -161,7 +165,9 @@ fn push_first(
     requires some { range.0 < range.1 }
     requires within { range.1 ≤ length list.now.items }
     requires none { none.now ≡ empty_head }
-    ensures ok { IfOk result (λ end. AddsFirst (plain_before range.1 store.now list.now.items) range.0 end out.old.text out.new.text) }
+    ensures ok { IfOk result (λ end.
+        AddsFirst (plain_before range.1 store.now list.now.items) range.0 end out.old.text
+        out.new.text) }
     ensures before { out.new.before ≡ out.old.before }
 {
     let at = range.0;
@@ -196,7 +202,12 @@ pub fn push_items(
     requires cites { All (CitesWell store.now) list.now.items }
     requires order { range.0 ≤ range.1 }
     requires within { range.1 ≤ length list.now.items }
-    ensures ok { OnOk result (out.new.text ≡ out.old.text ++ compact_text (items_shown (slice_range (plain_list store.now list.now.items) range.0 range.1))) }
+    ensures ok { OnOk result (
+        out.new.text
+        ≡ out.old.text
+        ++ compact_text (
+        items_shown (
+        slice_range (plain_list store.now list.now.items) range.0 range.1))) }
     ensures before { out.new.before ≡ out.old.before }
 {
     let (from, to) = range;

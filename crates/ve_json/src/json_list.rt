@@ -37,7 +37,8 @@ fn push_member<T: Json>(
     later: bool,
     out: &mut Spelling,
 ) -> Result<(), Memory>
-    ensures ok { OnOk result (out.new.text ≡ out.old.text ++ (comma_if later ++ compact_text (T.shown member.now))) }
+    ensures ok { OnOk result (
+        out.new.text ≡ out.old.text ++ (comma_if later ++ compact_text (T.shown member.now))) }
     ensures before { out.new.before ≡ out.old.before }
 {
     push_comma(later, out)?;
@@ -46,7 +47,8 @@ fn push_member<T: Json>(
 
 /// Appends members as a list of JSON. After an `Err` some of it may stand after what stood there.
 pub fn push_list<T: Json>(alloc: Global, members: &[T], out: &mut Spelling) -> Result<(), Memory>
-    ensures ok { OnOk result (out.new.text ≡ out.old.text ++ compact_text (json_list (map T.shown members.now))) }
+    ensures ok { OnOk result (
+        out.new.text ≡ out.old.text ++ compact_text (json_list (map T.shown members.now))) }
     ensures before { out.new.before ≡ out.old.before }
 {
     out.push_byte(b'[')?;

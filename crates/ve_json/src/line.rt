@@ -80,7 +80,8 @@ fn ask_members(
     word: RequestWord,
     members: &Map<String, Value>,
 ) -> Result<Command, BadMember>
-    ensures { Gives result (commands.ask_read (request_read word) (members_view members.now.entries)) }
+    ensures { Gives result (
+        commands.ask_read (request_read word) (members_view members.now.entries)) }
 {
     let request = request_members(alloc, word, members)?;
     let site = number_or(members, Field::Site, 0)?;
@@ -124,7 +125,9 @@ fn command_in(alloc: Global, json: Value) -> Result<Command, BadMember>
 /// object with a known word in `do` and with well-formed members; it names the first member that is missing or ill-formed.
 pub fn command(alloc: Global, line: &[u8]) -> Result<Command, CommandFault>
     ensures ok { IfOk result (λ asked. commands.command line.now ≡ Ok asked) }
-    ensures refused { (why : Refusal) → IsErrOf result (fault.Refused why) → commands.command line.now ≡ Err why }
+    ensures refused { (why : Refusal)
+        → IsErrOf result (fault.Refused why)
+        → commands.command line.now ≡ Err why }
 {
     let Some(json) = read_line(alloc, line)? else {
         return Err(CommandFault::Refused(Refusal::BadJson));

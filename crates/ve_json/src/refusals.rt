@@ -42,7 +42,8 @@ fn two(second: &'static str, number: usize, next: usize) -> Words
 
 /// A word with four numbers, those of two ranges.
 fn four(second: &'static str, range: (usize, usize), next: (usize, usize)) -> Words
-    ensures { words_text result ≡ with_numbers second.now (range.0 ∷ range.1 ∷ next.0 ∷ next.1 ∷ []) }
+    ensures { words_text result
+        ≡ with_numbers second.now (range.0 ∷ range.1 ∷ next.0 ∷ next.1 ∷ []) }
 {
     Words {
         first: "",

@@ -135,7 +135,8 @@ fn edit_members(
     word: ChangeWord,
     members: &Map<String, Value>,
 ) -> Result<Request, BadMember>
-    ensures { Gives result (request_read (a_request.Change word) (members_view members.now.entries)) }
+    ensures { Gives result (
+        request_read (a_request.Change word) (members_view members.now.entries)) }
 {
     let change = change_members(alloc, word, members)?;
     Ok(Request::Edit { change })

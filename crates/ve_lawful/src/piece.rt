@@ -21,7 +21,8 @@ fn moved_to(fault: LawFault, at: usize) -> LawFault
 pub(crate) fn go_on(state: &mut State, at: usize, items: &[Item]) -> Result<(), LawFault>
     requires { at + length items.now < 2 ^ 64 }
     ensures ok { OnOk result (after state.old items.now ≡ Ok state.new) }
-    ensures err { IfErr result (λ fault. law.outcome_moved at (after state.old items.now) ≡ Err fault) }
+    ensures err { IfErr result (λ fault.
+        law.outcome_moved at (after state.old items.now) ≡ Err fault) }
 {
     for (n, item) in items.iter().enumerate() {
         match state.step(*item) {

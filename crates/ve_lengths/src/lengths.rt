@@ -120,7 +120,8 @@ impl Lengths {
     pub fn grow(&mut self, k: usize, by: usize)
         requires among { k < length self.old.lens }
         requires fits { sum self.old.lens + by < 2 ^ 64 }
-        ensures lens { self.new.lens ≡ slice_set self.old.lens k (slice_index self.old.lens k + by) }
+        ensures lens { self.new.lens
+            ≡ slice_set self.old.lens k (slice_index self.old.lens k + by) }
         ensures room { self.new.room ≡ self.old.room }
     {
         raise(&mut self.starts, k / GROUP + 1, by);
@@ -132,7 +133,8 @@ impl Lengths {
     pub fn shrink(&mut self, k: usize, by: usize)
         requires among { k < length self.old.lens }
         requires long { by ≤ slice_index self.old.lens k }
-        ensures lens { self.new.lens ≡ slice_set self.old.lens k (slice_index self.old.lens k - by) }
+        ensures lens { self.new.lens
+            ≡ slice_set self.old.lens k (slice_index self.old.lens k - by) }
         ensures room { self.new.room ≡ self.old.room }
     {
         lower(&mut self.starts, k / GROUP + 1, by);

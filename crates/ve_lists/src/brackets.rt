@@ -53,7 +53,8 @@ pub fn closing(kind: Kind) -> Item
 /// Whether a list item begins at a place.
 pub fn is_list_item(doc: Doc<'_>, at: usize) -> bool
     ensures within { result ≡ true → at < length doc.entry.list.now.items }
-    ensures means { (values : _) → result ≡ model.is_list_item (plain_list values doc.entry.list.now.items) at }
+    ensures means { (values : _)
+        → result ≡ model.is_list_item (plain_list values doc.entry.list.now.items) at }
 {
     if at >= doc.list.len() {
         return false;
@@ -65,7 +66,9 @@ pub fn is_list_item(doc: Doc<'_>, at: usize) -> bool
 pub fn closes_before(doc: Doc<'_>, at: usize, kind: Kind) -> bool
     requires { at ≤ length doc.list.now.items }
     ensures after { result ≡ true → 0 < at }
-    ensures means { (values : _) → result ≡ passes_before (is_closing_of kind) (plain_list values doc.entry.list.now.items) at }
+    ensures means { (values : _)
+        → result
+        ≡ passes_before (is_closing_of kind) (plain_list values doc.entry.list.now.items) at }
 {
     if at == 0 {
         return false;
@@ -77,7 +80,8 @@ pub fn closes_before(doc: Doc<'_>, at: usize, kind: Kind) -> bool
 pub fn kind_at(doc: Doc<'_>, o: usize) -> Kind
     requires doc { IsDoc doc }
     requires within { o ≤ length doc.list.now.items }
-    ensures { (values : _) → result ≡ offsets.kind_at (plain_list values doc.entry.list.now.items) o }
+    ensures { (values : _)
+        → result ≡ offsets.kind_at (plain_list values doc.entry.list.now.items) o }
 {
     let state = state_at(doc, o);
     if state.depth() == 0 {
@@ -91,7 +95,9 @@ pub fn nested_list(doc: Doc<'_>, o: usize) -> Option<ListStart>
     requires doc { IsDoc doc }
     requires within { o ≤ length doc.list.now.items }
     ensures within { IfSome result (λ list. list.from < length doc.entry.list.now.items) }
-    ensures means { (values : _) → option_map open_of result ≡ nested_in (opens_at (plain_list values doc.entry.list.now.items) o) }
+    ensures means { (values : _)
+        → option_map open_of result
+        ≡ nested_in (opens_at (plain_list values doc.entry.list.now.items) o) }
 {
     let state = state_at(doc, o);
     if state.depth() < 2 {

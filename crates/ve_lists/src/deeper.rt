@@ -48,8 +48,10 @@ fn indented(alloc: Global, doc: Doc<'_>, at: usize, kind: Kind) -> Result<Transa
     requires doc { IsDoc doc }
     requires sibling { 0 < at }
     requires within { at < length doc.list.now.items }
-    requires opens { (values : _) → model.is_list_item (plain_list values doc.list.now.items) at ≡ true }
-    ensures means { IfOk result (IsTransactionOf doc.entry.list.now.items (λ all. indent_edits all at kind)) }
+    requires opens { (values : _)
+        → model.is_list_item (plain_list values doc.list.now.items) at ≡ true }
+    ensures means { IfOk result (
+        IsTransactionOf doc.entry.list.now.items (λ all. indent_edits all at kind)) }
     ensures cites { IfOk result (CitesAsItems doc.entry.list.now.items) }
 {
     let other = partner(doc, at);
@@ -67,9 +69,11 @@ fn indented(alloc: Global, doc: Doc<'_>, at: usize, kind: Kind) -> Result<Transa
 pub fn indent(alloc: Global, doc: Doc<'_>, at: usize) -> Result<Transaction, ListFault>
     requires doc { IsDoc doc }
     requires cites { All (CitesWell doc.store.now) doc.list.now.items }
-    ensures means { IfOk result (λ tx. model.indent (page_items doc.entry) at ≡ Ok (by_value doc.entry.store.now tx)) }
+    ensures means { IfOk result (λ tx.
+        model.indent (page_items doc.entry) at ≡ Ok (by_value doc.entry.store.now tx)) }
     ensures cites { IfOk result (λ tx. TxCites doc.entry.store.now tx) }
-    ensures refused { IfErr result (λ fault. IsListRefusal fault (model.indent (page_items doc.entry) at)) }
+    ensures refused { IfErr result (λ fault.
+        IsListRefusal fault (model.indent (page_items doc.entry) at)) }
 {
     if !is_list_item(doc, at) {
         return Err(ListFault::NotListItem { at });

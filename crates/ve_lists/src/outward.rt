@@ -26,7 +26,8 @@ fn ended(alloc: Global, doc: Doc<'_>, at: usize, list: ListStart) -> Result<Edit
     requires list { list.from < length doc.list.now.items }
     requires within { at ≤ length doc.list.now.items }
     ensures at { IfOk result (λ edits. edits.at ≡ at) }
-    ensures makes { IfOk result (BeginsWith doc.entry.list.now.items (λ _. end_before at (open_of list))) }
+    ensures makes { IfOk result (
+        BeginsWith doc.entry.list.now.items (λ _. end_before at (open_of list))) }
 {
     let mut edits = Edits::new(alloc);
     let len = doc.list.len();
@@ -52,8 +53,10 @@ fn outdented(
     requires follows { new.old.after ≡ length doc.store.now }
     requires list { list.from < length doc.list.now.items }
     requires within { at < length doc.list.now.items }
-    requires opens { (values : _) → model.is_list_item (plain_list values doc.list.now.items) at ≡ true }
-    ensures means { IfOk result (MovesOut doc.entry.store.now new.new (page_items doc.entry) at (open_of list)) }
+    requires opens { (values : _)
+        → model.is_list_item (plain_list values doc.list.now.items) at ≡ true }
+    ensures means { IfOk result (
+        MovesOut doc.entry.store.now new.new (page_items doc.entry) at (open_of list)) }
     ensures cites { IfOk result (λ tx. TxCites (together doc.entry.store.now new.new) tx) }
     ensures values { IfOk result (BringsInserted doc.entry.store.now new.old new.new) }
     ensures grows { Grows new.old new.new }
@@ -86,11 +89,14 @@ pub fn outdent(
     requires doc { IsDoc doc }
     requires cites { All (CitesWell doc.store.now) doc.list.now.items }
     requires follows { new.old.after ≡ length doc.store.now }
-    ensures means { IfOk result (λ tx. model.outdent (page_items doc.entry) at ≡ Ok (by_value (together doc.entry.store.now new.new) tx)) }
+    ensures means { IfOk result (λ tx.
+        model.outdent (page_items doc.entry) at
+        ≡ Ok (by_value (together doc.entry.store.now new.new) tx)) }
     ensures cites { IfOk result (λ tx. TxCites (together doc.entry.store.now new.new) tx) }
     ensures values { IfOk result (BringsInserted doc.entry.store.now new.old new.new) }
     ensures grows { Grows new.old new.new }
-    ensures refused { IfErr result (λ fault. IsListRefusal fault (model.outdent (page_items doc.entry) at)) }
+    ensures refused { IfErr result (λ fault.
+        IsListRefusal fault (model.outdent (page_items doc.entry) at)) }
 {
     if !is_list_item(doc, at) {
         return Err(ListFault::NotListItem { at });

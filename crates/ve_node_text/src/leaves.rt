@@ -19,7 +19,8 @@ pub fn put_leaf(
     body: Option<&str>,
 ) -> Result<(), Memory>
     requires { head_refers kind head.now ≡ true }
-    ensures text { OnOk result (out.new ≡ out.old ++ leaf_of head.now (option_map (λ b. b.now) body.entry) kind) }
+    ensures text { OnOk result (
+        out.new ≡ out.old ++ leaf_of head.now (option_map (λ b. b.now) body.entry) kind) }
     ensures utf8 { OnOk result (IsUtf8 out.old → IsUtf8 out.new) }
 {
     match kind {

@@ -25,7 +25,12 @@ fn push_attr_of(
     body: Option<&str>,
 ) -> Result<(), Memory>
     requires { CanCompose attr.now }
-    ensures text { OnOk result (out.new ≡ out.old ++ attr_text (canon_attr (with_mw (attr_bytes attr.now) (option_map (λ b. b.now) body.entry)))) }
+    ensures text { OnOk result (
+        out.new
+        ≡ out.old
+        ++ attr_text (
+        canon_attr (
+        with_mw (attr_bytes attr.now) (option_map (λ b. b.now) body.entry)))) }
     ensures utf8 { OnOk result (IsUtf8 out.old → IsUtf8 out.new) }
 {
     if is_data_mw(attr) {
@@ -44,7 +49,8 @@ fn push_start_of(
     body: Option<&str>,
 ) -> Result<(), Memory>
     requires { is_editable_ref head.now ≡ true }
-    ensures text { OnOk result (out.new ≡ out.old ++ ref_start head.now (option_map (λ b. b.now) body.entry)) }
+    ensures text { OnOk result (
+        out.new ≡ out.old ++ ref_start head.now (option_map (λ b. b.now) body.entry)) }
     ensures utf8 { OnOk result (IsUtf8 out.old → IsUtf8 out.new) }
 {
     out.push(b"<")?;
@@ -64,7 +70,8 @@ pub fn put_reference(
     body: Option<&str>,
 ) -> Result<(), Memory>
     requires { is_editable_ref head.now ≡ true }
-    ensures text { OnOk result (out.new ≡ out.old ++ ref_of head.now (option_map (λ b. b.now) body.entry)) }
+    ensures text { OnOk result (
+        out.new ≡ out.old ++ ref_of head.now (option_map (λ b. b.now) body.entry)) }
     ensures utf8 { OnOk result (IsUtf8 out.old → IsUtf8 out.new) }
 {
     push_start_of(alloc, out, head, body)?;

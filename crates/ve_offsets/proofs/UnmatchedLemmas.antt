@@ -10,7 +10,7 @@ use Rattle.model_items.specs.declared.plain_item.PlainItem.{PlainItem}
 use Rattle.model_items.specs.declared.plain_item.PlainItem.TheVariants.{Char, Opening, Closing}
 use Rattle.model_items.specs.Law.{start, finish, step, after, Lawful}
 use Rattle.model_items.specs.Tree.{Open, opens_with, opens_after, length_to_close}
-use Rattle.model_items.specs.Offsets.{is_opening, is_closing, passes, opens_at, first_from, partner, partner_of, is_unmatched, unmatched}
+use Rattle.model_items.specs.Offsets.{is_opening, is_closing, passes, opens_at, first_from, partner, partner_of, is_unmatched, unmatched_counts}
 use Rattle.model_items.proofs.LawLemmas.{joined-ok, closed_before, after_parts, after_from_Lawful}
 use Rattle.model_items.proofs.NodeAtLemmas.{open_is_stack}
 
@@ -298,7 +298,7 @@ module _ (whole : List PlainItem) (from to : ℕ) where
 
 -- The unmatched brackets of a range are those that are left.
 pub unmatched_is_left : (items : List PlainItem) (from to : ℕ) → Lawful items → from ≤ to → to ≤ length items →
-    unmatched items from to ≡ (closings_left (take (to - from) (drop from items)), openings_left (take (to - from) (drop from items)))
+    unmatched_counts items from to ≡ (closings_left (take (to - from) (drop from items)), openings_left (take (to - from) (drop from items)))
 unmatched_is_left items from to lawful order within =
     λ i. (
       (ap (λ n. count_by (λ at. passes is_closing (slice_get items at)) (filter (is_unmatched items from to) (range_with_len from n))) (sym long) ∙ closings) i,

@@ -4,7 +4,7 @@ use Rattle.model_items.specs.declared.item.Item.{Item}
 use Rattle.model_items.specs.declared.item.Item.TheVariants.{Char, Opening, Closing}
 use Rattle.model_items.specs.Law.{Lawful}
 use Rattle.model_items.specs.Tree.{Open}
-use Rattle.model_items.specs.Offsets.{opens_at, unmatched}
+use Rattle.model_items.specs.Offsets.{opens_at, unmatched_counts}
 use Rattle.ve_tree.specs.IsTree.{unvalued}
 
 -- How a range is counted: with one more item, how many closings and openings are unmatched. An
@@ -35,9 +35,9 @@ AllBegin from (o ∷ opens) = (from ≤ o.from) × AllBegin from opens
 pub record IsOpenedAndClosed (items : List Item) (from to : ℕ) : Type 0 where
   pub begun : List Open
   pub in_range : AllBegin from begun
-  pub openings : length begun ≡ (unmatched (unvalued items) from to).1
-  pub closings : (unmatched (unvalued items) from to).0 ≤ length (opens_at (unvalued items) from)
-  pub open_at_end : opens_at (unvalued items) to ≡ begun ++ drop (unmatched (unvalued items) from to).0 (opens_at (unvalued items) from)
+  pub openings : length begun ≡ (unmatched_counts (unvalued items) from to).1
+  pub closings : (unmatched_counts (unvalued items) from to).0 ≤ length (opens_at (unvalued items) from)
+  pub open_at_end : opens_at (unvalued items) to ≡ begun ++ drop (unmatched_counts (unvalued items) from to).0 (opens_at (unvalued items) from)
 
 abbrev pub UnmatchedAreOpen : Type 0
 UnmatchedAreOpen =

@@ -49,7 +49,7 @@ pub fn unmatched(doc: Doc<'_>, from: usize, to: usize) -> (usize, usize)
     requires doc { IsDoc doc }
     requires order { from ≤ to }
     requires within { to ≤ length doc.list.now.items }
-    ensures { result ≡ model.unmatched (unvalued doc.entry.list.now.items) from to }
+    ensures { result ≡ model.unmatched_counts (unvalued doc.entry.list.now.items) from to }
 {
     let mut counts = (0, 0);
     let mut at = from;

@@ -8,14 +8,14 @@ use ve_items::{Item, Linear};
 /// A list that is read at positions near one another, seen as its items. It keeps what was borrowed
 /// at the last position, so a walk to one side looks for each block once.
 #[derive(Drop)]
-pub struct Reader<'a> {
+pub struct OffsetReader<'a> {
     list: &'a Linear,
     // the position of the first item of the borrowed piece
     from: usize,
     piece: &'a [Item],
 }
 
-impl<'a> Model for Reader<'a> {
+impl<'a> Model for OffsetReader<'a> {
     ghost use Rattle.std.specs.Prelude.{List};
     ghost use Rattle.model_items.specs.declared.item.Item.{Item};
     ghost use Rattle.ve_offsets.specs.Lent.{IsPiece};
@@ -42,11 +42,11 @@ fn lend<'a>(list: &'a Linear, at: usize, left: bool) -> (usize, &'a [Item])
     (at, list.piece(at, len))
 }
 
-impl<'a> Reader<'a> {
-    pub fn new(list: &'a Linear) -> Reader<'a>
+impl<'a> OffsetReader<'a> {
+    pub fn new(list: &'a Linear) -> OffsetReader<'a>
         ensures { result ≡ list.now.items }
     {
-        Reader {
+        OffsetReader {
             list,
             from: 0,
             piece: &[],

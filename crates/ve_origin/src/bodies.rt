@@ -90,7 +90,8 @@ fn ends(list: &Linear, at: usize, depth: usize) -> bool
 fn are_same_inside(now: &Linear, at: usize, first: &Linear, place: usize) -> bool
     requires here { at ≤ length now.now.items }
     requires there { place ≤ length first.now.items }
-    ensures { IsTrue result ↔ (cited_inside 0 (drop at now.now.items) ≡ cited_inside 0 (drop place first.now.items)) }
+    ensures { IsTrue result
+        ↔ (cited_inside 0 (drop at now.now.items) ≡ cited_inside 0 (drop place first.now.items)) }
 {
     let mut depth = 0;
     let mut here = at;

@@ -10,8 +10,16 @@ use ve_items::Linear;
 /// How many rows stand before a place.
 fn rows_before(rows: &[RefRow], at: usize) -> usize
     ensures bound { result ≤ length rows.now }
-    ensures before { RowsRise rows.now → (k : ℕ) (r : Row) → slice_get rows.now k ≡ Some r → k < result → r.at < at }
-    ensures after { RowsRise rows.now → (k : ℕ) (r : Row) → slice_get rows.now k ≡ Some r → result ≤ k → at ≤ r.at }
+    ensures before { RowsRise rows.now
+        → (k : ℕ) (r : Row)
+        → slice_get rows.now k ≡ Some r
+        → k < result
+        → r.at < at }
+    ensures after { RowsRise rows.now
+        → (k : ℕ) (r : Row)
+        → slice_get rows.now k ≡ Some r
+        → result ≤ k
+        → at ≤ r.at }
 {
     rows.partition_point(|row| row.at < at)
 }

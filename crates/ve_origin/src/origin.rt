@@ -55,7 +55,9 @@ impl<'a> Origins<'a> {
     ) -> Origins<'a>
         requires body { IsCut page.now body }
         requires rows { AreRows page.now (length first.now.items) table.now }
-        ensures { result ≡ first_read page.entry.now body table.entry.now first.entry.now.items first_refs.entry.now }
+        ensures { result
+            ≡ first_read page.entry.now body table.entry.now first.entry.now.items
+            first_refs.entry.now }
     {
         Origins {
             page,

@@ -18,7 +18,8 @@ use ve_tx::{Entry, Parcel, TxList};
 /// first.
 fn inverse_of(alloc: Global, parcel: &Parcel) -> Result<Parcel, Memory>
     requires { ParcelCites parcel.now }
-    ensures back { IfOk result (λ back. parcel_by_value back ≡ reversal_of (parcel_by_value parcel.now)) }
+    ensures back { IfOk result (λ back.
+        parcel_by_value back ≡ reversal_of (parcel_by_value parcel.now)) }
     ensures outline { IfOk result (λ back. outline back ≡ outline parcel.now) }
     ensures cites { IfOk result ParcelCites }
 {
@@ -42,10 +43,14 @@ fn inverse_of(alloc: Global, parcel: &Parcel) -> Result<Parcel, Memory>
 fn over_later(alloc: Global, later: &[Parcel], back: &Parcel) -> Result<Parcel, RevokeFault>
     requires run { RunFromOneLength (parcels_by_value later.now) (parcel_by_value back.now) }
     requires cites { ParcelCites back.now }
-    ensures joined { IfOk result (λ made. mine_of (join_list (parcels_by_value later.now) (parcel_by_value back.now)) ≡ Ok (parcel_by_value made)) }
+    ensures joined { IfOk result (λ made.
+        mine_of (join_list (parcels_by_value later.now) (parcel_by_value back.now))
+        ≡ Ok (parcel_by_value made)) }
     ensures outline { IfOk result (λ made. outline made ≡ outline back.now) }
     ensures cites { IfOk result ParcelCites }
-    ensures refused { IfErr result (IsRevokeRefusal (mine_of (join_list (parcels_by_value later.now) (parcel_by_value back.now)))) }
+    ensures refused { IfErr result (
+        IsRevokeRefusal (
+        mine_of (join_list (parcels_by_value later.now) (parcel_by_value back.now)))) }
 {
     let JoinedEntries { kept, clash } = entries_over_list(alloc, later, from_ref(back))?;
     if let Some(clash) = clash {
@@ -68,9 +73,12 @@ fn over_later(alloc: Global, later: &[Parcel], back: &Parcel) -> Result<Parcel, 
 pub fn reversal(alloc: Global, entries: &[Parcel], i: usize) -> Result<Parcel, RevokeFault>
     requires within { i < length entries.now }
     requires cite { All ParcelCites entries.now }
-    requires run { RunFromOneLength (made_after (map parcel_by_value entries.now) i) (reversal_of (entry_at (map parcel_by_value entries.now) i)) }
-    ensures back { IfOk result (λ back. revoke (map parcel_by_value entries.now) i ≡ Ok (parcel_by_value back)) }
-    ensures outline { IfOk result (λ back. slice_get (map outline entries.now) i ≡ Some (outline back)) }
+    requires run { RunFromOneLength (made_after (map parcel_by_value entries.now) i)
+        (reversal_of (entry_at (map parcel_by_value entries.now) i)) }
+    ensures back { IfOk result (λ back.
+        revoke (map parcel_by_value entries.now) i ≡ Ok (parcel_by_value back)) }
+    ensures outline { IfOk result (λ back.
+        slice_get (map outline entries.now) i ≡ Some (outline back)) }
     ensures cites { IfOk result ParcelCites }
     ensures refused { IfErr result (IsRevokeRefusal (revoke (map parcel_by_value entries.now) i)) }
 {

@@ -24,7 +24,7 @@ use Rattle.ve_classify.proofs.ContentLemmas.{content_splits}
 use Rattle.ve_reader.specs.declared.purpose.Purpose.{Purpose}
 use Rattle.ve_reader.specs.declared.purpose.Purpose.TheVariants as purpose
 use Rattle.ve_reader.specs.declared.purpose.ReadStop.{ReadStop}
-use Rattle.ve_reader.specs.ReadSoFar.{ReadSoFar, is_page, shown, shown_rows, place_in, with_piece, piece_after}
+use Rattle.ve_reader.specs.ReadSoFar.{ReadSoFar, is_page, items_here, shown_rows, place_in, with_piece, piece_after}
 use Rattle.ve_reader.specs.Stops.{stop_limit, depth_limit, deep_in}
 use Rattle.ve_read.specs.Content.{with_content, content_limit}
 use Rattle.ve_read.specs.ContentParts.{OfParts, SomeParts}
@@ -326,7 +326,7 @@ some_unit text nodes around from n to byte white unit old now is p left =
 
 -- ---- nothing is left
 
-shown_none : (p : Purpose) (k : ℕ) → shown p k [] ≡ []
+shown_none : (p : Purpose) (k : ℕ) → items_here p k [] ≡ []
 shown_none purpose.Page k = refl
 shown_none purpose.Body k = refl
 shown_none purpose.Fragment k = refl

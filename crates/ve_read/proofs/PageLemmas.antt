@@ -3,6 +3,7 @@ use Rattle.std.proofs.Common.{◌≡◌, ℕ, ◌+◌, ◌≤◌, Bool, true, fa
 use Rattle.std.specs.Prelude.{All, flat_map, nat_lt, option_map}
 use Rattle.std.specs.Option.{option_or}
 use Rattle.std.proofs.lemmas.List.{length-map}
+use Rattle.ve_base.specs.Limits.{max_page}
 use Rattle.ve_base.specs.declared.value.Value.{Value}
 use Rattle.ve_base.specs.Empty.{empty_head}
 use Rattle.ve_kinds.specs.declared.kind.Kind.TheVariants.{Root, InternalList}
@@ -136,10 +137,10 @@ within_by o limit = elim limit [ Some l ↦ Err (OverLimit l) | None ↦ if_smal
 not_over : (n m : ℕ) → m ≤ n → nat_lt n m ≡ false
 not_over n m l = grind arith
 
-pub read_as_small : (text : List ℕ) (from to : ℕ) → length text ≤ 4194304 → body_at text ≡ Ok (from, to) → fault_of (slice text from to) ≡ None → limit_from from (slice text from to) ≡ None
+pub read_as_small : (text : List ℕ) (from to : ℕ) → length text ≤ max_page → body_at text ≡ Ok (from, to) → fault_of (slice text from to) ≡ None → limit_from from (slice text from to) ≡ None
     → read_page text ≡ if_small (opened_at text from to)
 read_as_small text from to short body spelled within =
-    ap (page_by text) (not_over 4194304 (length text) short)
+    ap (page_by text) (not_over max_page (length text) short)
     ∙ ap (read_body text) body
     ∙ ap (body_by text from to) spelled
     ∙ ap (within_by (opened_at text from to)) within
@@ -173,7 +174,7 @@ rows_are d text rows even e =
 
 -- What was found of a page, by the calls that found it.
 pub record Found (text : List ℕ) (at : Span) (bytes : List ℕ) (r : ReadSoFar) (list : List Item) (values : List Value) : Type 0 where
-  pub short : length text ≤ 4194304
+  pub short : length text ≤ max_page
   pub body : body_at text ≡ Ok (at.from, at.to)
   pub source : bytes ≡ slice text at.from at.to
   pub read : IsBodyRead at.from bytes r

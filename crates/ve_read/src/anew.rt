@@ -68,8 +68,10 @@ fn values_anew(
     new: &mut NewValues,
 ) -> Result<Vec<ValueId>, Memory>
     requires follows { new.old.after ≡ length store.now }
-    ensures stand { IfOk result (λ ids. model.StandThere values.now (together store.now new.new) ids.items) }
-    ensures filled { OnOk result (together store.now new.new ≡ fill (together store.now new.old) values.now) }
+    ensures stand { IfOk result (λ ids.
+        model.StandThere values.now (together store.now new.new) ids.items) }
+    ensures filled { OnOk result (
+        together store.now new.new ≡ fill (together store.now new.old) values.now) }
     ensures grows { Grows new.old new.new }
 {
     let mut ids = Vec::new(alloc);
@@ -91,9 +93,11 @@ pub fn cited_anew(
 ) -> Result<Items, Memory>
     requires follows { new.old.after ≡ length store.now }
     requires cites { All (CitesWell values.now) list.now.items }
-    ensures items { IfOk result (λ items. plain_list (together store.now new.new) items ≡ plain_list values.now list.now.items) }
+    ensures items { IfOk result (λ items.
+        plain_list (together store.now new.new) items ≡ plain_list values.now list.now.items) }
     ensures cites { IfOk result (All (CitesWell (together store.now new.new))) }
-    ensures filled { OnOk result (together store.now new.new ≡ fill (together store.now new.old) values.now) }
+    ensures filled { OnOk result (
+        together store.now new.new ≡ fill (together store.now new.old) values.now) }
     ensures grows { Grows new.old new.new }
 {
     let ids = values_anew(alloc, values, store, new)?;

@@ -40,8 +40,11 @@ fn push_branch(
     requires block { SomeBlock text.now forest.now (parent_of around) n part.end part.byte }
     requires fit { IsFit forest.now n around (fits.Branch kind) }
     requires unmarked { reader.old.marks ≡ [] }
-    ensures ok { OnOk result (ReadsBlock text.now forest.now (parent_of around) n part.end part.byte white.now reader.old reader.new) }
-    ensures limit { StopsInBlock text.now forest.now (parent_of around) n part.end part.byte reader.old result }
+    ensures ok { OnOk result (
+        ReadsBlock text.now forest.now (parent_of around) n part.end part.byte white.now
+        reader.old reader.new) }
+    ensures limit { StopsInBlock text.now forest.now (parent_of around) n part.end part.byte
+        reader.old result }
 {
     let within = n < forest.len();
     prove!(within);
@@ -89,8 +92,11 @@ fn push_block(
     requires blocks { holds_blocks (parent_of around) ≡ true }
     requires block { SomeBlock text.now forest.now (parent_of around) n part.end part.byte }
     requires unmarked { reader.old.marks ≡ [] }
-    ensures ok { OnOk result (ReadsBlock text.now forest.now (parent_of around) n part.end part.byte white.now reader.old reader.new) }
-    ensures limit { StopsInBlock text.now forest.now (parent_of around) n part.end part.byte reader.old result }
+    ensures ok { OnOk result (
+        ReadsBlock text.now forest.now (parent_of around) n part.end part.byte white.now
+        reader.old reader.new) }
+    ensures limit { StopsInBlock text.now forest.now (parent_of around) n part.end part.byte
+        reader.old result }
 {
     match fit(forest, n, around) {
         Fit::Branch(kind) => push_branch(alloc, text, forest, reader, around, n, part, white, kind),
@@ -117,9 +123,12 @@ fn push_unit<'a>(
     requires blocks { holds_blocks (parent_of around) ≡ true }
     requires unit { SomeUnit text.now forest.now (parent_of around) n unit }
     requires unmarked { reader.old.marks ≡ [] }
-    ensures ok { IfOk result (λ next. ReadsUnit text.now forest.now (parent_of around) n unit white.now next.now reader.old reader.new) }
+    ensures ok { IfOk result (λ next.
+        ReadsUnit text.now forest.now (parent_of around) n unit white.now next.now reader.old
+        reader.new) }
     ensures unmarked { OnOk result (reader.new.marks ≡ []) }
-    ensures limit { IfErr result (λ e. StopsInUnit text.now forest.now (parent_of around) n unit white.now reader.old e) }
+    ensures limit { IfErr result (λ e.
+        StopsInUnit text.now forest.now (parent_of around) n unit white.now reader.old e) }
 {
     match unit.sort {
         Sort::White => Ok(text_at(forest, n)),
@@ -151,9 +160,14 @@ fn read_blocks<'a>(
     requires blocks { holds_blocks (parent_of around) ≡ true }
     requires stands { SomeSiblings text.now forest.now from to.end to.byte }
     requires unmarked { reader.old.marks ≡ [] }
-    ensures ok { OnOk result (ReadsSiblings text.now forest.now (parent_of around) from to.end to.byte reader.old reader.new) }
-    ensures white { IfOk result (λ white. LeavesWhite text.now forest.now (parent_of around) from to.end to.byte reader.old white.now) }
-    ensures limit { StopsInSiblings text.now forest.now (parent_of around) from to.end to.byte reader.old result }
+    ensures ok { OnOk result (
+        ReadsSiblings text.now forest.now (parent_of around) from to.end to.byte reader.old
+        reader.new) }
+    ensures white { IfOk result (λ white.
+        LeavesWhite text.now forest.now (parent_of around) from to.end to.byte reader.old
+        white.now) }
+    ensures limit { StopsInSiblings text.now forest.now (parent_of around) from to.end to.byte
+        reader.old result }
 {
     let mut n = from;
     let mut white: &'a str = "";
@@ -183,9 +197,14 @@ pub fn read_siblings<'a>(
     requires tags { TagsFit forest.now }
     requires stands { SomeSiblings text.now forest.now from to.end to.byte }
     requires unmarked { reader.old.marks ≡ [] }
-    ensures ok { OnOk result (ReadsSiblings text.now forest.now (inside kind) from to.end to.byte reader.old reader.new) }
-    ensures white { IfOk result (λ white. LeavesWhite text.now forest.now (inside kind) from to.end to.byte reader.old white.now) }
-    ensures limit { StopsInSiblings text.now forest.now (inside kind) from to.end to.byte reader.old result }
+    ensures ok { OnOk result (
+        ReadsSiblings text.now forest.now (inside kind) from to.end to.byte reader.old
+        reader.new) }
+    ensures white { IfOk result (λ white.
+        LeavesWhite text.now forest.now (inside kind) from to.end to.byte reader.old
+        white.now) }
+    ensures limit { StopsInSiblings text.now forest.now (inside kind) from to.end to.byte reader.old
+        result }
 {
     match around_in(kind) {
         Around::Content => {

@@ -38,9 +38,12 @@ pub fn read_whole<'a>(
 ) -> Result<&'a str, ReadStop>
     requires nodes { AreNodesOf text.now forest.now }
     requires unmarked { reader.old.marks ≡ [] }
-    ensures ok { OnOk result (reader.new ≡ with_siblings (around_in kind) (parts_in text.now) 0 reader.old) }
-    ensures white { IfOk result (λ white. chars white.now ≡ white_at_end (around_in kind) (parts_in text.now) 0 reader.old) }
-    ensures limit { Stops result (siblings_limit (around_in kind) (parts_in text.now) 0 reader.old) }
+    ensures ok { OnOk result (
+        reader.new ≡ with_siblings (around_in kind) (parts_in text.now) 0 reader.old) }
+    ensures white { IfOk result (λ white.
+        chars white.now ≡ white_at_end (around_in kind) (parts_in text.now) 0 reader.old) }
+    ensures limit { Stops result (
+        siblings_limit (around_in kind) (parts_in text.now) 0 reader.old) }
 {
     read_stands();
     tags_are_read();

@@ -38,7 +38,8 @@ fn read_forest(
     from: usize,
 ) -> Result<Reader, ReadFault>
     requires { AreNodesOf text.now forest.now }
-    ensures items { IfOk result (λ r. r.items ≡ items_of_page (page_made from (or_nothing (forest_of text.now)))) }
+    ensures items { IfOk result (λ r.
+        r.items ≡ items_of_page (page_made from (or_nothing (forest_of text.now)))) }
     ensures rows { IfOk result (λ r. r.rows ≡ rows_in text.now) }
     ensures limit { Within result (limit_from from text.now) }
 {

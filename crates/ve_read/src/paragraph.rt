@@ -32,8 +32,11 @@ pub fn read_paragraph(
     requires tags { TagsFit forest.now }
     requires stands { SomeParts text.now forest.now n part.end part.byte }
     requires unmarked { reader.old.marks ≡ [] }
-    ensures ok { OnOk result (OfParts text.now forest.now n part.end part.byte (λ run at. reader.new ≡ with_paragraph run at reader.old)) }
-    ensures limit { OfParts text.now forest.now n part.end part.byte (λ run at. Stops result (paragraph_limit run at reader.old)) }
+    ensures ok { OnOk result (
+        OfParts text.now forest.now n part.end part.byte (λ run at.
+        reader.new ≡ with_paragraph run at reader.old)) }
+    ensures limit { OfParts text.now forest.now n part.end part.byte (λ run at.
+        Stops result (paragraph_limit run at reader.old)) }
 {
     let from = forest.node(n).span.from;
     let start = NodeStart {

@@ -93,7 +93,8 @@ fn structural_unit(forest: &Forest<'_>, kind: Kind, n: usize, to: Part) -> Unit
     requires leads { LeadsOn forest.now }
     ensures more { n < result.part.end }
     ensures bound { result.part.end ≤ length forest.now }
-    ensures unit { IsUnitAt forest.now (parent_of (around.Structural kind)) n to.end to.byte result }
+    ensures unit { IsUnitAt forest.now (parent_of (around.Structural kind)) n to.end to.byte
+        result }
 {
     let part = part_at(forest, n, to.end, to.byte);
     match fit(forest, n, Around::Structural(kind)) {

@@ -20,8 +20,8 @@ text_key owners group None = record { group = group; key = Auto (auto_count owne
 text_key owners group (Some name) = record { group = group; key = Named name }
 
 -- none where the reference would own a body that has an owner
-abbrev pub claimed : List PageOwner → RefRead → Option Claim
-claimed owners reading =
+abbrev pub claim_of : List PageOwner → RefRead → Option Claim
+claim_of owners reading =
     let key = text_key owners reading.group reading.name in
     if is_some reading.html && is_owned owners key then None else Some (record { key = key; html = reading.html })
 
@@ -33,4 +33,4 @@ page_claim owners reading = record { key = key_of owners reading; html = option_
 abbrev pub ClaimsAreKeys : Type 0
 ClaimsAreKeys =
     (owners : List PageOwner) (reading : page.RefRead)
-    → claimed owners (as_texts reading) ≡ option_map (page_claim owners) (unless_owned owners reading)
+    → claim_of owners (as_texts reading) ≡ option_map (page_claim owners) (unless_owned owners reading)

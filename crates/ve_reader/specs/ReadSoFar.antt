@@ -60,10 +60,10 @@ owned_at at (Some o) = record { at = at; key = o.key; html = encode_utf8_all o.h
 -- ---- origins
 
 -- items as they are here: with origins from the number k on in a page, as they are in a body, and not generated in a fragment
-abbrev pub shown : Purpose → ℕ → List PlainItem → List PlainItem
-shown purpose.Page k items = with_origins k items
-shown purpose.Body k items = items
-shown purpose.Fragment k items = map item_unmade items
+abbrev pub items_here : Purpose → ℕ → List PlainItem → List PlainItem
+items_here purpose.Page k items = with_origins k items
+items_here purpose.Body k items = items
+items_here purpose.Fragment k items = map item_unmade items
 
 -- a row for each opening, with its span: its node begins there and ends with its closing, where the first item stands at the place `at`
 abbrev pub node_rows : ℕ → List PlainItem → List SourceSpan → List OriginRow
@@ -87,7 +87,7 @@ abbrev pub with_piece : Piece → List Owner → ReadSoFar → ReadSoFar
 with_piece piece owners r = record {
   purpose = r.purpose;
   depth = r.depth;
-  items = r.items ++ shown r.purpose (length r.rows) piece.items;
+  items = r.items ++ items_here r.purpose (length r.rows) piece.items;
   marks = r.marks;
   rows = r.rows ++ shown_rows r.purpose (length r.items) piece;
   owners = r.owners ++ owners;

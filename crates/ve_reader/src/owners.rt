@@ -2,7 +2,7 @@
 ghost use Rattle.std.specs.Prelude.{◌≡◌, ◌&&◌, ◌<◌, ◌++◌, ◌∷◌, [], false, length, slice_get, Some, IfOk, IfSome, OnOk, OnErr};
 ghost use Rattle.std.specs.Str.{encode_utf8_all};
 ghost use Rattle.model_page.specs.ReferenceNodes.{is_owned};
-ghost use Rattle.ve_reader.specs.Claimed.{claimed, lent_owner, text_key};
+ghost use Rattle.ve_reader.specs.Claimed.{claim_of, lent_owner, text_key};
 ghost use Rattle.ve_reader.specs.Owned.{count_next};
 
 use crate::key::OwnedKey;
@@ -121,7 +121,7 @@ impl Owners {
     /// What a reference is after these owners, by what its `data-mw` says. None where it would own a body that has an owner. It takes no
     /// memory.
     pub fn claim(&self, reading: RefRead) -> Option<Claim>
-        ensures claim { result ≡ claimed self.now reading }
+        ensures claim { result ≡ claim_of self.now reading }
         ensures free { IfSome result (λ c. IfSome c.html (λ _. is_owned self.now c.key ≡ false)) }
     {
         let owned = OwnedKey {
@@ -140,7 +140,9 @@ impl Owners {
     /// One owner more, of a key that none has: it starts at a byte of the page, and its body has this text. An `Err` changes nothing.
     pub fn push(&mut self, at: usize, key: RefKey, html: Text) -> Result<(), Memory>
         requires { is_owned self.old key ≡ false }
-        ensures ok { OnOk result (self.new ≡ self.old ++ record { at = at; key = key; html = encode_utf8_all html } ∷ []) }
+        ensures ok { OnOk result (
+            self.new
+            ≡ self.old ++ record { at = at; key = key; html = encode_utf8_all html } ∷ []) }
         ensures err { OnErr result (self.new ≡ self.old) }
     {
         let unnamed = count_with(self.unnamed, &key)?;

@@ -26,7 +26,8 @@ pub fn put_char(
     ch: char,
 ) -> Result<Option<ValueId>, Memory>
     requires { Knows values.old marks.now known }
-    ensures ok { OnOk result (More values.old values.new items.old items.new (plain.Char ch marks.now)) }
+    ensures ok { OnOk result (
+        More values.old values.new items.old items.new (plain.Char ch marks.now)) }
     ensures knows { IfOk result (Knows values.new marks.now) }
     ensures err { OnErr result (items.new ≡ items.old) }
     ensures extends { Extends values.old values.new }
@@ -46,7 +47,8 @@ pub fn put_leaf(
     opening: Opening,
 ) -> Result<Option<ValueId>, Memory>
     requires { Knows values.old marks.now known }
-    ensures ok { OnOk result (More values.old values.new items.old items.new (leaf_of opening marks.now)) }
+    ensures ok { OnOk result (
+        More values.old values.new items.old items.new (leaf_of opening marks.now)) }
     ensures knows { IfOk result (Knows values.new marks.now) }
     ensures err { OnErr result (items.new ≡ items.old) }
     ensures extends { Extends values.old values.new }
@@ -72,7 +74,8 @@ pub fn put_block(
     opening: Opening,
     white: &str,
 ) -> Result<(), Memory>
-    ensures ok { OnOk result (More values.old values.new items.old items.new (block_of opening (chars white.now))) }
+    ensures ok { OnOk result (
+        More values.old values.new items.old items.new (block_of opening (chars white.now))) }
     ensures err { OnErr result (items.new ≡ items.old) }
     ensures extends { Extends values.old values.new }
 {
@@ -97,7 +100,8 @@ pub fn put_closing(
     kind: Kind,
     white: &str,
 ) -> Result<(), Memory>
-    ensures ok { OnOk result (More values.old values.new items.old items.new (plain.Closing kind (chars white.now))) }
+    ensures ok { OnOk result (
+        More values.old values.new items.old items.new (plain.Closing kind (chars white.now))) }
     ensures err { OnErr result (items.new ≡ items.old) }
     ensures extends { Extends values.old values.new }
 {

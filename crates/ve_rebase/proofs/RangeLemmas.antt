@@ -13,7 +13,7 @@ use Rattle.ve_tx.specs.declared.op.Op.{Op}
 use Rattle.ve_tx.specs.declared.op.Op.TheVariants as op
 use Rattle.ve_tx.specs.Normal.{total_size}
 use Rattle.ve_tx.specs.Operation.{Operation, Retain, Replace, Attribute, bare, by_value}
-use Rattle.ve_rebase.specs.declared.span.Span.{Span}
+use Rattle.ve_rebase.specs.declared.span.ActiveSpan.{ActiveSpan}
 use Rattle.ve_rebase.specs.declared.shifted.Shifted.{Shifted}
 use Rattle.ve_rebase.specs.Span.{span_of, meet}
 use Rattle.ve_rebase.specs.Pair.{between}
@@ -145,7 +145,7 @@ rest_by_value values (Replace removed inserted ∷ tx) = refl
 rest_by_value values (Attribute c ∷ tx) = refl
 
 -- the changes with their positions, as the moved transaction has them
-moved_places : (values : List Value) (s : Span) (tx : List Operation) (ops : List Op) → ops ≡ map bare tx →
+moved_places : (values : List Value) (s : ActiveSpan) (tx : List Operation) (ops : List Op) → ops ≡ map bare tx →
     places s.first (after_first ops) ≡ all_unkept (placed_changes 0 (between s (by_value values tx)))
 moved_places values s tx ops e =
     ap (λ l. places s.first (after_first l)) e

@@ -10,7 +10,7 @@ ghost use Rattle.ve_rebase.specs.Span.{span_of, old_size, end};
 use crate::RebaseFault;
 use crate::places::attributes_meet;
 use crate::read::span_of;
-use crate::span::{Span, joined_first, joined_second};
+use crate::span::{ActiveSpan, joined_first, joined_second};
 use crate::totals::inserted_count;
 use std::alloc::Global;
 use ve_base::{MAX_TOTAL_LENGTH, Memory};
@@ -26,7 +26,7 @@ pub fn conflict(a: &Transaction, b: &Transaction) -> bool
 }
 
 /// The same, where the spans of both are known.
-fn clash(a: &Transaction, span: Span, b: &Transaction, other: Span) -> bool
+fn clash(a: &Transaction, span: ActiveSpan, b: &Transaction, other: ActiveSpan) -> bool
     requires span { (values : _) → span ≡ span_of (by_value values a.now) }
     requires other { (values : _) → other ≡ span_of (by_value values b.now) }
     requires span_fits { end span < 2 ^ 64 }
@@ -59,12 +59,19 @@ pub fn pair(
     a: &Transaction,
     b: &Transaction,
 ) -> Result<(Transaction, Transaction), RebaseFault>
-    requires { (values : _) → old_length (by_value values a.now) ≡ old_length (by_value values b.now) }
-    ensures joined { IfOk result (λ two. (values : _) → both_by_value values two ≡ join (by_value values a.now) (by_value values b.now)) }
-    ensures apart { IfOk result (λ two. (values : _) → conflict (by_value values a.now) (by_value values b.now) ≡ false) }
-    ensures first_cites { IfOk result (λ two. (values : _) → TxCites values a.now → TxCites values two.0) }
-    ensures second_cites { IfOk result (λ two. (values : _) → TxCites values b.now → TxCites values two.1) }
-    ensures refused { IfErr result (λ why. (values : _) → IsRefused (by_value values a.now) (by_value values b.now) why) }
+    requires { (values : _)
+        → old_length (by_value values a.now) ≡ old_length (by_value values b.now) }
+    ensures joined { IfOk result (λ two.
+        (values : _)
+        → both_by_value values two ≡ join (by_value values a.now) (by_value values b.now)) }
+    ensures apart { IfOk result (λ two.
+        (values : _) → conflict (by_value values a.now) (by_value values b.now) ≡ false) }
+    ensures first_cites { IfOk result (λ two.
+        (values : _) → TxCites values a.now → TxCites values two.0) }
+    ensures second_cites { IfOk result (λ two.
+        (values : _) → TxCites values b.now → TxCites values two.1) }
+    ensures refused { IfErr result (λ why.
+        (values : _) → IsRefused (by_value values a.now) (by_value values b.now) why) }
 {
     let span = span_of(a);
     let other = span_of(b);
@@ -80,11 +87,13 @@ pub fn pair(
 }
 
 /// The transaction's operations between the ends of a span.
-pub fn reshaped(alloc: Global, tx: &Transaction, span: Span) -> Result<Transaction, Memory>
+pub fn reshaped(alloc: Global, tx: &Transaction, span: ActiveSpan) -> Result<Transaction, Memory>
     requires stands { (values : _) → MayStandIn span (by_value values tx.now) }
     requires small { old_size span ≤ 2 ^ 62 }
-    ensures made { IfOk result (λ made. (values : _) → by_value values made ≡ between span (by_value values tx.now)) }
-    ensures cites { IfOk result (λ made. (values : _) → TxCites values tx.now → TxCites values made) }
+    ensures made { IfOk result (λ made.
+        (values : _) → by_value values made ≡ between span (by_value values tx.now)) }
+    ensures cites { IfOk result (λ made.
+        (values : _) → TxCites values tx.now → TxCites values made) }
 {
     let total = span.old_size() + inserted_count(tx.ops());
     if total > MAX_TOTAL_LENGTH {

@@ -8,18 +8,21 @@ ghost use Rattle.ve_rebase.specs.Span.{old_size};
 
 use crate::RebaseFault;
 use crate::shifted::{Shifted, begun, paired, written};
-use crate::span::Span;
+use crate::span::ActiveSpan;
 use std::alloc::Global;
 use ve_tx::TxList;
 
 /// The committed ones in turn over one of mine: they become what they are over it, and the span is
 /// that of mine over them.
-fn row(committed: &mut Vec<Shifted<'_>>, mine: Shifted<'_>) -> Result<Span, RebaseFault>
+fn row(committed: &mut Vec<Shifted<'_>>, mine: Shifted<'_>) -> Result<ActiveSpan, RebaseFault>
     requires shifted { All IsShifted committed.old.items }
     requires follow { FollowFrom (old_size mine.span) committed.old.items }
     requires mine { IsShifted mine }
-    ensures row { IfOk result (λ span. IsRow committed.old.items mine.entry committed.new.items span) }
-    ensures refused { IfErr result (λ why. (values others : _) → IsRefusedAs (joined_row values others committed.old.items mine.entry) why) }
+    ensures row { IfOk result (λ span.
+        IsRow committed.old.items mine.entry committed.new.items span) }
+    ensures refused { IfErr result (λ why.
+        (values others : _)
+        → IsRefusedAs (joined_row values others committed.old.items mine.entry) why) }
 {
     let mut span = mine.span;
     for i in 0..committed.len() {
@@ -42,8 +45,11 @@ pub fn rows(
     requires shifted { All IsShifted committed.old.items }
     requires mine_shifted { All IsShifted mine.old.items }
     requires one_length { StartTogether committed.old.items mine.old.items }
-    ensures rows { OnOk result (AreRows committed.old.items mine.old.items committed.new.items mine.new.items) }
-    ensures refused { IfErr result (λ why. (values others : _) → IsRefusedAs (joined_rows values others committed.old.items mine.old.items) why) }
+    ensures rows { OnOk result (
+        AreRows committed.old.items mine.old.items committed.new.items mine.new.items) }
+    ensures refused { IfErr result (λ why.
+        (values others : _)
+        → IsRefusedAs (joined_rows values others committed.old.items mine.old.items) why) }
 {
     for j in 0..mine.len() {
         let one = mine[j];
@@ -71,10 +77,13 @@ pub fn lists(
     committed: &TxList,
     mine: &TxList,
 ) -> Result<(TxList, TxList), RebaseFault>
-    requires { (values : _) → RunFromOneLength (map (by_value values) committed.now) (map (by_value values) mine.now) }
+    requires { (values : _)
+        → RunFromOneLength (map (by_value values) committed.now) (map (by_value values) mine.now) }
     ensures joined { IfOk result (AreListsJoined committed.now mine.now) }
-    ensures committed_cite { IfOk result (λ two. (values : _) → All (TxCites values) committed.now → All (TxCites values) two.0) }
-    ensures mine_cite { IfOk result (λ two. (values : _) → All (TxCites values) mine.now → All (TxCites values) two.1) }
+    ensures committed_cite { IfOk result (λ two.
+        (values : _) → All (TxCites values) committed.now → All (TxCites values) two.0) }
+    ensures mine_cite { IfOk result (λ two.
+        (values : _) → All (TxCites values) mine.now → All (TxCites values) two.1) }
     ensures refused { IfErr result (AreListsRefused committed.now mine.now) }
 {
     let mut over = begun(alloc, committed.as_slice())?;

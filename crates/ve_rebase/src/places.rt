@@ -41,7 +41,9 @@ fn adds_or_removes(from: &Option<Text>, to: &Option<Text>) -> bool
 /// Whether a change of this name, which adds or removes an attribute where `moves` is true, and
 /// another one depend on their order.
 fn clashes(name: &Text, moves: bool, other: &Text, from: &Option<Text>, to: &Option<Text>) -> bool
-    ensures { result ≡ (text_same name.now other.now || (moves && adds_or_removes (change_of other.now from.now to.now))) }
+    ensures { result
+        ≡ (text_same name.now other.now
+        || (moves && adds_or_removes (change_of other.now from.now to.now))) }
 {
     same_text(name, other) || moves && adds_or_removes(from, to)
 }

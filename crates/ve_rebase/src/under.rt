@@ -52,7 +52,8 @@ fn joined_under(
 ) -> Result<Entry, RebaseFault>
     requires shifted { All IsShifted over.old.items }
     requires meet { MeetUnder over.old.items mine.now }
-    ensures joined { IfOk result (λ made. IsJoinedUnder over.old.items mine.now over.new.items made) }
+    ensures joined { IfOk result (λ made.
+        IsJoinedUnder over.old.items mine.now over.new.items made) }
     ensures kept { OnErr result (over.new.items ≡ over.old.items) }
     ensures refused { IfErr result (IsRefusedUnder over.old.items mine.now) }
 {
@@ -76,8 +77,11 @@ fn joined_all<'a>(
     sent: &[Entry],
     unsent: &[Entry],
 ) -> Result<(Vec<Shifted<'a>>, EntryList), Memory>
-    requires { (values : _) → RunFromOneLength (parcel_by_value foreign.now) (parcels_by_value (all_over values (sent.now ++ unsent.now))) }
-    ensures { IfOk result (λ two. WereJoined foreign.now (sent.now ++ unsent.now) two.0.items two.1) }
+    requires { (values : _)
+        → RunFromOneLength (parcel_by_value foreign.now) (
+        parcels_by_value (all_over values (sent.now ++ unsent.now))) }
+    ensures { IfOk result (λ two.
+        WereJoined foreign.now (sent.now ++ unsent.now) two.0.items two.1) }
 {
     let Some(count) = sent.len().checked_add(unsent.len()) else {
         return Err(Memory);
@@ -108,7 +112,9 @@ pub fn entries_under(
     sent: &[Entry],
     unsent: &[Entry],
 ) -> Result<EntriesUnder, Memory>
-    requires { (values : _) → RunFromOneLength (parcel_by_value foreign.now) (parcels_by_value (all_over values (sent.now ++ unsent.now))) }
+    requires { (values : _)
+        → RunFromOneLength (parcel_by_value foreign.now) (
+        parcels_by_value (all_over values (sent.now ++ unsent.now))) }
     ensures { IfOk result (AreUnder foreign.now (sent.now ++ unsent.now)) }
 {
     let (over, kept) = joined_all(alloc, foreign, sent, unsent)?;

@@ -32,7 +32,8 @@ fn joined_over(
 ) -> Result<Parcel, RebaseFault>
     requires shifted { All IsShifted over.old.items }
     requires meet { Meet over.old.items (parcel_by_value mine.now) }
-    ensures joined { IfOk result (λ made. IsJoinedOver over.old.items mine.now over.new.items made) }
+    ensures joined { IfOk result (λ made.
+        IsJoinedOver over.old.items mine.now over.new.items made) }
     ensures refused { IfErr result (IsRefusedOver over.old.items mine.now) }
 {
     let mut entry = begun(alloc, mine.entry.txs.as_slice())?;

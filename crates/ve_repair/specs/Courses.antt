@@ -12,7 +12,7 @@ use Rattle.ve_tx.specs.Checked.{old_size}
 use Rattle.ve_repair.specs.Work as W
 use Rattle.ve_repair.specs.Agree.{steps_of}
 use Rattle.ve_repair.specs.Spelled.{NoLetters}
-use Rattle.ve_repair.specs.Script.{Reader, script_for, first_reader}
+use Rattle.ve_repair.specs.Script.{ChangeReader, script_for, first_reader}
 use Rattle.ve_repair.specs.Acts.{Act, Stay, Go, ComeLetter, ComeBegin, ComeEnd, marks, come, acts_of}
 use Rattle.ve_repair.specs.declared.cursor.Passed.{Passed}
 use Rattle.ve_repair.specs.Cursors.{Spot, past, items_in, IsAt, IsPassed}
@@ -65,7 +65,7 @@ supply_of ss k = unwrap_or (text_at ss k) 0
 abbrev pub IsFresh : List W.Step → Type 0
 IsFresh ss = text_at ss (ends_in ss) ≡ None
 
-abbrev pub reader_of : Reading → Reader
+abbrev pub reader_of : Reading → ChangeReader
 reader_of r = record { seen = option_map number_of r.seen; run = running_of r.run; made = ends_in (steps_of r.script) }
 
 -- how many items of the old list acts are of

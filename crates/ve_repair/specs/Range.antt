@@ -8,7 +8,7 @@ use Rattle.ve_tx.specs.declared.op.Op.{Op}
 use Rattle.ve_tx.specs.declared.op.Op.TheVariants.{Retain, Replace, Attribute}
 use Rattle.ve_tx.specs.Operation.{Operation, by_value, bare}
 use Rattle.ve_repair.specs.declared.range.ChangedRange.{ChangedRange}
-use Rattle.ve_repair.specs.Change.{taken, given}
+use Rattle.ve_repair.specs.Change.{items_taken, items_made}
 use Rattle.ve_repair.specs.Outside.{Spares}
 
 abbrev pub is_replace : Op → Bool
@@ -26,11 +26,11 @@ KeepItems (Attribute name from to ∷ ops) = KeepItems ops
 -- how many items of the old list they pass or remove, and how many of the new one they make
 abbrev pub all_taken : List Op → ℕ
 all_taken [] = 0
-all_taken (op ∷ ops) = taken op + all_taken ops
+all_taken (op ∷ ops) = items_taken op + all_taken ops
 
 abbrev pub all_given : List Op → ℕ
 all_given [] = 0
-all_given (op ∷ ops) = given op + all_given ops
+all_given (op ∷ ops) = items_made op + all_given ops
 
 abbrev pub begins_with_replace : List Op → Bool
 begins_with_replace [] = false

@@ -18,8 +18,10 @@ fn keep_rest(
     most: usize,
 ) -> Result<(), Memory>
     requires row { IsRoomyRow arena.now first most }
-    ensures stacks { OnOk result (StacksForRow arena.now first most plan.old.stacks plan.new.stacks) }
-    ensures writes { OnOk result (WritesForRow arena.now first most plan.old.stacks plan.old.writes plan.new.writes) }
+    ensures stacks { OnOk result (
+        StacksForRow arena.now first most plan.old.stacks plan.new.stacks) }
+    ensures writes { OnOk result (
+        WritesForRow arena.now first most plan.old.stacks plan.old.writes plan.new.writes) }
 {
     let mut next = first;
     let mut left = most;
@@ -41,7 +43,11 @@ fn keep_level(
 ) -> Result<(), Memory>
     requires row { IsRoomyRow arena.now first most }
     ensures outer { OnOk result (outer_stacks plan.new.stacks ≡ outer_stacks plan.old.stacks) }
-    ensures writes { OnOk result ((f : Named) → IsRowFrom arena.now first f → item_count (unnumbered f) ≤ most → plan.new.writes ≡ plan.old.writes ++ level_writes f plan.old.stacks) }
+    ensures writes { OnOk result (
+        (f : Named)
+        → IsRowFrom arena.now first f
+        → item_count (unnumbered f) ≤ most
+        → plan.new.writes ≡ plan.old.writes ++ level_writes f plan.old.stacks) }
 {
     if plan.is_same_parent() {
         return Ok(());
@@ -58,7 +64,10 @@ pub(crate) fn close_all(
     most: usize,
 ) -> Result<(), Memory>
     requires left { AreSomeLeft arena.now most plan.old.stacks.old first }
-    ensures writes { OnOk result ((fs : List Named) → AreLeft arena.now most plan.old.stacks.old first fs → plan.new.writes ≡ plan.old.writes ++ close_writes fs plan.old.stacks) }
+    ensures writes { OnOk result (
+        (fs : List Named)
+        → AreLeft arena.now most plan.old.stacks.old first fs
+        → plan.new.writes ≡ plan.old.writes ++ close_writes fs plan.old.stacks) }
 {
     let mut next = first;
     while let Some(open) = plan.innermost() {

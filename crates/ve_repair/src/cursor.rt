@@ -37,7 +37,10 @@ impl Cursor {
     pub(crate) fn pass(self, arena: &Arena, most: usize) -> Passed
         requires some { 1 ≤ most }
         requires at { IsAtSome arena.now self most }
-        ensures { (spot : Spot) → IsAt arena.now self spot → most ≤ items_in spot.rest → IsPassed arena.now most spot result }
+        ensures { (spot : Spot)
+            → IsAt arena.now self spot
+            → most ≤ items_in spot.rest
+            → IsPassed arena.now most spot result }
     {
         let Some(n) = self.next else {
             let node = arena.node(self.parent);

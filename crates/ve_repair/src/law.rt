@@ -3,7 +3,7 @@ ghost use Rattle.std.specs.Prelude.{◌≡◌, ◌≤◌, ◌<◌, ◌+◌, ◌^
 ghost use Rattle.model_items.specs.Law as law;
 ghost use Rattle.ve_lawful.specs.Uncited.{after};
 ghost use Rattle.ve_offsets.specs.Docs.{IsDoc};
-ghost use Rattle.ve_repair.specs.Change.{CanApply, LawfulAfter, FailsAfter, piece_of, taken, given};
+ghost use Rattle.ve_repair.specs.Change.{CanApply, LawfulAfter, FailsAfter, piece_of, items_taken, items_made};
 
 use model_items::{Item, LawFault};
 use ve_items::Linear;
@@ -38,8 +38,10 @@ fn pass(state: &mut State, items: &[Item]) -> Result<(), LawFault>
 fn pass_range(state: &mut State, list: &Linear, at: usize, count: usize) -> Result<(), LawFault>
     requires within { at + count ≤ length list.now.items }
     requires fits { at + count < 2 ^ 64 }
-    ensures ok { OnOk result (after state.old (take count (drop at list.now.items)) ≡ Ok state.new) }
-    ensures err { IfErr result (λ fault. after state.old (take count (drop at list.now.items)) ≡ Err fault) }
+    ensures ok { OnOk result (
+        after state.old (take count (drop at list.now.items)) ≡ Ok state.new) }
+    ensures err { IfErr result (λ fault.
+        after state.old (take count (drop at list.now.items)) ≡ Err fault) }
 {
     let mut done = 0;
     while done < count {
@@ -83,8 +85,10 @@ fn pass_retained(
     requires doc { IsDoc doc }
     requires within { at + count ≤ length doc.list.now.items }
     requires fits { at + count < 2 ^ 64 }
-    ensures ok { OnOk result (after state.old (take count (drop at doc.entry.list.now.items)) ≡ Ok state.new) }
-    ensures err { IfErr result (λ fault. after state.old (take count (drop at doc.entry.list.now.items)) ≡ Err fault) }
+    ensures ok { OnOk result (
+        after state.old (take count (drop at doc.entry.list.now.items)) ≡ Ok state.new) }
+    ensures err { IfErr result (λ fault.
+        after state.old (take count (drop at doc.entry.list.now.items)) ≡ Err fault) }
 {
     if is_outer || count > NEAR {
         let old = state_at(doc, at);
@@ -105,10 +109,12 @@ fn pass_op(
     is_outer: bool,
 ) -> Result<(), LawFault>
     requires doc { IsDoc doc }
-    requires within { at + taken op.now ≤ length doc.list.now.items }
-    requires fits { at + taken op.now < 2 ^ 64 }
-    ensures ok { OnOk result (after state.old (piece_of op.now (drop at doc.entry.list.now.items)) ≡ Ok state.new) }
-    ensures err { IfErr result (λ fault. after state.old (piece_of op.now (drop at doc.entry.list.now.items)) ≡ Err fault) }
+    requires within { at + items_taken op.now ≤ length doc.list.now.items }
+    requires fits { at + items_taken op.now < 2 ^ 64 }
+    ensures ok { OnOk result (
+        after state.old (piece_of op.now (drop at doc.entry.list.now.items)) ≡ Ok state.new) }
+    ensures err { IfErr result (λ fault.
+        after state.old (piece_of op.now (drop at doc.entry.list.now.items)) ≡ Err fault) }
 {
     match op {
         Op::Retain(count) => pass_retained(state, doc, at, *count, is_outer),
@@ -118,7 +124,7 @@ fn pass_op(
 }
 
 pub(crate) fn taken(op: &Op) -> usize
-    ensures { result ≡ taken op.now }
+    ensures { result ≡ items_taken op.now }
 {
     match op {
         Op::Retain(count) => *count,
@@ -128,7 +134,7 @@ pub(crate) fn taken(op: &Op) -> usize
 }
 
 pub(crate) fn given(op: &Op) -> usize
-    ensures { result ≡ given op.now }
+    ensures { result ≡ items_made op.now }
 {
     match op {
         Op::Retain(count) => *count,

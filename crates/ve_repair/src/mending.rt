@@ -39,9 +39,11 @@ pub fn relink<L: Ledger>(
     requires applies { CanApply tx.now list.now.items }
     requires lawful { LawfulAfter tx.now list.now.items }
     ensures tree { OnOk result (IsTreeOfAfter tree.new tx.now list.now.items) }
-    ensures numbers { OnOk result (KeepsNumbers tree.old.arena tree.new.arena tree.old.root tx.now list.now.items) }
+    ensures numbers { OnOk result (
+        KeepsNumbers tree.old.arena tree.new.arena tree.old.root tx.now list.now.items) }
     ensures root { tree.new.root ≡ tree.old.root }
-    ensures kept { OnErr result ((others : List PlainItem) → IsTreeOf tree.old others → IsTreeOf tree.new others) }
+    ensures kept { OnErr result (
+        (others : List PlainItem) → IsTreeOf tree.old others → IsTreeOf tree.new others) }
     ensures same { OnErr result (SameNodes tree.old.arena tree.new.arena) }
     ensures counted { steps.old ≤ steps.new }
     ensures steps { IsWithinTouch steps.old steps.new tx.now list.now.items }
@@ -94,9 +96,11 @@ pub fn repair<L: Ledger>(
     requires applies { CanApply tx.now list.now.items }
     ensures tree { OnOk result (IsTreeOfAfter tree.new tx.now list.now.items) }
     ensures cause { IfErr result (IsCause tx.now list.now.items) }
-    ensures numbers { OnOk result (KeepsNumbers tree.old.arena tree.new.arena tree.old.root tx.now list.now.items) }
+    ensures numbers { OnOk result (
+        KeepsNumbers tree.old.arena tree.new.arena tree.old.root tx.now list.now.items) }
     ensures root { tree.new.root ≡ tree.old.root }
-    ensures kept { OnErr result ((others : List PlainItem) → IsTreeOf tree.old others → IsTreeOf tree.new others) }
+    ensures kept { OnErr result (
+        (others : List PlainItem) → IsTreeOf tree.old others → IsTreeOf tree.new others) }
     ensures same { OnErr result (SameNodes tree.old.arena tree.new.arena) }
     ensures none { IfErr result (CostsNone steps.old steps.new) }
     ensures counted { steps.old ≤ steps.new }

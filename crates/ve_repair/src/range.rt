@@ -2,7 +2,7 @@
 ghost use Rattle.std.specs.Prelude.{◌≡◌, ◌≤◌, ◌<◌, ◌+◌, ◌^◌, ◌∷◌, ◌++◌, [], List, IfSome, IfNone};
 ghost use Rattle.ve_tx.specs.Normal.{total_size};
 ghost use Rattle.ve_tx.specs.declared.op.Op.{Op};
-ghost use Rattle.ve_repair.specs.Change.{taken, given};
+ghost use Rattle.ve_repair.specs.Change.{items_taken, items_made};
 ghost use Rattle.ve_repair.specs.Range.{is_replace, KeepItems, IsChangedRange, SparesOutside, FindsRange, HasSeen, BeginsBefore};
 
 use crate::law::{given, taken};
@@ -39,10 +39,12 @@ fn with_op(
     op: &Op,
 ) -> Option<ChangedRange>
     requires number { k + 1 < 2 ^ 64 }
-    requires old_fits { at + taken op.now < 2 ^ 64 }
-    requires new_fits { new_at + given op.now < 2 ^ 64 }
+    requires old_fits { at + items_taken op.now < 2 ^ 64 }
+    requires new_fits { new_at + items_made op.now < 2 ^ 64 }
     requires begins { BeginsBefore found at new_at }
-    ensures { (before : List Op) → HasSeen before found k at new_at → FindsRange (before ++ (op.now ∷ [])) result }
+    ensures { (before : List Op)
+        → HasSeen before found k at new_at
+        → FindsRange (before ++ (op.now ∷ [])) result }
 {
     if !is_replace(op) {
         return found;

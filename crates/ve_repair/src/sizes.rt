@@ -55,7 +55,8 @@ fn end_at(
     writes: &mut Vec<Write>,
 ) -> Result<(), Memory>
     requires { AllOpenLive arena.now levels.now }
-    ensures { OnOk result (writes.new.items ≡ writes.old.items ++ end_writes arena.now levels.now at) }
+    ensures { OnOk result (
+        writes.new.items ≡ writes.old.items ++ end_writes arena.now levels.now at) }
 {
     match levels.top() {
         Some(level) => resize(arena, level.node, at.saturating_sub(level.from), writes),
@@ -144,7 +145,8 @@ impl Sizes {
         requires live { AllOpenLive arena.now self.old.new_open }
         requires fits { PlacesFit (left How.Put self.old) }
         ensures sizes { OnOk result (self.new ≡ left How.Put self.old) }
-        ensures writes { OnOk result (writes.new.items ≡ writes.old.items ++ left_writes arena.now How.Put self.old) }
+        ensures writes { OnOk result (
+            writes.new.items ≡ writes.old.items ++ left_writes arena.now How.Put self.old) }
     {
         self.new_at += 1;
         end_at(arena, &self.new_open, self.new_at, writes)?;
@@ -156,7 +158,8 @@ impl Sizes {
         requires live { AllOpenLive arena.now self.old.new_open }
         requires fits { PlacesFit (left how self.old) }
         ensures sizes { OnOk result (self.new ≡ left how self.old) }
-        ensures writes { OnOk result (writes.new.items ≡ writes.old.items ++ left_writes arena.now how self.old) }
+        ensures writes { OnOk result (
+            writes.new.items ≡ writes.old.items ++ left_writes arena.now how self.old) }
     {
         match how {
             How::Keep => {
@@ -195,7 +198,8 @@ impl Sizes {
         requires named { StepIsLive arena.now step }
         requires fits { PlacesFit (sized arena.now step self.old) }
         ensures sizes { OnOk result (self.new ≡ sized arena.now step self.old) }
-        ensures writes { OnOk result (writes.new.items ≡ writes.old.items ++ size_writes arena.now step self.old) }
+        ensures writes { OnOk result (
+            writes.new.items ≡ writes.old.items ++ size_writes arena.now step self.old) }
     {
         match step {
             Step::Enter { how, n } => self.enter(how, n),
@@ -222,7 +226,8 @@ impl Sizes {
         requires named { StepsAreLive arena.now script.now }
         requires fits { PlacesFit (sized_all arena.now script.now self.old) }
         ensures sizes { OnOk result (self.new ≡ sized_all arena.now script.now self.old) }
-        ensures writes { OnOk result (writes.new.items ≡ writes.old.items ++ sizes_writes arena.now script.now self.old) }
+        ensures writes { OnOk result (
+            writes.new.items ≡ writes.old.items ++ sizes_writes arena.now script.now self.old) }
     {
         for step in script {
             self.step(arena, *step, writes)?;
@@ -236,7 +241,11 @@ impl Sizes {
         requires old { AllOpenLive arena.now self.old.old_open }
         requires new { AllOpenLive arena.now self.old.new_open }
         requires fits { LengthsFit arena.now self.old.old_open self.old.new_at }
-        ensures { OnOk result (writes.new.items ≡ writes.old.items ++ open_writes arena.now self.old.old_open self.old.new_open self.old.old_at self.old.new_at) }
+        ensures { OnOk result (
+            writes.new.items
+            ≡ writes.old.items
+            ++ open_writes arena.now self.old.old_open self.old.new_open self.old.old_at
+            self.old.new_at) }
     {
         while let Some(outer) = self.old_open.top() {
             let Some(begun) = self.new_open.top() else {

@@ -97,7 +97,8 @@ fn edge_at(tree: &Tree, x: usize) -> Edge
 
 /// The node is open in both lists, inside those that are.
 fn begin(inner: Opened, plan: &mut Plan, sizes: &mut Sizes) -> Result<(), Memory>
-    ensures stacks { OnOk result (plan.new.stacks ≡ begun_stacks (opened_level inner) plan.old.stacks) }
+    ensures stacks { OnOk result (
+        plan.new.stacks ≡ begun_stacks (opened_level inner) plan.old.stacks) }
     ensures writes { OnOk result (plan.new.writes ≡ plan.old.writes) }
     ensures sizes { OnOk result (sizes.new ≡ with_level (opened_from inner) sizes.old) }
 {
@@ -125,7 +126,8 @@ fn begin_round(
     requires new { plan.old.stacks.new ≡ [] }
     requires old_open { sizes.old.old_open ≡ [] }
     requires new_open { sizes.old.new_open ≡ [] }
-    ensures open_nodes { OnOk result (OpensRound tree.now.arena tree.now.root n last plan.new.stacks sizes.new) }
+    ensures open_nodes { OnOk result (
+        OpensRound tree.now.arena tree.now.root n last plan.new.stacks sizes.new) }
     ensures writes { OnOk result (plan.new.writes ≡ plan.old.writes) }
 {
     let inner = Opened {
@@ -153,7 +155,8 @@ pub(crate) fn start_at(
     requires new { plan.old.stacks.new ≡ [] }
     requires old_open { sizes.old.old_open ≡ [] }
     requires new_open { sizes.old.new_open ≡ [] }
-    ensures start { IfOk result (λ start. StartsRange tree.now.arena tree.now.root x start plan.new.stacks sizes.new) }
+    ensures start { IfOk result (λ start.
+        StartsRange tree.now.arena tree.now.root x start plan.new.stacks sizes.new) }
     ensures writes { OnOk result (plan.new.writes ≡ plan.old.writes) }
 {
     let edge = edge_at(tree, x);

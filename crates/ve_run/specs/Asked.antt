@@ -1,10 +1,10 @@
 -- What the words after the program's name ask for.
 use Rattle.std.specs.Prelude.{◌≡◌, ℕ, List}
-use Rattle.ve_words.specs.Words.{Meant, Asks, meant}
+use Rattle.ve_words.specs.Words.{Meant, Asks, meaning_of}
 use Rattle.ve_words.specs.declared.read.Mode.TheVariants.{Run, Soak}
 
 unfoldable pub asked_for : (words : List (List ℕ)) → Meant
-asked_for words = meant words
+asked_for words = meaning_of words
 
 -- the words ask for the lines of the source to be answered
 abbrev pub IsRun : List (List ℕ) → Type 0

@@ -20,7 +20,8 @@ pub trait Machine {
         out: &mut Bytes,
         steps: &mut Steps<L>,
     ) -> Result<(), Memory>
-        ensures reply { OnOk result (out.new ≡ out.old ++ (reply_text (meaning.reply self.old line.now) ++ 10 ∷ [])) }
+        ensures reply { OnOk result (
+            out.new ≡ out.old ++ (reply_text (meaning.reply self.old line.now) ++ 10 ∷ [])) }
         ensures unsaid { OnErr result (out.new ≡ out.old) }
         ensures state { OnOk result (self.new ≡ meaning.next self.old line.now) }
         ensures counted { steps.old ≤ steps.new }

@@ -28,7 +28,8 @@ fn step_lines<M: Machine, L: Ledger>(
     requires few { length lines.old < 2 ^ 63 }
     requires none { IsTally tally.old [] }
     ensures tally { OnOk result (IsTally tally.new (reply_lines M.meaning world.old lines.old)) }
-    ensures took { OnOk result (TookLines M.meaning world.old world.new steps.old steps.new lines.old) }
+    ensures took { OnOk result (
+        TookLines M.meaning world.old world.new steps.old steps.new lines.old) }
     ensures counted { steps.old ≤ steps.new }
 {
     'lines: while lines.next(line)? {
@@ -48,8 +49,11 @@ fn sum_up<M: Machine, L: Ledger>(
     world: &mut M,
     steps: &mut Steps<L>,
 ) -> Result<(), Memory>
-    ensures text { OnOk result (out.new ≡ out.old ++ soak_text M.meaning world.old (script_lines start edits)) }
-    ensures took { OnOk result (TookLines M.meaning world.old world.new steps.old steps.new (script_lines start edits)) }
+    ensures text { OnOk result (
+        out.new ≡ out.old ++ soak_text M.meaning world.old (script_lines start edits)) }
+    ensures took { OnOk result (
+        TookLines M.meaning world.old world.new steps.old steps.new (
+        script_lines start edits)) }
     ensures counted { steps.old ≤ steps.new }
 {
     let mut lines = Lines::new(start, edits);

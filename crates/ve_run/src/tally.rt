@@ -52,7 +52,9 @@ impl Tally {
         requires few { self.old.lines < 2 ^ 63 }
         requires few_accepted { self.old.accepted < 2 ^ 63 }
         requires few_refused { self.old.refused < 2 ^ 63 }
-        ensures { (answers : List (List ℕ)) → IsTally self.old answers → IsTally self.new (answers ++ reply.now ∷ []) }
+        ensures { (answers : List (List ℕ))
+            → IsTally self.old answers
+            → IsTally self.new (answers ++ reply.now ∷ []) }
     {
         self.lines = counted(self.lines, true);
         self.accepted = counted(self.accepted, begins(reply, OK));
@@ -62,7 +64,10 @@ impl Tally {
 
     /// Appends the four lines on what was counted and hashed.
     pub fn push_text(self, alloc: Global, out: &mut Bytes) -> Result<(), Memory>
-        ensures { OnOk result ((answers : List (List ℕ)) → IsTally self answers → out.new ≡ out.old ++ summed_up answers) }
+        ensures { OnOk result (
+            (answers : List (List ℕ))
+            → IsTally self answers
+            → out.new ≡ out.old ++ summed_up answers) }
     {
         let Tally {
             lines,

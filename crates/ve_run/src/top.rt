@@ -27,7 +27,8 @@ const USAGE: &[u8] = b"usage: vemodel run | make | soak [--start N] [--edits N]\
 /// Writes the usage line, and then ends so.
 fn write_usage<K: Sink>(so: Status, sink: &mut K) -> Status
     requires { (so ≡ Status.Usage) ⊎ (so ≡ Status.Help) }
-    ensures ended { TextEnded so usage_line (K.held sink.old) (K.held sink.new) (K.faults sink.old) (K.faults sink.new) result }
+    ensures ended { TextEnded so usage_line (K.held sink.old) (K.held sink.new) (K.faults sink.old)
+        (K.faults sink.new) result }
     ensures later { K.faults sink.old ≤ K.faults sink.new }
 {
     match write_all(sink, USAGE) {
@@ -130,7 +131,9 @@ pub fn run<S: Source, K: Sink, M: Machine, L: Ledger>(
 
     // The source is asked in mode `run` alone, and the machine in modes `run` and `soak`.
     ensures unread { (IsRun words.now → ⊥) → source.new ≡ source.old }
-    ensures unmoved { (IsRun words.now → ⊥) → (IsSoak words.now → ⊥) → (world.new ≡ world.old) × (steps.new ≡ steps.old) }
+    ensures unmoved { (IsRun words.now → ⊥)
+        → (IsSoak words.now → ⊥)
+        → (world.new ≡ world.old) × (steps.new ≡ steps.old) }
 
     // It doesn't give up by itself.
     ensures complete { IsRun words.now → NoFaults (S.faults source.old) (S.faults source.new) (K.faults sink.old) (K.faults sink.new)

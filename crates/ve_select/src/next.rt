@@ -37,7 +37,11 @@ fn boundary_at(
     by: By,
 ) -> Result<Option<usize>, Memory>
     requires { offset ≤ length list.now.items }
-    ensures { IfOk result (λ place. (values : _) → place ≡ model.boundary_at dir (cutting by) (plain_list values list.entry.now.items) offset) }
+    ensures { IfOk result (λ place.
+        (values : _)
+        → place
+        ≡ model.boundary_at dir (cutting by) (plain_list values list.entry.now.items)
+        offset) }
 {
     let len = list.len();
     prove!(offset <= len);
@@ -54,7 +58,9 @@ fn boundary_at(
 fn next_ahead(alloc: Global, doc: Doc<'_>, offset: usize, by: By) -> Result<Option<usize>, Memory>
     requires doc { IsDoc doc }
     requires within { offset ≤ length doc.list.now.items }
-    ensures { IfOk result (λ place. (values : _) → place ≡ next (plain_list values doc.entry.list.now.items) offset Ahead by) }
+    ensures { IfOk result (λ place.
+        (values : _)
+        → place ≡ next (plain_list values doc.entry.list.now.items) offset Ahead by) }
 {
     let len = doc.list.len();
     if offset == len {
@@ -73,7 +79,9 @@ fn next_ahead(alloc: Global, doc: Doc<'_>, offset: usize, by: By) -> Result<Opti
 /// The next place back, by the item before the offset: a leaf is passed whole.
 fn next_back(alloc: Global, doc: Doc<'_>, offset: usize, by: By) -> Result<Option<usize>, Memory>
     requires { offset ≤ length doc.list.now.items }
-    ensures { IfOk result (λ place. (values : _) → place ≡ next (plain_list values doc.entry.list.now.items) offset Back by) }
+    ensures { IfOk result (λ place.
+        (values : _)
+        → place ≡ next (plain_list values doc.entry.list.now.items) offset Back by) }
 {
     let before = offset.saturating_sub(1);
     if before >= doc.list.len() {
@@ -99,7 +107,9 @@ fn next_place(
 ) -> Result<Option<usize>, Memory>
     requires doc { IsDoc doc }
     requires within { offset ≤ length doc.list.now.items }
-    ensures { IfOk result (λ place. (values : _) → place ≡ next (plain_list values doc.entry.list.now.items) offset dir by) }
+    ensures { IfOk result (λ place.
+        (values : _)
+        → place ≡ next (plain_list values doc.entry.list.now.items) offset dir by) }
 {
     match dir {
         Dir::Back => {
@@ -124,7 +134,9 @@ pub fn next_cluster(
 ) -> Result<Option<usize>, Memory>
     requires doc { IsDoc doc }
     requires within { offset ≤ length doc.list.now.items }
-    ensures { IfOk result (λ place. (values : _) → place ≡ next (plain_list values doc.entry.list.now.items) offset dir Cluster) }
+    ensures { IfOk result (λ place.
+        (values : _)
+        → place ≡ next (plain_list values doc.entry.list.now.items) offset dir Cluster) }
 {
     next_place(alloc, doc, offset, dir, By::Cluster)
 }
@@ -138,7 +150,9 @@ pub fn next_word(
 ) -> Result<Option<usize>, Memory>
     requires doc { IsDoc doc }
     requires within { offset ≤ length doc.list.now.items }
-    ensures { IfOk result (λ place. (values : _) → place ≡ next (plain_list values doc.entry.list.now.items) offset dir Word) }
+    ensures { IfOk result (λ place.
+        (values : _)
+        → place ≡ next (plain_list values doc.entry.list.now.items) offset dir Word) }
 {
     next_place(alloc, doc, offset, dir, By::Word)
 }

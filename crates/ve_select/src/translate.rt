@@ -56,7 +56,10 @@ pub fn translate_offset(tx: &Transaction, offset: usize, bias: Bias) -> usize
 
 /// Where both ends of a selection stand in the new list, each keeping to its side.
 fn with_sides(tx: &Transaction, s: Selection, anchor: Bias, focus: Bias) -> Selection
-    ensures { (values : _) → result ≡ between (translate (by_value values tx.now) s.anchor anchor) (translate (by_value values tx.now) s.focus focus) }
+    ensures { (values : _)
+        → result
+        ≡ between (translate (by_value values tx.now) s.anchor anchor)
+        (translate (by_value values tx.now) s.focus focus) }
 {
     Selection {
         anchor: translate_offset(tx, s.anchor, anchor),

@@ -21,8 +21,8 @@ all_queued sender k entries [] = []
 all_queued sender k entries (feeds ∷ queues) = (feeds ++ feed_for sender k entries) ∷ all_queued sender (suc k) entries queues
 
 -- the accepted entries of a submission are committed, and each queue is fed
-abbrev pub served : (sender : ℕ) → Submission → Serving → Serving
-served sender s v = let j = accepted_of v.committed s in
+abbrev pub after_serving : (sender : ℕ) → Submission → Serving → Serving
+after_serving sender s v = let j = accepted_of v.committed s in
     record { committed = v.committed ++ j.kept; queues = all_queued sender 0 j.kept v.queues }
 
 -- the answer to the sender
@@ -35,5 +35,5 @@ first_of [] = (None, [])
 first_of (feed ∷ feeds) = (Some feed, feeds)
 
 -- the next feed of the site at k, if there is one, and the server without it
-abbrev pub fed : ℕ → Serving → Option SiteFeed × Serving
-fed k v = let r = first_of (slice_index_or v.queues k []) in (r.0, record v { queues = slice_set v.queues k r.1 })
+abbrev pub first_feed : ℕ → Serving → Option SiteFeed × Serving
+first_feed k v = let r = first_of (slice_index_or v.queues k []) in (r.0, record v { queues = slice_set v.queues k r.1 })

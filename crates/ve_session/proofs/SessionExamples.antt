@@ -8,13 +8,13 @@ use Rattle.model_world.specs.declared.command.Command.TheVariants.{Ask}
 use Rattle.model_world.specs.declared.refusal.Refusal.TheVariants.{NotOpen, NothingQueued, NothingToUndo}
 use Rattle.model_world.specs.declared.reply.Reply.TheVariants.{Caret, No}
 use Rattle.model_world.specs.World.{Closed}
-use Rattle.ve_session.specs.Asked.{is_shown, kept_or_new, obeyed}
+use Rattle.ve_session.specs.Asked.{is_shown, kept_or_new, reply_and_world}
 use Rattle.ve_session.specs.Cost.{steps_of, steps_to_answer, steps_to_erase, steps_to_open, steps_to_perform}
 use Rattle.ve_session.specs.Opened.{replica_in}
 use Rattle.ve_session.specs.Turning.{CaretStands}
 
 -- without a page `html` is refused, and takes no step; no site has a replica
-closed : obeyed Closed (Ask request.Html 0) ≡ (No NotOpen, Closed)
+closed : reply_and_world Closed (Ask request.Html 0) ≡ (No NotOpen, Closed)
 closed = refl
 
 no_step : steps_of Closed (Ok (Ask request.Html 0)) ≡ 0

@@ -8,11 +8,11 @@ pub record State : Type 0 where
   pub is_spent : Bool
 
 -- without a page
-abbrev pub begun : State
-begun = record { world = Closed; is_spent = false }
+abbrev pub closed_state : State
+closed_state = record { world = Closed; is_spent = false }
 
-abbrev pub spent : State
-spent = record { world = Closed; is_spent = true }
+abbrev pub spent_state : State
+spent_state = record { world = Closed; is_spent = true }
 
 -- after a line
 abbrev pub after : State → List ℕ → State

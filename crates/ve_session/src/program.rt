@@ -6,7 +6,7 @@ ghost use Rattle.model_world.specs.World.{Closed, output_of};
 ghost use Rattle.ve_run.specs.Asked.{asked_for, IsRun, IsSoak};
 ghost use Rattle.ve_run.specs.Ended.{EndsByLength, EndsByWords};
 ghost use Rattle.ve_run.specs.Run.{NoFaults};
-ghost use Rattle.ve_session.specs.Program.{seen, EndedNew, WrotePrefixNew};
+ghost use Rattle.ve_session.specs.Program.{seen_of, EndedNew, WrotePrefixNew};
 
 use crate::World;
 use std::alloc::Global;
@@ -27,12 +27,12 @@ pub fn run_program<S: Source, K: Sink, L: Ledger>(
         Appends (K.held sink.old) (K.held sink.new) (output_of Closed script) × (S.left source.new ≡ Some [])) }
     // In each mode and at each status, also where the source doesn't tell its bytes.
     ensures ended { EndedNew words.now
-        (seen steps.old (S.left source.old) (K.held sink.old) (S.faults source.old) (K.faults sink.old))
-        (seen steps.new (S.left source.new) (K.held sink.new) (S.faults source.new) (K.faults sink.new)) result }
+        (seen_of steps.old (S.left source.old) (K.held sink.old) (S.faults source.old) (K.faults sink.old))
+        (seen_of steps.new (S.left source.new) (K.held sink.new) (S.faults source.new) (K.faults sink.new)) result }
     // At every status what was written is a prefix of what the definitions write for the bytes taken.
     ensures prefix { IsRun words.now → WrotePrefixNew
-        (seen steps.old (S.left source.old) (K.held sink.old) (S.faults source.old) (K.faults sink.old))
-        (seen steps.new (S.left source.new) (K.held sink.new) (S.faults source.new) (K.faults sink.new)) }
+        (seen_of steps.old (S.left source.old) (K.held sink.old) (S.faults source.old) (K.faults sink.old))
+        (seen_of steps.new (S.left source.new) (K.held sink.new) (S.faults source.new) (K.faults sink.new)) }
 
     // The source is asked in mode `run` alone, and steps are taken in modes `run` and `soak`.
     ensures unread { (IsRun words.now → ⊥) → source.new ≡ source.old }

@@ -36,7 +36,8 @@ pub fn shown<'a>(
     requires site { k < sites session.now }
     requires shown { is_shown request.now ≡ true }
     requires unwritten { (request.now ≡ Request.Html) → ⊥ }
-    ensures answer { IfOk result (λ answer. IsAnswered request.now k session.entry.now answer session.entry.now) }
+    ensures answer { IfOk result (λ answer.
+        IsAnswered request.now k session.entry.now answer session.entry.now) }
 {
     replies_are_as_asked();
     let doc = doc_at(session, k);

@@ -4,10 +4,10 @@ ghost use Rattle.model_world.specs.declared.command.Command.TheVariants.{Ask, Op
 ghost use Rattle.model_world.specs.declared.reply.Reply.TheVariants as reply;
 ghost use Rattle.model_world.specs.Spelled.{reply_text};
 ghost use Rattle.model_world.specs.World.{reply as model_reply};
-ghost use Rattle.ve_session.specs.Asked.{obeyed, IsAsked};
+ghost use Rattle.ve_session.specs.Asked.{reply_and_world, IsAsked};
 ghost use Rattle.ve_session.specs.Cost.{steps_of, steps_of_line};
 ghost use Rattle.ve_session.specs.Opened.{replica_in, HasUtf8Page, IsLed};
-ghost use Rattle.ve_session.specs.States.{after, begun, spent};
+ghost use Rattle.ve_session.specs.States.{after, closed_state, spent_state};
 
 use crate::page::OpenPage;
 use std::alloc::Global;
@@ -55,7 +55,7 @@ fn tell_length(alloc: Global, len: usize, out: &mut Bytes) -> Result<(), Memory>
 impl World {
     /// A world without a page. It takes no memory.
     pub fn new(alloc: Global) -> World
-        ensures { result ≡ begun }
+        ensures { result ≡ closed_state }
     {
         World {
             alloc,
@@ -94,8 +94,16 @@ impl World {
         steps: &mut Steps<L>,
     ) -> Result<(), Memory>
         requires asked { IsAsked (OpensPage text sites) }
-        ensures reply { OnOk result (out.new ≡ out.old ++ (reply_text (obeyed self.old.world (OpensPage text sites)).0 ++ 10 ∷ [])) }
-        ensures world { OnOk result (self.new ≡ record self.old { world = (obeyed self.old.world (OpensPage text sites)).1 }) }
+        ensures reply { OnOk result (
+            out.new
+            ≡ out.old
+            ++ (reply_text (reply_and_world self.old.world (OpensPage text sites)).0
+            ++ 10
+            ∷ [])) }
+        ensures world { OnOk result (
+            self.new ≡ record self.old {
+              world = (reply_and_world self.old.world (OpensPage text sites)).1;
+            }) }
         ensures unsaid { OnErr result (out.new ≡ out.old) }
         ensures counted { steps.old ≤ steps.new }
         ensures cost { steps.new ≤ steps.old + steps_of self.old.world (Ok (OpensPage text sites)) }
@@ -121,8 +129,16 @@ impl World {
         steps: &mut Steps<L>,
     ) -> Result<(), Memory>
         requires asked { IsAsked (Ask request.now site) }
-        ensures reply { OnOk result (out.new ≡ out.old ++ (reply_text (obeyed self.old.world (Ask request.now site)).0 ++ 10 ∷ [])) }
-        ensures world { OnOk result (self.new ≡ record self.old { world = (obeyed self.old.world (Ask request.now site)).1 }) }
+        ensures reply { OnOk result (
+            out.new
+            ≡ out.old
+            ++ (reply_text (reply_and_world self.old.world (Ask request.now site)).0
+            ++ 10
+            ∷ [])) }
+        ensures world { OnOk result (
+            self.new ≡ record self.old {
+              world = (reply_and_world self.old.world (Ask request.now site)).1;
+            }) }
         ensures unsaid { OnErr result (out.new ≡ out.old) }
         ensures counted { steps.old ≤ steps.new }
         ensures cost { steps.new ≤ steps.old + steps_of self.old.world (Ok (Ask request.now site)) }
@@ -145,8 +161,11 @@ impl World {
         steps: &mut Steps<L>,
     ) -> Result<(), Memory>
         requires asked { IsAsked command }
-        ensures reply { OnOk result (out.new ≡ out.old ++ (reply_text (obeyed self.old.world command).0 ++ 10 ∷ [])) }
-        ensures world { OnOk result (self.new ≡ record self.old { world = (obeyed self.old.world command).1 }) }
+        ensures reply { OnOk result (
+            out.new
+            ≡ out.old ++ (reply_text (reply_and_world self.old.world command).0 ++ 10 ∷ [])) }
+        ensures world { OnOk result (
+            self.new ≡ record self.old { world = (reply_and_world self.old.world command).1 }) }
         ensures unsaid { OnErr result (out.new ≡ out.old) }
         ensures counted { steps.old ≤ steps.new }
         ensures cost { steps.new ≤ steps.old + steps_of self.old.world (Ok command) }
@@ -164,7 +183,9 @@ impl World {
         out: &mut Bytes,
         steps: &mut Steps<L>,
     ) -> Result<(), Memory>
-        ensures reply { OnOk result (out.new ≡ out.old ++ (reply_text (model_reply self.old.world line.now).0 ++ 10 ∷ [])) }
+        ensures reply { OnOk result (
+            out.new
+            ≡ out.old ++ (reply_text (model_reply self.old.world line.now).0 ++ 10 ∷ [])) }
         ensures state { OnOk result (self.new ≡ after self.old line.now) }
         ensures unsaid { OnErr result (out.new ≡ out.old) }
         ensures stays_spent { self.old.is_spent ≡ true → IsErr result }
@@ -193,10 +214,12 @@ impl World {
         out: &mut Bytes,
         steps: &mut Steps<L>,
     ) -> Result<(), Memory>
-        ensures reply { OnOk result (out.new ≡ out.old ++ (reply_text (model_reply self.old.world line.now).0 ++ 10 ∷ [])) }
+        ensures reply { OnOk result (
+            out.new
+            ≡ out.old ++ (reply_text (model_reply self.old.world line.now).0 ++ 10 ∷ [])) }
         ensures state { OnOk result (self.new ≡ after self.old line.now) }
         ensures unsaid { OnErr result (out.new ≡ out.old) }
-        ensures spent { OnErr result (self.new ≡ spent) }
+        ensures spent_state { OnErr result (self.new ≡ spent_state) }
         ensures stays_spent { self.old.is_spent ≡ true → IsErr result }
         ensures counted { steps.old ≤ steps.new }
         ensures cost { steps.new ≤ steps.old + steps_of_line self.old.world line.now }

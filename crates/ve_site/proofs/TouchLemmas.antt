@@ -15,7 +15,7 @@ use Rattle.model_items.specs.declared.law_fault.LawFault.{LawFault}
 use Rattle.model_items.specs.declared.law_fault.LawFault.TheVariants.{Unlawful, TooDeep}
 use Rattle.model_items.specs.declared.plain_item.PlainItem.{PlainItem}
 use Rattle.model_items.specs.declared.plain_item.PlainItem.TheVariants.{Char, Opening, Closing}
-use Rattle.model_items.specs.Law.{State, start, finish, top, opened, may_open, is_over, after, step, Lawful}
+use Rattle.model_items.specs.Law.{State, start, finish, top, state_opened, may_open, is_over, after, step, Lawful}
 use Rattle.model_items.specs.Tree.{tree_of, item_count, Shape, Letter, Begin, End, shape_of}
 use Rattle.model_items.proofs.LawLemmas.{after_from_Lawful, joined-ok}
 use Rattle.model_items.proofs.OnlyLemmas.{tree_has_whole_runs}
@@ -153,7 +153,7 @@ is_letter_step true s t f h = cc
 is_letter_step false s t f h = cc
 
 -- after an opening something is open
-opens : (s t : State) (k : Kind) → opened s k ≡ Ok t → is_over t ≡ false
+opens : (s t : State) (k : Kind) → state_opened s k ≡ Ok t → is_over t ≡ false
 opens s t k h = by (may_open s k) (nat_lt (length s.stack) max_open_kinds) h
   where
     by : (a b : Bool) → (if a then (if b then Ok (record { stack = k ∷ s.stack; seen = s.seen || kind_same k InternalList }) else Err (TooDeep 0)) else Err (Unlawful 0)) ≡ Ok t → is_over t ≡ false

@@ -19,9 +19,9 @@ pub record Settles (old new : Replica) (e : Entry) : Type 0 where
 
 -- the copy in the place of the site's own, and the entry after those that aren't sent; nothing can
 -- be redone then
-abbrev pub settled : Replica → Entry → Site → Site
-settled new e site = record site { replica = new; unsent = site.unsent ++ entry_by_value new.store e ∷ []; undone = [] }
+abbrev pub with_new_entry : Replica → Entry → Site → Site
+with_new_entry new e site = record site { replica = new; unsent = site.unsent ++ entry_by_value new.store e ∷ []; undone = [] }
 
 -- So it is the site with these transactions as a new entry.
 abbrev pub SettledIsPerformed : Type 0
-SettledIsPerformed = (new : Replica) (e : Entry) (site : Site) (by : Settles site.replica new e) → settled new e site ≡ with_entry by.ts site
+SettledIsPerformed = (new : Replica) (e : Entry) (site : Site) (by : Settles site.replica new e) → with_new_entry new e site ≡ with_entry by.ts site

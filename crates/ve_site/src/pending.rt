@@ -26,9 +26,14 @@ fn take_back<L: Ledger>(
     requires stack { IsStack editor.old (sent.now ++ unsent.now) }
     requires count { count ≡ length (sent.now ++ unsent.now) }
     requires left { left ≤ count }
-    ensures dropped { OnOk result (AreDropped editor.old (take left (sent.now ++ unsent.now)) (drop left (sent.now ++ unsent.now)) editor.new) }
+    ensures dropped { OnOk result (
+        AreDropped editor.old (take left (sent.now ++ unsent.now))
+        (drop left (sent.now ++ unsent.now)) editor.new) }
     ensures counted { steps.old ≤ steps.new }
-    ensures steps { steps.new ≤ steps.old + steps_back (map (entry_by_value editor.old.store) (drop left (sent.now ++ unsent.now))) editor.old }
+    ensures steps { steps.new
+        ≤ steps.old
+        + steps_back (map (entry_by_value editor.old.store) (drop left (sent.now ++ unsent.now)))
+        editor.old }
 {
     let mut at = count;
     while at > left {
@@ -52,12 +57,18 @@ pub fn admit_under<L: Ledger>(
     requires stack { IsStack editor.old (sent.now ++ unsent.now) }
     requires left { left ≤ length (sent.now ++ unsent.now) }
     requires cites { ParcelCites committed.now }
-    requires stands { AllStand (parcel_by_value committed.now) (all_reverted (map (entry_by_value editor.old.store) (drop left (sent.now ++ unsent.now))) editor.old).items }
-    ensures admitted { OnOk result (IsAdmitted editor.old (sent.now ++ unsent.now) left (parcel_by_value committed.now) editor.new) }
+    requires stands { AllStand (parcel_by_value committed.now)
+        (all_reverted (map (entry_by_value editor.old.store) (drop left (sent.now ++ unsent.now))) editor.old).items }
+    ensures admitted { OnOk result (
+        IsAdmitted editor.old (sent.now ++ unsent.now) left (parcel_by_value committed.now)
+        editor.new) }
     ensures stored { IfOk result (λ stored. stored ≡ length editor.new.store) }
     ensures kept { OnErr result (editor.new ≡ editor.old) }
     ensures counted { steps.old ≤ steps.new }
-    ensures steps { steps.new ≤ steps.old + steps_under (map (entry_by_value editor.old.store) (drop left (sent.now ++ unsent.now))) (parcel_by_value committed.now) editor.old }
+    ensures steps { steps.new
+        ≤ steps.old
+        + steps_under (map (entry_by_value editor.old.store) (drop left (sent.now ++ unsent.now)))
+        (parcel_by_value committed.now) editor.old }
 {
     let Some(count) = sent.len().checked_add(unsent.len()) else {
         return Err(Memory);

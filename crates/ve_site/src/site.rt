@@ -54,7 +54,8 @@ impl Model for Site {
 
 /// Why a site that has nothing unsent undoes nothing, where it sent so many entries.
 fn nothing_to_undo(sent: usize) -> UndoFault
-    ensures { result ≡ (if sent == 0 then UndoFault.NothingToUndo else UndoFault.AlreadyShared sent) }
+    ensures { result
+        ≡ (if sent == 0 then UndoFault.NothingToUndo else UndoFault.AlreadyShared sent) }
 {
     if sent == 0 {
         return UndoFault::NothingToUndo;
@@ -73,7 +74,7 @@ impl Site {
     ghost use Rattle.ve_site.specs.Ground.{ground_of};
     ghost use Rattle.ve_site.specs.Taking.{MayTake, steps_of_feed, steps_of_take, steps_to_take, steps_to_take_all};
     ghost use Rattle.ve_site.specs.Numbered.{with_site};
-    ghost use Rattle.ve_site.specs.Settled.{settled, Settles};
+    ghost use Rattle.ve_site.specs.Settled.{with_new_entry, Settles};
     ghost use Rattle.ve_site.specs.Refusal.{IsUndoRefusal, IsRedoRefusal, IsSendRefusal};
     ghost use Rattle.model_site.specs.Refused.{edit_cause};
 
@@ -132,12 +133,20 @@ impl Site {
     pub fn edit<L: Ledger>(&mut self, draft: &Draft, steps: &mut Steps<L>) -> Result<(), EditFault>
         requires draft { IsDraftOf self.old.site.replica.store draft.now }
         requires apart { InsertedApart (drafted self.old.site.replica.store draft.now) }
-        ensures site { OnOk result (edit (drafted self.old.site.replica.store draft.now) self.old.site ≡ Ok self.new.site) }
+        ensures site { OnOk result (
+            edit (drafted self.old.site.replica.store draft.now) self.old.site
+            ≡ Ok self.new.site) }
         ensures number { self.new.number ≡ self.old.number }
-        ensures refused { IfErr result (IsEditRefusal (edit_cause (drafted self.old.site.replica.store draft.now) self.old.site.replica)) }
+        ensures refused { IfErr result (
+            IsEditRefusal (
+            edit_cause (drafted self.old.site.replica.store draft.now)
+            self.old.site.replica)) }
         ensures kept { OnErr result (self.new ≡ self.old) }
         ensures counted { steps.old ≤ steps.new }
-        ensures steps { steps.new ≤ steps.old + steps_after (drafted self.old.site.replica.store draft.now ∷ []) self.old.site.replica.items }
+        ensures steps { steps.new
+            ≤ steps.old
+            + steps_after (drafted self.old.site.replica.store draft.now ∷ [])
+            self.old.site.replica.items }
     {
         if self.history.reserve().is_err() {
             return Err(EditFault::Memory);
@@ -155,7 +164,8 @@ impl Site {
     /// entries can't be redone then. An `Err` changes nothing.
     pub fn settle(&mut self, editor: Editor, entry: Entry) -> Result<(), Memory>
         requires settles { Settles self.old.site.replica editor entry }
-        ensures site { OnOk result (self.new ≡ with_site (settled editor entry self.old.site) self.old) }
+        ensures site { OnOk result (
+            self.new ≡ with_site (with_new_entry editor entry self.old.site) self.old) }
         ensures kept { OnErr result (self.new ≡ self.old) }
     {
         self.history.reserve()?;
@@ -175,7 +185,8 @@ impl Site {
         ensures refused { IfErr result (IsUndoRefusal (undo self.old.site)) }
         ensures kept { OnErr result (self.new ≡ self.old) }
         ensures counted { steps.old ≤ steps.new }
-        ensures steps { steps.new ≤ steps.old + steps_over (undoing self.old.site.unsent) self.old.site.replica.items }
+        ensures steps { steps.new
+            ≤ steps.old + steps_over (undoing self.old.site.unsent) self.old.site.replica.items }
     {
         if self.history.reserve().is_err() {
             return Err(UndoFault::Memory);
@@ -203,7 +214,8 @@ impl Site {
         ensures refused { IfErr result (IsRedoRefusal (redo self.old.site)) }
         ensures kept { OnErr result (self.new ≡ self.old) }
         ensures counted { steps.old ≤ steps.new }
-        ensures steps { steps.new ≤ steps.old + steps_over (redoing self.old.site.undone) self.old.site.replica.items }
+        ensures steps { steps.new
+            ≤ steps.old + steps_over (redoing self.old.site.undone) self.old.site.replica.items }
     {
         if self.history.reserve().is_err() {
             return Err(RedoFault::Memory);
@@ -248,10 +260,13 @@ impl Site {
     pub fn adopt<L: Ledger>(&mut self, back: &Parcel, steps: &mut Steps<L>) -> Result<(), Memory>
         requires cites { ParcelCites back.now }
         requires run { AllRun (parcel_by_value back.now) self.old.site.replica.items }
-        ensures site { OnOk result (self.new ≡ with_site (with_entry (parcel_by_value back.now) self.old.site) self.old) }
+        ensures site { OnOk result (
+            self.new
+            ≡ with_site (with_entry (parcel_by_value back.now) self.old.site) self.old) }
         ensures kept { OnErr result (self.new ≡ self.old) }
         ensures counted { steps.old ≤ steps.new }
-        ensures steps { steps.new ≤ steps.old + steps_over (parcel_by_value back.now) self.old.site.replica.items }
+        ensures steps { steps.new
+            ≤ steps.old + steps_over (parcel_by_value back.now) self.old.site.replica.items }
     {
         self.history.reserve()?;
         let entry = self.editor.admit(back, steps)?;
@@ -264,7 +279,8 @@ impl Site {
     /// has seen. `InFlight` comes exactly where a submission is not acknowledged yet, and else
     /// `NothingToSend` exactly where nothing is unsent. An `Err` changes nothing.
     pub fn send(&mut self) -> Result<Submit, SendFault>
-        ensures sent { IfOk result (λ sent. send self.old.site ≡ Ok (self.new.site, submission_of sent)) }
+        ensures sent { IfOk result (λ sent.
+            send self.old.site ≡ Ok (self.new.site, submission_of sent)) }
         ensures from { IfOk result (λ sent. sent.site ≡ self.old.number) }
         ensures number { self.new.number ≡ self.old.number }
         ensures refused { IfErr result (IsSendRefusal (send self.old.site)) }
@@ -312,7 +328,8 @@ impl Site {
 
     /// The same site with nothing undone.
     fn copy<L: Ledger>(&self, steps: &mut Steps<L>) -> Result<Site, Memory>
-        ensures ok { IfOk result (λ copy. copy ≡ with_site (record self.now.site { undone = [] }) self.now) }
+        ensures ok { IfOk result (λ copy.
+            copy ≡ with_site (record self.now.site { undone = [] }) self.now) }
         ensures counted { steps.old ≤ steps.new }
         ensures steps { steps.new ≤ steps.old + most_steps self.now.site.replica.items }
     {
@@ -342,11 +359,14 @@ impl Site {
     ) -> Result<usize, Memory>
         requires cites { ParcelCites foreign.now }
         requires run { AllRun (parcel_by_value foreign.now) (ground_of self.old.site) }
-        ensures site { OnOk result (self.new ≡ with_site (take_entry (parcel_by_value foreign.now) self.old.site) self.old) }
+        ensures site { OnOk result (
+            self.new
+            ≡ with_site (take_entry (parcel_by_value foreign.now) self.old.site) self.old) }
         ensures left { IfOk result (λ left. left ≡ length (pending self.new.site)) }
         ensures kept { OnErr result (self.new ≡ self.old) }
         ensures counted { steps.old ≤ steps.new }
-        ensures steps { steps.new ≤ steps.old + steps_to_take (parcel_by_value foreign.now) self.old.site }
+        ensures steps { steps.new
+            ≤ steps.old + steps_to_take (parcel_by_value foreign.now) self.old.site }
     {
         let Some(seen) = self.seen.checked_add(1) else {
             return Err(Memory);
@@ -382,11 +402,15 @@ impl Site {
         steps: &mut Steps<L>,
     ) -> Result<usize, Memory>
         requires run { AllRun (flattened entries.now) (ground_of self.old.site) }
-        ensures site { OnOk result (self.new ≡ with_site (take_foreign entries.now self.old.site) self.old) }
+        ensures site { OnOk result (
+            self.new ≡ with_site (take_foreign entries.now self.old.site) self.old) }
         ensures left { IfOk result (λ left. left ≡ length (pending self.new.site)) }
         ensures kept { OnErr result (self.new ≡ self.old) }
         ensures counted { steps.old ≤ steps.new }
-        ensures steps { steps.new ≤ steps.old + (steps_of_feed entries.now self.old.site.replica.items + steps_to_take_all entries.now self.old.site) }
+        ensures steps { steps.new
+            ≤ steps.old
+            + (steps_of_feed entries.now self.old.site.replica.items
+            + steps_to_take_all entries.now self.old.site) }
     {
         let parcels = entries.as_slice();
         if parcels.len() == 1 {
@@ -429,8 +453,10 @@ impl Site {
     /// be longer than a transaction may be. It changes nothing.
     pub fn take<L: Ledger>(&mut self, feed: &Feed, steps: &mut Steps<L>) -> Result<Taken, Memory>
         requires may { MayTake (feed_of feed.now) self.old.site }
-        ensures site { OnOk result (self.new ≡ with_site (site_after (feed_of feed.now) self.old.site) self.old) }
-        ensures taken { IfOk result (λ taken. taken ≡ taken_as (feed_of feed.now) self.old.site self.new.site) }
+        ensures site { OnOk result (
+            self.new ≡ with_site (site_after (feed_of feed.now) self.old.site) self.old) }
+        ensures taken { IfOk result (λ taken.
+            taken ≡ taken_as (feed_of feed.now) self.old.site self.new.site) }
         ensures kept { OnErr result (self.new ≡ self.old) }
         ensures counted { steps.old ≤ steps.new }
         ensures steps { steps.new ≤ steps.old + steps_of_take (feed_of feed.now) self.old.site }

@@ -8,7 +8,7 @@ use Rattle.model_site.specs.Session.{Session, serve_next, take_next}
 use Rattle.model_site.specs.Site.{Site, edit, redo, revoke_entry, undo, with_selection}
 use Rattle.model_site.specs.declared.served.Served.{Served}
 use Rattle.model_site.specs.declared.taken.Taken.{Taken}
-use Rattle.ve_site.specs.Settled.{settled, Settles}
+use Rattle.ve_site.specs.Settled.{with_new_entry, Settles}
 use Rattle.ve_tx.specs.declared.entry.Entry.{Entry}
 use Rattle.ve_sites.specs.Shared.{Shared, member_at, site_at, sites, with_site_at}
 use Rattle.ve_sites.specs.Turns.{HasSent}
@@ -20,7 +20,7 @@ EditHappens = (s : Shared) (k : ℕ) (t : Transaction) (site : Site) → k < sit
 
 abbrev pub SettlingHappens : Type 0
 SettlingHappens = (s : Shared) (k : ℕ) (new : Replica) (e : Entry) → k < sites s → (by : Settles (site_at s k).replica new e) →
-    happens s.session (Perform k by.ts) ≡ (with_site_at k (settled new e (site_at s k)) s).session
+    happens s.session (Perform k by.ts) ≡ (with_site_at k (with_new_entry new e (site_at s k)) s).session
 
 abbrev pub SelectHappens : Type 0
 SelectHappens = (s : Shared) (k : ℕ) (selection : Selection) → k < sites s →

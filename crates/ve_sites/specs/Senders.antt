@@ -27,9 +27,9 @@ abbrev pub IsFrom : (number : ℕ) → Submit → Type 0
 IsFrom number s = s.site ≡ number
 
 -- so many that begin, numbered from one on
-abbrev pub begun : (from count : ℕ) → Site → List Sender
-begun from zero site = []
-begun from (suc count) site = record { number = from; site = site; submissions = [] } ∷ begun (suc from) count site
+abbrev pub first_senders : (from count : ℕ) → Site → List Sender
+first_senders from zero site = []
+first_senders from (suc count) site = record { number = from; site = site; submissions = [] } ∷ first_senders (suc from) count site
 
 -- another site with the same number, and the same submissions
 abbrev pub at_site : Site → Sender → Sender

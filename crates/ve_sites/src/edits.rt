@@ -11,7 +11,7 @@ ghost use Rattle.ve_editor.specs.Refusal.{IsEditRefusal};
 ghost use Rattle.ve_peer_undo.specs.Refusal.{IsRevokeRefusal};
 ghost use Rattle.ve_site.specs.Counted.{redoing, undoing};
 ghost use Rattle.ve_site.specs.Refusal.{IsRedoRefusal, IsUndoRefusal};
-ghost use Rattle.ve_site.specs.Settled.{settled, Settles};
+ghost use Rattle.ve_site.specs.Settled.{with_new_entry, Settles};
 ghost use Rattle.ve_sites.specs.Shared.{site_at, sites, with_site_at};
 ghost use Rattle.ve_sites.specs.Turns.{revoking};
 
@@ -52,12 +52,20 @@ impl Sites {
         requires site { k < sites self.old }
         requires draft { IsDraftOf (site_at self.old k).replica.store draft.now }
         requires apart { InsertedApart (drafted (site_at self.old k).replica.store draft.now) }
-        ensures site { OnOk result (edit (drafted (site_at self.old k).replica.store draft.now) (site_at self.old k) ≡ Ok (site_at self.new k)) }
+        ensures site { OnOk result (
+            edit (drafted (site_at self.old k).replica.store draft.now) (site_at self.old k)
+            ≡ Ok (site_at self.new k)) }
         ensures same { OnOk result (self.new ≡ with_site_at k (site_at self.new k) self.old) }
-        ensures refused { IfErr result (IsEditRefusal (edit_cause (drafted (site_at self.old k).replica.store draft.now) (site_at self.old k).replica)) }
+        ensures refused { IfErr result (
+            IsEditRefusal (
+            edit_cause (drafted (site_at self.old k).replica.store draft.now)
+            (site_at self.old k).replica)) }
         ensures kept { OnErr result (self.new ≡ self.old) }
         ensures counted { steps.old ≤ steps.new }
-        ensures steps { steps.new ≤ steps.old + steps_after (drafted (site_at self.old k).replica.store draft.now ∷ []) (site_at self.old k).replica.items }
+        ensures steps { steps.new
+            ≤ steps.old
+            + steps_after (drafted (site_at self.old k).replica.store draft.now ∷ [])
+            (site_at self.old k).replica.items }
     {
         // its type keeps that it is in normal form, which `ops` tells
         let _ops = draft.tx.ops();
@@ -70,7 +78,9 @@ impl Sites {
     pub fn settle(&mut self, k: usize, editor: Editor, entry: Entry) -> Result<(), Memory>
         requires site { k < sites self.old }
         requires settles { Settles (site_at self.old k).replica editor entry }
-        ensures site { OnOk result (self.new ≡ with_site_at k (settled editor entry (site_at self.old k)) self.old) }
+        ensures site { OnOk result (
+            self.new
+            ≡ with_site_at k (with_new_entry editor entry (site_at self.old k)) self.old) }
         ensures kept { OnErr result (self.new ≡ self.old) }
     {
         self.members[k].settle(editor, entry)
@@ -85,7 +95,10 @@ impl Sites {
         ensures refused { IfErr result (IsUndoRefusal (undo (site_at self.old k))) }
         ensures kept { OnErr result (self.new ≡ self.old) }
         ensures counted { steps.old ≤ steps.new }
-        ensures steps { steps.new ≤ steps.old + steps_over (undoing (site_at self.old k).unsent) (site_at self.old k).replica.items }
+        ensures steps { steps.new
+            ≤ steps.old
+            + steps_over (undoing (site_at self.old k).unsent)
+            (site_at self.old k).replica.items }
     {
         self.members[k].undo(steps)
     }
@@ -99,7 +112,10 @@ impl Sites {
         ensures refused { IfErr result (IsRedoRefusal (redo (site_at self.old k))) }
         ensures kept { OnErr result (self.new ≡ self.old) }
         ensures counted { steps.old ≤ steps.new }
-        ensures steps { steps.new ≤ steps.old + steps_over (redoing (site_at self.old k).undone) (site_at self.old k).replica.items }
+        ensures steps { steps.new
+            ≤ steps.old
+            + steps_over (redoing (site_at self.old k).undone)
+            (site_at self.old k).replica.items }
     {
         self.members[k].redo(steps)
     }
@@ -108,7 +124,8 @@ impl Sites {
     pub fn select(&mut self, k: usize, selection: Selection)
         requires site { k < sites self.old }
         requires stands { StandsIn (site_at self.old k).replica.items selection }
-        ensures { self.new ≡ with_site_at k (with_selection selection (site_at self.old k)) self.old }
+        ensures { self.new
+            ≡ with_site_at k (with_selection selection (site_at self.old k)) self.old }
     {
         self.members[k].select(selection);
     }
@@ -124,12 +141,19 @@ impl Sites {
     ) -> Result<(), RevokeFault>
         requires site { k < sites self.old }
         requires seen { i < (site_at self.old k).seen }
-        ensures site { OnOk result (revoke_entry self.old.session.committed i (site_at self.old k) ≡ Ok (site_at self.new k)) }
+        ensures site { OnOk result (
+            revoke_entry self.old.session.committed i (site_at self.old k)
+            ≡ Ok (site_at self.new k)) }
         ensures same { OnOk result (self.new ≡ with_site_at k (site_at self.new k) self.old) }
-        ensures refused { IfErr result (IsRevokeRefusal (revoke (entries_of self.old.session.committed (site_at self.old k)) i)) }
+        ensures refused { IfErr result (
+            IsRevokeRefusal (
+            revoke (entries_of self.old.session.committed (site_at self.old k)) i)) }
         ensures kept { OnErr result (self.new ≡ self.old) }
         ensures counted { steps.old ≤ steps.new }
-        ensures steps { steps.new ≤ steps.old + steps_over (revoking self.old.session.committed i (site_at self.old k)) (site_at self.old k).replica.items }
+        ensures steps { steps.new
+            ≤ steps.old
+            + steps_over (revoking self.old.session.committed i (site_at self.old k))
+            (site_at self.old k).replica.items }
     {
         // entries that run meet what `reversal` asks, and those before `i` don't matter
         entries_are_taken_back();

@@ -30,7 +30,9 @@ impl Sites {
     /// The only `Err` is want of memory, and it changes nothing.
     pub fn serve(&mut self, k: usize) -> Result<Option<Served>, Memory>
         requires site { k < sites self.old }
-        ensures served { IfOk result (λ served. option_map (λ answer. (self.new.session, answer)) served ≡ serve_next k (member_at self.old k) self.old.session) }
+        ensures served { IfOk result (λ served.
+            option_map (λ answer. (self.new.session, answer)) served
+            ≡ serve_next k (member_at self.old k) self.old.session) }
         ensures idle { IfOk result (λ served. served ≡ None → self.new ≡ self.old) }
         ensures first { self.new.first ≡ self.old.first }
         ensures kept { OnErr result (self.new ≡ self.old) }
@@ -53,7 +55,9 @@ impl Sites {
         steps: &mut Steps<L>,
     ) -> Result<Option<Taken>, Memory>
         requires site { k < sites self.old }
-        ensures taken { IfOk result (λ taken. option_map (λ told. (self.new.session, told)) taken ≡ take_next k (member_at self.old k) self.old.session) }
+        ensures taken { IfOk result (λ taken.
+            option_map (λ told. (self.new.session, told)) taken
+            ≡ take_next k (member_at self.old k) self.old.session) }
         ensures idle { IfOk result (λ taken. taken ≡ None → self.new ≡ self.old) }
         ensures first { self.new.first ≡ self.old.first }
         ensures kept { OnErr result (self.new ≡ self.old) }

@@ -8,7 +8,7 @@ ghost use Rattle.model_site.specs.Site.{starting};
 ghost use Rattle.model_site_law.specs.Sound.{Sound};
 ghost use Rattle.ve_editor.specs.Page.{page_of};
 ghost use Rattle.ve_tree.specs.TreeOf.{most_steps};
-ghost use Rattle.ve_sites.specs.Senders.{begun};
+ghost use Rattle.ve_sites.specs.Senders.{first_senders};
 ghost use Rattle.ve_sites.specs.Shared.{site_at, sites as sites_of};
 
 use crate::member::Member;
@@ -56,7 +56,12 @@ fn begin<L: Ledger>(
 ) -> Result<Member, Memory>
     requires sound { Sound (plain_list values.now list.now.items) }
     requires cites { All (CitesWell values.now) list.now.items }
-    ensures ok { IfOk result (λ member. member ≡ record { number = number; site = starting (page_of values.now list.now.items (between 0 0)); submissions = [] }) }
+    ensures ok { IfOk result (λ member.
+        member ≡ record {
+          number = number;
+          site = starting (page_of values.now list.now.items (between 0 0));
+          submissions = [];
+        }) }
     ensures counted { steps.old ≤ steps.new }
     ensures steps { steps.new ≤ steps.old + most_steps (plain_list values.now list.now.items) }
 {
@@ -76,9 +81,12 @@ fn all_begun<L: Ledger>(
 ) -> Result<Vec<Member>, Memory>
     requires sound { Sound (plain_list values.now list.now.items) }
     requires cites { All (CitesWell values.now) list.now.items }
-    ensures ok { IfOk result (λ members. members.items ≡ begun 0 sites (starting (page_of values.now list.now.items (between 0 0)))) }
+    ensures ok { IfOk result (λ members.
+        members.items
+        ≡ first_senders 0 sites (starting (page_of values.now list.now.items (between 0 0)))) }
     ensures counted { steps.old ≤ steps.new }
-    ensures steps { steps.new ≤ steps.old + sites * most_steps (plain_list values.now list.now.items) }
+    ensures steps { steps.new
+        ≤ steps.old + sites * most_steps (plain_list values.now list.now.items) }
 {
     let mut members = Vec::new(alloc);
     for number in 0..sites {
@@ -101,7 +109,11 @@ impl Sites {
         requires sound { Sound (plain_list values list.items) }
         requires cites { All (CitesWell values) list.items }
         requires filled { values ≡ (opened_with (plain_list values list.items)).store }
-        ensures ok { IfOk result (λ s. s ≡ record { first = list.items; session = started (opened_with (plain_list values list.items)) sites }) }
+        ensures ok { IfOk result (λ s.
+            s ≡ record {
+              first = list.items;
+              session = started (opened_with (plain_list values list.items)) sites;
+            }) }
         ensures counted { steps.old ≤ steps.new }
         ensures steps { steps.new ≤ steps.old + sites * most_steps (plain_list values list.items) }
     {
@@ -126,7 +138,8 @@ impl Sites {
     pub fn first(&self) -> &Linear
         ensures same { result.now.items ≡ self.now.first }
         ensures cites { All (CitesWell self.now.session.base.store) self.now.first }
-        ensures items { plain_list self.now.session.base.store self.now.first ≡ self.now.session.base.items }
+        ensures items { plain_list self.now.session.base.store self.now.first
+            ≡ self.now.session.base.items }
     {
         &self.first
     }

@@ -63,9 +63,12 @@ impl NewValues {
     /// like any other.
     pub fn id_of(&mut self, store: &Store, value: Value) -> Result<ValueId, Memory>
         requires { self.old.after ≡ length store.now }
-        ensures place { IfOk result (λ id. id.0 ≡ position_or_len (value_same value) (together store.now self.old)) }
-        ensures stored { IfOk result (λ id. slice_get (together store.now self.new) id.0 ≡ Some value) }
-        ensures ok { OnOk result (together store.now self.new ≡ admitted (together store.now self.old) value) }
+        ensures place { IfOk result (λ id.
+            id.0 ≡ position_or_len (value_same value) (together store.now self.old)) }
+        ensures stored { IfOk result (λ id.
+            slice_get (together store.now self.new) id.0 ≡ Some value) }
+        ensures ok { OnOk result (
+            together store.now self.new ≡ admitted (together store.now self.old) value) }
         ensures grows { Grows self.old self.new }
         ensures err { OnErr result (self.new ≡ self.old) }
     {

@@ -59,7 +59,8 @@ impl Store {
 
     /// The position of a value, where it is there.
     pub(crate) fn find(&self, value: &Hashed) -> Option<usize>
-        ensures place { IfSome result (λ place. place ≡ position_or_len (value_same value.now) self.now) }
+        ensures place { IfSome result (λ place.
+            place ≡ position_or_len (value_same value.now) self.now) }
         ensures stored { IfSome result (λ place. slice_get self.now place ≡ Some value.now) }
         ensures some { IsSome result ↔ Contains self.now value.now }
     {
@@ -83,7 +84,8 @@ impl Store {
         ensures stored { IfOk result (λ id. slice_get self.new id.0 ≡ Some value) }
         ensures ok { OnOk result (self.new ≡ admitted self.old value) }
         ensures err { OnErr result (self.new ≡ self.old) }
-        ensures full { (result ≡ Err StoreFault.Full) ↔ ((max_values ≤ length self.old) × (¬ Contains self.old value)) }
+        ensures full { (result ≡ Err StoreFault.Full)
+            ↔ ((max_values ≤ length self.old) × (¬ Contains self.old value)) }
     {
         if self.values.len() < MAX_VALUES {
             return self.admit(value).map_err(|_| StoreFault::Memory);

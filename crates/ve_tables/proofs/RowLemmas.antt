@@ -16,7 +16,7 @@ use Rattle.ve_base.specs.declared.attrs.Attr.{Attr}
 use Rattle.ve_kinds.specs.declared.kind.Kind.TheVariants.{Table, Td, Th}
 use Rattle.std.specs.Str.{chars}
 use Rattle.model_edit.specs.Grid as model
-use Rattle.model_edit.specs.Grid.{cell_span, is_crooked, placed}
+use Rattle.model_edit.specs.Grid.{cell_span, is_crooked, placed_cell}
 use Rattle.ve_tables.specs.Placed.{Placed, next_cell, with_next, IsNext, IsCellRefusal}
 use Rattle.ve_tables.specs.declared.rows.TableRow.{TableRow}
 use Rattle.ve_tables.specs.Refused.{IsTableRefusal}
@@ -45,7 +45,7 @@ pub row_places : (items : List PlainItem) (row left end : ℕ) (nodes : List Ope
     model.with_row items row left end (map cell_open (places_of nodes)) before ≡ model.with_row items row left end nodes before
 row_places items row left end [] before = refl
 row_places items row left end (n ∷ nodes) before =
-    let one = placed items before row end n in
+    let one = placed_cell items before row end n in
     ap (λ r. if is_crooked left before one then Err (Crooked one.at) else r) (row_places items row left (one.column + one.columns) nodes (before ++ one ∷ []))
 
 -- one cell more is placed
@@ -131,10 +131,10 @@ grid_then items at opens = ap (λ b. if b then model.grid_with (length (model.ta
 pub grid_is : (items : List PlainItem) (at count : ℕ) (rows : List TableRow) (cells : List GridCell) → passes (is_opening_of Table) (slice_get items at) ≡ true →
     map row_of rows ≡ model.table_rows items at → count ≡ length rows → rows_after items 0 rows [] ≡ Ok cells →
     model.grid items at ≡ Ok (record { rows = count; columns = model.right_end cells; cells = cells })
-grid_is items at count rows cells opens is n placed =
+grid_is items at count rows cells opens is n placed_cell =
     grid_then items at opens
     ∙ ap (λ v. model.grid_with (length v) (model.with_rows items 0 v (Ok []))) (sym is)
-    ∙ ap (model.grid_with (length (map row_of rows))) placed
+    ∙ ap (model.grid_with (length (map row_of rows))) placed_cell
     ∙ ap (λ k. Ok (record { rows = k; columns = model.right_end cells; cells = cells })) (length-map rows row_of ∙ sym n)
 
 pub grid_refused : (items : List PlainItem) (at : ℕ) (rows : List TableRow) (fault : TableFault) → passes (is_opening_of Table) (slice_get items at) ≡ true →

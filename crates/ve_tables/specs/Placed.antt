@@ -6,7 +6,7 @@ use Rattle.model_edit.specs.declared.table_fault.TableFault.TheVariants.{Crooked
 use Rattle.model_items.specs.declared.plain_item.PlainItem.{PlainItem}
 use Rattle.model_items.specs.Tree.{Open}
 use Rattle.ve_base.specs.Limits.{max_row_span, max_column_span}
-use Rattle.model_edit.specs.Grid.{first_free, is_crooked, cell_span, placed}
+use Rattle.model_edit.specs.Grid.{first_free, is_crooked, cell_span, placed_cell}
 
 -- the cells; the row in which more are placed, how many rows its section has from it on, and the end of its last cell
 pub record Placed : Type 0 where
@@ -41,6 +41,6 @@ IsCellRefusal old one fault = (fault ≡ Memory) ⊎ ((is_crooked old.left old.c
 abbrev pub NextIsPlaced : Type 0
 NextIsPlaced =
     (items : List PlainItem) (before : List GridCell) (row left end : ℕ) (cell : Open) →
-    placed items before row end cell
+    placed_cell items before row end cell
     ≡ next_cell (record { cells = before; row = row; left = left; end = end }) cell.from
     (cell_span (codes "rowspan") max_row_span (slice_get items cell.from)) (cell_span (codes "colspan") max_column_span (slice_get items cell.from))

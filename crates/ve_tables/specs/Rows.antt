@@ -14,9 +14,9 @@ use Rattle.ve_tables.specs.Placed.{Placed}
 use Rattle.ve_tables.specs.declared.rows.TableRow.{TableRow}
 
 -- the place of an item that opens a node of one of these kinds
-abbrev pub noted : List Kind → ℕ → PlainItem → List ℕ
-noted kinds place (Opening kind head marks pre origin generated) = if is_among kinds kind then place ∷ [] else []
-noted kinds place _ = []
+abbrev pub place_if_among : List Kind → ℕ → PlainItem → List ℕ
+place_if_among kinds place (Opening kind head marks pre origin generated) = if is_among kinds kind then place ∷ [] else []
+place_if_among kinds place _ = []
 
 abbrev pub places_of : List Open → List ℕ
 places_of nodes = map (λ (node : Open). node.from) nodes

@@ -64,7 +64,8 @@ fn place_cells(doc: Doc<'_>, placing: Placing, cells: &[usize]) -> Result<Placin
     requires cites { All (CitesWell doc.store.now) doc.list.now.items }
     requires row { placing.row < 2 ^ 62 }
     ensures means { IfOk result (HasPlaced (page_items doc.entry) placing cells.now) }
-    ensures refused { IfErr result (IsTableRefusal (row_placed (page_items doc.entry) placing cells.now)) }
+    ensures refused { IfErr result (
+        IsTableRefusal (row_placed (page_items doc.entry) placing cells.now)) }
 {
     let mut placed = placing;
     for cell in cells {

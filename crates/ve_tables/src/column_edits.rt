@@ -8,7 +8,7 @@ ghost use Rattle.model_edit.specs.Tables.{cell_removed};
 ghost use Rattle.ve_offsets.specs.Docs.{IsDoc, page_items};
 ghost use Rattle.ve_tx.specs.Cites.{TxCites};
 ghost use Rattle.ve_tx.specs.Operation.{by_value};
-ghost use Rattle.ve_tables.specs.CellQuestions.{asked};
+ghost use Rattle.ve_tables.specs.CellQuestions.{cell_answer};
 ghost use Rattle.ve_tables.specs.declared.cell_questions.CellQuestion.TheVariants.{IsFullAtColumn};
 ghost use Rattle.ve_tables.specs.Covered.{AreInRows, IsRun, floor_with, floor_of};
 ghost use Rattle.ve_tables.specs.PartWay.{AreNone, CollectsIn, MakesEdits, MayMake, column_put, column_taken, grown_columns, row_widened};
@@ -74,9 +74,11 @@ fn grow_cells(
     column: usize,
 ) -> Result<(), Memory>
     requires cites { All (CitesWell doc.store.now) doc.list.now.items }
-    requires order { InOrder edits.old.at (length doc.list.now.items) (grown_columns column cells.now) }
-    requires room { AreNone (asked (IsFullAtColumn column)) cells.now }
-    ensures { OnOk result (CollectsIn doc.entry (grown_columns column cells.now) edits.old edits.new) }
+    requires order { InOrder edits.old.at (length doc.list.now.items) (
+        grown_columns column cells.now) }
+    requires room { AreNone (cell_answer (IsFullAtColumn column)) cells.now }
+    ensures { OnOk result (
+        CollectsIn doc.entry (grown_columns column cells.now) edits.old edits.new) }
 {
     for cell in cells {
         if !spans_column(*cell, column) {
@@ -120,9 +122,13 @@ fn widen_row(
     requires cites { All (CitesWell doc.store.now) doc.list.now.items }
     requires row { row.at < length doc.list.now.items }
     requires within { All (λ cell. cell.at < length doc.list.now.items) cells.now }
-    requires order { InOrder edits.old.at (length doc.list.now.items) (row_widened (page_items doc) (row_of row) column cells.now grown) }
-    requires room { AreNone (asked (IsFullAtColumn column)) cells.now }
-    ensures { OnOk result (CollectsIn doc.entry (row_widened (page_items doc.entry) (row_of row) column cells.now grown) edits.old edits.new) }
+    requires order { InOrder edits.old.at (length doc.list.now.items) (
+        row_widened (page_items doc) (row_of row) column cells.now grown) }
+    requires room { AreNone (cell_answer (IsFullAtColumn column)) cells.now }
+    ensures { OnOk result (
+        CollectsIn doc.entry
+        (row_widened (page_items doc.entry) (row_of row) column cells.now grown) edits.old
+        edits.new) }
 {
     grow_cells(alloc, doc, edits, cells, column)?;
     if grown {
@@ -146,7 +152,7 @@ fn put_column(
     requires places { All (λ row. row.at < length doc.list.now.items) table.now.rows }
     requires within { All (λ cell. cell.at < length doc.list.now.items) table.now.grid.cells }
     requires order { MayMake doc (column_put table.now column) }
-    requires room { AreNone (asked (IsFullAtColumn column)) table.now.grid.cells }
+    requires room { AreNone (cell_answer (IsFullAtColumn column)) table.now.grid.cells }
     ensures means { IfOk result (MakesEdits doc.entry (column_put table.now column)) }
     ensures cites { IfOk result (TxCites doc.entry.store.now) }
 {
@@ -170,11 +176,14 @@ fn put_column(
 fn take_cell(alloc: Global, doc: Doc<'_>, edits: &mut Edits, cell: GridCell) -> Result<(), Memory>
     requires doc { IsDoc doc }
     requires cites { All (CitesWell doc.store.now) doc.list.now.items }
-    requires order { InOrder edits.old.at (length doc.list.now.items) (cell_removed (page_items doc) cell ∷ []) }
+    requires order { InOrder edits.old.at (length doc.list.now.items) (
+        cell_removed (page_items doc) cell ∷ []) }
     requires within { cell.at < length doc.list.now.items }
     requires ahead { cell.at ≤ end_of_node (page_items doc) cell.at }
     requires some { 1 ≤ cell.columns }
-    ensures { OnOk result (CollectsIn doc.entry (cell_removed (page_items doc.entry) cell ∷ []) edits.old edits.new) }
+    ensures { OnOk result (
+        CollectsIn doc.entry (cell_removed (page_items doc.entry) cell ∷ []) edits.old
+        edits.new) }
 {
     if cell.columns == 1 {
         let to = node_end(doc, cell.at);
@@ -195,7 +204,8 @@ fn take_column(
     requires doc { IsDoc doc }
     requires cites { All (CitesWell doc.store.now) doc.list.now.items }
     requires within { All (λ cell. cell.at < length doc.list.now.items) table.now.grid.cells }
-    requires ahead { All (λ cell. cell.at ≤ end_of_node (page_items doc) cell.at) table.now.grid.cells }
+    requires ahead { All (λ cell. cell.at ≤ end_of_node (page_items doc) cell.at)
+        table.now.grid.cells }
     requires order { MayMake doc (column_taken table.now column) }
     ensures means { IfOk result (MakesEdits doc.entry (column_taken table.now column)) }
     ensures cites { IfOk result (TxCites doc.entry.store.now) }
@@ -227,9 +237,11 @@ pub fn col_in(
 ) -> Result<Transaction, TableFault>
     requires doc { IsDoc doc }
     requires cites { All (CitesWell doc.store.now) doc.list.now.items }
-    ensures means { IfOk result (λ tx. model.col_in (page_items doc.entry) at column ≡ Ok (by_value doc.entry.store.now tx)) }
+    ensures means { IfOk result (λ tx.
+        model.col_in (page_items doc.entry) at column ≡ Ok (by_value doc.entry.store.now tx)) }
     ensures cites { IfOk result (TxCites doc.entry.store.now) }
-    ensures refused { IfErr result (IsTableRefusal (model.col_in (page_items doc.entry) at column)) }
+    ensures refused { IfErr result (
+        IsTableRefusal (model.col_in (page_items doc.entry) at column)) }
 {
     let table = laid_table(alloc, doc, at)?;
     let Ok(refused) = col_in_fault(alloc, &table.grid, column) else {
@@ -256,9 +268,11 @@ pub fn col_out(
 ) -> Result<Transaction, TableFault>
     requires doc { IsDoc doc }
     requires cites { All (CitesWell doc.store.now) doc.list.now.items }
-    ensures means { IfOk result (λ tx. model.col_out (page_items doc.entry) at column ≡ Ok (by_value doc.entry.store.now tx)) }
+    ensures means { IfOk result (λ tx.
+        model.col_out (page_items doc.entry) at column ≡ Ok (by_value doc.entry.store.now tx)) }
     ensures cites { IfOk result (TxCites doc.entry.store.now) }
-    ensures refused { IfErr result (IsTableRefusal (model.col_out (page_items doc.entry) at column)) }
+    ensures refused { IfErr result (
+        IsTableRefusal (model.col_out (page_items doc.entry) at column)) }
 {
     let table = laid_table(alloc, doc, at)?;
     if let Some(fault) = col_out_fault(&table.grid, column) {

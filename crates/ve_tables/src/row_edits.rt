@@ -6,7 +6,7 @@ ghost use Rattle.model_edit.specs.Tables as model;
 ghost use Rattle.ve_offsets.specs.Docs.{IsDoc, page_items};
 ghost use Rattle.ve_tx.specs.Cites.{TxCites};
 ghost use Rattle.ve_tx.specs.Operation.{by_value};
-ghost use Rattle.ve_tables.specs.CellQuestions.{asked};
+ghost use Rattle.ve_tables.specs.CellQuestions.{cell_answer};
 ghost use Rattle.ve_tables.specs.declared.cell_questions.CellQuestion.TheVariants.{IsFullAtRow};
 ghost use Rattle.ve_tables.specs.PartWay.{AreNone, MakesEdits, MayMake, row_put, row_taken};
 ghost use Rattle.ve_tables.specs.Refused.{IsTableRefusal};
@@ -50,7 +50,7 @@ fn put_row(
     requires some { 0 < length table.now.rows }
     requires within { All (λ row. row.at < length doc.list.now.items) table.now.rows }
     requires order { MayMake doc (row_put table.now row) }
-    requires room { AreNone (asked (IsFullAtRow row)) table.now.grid.cells }
+    requires room { AreNone (cell_answer (IsFullAtRow row)) table.now.grid.cells }
     ensures means { IfOk result (MakesEdits doc.entry (row_put table.now row)) }
     ensures cites { IfOk result (TxCites doc.entry.store.now) }
 {
@@ -108,7 +108,8 @@ fn take_row(
 pub fn row_in(alloc: Global, doc: Doc<'_>, at: usize, row: usize) -> Result<Transaction, TableFault>
     requires doc { IsDoc doc }
     requires cites { All (CitesWell doc.store.now) doc.list.now.items }
-    ensures means { IfOk result (λ tx. model.row_in (page_items doc.entry) at row ≡ Ok (by_value doc.entry.store.now tx)) }
+    ensures means { IfOk result (λ tx.
+        model.row_in (page_items doc.entry) at row ≡ Ok (by_value doc.entry.store.now tx)) }
     ensures cites { IfOk result (TxCites doc.entry.store.now) }
     ensures refused { IfErr result (IsTableRefusal (model.row_in (page_items doc.entry) at row)) }
 {
@@ -135,7 +136,8 @@ pub fn row_out(
 ) -> Result<Transaction, TableFault>
     requires doc { IsDoc doc }
     requires cites { All (CitesWell doc.store.now) doc.list.now.items }
-    ensures means { IfOk result (λ tx. model.row_out (page_items doc.entry) at row ≡ Ok (by_value doc.entry.store.now tx)) }
+    ensures means { IfOk result (λ tx.
+        model.row_out (page_items doc.entry) at row ≡ Ok (by_value doc.entry.store.now tx)) }
     ensures cites { IfOk result (TxCites doc.entry.store.now) }
     ensures refused { IfErr result (IsTableRefusal (model.row_out (page_items doc.entry) at row)) }
 {

@@ -32,7 +32,9 @@ pub fn set_span(
     requires order { edits.old.at ≤ at }
     requires within { at < length doc.list.now.items }
     requires cites { All (CitesWell doc.store.now) doc.list.now.items }
-    ensures { OnOk result (CollectsIn doc.entry (Set at (chars name.now) (Some (decimal span)) ∷ []) edits.old edits.new) }
+    ensures { OnOk result (
+        CollectsIn doc.entry (Set at (chars name.now) (Some (decimal span)) ∷ []) edits.old
+        edits.new) }
 {
     let text = digits(alloc, span)?;
     edits.set(doc.list, doc.store, at, name, text)?;

@@ -40,8 +40,10 @@ fn place_rows(alloc: Global, doc: Doc<'_>, rows: &[TableRow]) -> Result<Placing,
     requires doc { IsDoc doc }
     requires cites { All (CitesWell doc.store.now) doc.list.now.items }
     requires few { length rows.now < 2 ^ 62 }
-    ensures means { IfOk result (λ placed. rows_after (page_items doc.entry) 0 rows.now [] ≡ Ok placed.cells) }
-    ensures refused { IfErr result (IsTableRefusal (rows_after (page_items doc.entry) 0 rows.now [])) }
+    ensures means { IfOk result (λ placed.
+        rows_after (page_items doc.entry) 0 rows.now [] ≡ Ok placed.cells) }
+    ensures refused { IfErr result (
+        IsTableRefusal (rows_after (page_items doc.entry) 0 rows.now [])) }
 {
     let mut placing = Placing::new(alloc);
     for i in 0..rows.len() {
@@ -62,7 +64,8 @@ pub fn laid_table(alloc: Global, doc: Doc<'_>, at: usize) -> Result<LaidTable, T
     requires doc { IsDoc doc }
     requires cites { All (CitesWell doc.store.now) doc.list.now.items }
     ensures means { IfOk result (λ table. model.grid (page_items doc.entry) at ≡ Ok table.grid) }
-    ensures rows { IfOk result (λ table. map row_of table.rows ≡ model.table_rows (page_items doc.entry) at) }
+    ensures rows { IfOk result (λ table.
+        map row_of table.rows ≡ model.table_rows (page_items doc.entry) at) }
     ensures refused { IfErr result (IsTableRefusal (model.grid (page_items doc.entry) at)) }
 {
     if !opens_table(doc, at) {

@@ -20,7 +20,9 @@ impl Tree {
         requires may { MayFollow self.old.arena self.old.root self.old.landmarks from to len }
         ensures arena { self.new.arena ≡ self.old.arena }
         ensures root { self.new.root ≡ self.old.root }
-        ensures tree { (items : List PlainItem) → IsTree self.old.arena self.old.root items → IsTreeOf self.new items }
+        ensures tree { (items : List PlainItem)
+            → IsTree self.old.arena self.old.root items
+            → IsTreeOf self.new items }
     {
         let k = self.landmarks.cut(self.root, from, to, len);
         thicken(&mut self.landmarks, &self.arena, self.root, k);

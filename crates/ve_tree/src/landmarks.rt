@@ -86,7 +86,8 @@ fn cut_out(nodes: &mut Vec<NodeId>, from: usize, to: usize)
 fn close_up(lens: &mut Lengths, low: usize, high: usize, less: usize, more: usize)
     requires order { low ≤ high }
     requires within { high ≤ length lens.old.lens }
-    requires long { high < length lens.old.lens → sum (take low lens.old.lens) + less ≤ sum (take (suc high) lens.old.lens) }
+    requires long { high < length lens.old.lens
+        → sum (take low lens.old.lens) + less ≤ sum (take (suc high) lens.old.lens) }
     requires fits { sum lens.old.lens + more < 2 ^ 64 }
     ensures { IsClosedUp lens.old.lens lens.new.lens low high less more }
 {
@@ -204,7 +205,8 @@ impl Landmarks {
     /// the gap is to be filled again.
     pub(crate) fn cut(&mut self, root: NodeId, from: usize, to: usize, len: usize) -> usize
         requires order { from ≤ to }
-        requires fits { length self.old.nodes ≡ length self.old.gaps → sum self.old.gaps + len < 2 ^ 64 }
+        requires fits { length self.old.nodes ≡ length self.old.gaps
+            → sum self.old.gaps + len < 2 ^ 64 }
         ensures { IsCut self.old self.new root from to len }
     {
         let low = staying(&self.nodes, &self.gaps, root, from);

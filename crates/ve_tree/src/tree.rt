@@ -92,7 +92,8 @@ impl Tree {
     pub fn kind_of(&self, n: NodeId) -> Kind
         requires { IsBranch self.now.arena n }
         ensures arena { sort_of self.now.arena n ≡ Some (NodeWhat.Node result) }
-        ensures place { OfItsPlace self.now.arena self.now.root n (λ place. place.sort ≡ NodeWhat.Node result) }
+        ensures place { OfItsPlace self.now.arena self.now.root n (λ place.
+            place.sort ≡ NodeWhat.Node result) }
     {
         match self.arena.node(n).what {
             NodeWhat::Node(kind) => kind,
@@ -103,7 +104,8 @@ impl Tree {
     /// The node that a node stands in, and none for the root.
     pub fn parent_of(&self, n: NodeId) -> Option<NodeId>
         requires { IsLive self.now.arena n }
-        ensures { OfItsPlace self.now.arena self.now.root n (λ place. place.parent ≡ option_map number_of result) }
+        ensures { OfItsPlace self.now.arena self.now.root n (λ place.
+            place.parent ≡ option_map number_of result) }
     {
         self.arena.node(n).parent
     }
@@ -113,7 +115,8 @@ impl Tree {
     /// item.
     pub fn range_of(&self, n: NodeId) -> (usize, usize)
         requires { HasNode self.now n }
-        ensures { OfItsPlace self.now.arena self.now.root n (λ place. result ≡ (place.from, place.to)) }
+        ensures { OfItsPlace self.now.arena self.now.root n (λ place.
+            result ≡ (place.from, place.to)) }
     {
         let all = self.arena.node(self.root).len;
         let len = self.arena.node(n).len;

@@ -12,7 +12,7 @@ use Rattle.ve_tx.specs.declared.op.Op.TheVariants.{Retain, Replace, Attribute}
 use Rattle.ve_tx.specs.Attrs.{exchanged, new_attr, place_of, count_of}
 use Rattle.ve_tx.specs.Checked.{old_size, fault_in}
 use Rattle.ve_tx.specs.Changed.{brought_by}
-use Rattle.ve_tx.specs.Making.{headed}
+use Rattle.ve_tx.specs.Making.{item_with_head}
 use Rattle.ve_tx.specs.Spliced.{spliced_by, come_count, gone_count}
 use Rattle.ve_tx.specs.declared.splice.Splice.{Splice}
 
@@ -106,5 +106,5 @@ class_goes : exchanged attrs (place_of (codes "class") None (Some (codes "y")) a
 class_goes = refl
 
 -- a changed head is an opening's alone
-a_letter_takes_no_head : headed (Some empty_head) (plain.Char 97 []) ≡ plain.Char 97 []
+a_letter_takes_no_head : item_with_head (Some empty_head) (plain.Char 97 []) ≡ plain.Char 97 []
 a_letter_takes_no_head = refl

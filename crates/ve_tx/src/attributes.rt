@@ -61,7 +61,8 @@ fn has_value(attrs: &[Attr], name: &Text, value: &Option<Text>) -> bool
 /// Whether an item allows that an attribute which has the value `from` is changed.
 fn allows(store: &Store, item: Item, name: &Text, from: &Option<Text>) -> bool
     requires { CitesWell store.now item }
-    ensures { result ≡ attributes.allows (change_of name.now from.now None None) (plain store.now item) }
+    ensures { result
+        ≡ attributes.allows (change_of name.now from.now None None) (plain store.now item) }
 {
     match item {
         Item::Opening { kind, head, .. } => {
@@ -74,7 +75,9 @@ fn allows(store: &Store, item: Item, name: &Text, from: &Option<Text>) -> bool
 /// The same of the item at a position; past the end there is none that allows it.
 pub fn may_change(list: &Linear, store: &Store, at: usize, name: &Text, from: &Option<Text>) -> bool
     requires { All (CitesWell store.now) list.now.items }
-    ensures { result ≡ first_allows (change_of name.now from.now None None) (plain_list store.now (drop at list.now.items)) }
+    ensures { result
+        ≡ first_allows (change_of name.now from.now None None) (
+        plain_list store.now (drop at list.now.items)) }
 {
     at < list.len() && allows(store, list.get(at), name, from)
 }

@@ -55,13 +55,20 @@ pub fn prepared(
     requires list { All (CitesWell store.old) list.old.items }
     requires cites { TxCites store.old (with_positions ops.now kept.now) }
     requires applies { AppliesTo store.old (with_positions ops.now kept.now) list.old.items }
-    ensures changed { IfOk result (λ change. MakesEdited store.old store.new (with_positions ops.now kept.now) list.old.items change.splices.items) }
-    ensures range { IfOk result (λ change. IsOverActive store.old (with_positions ops.now kept.now) change.splices.items) }
-    ensures within { IfOk result (λ change. LieBetween 0 (length list.old.items) change.splices.items) }
-    ensures thrifty { IfOk result (λ change. come_count change.splices.items ≤ brought_count (by_value store.old (with_positions ops.now kept.now))) }
+    ensures changed { IfOk result (λ change.
+        MakesEdited store.old store.new (with_positions ops.now kept.now) list.old.items
+        change.splices.items) }
+    ensures range { IfOk result (λ change.
+        IsOverActive store.old (with_positions ops.now kept.now) change.splices.items) }
+    ensures within { IfOk result (λ change.
+        LieBetween 0 (length list.old.items) change.splices.items) }
+    ensures thrifty { IfOk result (λ change.
+        come_count change.splices.items
+        ≤ brought_count (by_value store.old (with_positions ops.now kept.now))) }
     ensures room { IfOk result (λ change. come_count change.splices.items ≤ list.new.spare) }
     ensures cites { IfOk result (λ change. AllCite store.new change.splices.items) }
-    ensures store { OnOk result (store.new ≡ store_after store.old (with_positions ops.now kept.now) list.old.items) }
+    ensures store { OnOk result (
+        store.new ≡ store_after store.old (with_positions ops.now kept.now) list.old.items) }
     ensures items { list.new.items ≡ list.old.items }
     ensures blocks { list.new.blocks ≡ list.old.blocks }
     ensures err { OnErr result (list.new ≡ list.old) }

@@ -50,7 +50,8 @@ fn difference(one: &[Item], other: &[Item]) -> Option<usize>
 fn first_difference(list: &Linear, at: usize, removed: &[Item]) -> Option<usize>
     requires within { at + length removed.now ≤ length list.now.items }
     requires fits { at + length removed.now < 2 ^ 64 }
-    ensures none { IfNone result (take (length removed.now) (drop at list.now.items) ≡ removed.now) }
+    ensures none { IfNone result (
+        take (length removed.now) (drop at list.now.items) ≡ removed.now) }
     ensures some { IfSome result (λ k. DiffersFirst removed.now (drop at list.now.items) k) }
 {
     let mut done = 0;

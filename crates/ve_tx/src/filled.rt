@@ -7,7 +7,7 @@ ghost use Rattle.model_change.specs.Attributes.{position_kept};
 ghost use Rattle.model_change.specs.Fault.{bad_attribute_at};
 ghost use Rattle.ve_tx.specs.Applied.{IsFilledOn};
 ghost use Rattle.ve_tx.specs.Filled.{MayPass, Passes, Fills};
-ghost use Rattle.ve_tx.specs.Making.{headed, standing, IsOpening};
+ghost use Rattle.ve_tx.specs.Making.{item_with_head, standing, IsOpening};
 ghost use Rattle.ve_tx.specs.Normal.{size, total_size};
 ghost use Rattle.ve_tx.specs.Gathered.{gathered};
 ghost use Rattle.ve_tx.specs.Operation.{by_value, with_position, with_positions};
@@ -33,7 +33,8 @@ struct Cursor {
 fn past(cursor: Cursor, count: usize) -> Cursor
     requires { cursor.at + count ≤ max_total_length }
     ensures at { result.at ≡ cursor.at + count }
-    ensures standing { (items : List PlainItem) → standing items result.at result.head ≡ drop count (standing items cursor.at cursor.head) }
+    ensures standing { (items : List PlainItem)
+        → standing items result.at result.head ≡ drop count (standing items cursor.at cursor.head) }
 {
     if count == 0 {
         return cursor;
@@ -53,7 +54,10 @@ fn position_to_keep(
     from: &Option<Text>,
     to: &Option<Text>,
 ) -> Option<usize>
-    ensures { (item : PlainItem) → IsOpening item → result ≡ position_kept from.now to.now name.now kept (headed (Some head.now) item) }
+    ensures { (item : PlainItem)
+        → IsOpening item
+        → result
+        ≡ position_kept from.now to.now name.now kept (item_with_head (Some head.now) item) }
 {
     match (from, to) {
         (Some(_), None) => Some(position(head.attrs.as_slice(), name)),
@@ -75,8 +79,11 @@ fn step(
     requires list { All (CitesWell store.now) list.now.items }
     requires allowed { MayPass store.now list.now.items (with_position op.now kept) cursor }
     ensures at { IfOk result (λ next. next.0.at ≤ cursor.at + size op.now) }
-    ensures passed { IfOk result (λ next. Passes store.now list.now.items (with_position op.now kept) cursor next.0) }
-    ensures filled { IfOk result (λ next. Fills store.now list.now.items cursor (with_position op.now kept) (with_position op.now next.1)) }
+    ensures passed { IfOk result (λ next.
+        Passes store.now list.now.items (with_position op.now kept) cursor next.0) }
+    ensures filled { IfOk result (λ next.
+        Fills store.now list.now.items cursor (with_position op.now kept)
+        (with_position op.now next.1)) }
 {
     match op {
         Op::Retain(count) => Ok((past(cursor, *count), kept)),
@@ -108,9 +115,12 @@ pub fn filled(
 ) -> Result<Gathered, Memory>
     requires within { total_size ops.now ≤ max_total_length }
     requires list { All (CitesWell store.now) list.now.items }
-    requires allowed { bad_attribute_at 0 (by_value store.now (with_positions ops.now kept.now)) (plain_list store.now list.now.items) ≡ None }
+    requires allowed { bad_attribute_at 0 (by_value store.now (with_positions ops.now kept.now))
+        (plain_list store.now list.now.items)
+        ≡ None }
     ensures ops { IfOk result (λ made. made.ops.items ≡ ops.now) }
-    ensures filled { IfOk result (λ made. IsFilledOn store.now list.now.items (with_positions ops.now kept.now) (gathered made)) }
+    ensures filled { IfOk result (λ made.
+        IsFilledOn store.now list.now.items (with_positions ops.now kept.now) (gathered made)) }
 {
     let mut made = Gathered::new(alloc);
     let mut cursor = Cursor { at: 0, head: None };

@@ -47,7 +47,9 @@ fn put_back(
     requires within { start ≤ vec_len back.old.ops }
     ensures even { OnOk result (vec_len back.new.ops ≡ vec_len back.new.kept) }
     ensures within { IfOk result (λ next. next ≤ vec_len back.new.ops) }
-    ensures ok { IfOk result (λ next. UndoesAlso (gathered back.old) start (with_position op.now kept) (gathered back.new) next) }
+    ensures ok { IfOk result (λ next.
+        UndoesAlso (gathered back.old) start (with_position op.now kept) (gathered back.new)
+        next) }
 {
     let undone = undoing(alloc, op)?;
     match op {
@@ -64,7 +66,9 @@ fn put_back(
 /// the old and the new value of each attribute. Attribute operations of one position come in
 /// reverse order; kept positions stay.
 pub fn inverted(alloc: Global, ops: &[Op], kept: &[Option<usize>]) -> Result<Gathered, Memory>
-    ensures { IfOk result (λ back. with_positions back.ops.items back.kept.items ≡ turned (with_positions ops.now kept.now)) }
+    ensures { IfOk result (λ back.
+        with_positions back.ops.items back.kept.items
+        ≡ turned (with_positions ops.now kept.now)) }
 {
     let mut back = Gathered::new(alloc);
     let mut start = 0;

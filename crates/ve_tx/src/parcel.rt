@@ -32,10 +32,15 @@ impl Parcel {
     /// inserted; in one item come head, marks and whitespace.
     pub fn of(alloc: Global, entry: &Entry, store: &Store) -> Result<Parcel, Memory>
         requires { All (TxCites store.now) entry.now.txs }
-        ensures txs { IfOk result (λ parcel. map (by_value parcel.values) parcel.entry.txs ≡ map (by_value store.now) entry.now.txs) }
-        ensures store_before { IfOk result (λ parcel. parcel.entry.store_before ≡ entry.now.store_before) }
-        ensures store_after { IfOk result (λ parcel. parcel.entry.store_after ≡ entry.now.store_after) }
-        ensures values { IfOk result (λ parcel. parcel.values ≡ fill [] (all_cited (map (by_value store.now) entry.now.txs))) }
+        ensures txs { IfOk result (λ parcel.
+            map (by_value parcel.values) parcel.entry.txs
+            ≡ map (by_value store.now) entry.now.txs) }
+        ensures store_before { IfOk result (λ parcel.
+            parcel.entry.store_before ≡ entry.now.store_before) }
+        ensures store_after { IfOk result (λ parcel.
+            parcel.entry.store_after ≡ entry.now.store_after) }
+        ensures values { IfOk result (λ parcel.
+            parcel.values ≡ fill [] (all_cited (map (by_value store.now) entry.now.txs))) }
         ensures distinct { IfOk result (λ parcel. AreDistinct parcel.values) }
         ensures cites { IfOk result (λ parcel. All (TxCites parcel.values) parcel.entry.txs) }
     {

@@ -21,20 +21,20 @@ use ve_store::Store;
 
 /// Values of a list that a store has, each since it was cited for the first time.
 #[derive(Drop)]
-pub struct Taken {
+pub struct CitedValues {
     // where each value stands in the list
     pub places: IndexSet<usize>,
     // beside it, its number in the store
     pub ids: Vec<ValueId>,
 }
 
-impl Taken {
+impl CitedValues {
     /// None yet. It takes no memory.
-    pub fn new(alloc: Global) -> Taken
+    pub fn new(alloc: Global) -> CitedValues
         ensures places { result.places.keys ≡ [] }
         ensures ids { result.ids.items ≡ [] }
     {
-        Taken {
+        CitedValues {
             places: IndexSet::new(alloc),
             ids: Vec::new(alloc),
         }
@@ -51,7 +51,8 @@ impl Taken {
     ) -> Result<Option<ValueId>, Memory>
         requires taken { AreTaken values.now store.old self.old.places.keys self.old.ids.items }
         requires stands { Stands values.now id }
-        ensures taken { OnOk result (AreTaken values.now store.new self.new.places.keys self.new.ids.items) }
+        ensures taken { OnOk result (
+            AreTaken values.now store.new self.new.places.keys self.new.ids.items) }
         ensures filled { OnOk result (store.new ≡ fill store.old (one_cited values.now id)) }
         ensures cites { IfOk result (CitesAlike values.now store.new id) }
         ensures grown { OnErr result (Extends store.old store.new) }
@@ -79,8 +80,10 @@ impl Taken {
     ) -> Result<Item, Memory>
         requires taken { AreTaken values.now store.old self.old.places.keys self.old.ids.items }
         requires cites { CitesWell values.now item }
-        ensures taken { OnOk result (AreTaken values.now store.new self.new.places.keys self.new.ids.items) }
-        ensures filled { OnOk result (store.new ≡ fill store.old (cited_by (plain values.now item))) }
+        ensures taken { OnOk result (
+            AreTaken values.now store.new self.new.places.keys self.new.ids.items) }
+        ensures filled { OnOk result (
+            store.new ≡ fill store.old (cited_by (plain values.now item))) }
         ensures alike { IfOk result (ReadsAlike plain CitesWell values.now store.new item) }
         ensures grown { OnErr result (Extends store.old store.new) }
     {
@@ -126,9 +129,13 @@ impl Taken {
     ) -> Result<Items, Memory>
         requires taken { AreTaken values.now store.old self.old.places.keys self.old.ids.items }
         requires cites { All (CitesWell values.now) items.now }
-        ensures taken { OnOk result (AreTaken values.now store.new self.new.places.keys self.new.ids.items) }
-        ensures filled { OnOk result (store.new ≡ fill store.old (cited (plain_list values.now items.now))) }
-        ensures alike { IfOk result (ReadsAlike plain_list (λ values. All (CitesWell values)) values.now store.new items.now) }
+        ensures taken { OnOk result (
+            AreTaken values.now store.new self.new.places.keys self.new.ids.items) }
+        ensures filled { OnOk result (
+            store.new ≡ fill store.old (cited (plain_list values.now items.now))) }
+        ensures alike { IfOk result (
+            ReadsAlike plain_list (λ values. All (CitesWell values)) values.now store.new
+            items.now) }
         ensures grown { OnErr result (Extends store.old store.new) }
     {
         let mut made = Items::new(alloc);
@@ -149,9 +156,16 @@ impl Taken {
     ) -> Result<Op, Memory>
         requires taken { AreTaken values.now store.old self.old.places.keys self.old.ids.items }
         requires cites { (k : _) → OperationCites values.now (with_position op.now k) }
-        ensures taken { OnOk result (AreTaken values.now store.new self.new.places.keys self.new.ids.items) }
-        ensures filled { OnOk result ((k : _) → store.new ≡ fill store.old (operation_cited_in values.now (with_position op.now k))) }
-        ensures alike { IfOk result (λ made. (k : _) → OperationsAlike values.now store.new (with_position op.now k) (with_position made k)) }
+        ensures taken { OnOk result (
+            AreTaken values.now store.new self.new.places.keys self.new.ids.items) }
+        ensures filled { OnOk result (
+            (k : _)
+            → store.new
+            ≡ fill store.old (operation_cited_in values.now (with_position op.now k))) }
+        ensures alike { IfOk result (λ made.
+            (k : _)
+            → OperationsAlike values.now store.new (with_position op.now k)
+            (with_position made k)) }
         ensures grown { OnErr result (Extends store.old store.new) }
     {
         match op {
@@ -181,9 +195,14 @@ impl Taken {
     ) -> Result<Gathered, Memory>
         requires taken { AreTaken values.now store.old self.old.places.keys self.old.ids.items }
         requires cites { TxCites values.now (with_positions ops.now kept.now) }
-        ensures taken { OnOk result (AreTaken values.now store.new self.new.places.keys self.new.ids.items) }
-        ensures filled { OnOk result (store.new ≡ fill store.old (transaction_cited_in values.now (with_positions ops.now kept.now))) }
-        ensures alike { IfOk result (λ made. TransactionsAlike values.now store.new (with_positions ops.now kept.now) (gathered made)) }
+        ensures taken { OnOk result (
+            AreTaken values.now store.new self.new.places.keys self.new.ids.items) }
+        ensures filled { OnOk result (
+            store.new ≡ fill store.old (
+            transaction_cited_in values.now (with_positions ops.now kept.now))) }
+        ensures alike { IfOk result (λ made.
+            TransactionsAlike values.now store.new (with_positions ops.now kept.now)
+            (gathered made)) }
         ensures grown { OnErr result (Extends store.old store.new) }
     {
         let mut made = Gathered::new(alloc);

@@ -22,7 +22,7 @@ use crate::filled::filled;
 use crate::inverse::inverted;
 use crate::normal::is_normal;
 use crate::range::range_of;
-use crate::taken::Taken;
+use crate::taken::CitedValues;
 use crate::{Change, Op, OpList};
 use model_change::TxFault;
 use std::alloc::Global;
@@ -98,8 +98,11 @@ impl Transaction {
     ) -> Result<Transaction, Memory>
         requires copied { AreCopied store.now copies.old.places.keys copies.old.values }
         requires cites { TxCites store.now self.now }
-        ensures copied { OnOk result (AreCopied store.now copies.new.places.keys copies.new.values) }
-        ensures filled { OnOk result (copies.new.values ≡ fill copies.old.values (transaction_cited_in store.now self.now)) }
+        ensures copied { OnOk result (
+            AreCopied store.now copies.new.places.keys copies.new.values) }
+        ensures filled { OnOk result (
+            copies.new.values
+            ≡ fill copies.old.values (transaction_cited_in store.now self.now)) }
         ensures alike { IfOk result (TransactionsAlike store.now copies.new.values self.now) }
     {
         let made = copies.ops(alloc, store, self.ops.as_slice(), self.kept.as_slice())?;
@@ -123,12 +126,16 @@ impl Transaction {
         requires cites { TxCites values.now self.now }
         ensures same { IfOk result (λ tx. by_value store.new tx ≡ by_value values.now self.now) }
         ensures cites { IfOk result (TxCites store.new) }
-        ensures filled { OnOk result (store.new ≡ fill store.old (transaction_cited_in values.now self.now)) }
-        ensures inserted { OnOk result (HasRemoved values.now store.old self.now → store.new ≡ fill store.old (cited (all_inserted (by_value values.now self.now)))) }
+        ensures filled { OnOk result (
+            store.new ≡ fill store.old (transaction_cited_in values.now self.now)) }
+        ensures inserted { OnOk result (
+            HasRemoved values.now store.old self.now
+            → store.new
+            ≡ fill store.old (cited (all_inserted (by_value values.now self.now)))) }
         ensures kept { OnErr result (store.new ≡ store.old) }
     {
         let before = store.len();
-        let mut taken = Taken::new(alloc);
+        let mut taken = CitedValues::new(alloc);
         match taken.ops(
             alloc,
             values,
@@ -152,9 +159,11 @@ impl Transaction {
     /// stay. It gives the old list back where the transaction applies, names are apart, and each
     /// attribute that it removes would be put back where it was.
     pub fn inverse(&self, alloc: Global) -> Result<Transaction, Memory>
-        ensures inverse { IfOk result (λ back. (values : _) → by_value values back ≡ inverse (by_value values self.now)) }
+        ensures inverse { IfOk result (λ back.
+            (values : _) → by_value values back ≡ inverse (by_value values self.now)) }
         ensures undone { IfOk result (λ back. (values : _) → Undoes values self.now back) }
-        ensures cites { IfOk result (λ back. (values : _) → TxCites values self.now → TxCites values back) }
+        ensures cites { IfOk result (λ back.
+            (values : _) → TxCites values self.now → TxCites values back) }
     {
         let back = inverted(alloc, self.ops.as_slice(), self.kept.as_slice())?;
         Ok(Transaction {
@@ -166,9 +175,13 @@ impl Transaction {
     /// The same operations between a first retain of `first` and a last retain of `last` items, in
     /// place of those that it has; a retain of 0 is left out. All positions are kept.
     pub fn with_ends(&self, alloc: Global, first: usize, last: usize) -> Result<Transaction, Memory>
-        requires normal { (values : _) → is_normal (with_ends first (core (by_value values self.now)) last) ≡ true }
-        ensures ends { IfOk result (λ tx. (values : _) → by_value values tx ≡ with_ends first (core (by_value values self.now)) last) }
-        ensures cites { IfOk result (λ tx. (values : _) → TxCites values self.now → TxCites values tx) }
+        requires normal { (values : _)
+            → is_normal (with_ends first (core (by_value values self.now)) last) ≡ true }
+        ensures ends { IfOk result (λ tx.
+            (values : _)
+            → by_value values tx ≡ with_ends first (core (by_value values self.now)) last) }
+        ensures cites { IfOk result (λ tx.
+            (values : _) → TxCites values self.now → TxCites values tx) }
     {
         let made = with_ends(
             alloc,
@@ -190,9 +203,11 @@ impl Transaction {
         requires list { All (CitesWell store.now) list.now.items }
         requires applies { AppliesTo store.now self.now list.now.items }
         ensures ops { IfOk result (λ tx. map bare tx ≡ map bare self.now) }
-        ensures filled { IfOk result (λ tx. by_value store.now tx ≡ filled_on store.now self.now list.now.items) }
+        ensures filled { IfOk result (λ tx.
+            by_value store.now tx ≡ filled_on store.now self.now list.now.items) }
         ensures restorable { IfOk result (λ tx. IsRestorableOn store.now tx list.now.items) }
-        ensures cites { IfOk result (λ tx. (values : _) → TxCites values self.now → TxCites values tx) }
+        ensures cites { IfOk result (λ tx.
+            (values : _) → TxCites values self.now → TxCites values tx) }
     {
         let made = filled(
             alloc,
@@ -234,10 +249,15 @@ impl Transaction {
     ) -> Result<Change, TxFault>
         requires list { All (CitesWell store.old) list.old.items }
         requires cites { TxCites store.old self.now }
-        ensures applied { IfOk result (λ change. applied_to store.old self.now list.old.items ≡ Ok (plain_after store.new list.old.items change.splices.items)) }
-        ensures range { IfOk result (λ change. IsOverActive store.old self.now change.splices.items) }
-        ensures within { IfOk result (λ change. LieBetween 0 (length list.old.items) change.splices.items) }
-        ensures thrifty { IfOk result (λ change. come_count change.splices.items ≤ brought_count (by_value store.old self.now)) }
+        ensures applied { IfOk result (λ change.
+            applied_to store.old self.now list.old.items
+            ≡ Ok (plain_after store.new list.old.items change.splices.items)) }
+        ensures range { IfOk result (λ change.
+            IsOverActive store.old self.now change.splices.items) }
+        ensures within { IfOk result (λ change.
+            LieBetween 0 (length list.old.items) change.splices.items) }
+        ensures thrifty { IfOk result (λ change.
+            come_count change.splices.items ≤ brought_count (by_value store.old self.now)) }
         ensures room { IfOk result (λ change. come_count change.splices.items ≤ list.new.spare) }
         ensures cites { IfOk result (λ change. AllCite store.new change.splices.items) }
         ensures store { OnOk result (store.new ≡ store_after store.old self.now list.old.items) }
@@ -269,7 +289,9 @@ impl Transaction {
     pub fn apply(&self, alloc: Global, list: &mut Linear, store: &mut Store) -> Result<(), TxFault>
         requires list { All (CitesWell store.old) list.old.items }
         requires cites { TxCites store.old self.now }
-        ensures applied { OnOk result (applied_to store.old self.now list.old.items ≡ Ok (plain_list store.new list.new.items)) }
+        ensures applied { OnOk result (
+            applied_to store.old self.now list.old.items
+            ≡ Ok (plain_list store.new list.new.items)) }
         ensures cites { OnOk result (All (CitesWell store.new) list.new.items) }
         ensures store { OnOk result (store.new ≡ store_after store.old self.now list.old.items) }
         ensures refused { IfErr result (IsRefusal (fault_on store.old self.now list.old.items)) }

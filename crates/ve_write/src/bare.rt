@@ -29,7 +29,11 @@ fn is_plain_paragraph(
 ) -> bool
     requires head { CitesHead store.now head }
     requires pre { CitesWhite store.now pre }
-    ensures { result ≡ (kind_same kind kinds.P && generated && is_empty (head_in (value_at store.now head)).attrs && is_empty (white_in (value_at store.now pre))) }
+    ensures { result
+        ≡ (kind_same kind kinds.P
+        && generated
+        && is_empty (head_in (value_at store.now head)).attrs
+        && is_empty (white_in (value_at store.now pre))) }
 {
     let none = Head::empty(alloc);
     kind == Kind::P && generated && head_of(store, head, &none).attrs.is_empty() && pre.is_none()
@@ -38,7 +42,9 @@ fn is_plain_paragraph(
 /// Whether no whitespace stands at a place among siblings: before the next one, or before their parent's closing.
 fn is_tight(list: &Linear, at: usize) -> bool
     requires { at ≤ length list.now.items }
-    ensures { (values : List Cited) → AllCite values list.now.items → IsTightAt values list.now.items at result }
+    ensures { (values : List Cited)
+        → AllCite values list.now.items
+        → IsTightAt values list.now.items at result }
 {
     if at == list.len() {
         return true;

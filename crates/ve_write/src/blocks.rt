@@ -104,8 +104,10 @@ fn put_kept(
     requires before { StandsBefore page at }
     requires within { at < length page.list.now.items }
     ensures more { IfOk result (λ kept. IfSome kept (λ step. at < step.at)) }
-    ensures within { IfOk result (λ kept. IfSome kept (λ step. step.at ≤ length page.entry.list.now.items)) }
-    ensures outer { IfOk result (λ kept. IfSome kept (λ step. SameOuter page.entry.list.now.items at step.at)) }
+    ensures within { IfOk result (λ kept.
+        IfSome kept (λ step. step.at ≤ length page.entry.list.now.items)) }
+    ensures outer { IfOk result (λ kept.
+        IfSome kept (λ step. SameOuter page.entry.list.now.items at step.at)) }
     ensures text { IfOk result (λ kept. IfSome kept (λ step. GoesOn (known_of page.entry) out.old out.new
         (λ w v. blocks_at w v page.entry.list.now.items before at) (λ w v. blocks_at w v page.entry.list.now.items step.bare step.at))) }
     ensures utf8 { OnOk result (IsUtf8 out.old → IsUtf8 out.new) }
@@ -147,7 +149,11 @@ fn put_single(
 ) -> Result<(), Memory>
     requires cites { CitesHead page.store.now head }
     requires refers { head_refers kind (head_in (value_at page.store.now head)) ≡ true }
-    ensures text { OnOk result (out.new ≡ out.old ++ single (head_in (value_at page.entry.store.now head)) (text_of page.entry.texts.now at) kind) }
+    ensures text { OnOk result (
+        out.new
+        ≡ out.old
+        ++ single (head_in (value_at page.entry.store.now head))
+        (text_of page.entry.texts.now at) kind) }
     ensures utf8 { OnOk result (IsUtf8 out.old → IsUtf8 out.new) }
 {
     if kind == Kind::InternalList {

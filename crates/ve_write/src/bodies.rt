@@ -74,7 +74,8 @@ fn body_text(alloc: Global, list: &Linear, store: &Store, at: usize) -> Result<T
     requires cites { AllCite store.now list.now.items }
     requires refers { all_refer (plain_list store.now list.now.items) ≡ true }
     requires within { at < length list.now.items }
-    ensures { IfOk result (λ text. encode_utf8_all text ≡ text_at (plain_list store.now list.now.items) at) }
+    ensures { IfOk result (λ text.
+        encode_utf8_all text ≡ text_at (plain_list store.now list.now.items) at) }
 {
     let mut spelled = Bytes::new(alloc);
     put_body(alloc, &mut spelled, list, store, at)?;
@@ -94,7 +95,8 @@ pub fn body_texts(
     requires cites { AllCite store.now list.now.items }
     requires refers { all_refer (plain_list store.now list.now.items) ≡ true }
     requires refs { refs.now ≡ table (plain_list store.now list.now.items) }
-    ensures { IfOk result (λ texts. AreBodyTexts (plain_list store.now list.now.items) (text_of texts)) }
+    ensures { IfOk result (λ texts.
+        AreBodyTexts (plain_list store.now list.now.items) (text_of texts)) }
 {
     let notes = notes_at(list);
     let mut texts = IndexMap::new(alloc);

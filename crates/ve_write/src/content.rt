@@ -35,7 +35,11 @@ fn change_cited(
 ) -> Result<(), Memory>
     requires opened { CitesMarks store.now opened }
     requires marks { CitesMarks store.now marks }
-    ensures text { OnOk result (out.new ≡ out.old ++ marks_changed (marks_in (value_at store.now opened)) (marks_in (value_at store.now marks))) }
+    ensures text { OnOk result (
+        out.new
+        ≡ out.old
+        ++ marks_changed (marks_in (value_at store.now opened)) (
+        marks_in (value_at store.now marks))) }
     ensures utf8 { OnOk result (IsUtf8 out.old → IsUtf8 out.new) }
 {
     change_marks(alloc, out, marks_of(store, opened), marks_of(store, marks))
@@ -61,7 +65,8 @@ fn put_inline_leaf(
     requires lent { LendsFirst page }
     requires before { StandsBefore page at }
     requires within { at ≤ length page.list.now.items }
-    requires origin { origin_of (drop at (plain_list page.store.now page.list.now.items)) ≡ leaf.origin }
+    requires origin { origin_of (drop at (plain_list page.store.now page.list.now.items))
+        ≡ leaf.origin }
     requires head { CitesHead page.store.now leaf.head }
     requires refers { head_refers leaf.kind (head_in (value_at page.store.now leaf.head)) ≡ true }
     ensures text { OnOk result (out.new ≡ out.old ++ unwrap_or ((known_of page.entry).originals at)

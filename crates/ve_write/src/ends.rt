@@ -96,7 +96,9 @@ pub fn after_siblings(list: &Linear, end: usize) -> After
     ensures more { end ≤ result.at }
     ensures within { result.at ≤ length list.now.items }
     ensures follows { Follows list.now.items end result }
-    ensures cites { (values : List Cited) → AllCite values list.now.items → CitesWhite values result.pre }
+    ensures cites { (values : List Cited)
+        → AllCite values list.now.items
+        → CitesWhite values result.pre }
 {
     if end == list.len() {
         return After { pre: None, at: end };

@@ -46,7 +46,8 @@ fn text_at<'a>(texts: &'a IndexMap<usize, Text>, at: usize) -> Option<&'a str>
 /// Appends the whitespace that an item cites.
 pub fn put_white(out: &mut Bytes, store: &Store, id: Option<ValueId>) -> Result<(), Memory>
     requires { CitesWhite store.now id }
-    ensures text { OnOk result (out.new ≡ out.old ++ encode_utf8_all (white_in (value_at store.now id))) }
+    ensures text { OnOk result (
+        out.new ≡ out.old ++ encode_utf8_all (white_in (value_at store.now id))) }
     ensures utf8 { OnOk result (IsUtf8 out.old → IsUtf8 out.new) }
 {
     out.push(white_of(store, id).as_bytes())
@@ -63,7 +64,11 @@ pub fn put_cited_leaf(
 ) -> Result<(), Memory>
     requires cites { CitesHead page.store.now head }
     requires refers { head_refers kind (head_in (value_at page.store.now head)) ≡ true }
-    ensures text { OnOk result (out.new ≡ out.old ++ leaf_of (head_in (value_at page.entry.store.now head)) (text_of page.entry.texts.now at) kind) }
+    ensures text { OnOk result (
+        out.new
+        ≡ out.old
+        ++ leaf_of (head_in (value_at page.entry.store.now head))
+        (text_of page.entry.texts.now at) kind) }
     ensures utf8 { OnOk result (IsUtf8 out.old → IsUtf8 out.new) }
 {
     let none = Head::empty(alloc);

@@ -26,7 +26,8 @@ pub fn put_list(alloc: Global, out: &mut Bytes, page: Page<'_, '_>) -> Result<()
     requires refers { all_refer (plain_list page.store.now page.list.now.items) ≡ true }
     requires lawful { Lawful (plain_list page.store.now page.list.now.items) }
     requires lent { LendsFirst page }
-    requires texts { AreBodyTexts (plain_list page.store.now page.list.now.items) (text_of page.texts.now) }
+    requires texts { AreBodyTexts (plain_list page.store.now page.list.now.items)
+        (text_of page.texts.now) }
     ensures text { OnOk result (out.new ≡ out.old ++ list_text (read_of page.entry.first) page.entry.store.now
         (plain_list page.entry.store.now page.entry.list.now.items)) }
     ensures utf8 { OnOk result (IsUtf8 out.old → IsUtf8 out.new) }
@@ -46,7 +47,10 @@ pub fn put_body(
     requires cites { AllCite store.now list.now.items }
     requires refers { all_refer (plain_list store.now list.now.items) ≡ true }
     requires within { at < length list.now.items }
-    ensures text { OnOk result (out.new ≡ out.old ++ html_of (body_after at (plain_list store.now (drop (at + 1) list.now.items)))) }
+    ensures text { OnOk result (
+        out.new
+        ≡ out.old
+        ++ html_of (body_after at (plain_list store.now (drop (at + 1) list.now.items)))) }
     ensures utf8 { OnOk result (IsUtf8 out.old → IsUtf8 out.new) }
 {
     let _len = list.len();

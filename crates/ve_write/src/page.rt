@@ -34,7 +34,10 @@ pub fn write<'a>(
     requires refers { all_refer (plain_list store.now list.now.items) ≡ true }
     requires lawful { Lawful (plain_list store.now list.now.items) }
     requires first { IsFirst store.now origins.now }
-    ensures ok { OnOk result (out.new ≡ out.old ++ write (opened_over store.now origins.now) (plain_list store.now list.now.items)) }
+    ensures ok { OnOk result (
+        out.new
+        ≡ out.old
+        ++ write (opened_over store.now origins.now) (plain_list store.now list.now.items)) }
     ensures err { OnErr result (out.new ≡ out.old) }
     ensures utf8 { OnOk result (IsUtf8 out.old → IsUtf8 out.new) }
 {

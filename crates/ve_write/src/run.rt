@@ -25,7 +25,9 @@ fn is_white(ch: char) -> bool
 
 /// Whether a character is more than whitespace: the tags of its marks are.
 fn is_content(ch: char, marks: Option<ValueId>) -> bool
-    ensures { (values : List Cited) → CitesMarks values marks → result ≡ (not (is_white_char ch) || not (is_empty (marks_in (value_at values marks)))) }
+    ensures { (values : List Cited)
+        → CitesMarks values marks
+        → result ≡ (not (is_white_char ch) || not (is_empty (marks_in (value_at values marks)))) }
 {
     !is_white(ch) || marks.is_some()
 }
@@ -40,7 +42,10 @@ fn stays_inline(
 ) -> Result<bool, Memory>
     requires head { CitesHead store.now head }
     requires marks { CitesMarks store.now marks }
-    ensures { IfOk result (λ b. b ≡ stays_of kind (marks_in (value_at store.now marks)) (head_in (value_at store.now head)).raw) }
+    ensures { IfOk result (λ b.
+        b
+        ≡ stays_of kind (marks_in (value_at store.now marks))
+        (head_in (value_at store.now head)).raw) }
 {
     if kind != Kind::TransInline && kind != Kind::AlienInline {
         return Ok(true);
