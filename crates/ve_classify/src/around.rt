@@ -9,7 +9,7 @@ pub enum Around {
     Content,
 }
 
-/// What a part becomes.
+/// The fit of a text, a comment, an element or a group.
 #[derive(Clone, Copy, Debug, PartialEq, Eq)]
 pub enum Fit {
     /// Whitespace before the next item: a text in a structural parent.

@@ -1,4 +1,4 @@
-// What the attributes of an element say.
+// Attributes of an element.
 ghost use Rattle.std.specs.Prelude.{◌≡◌, option_map};
 ghost use Rattle.model_spelling.specs.Grammar as g;
 ghost use Rattle.model_page.specs.Elements as page;

@@ -1,4 +1,4 @@
-// What is spelled as JSON, and lists of it.
+// Values that are serialised as JSON, and lists of them.
 ghost use Rattle.std.specs.Prelude.{◌≡◌, ◌++◌, ◌∷◌, map, OnOk};
 ghost use Rattle.serde_json.specs.Data.{Data};
 ghost use Rattle.serde_json.specs.Written.{comma_if, compact_text};
@@ -8,12 +8,13 @@ use crate::spelling::Spelling;
 use std::alloc::Global;
 use ve_base::Memory;
 
-/// What is spelled as JSON.
+/// A value that is serialised as JSON.
 pub trait Json {
     /// The JSON that it is spelled as.
     ghost shown: { Self → Data };
 
-    /// Appends it as JSON with no space. After an `Err` some of it may stand after what stood there.
+    /// Appends it as JSON with no space. After an `Err` some of it may stand after what stood
+    /// there.
     fn push_json(&self, alloc: Global, out: &mut Spelling) -> Result<(), Memory>
         ensures ok { OnOk result (out.new.text ≡ out.old.text ++ compact_text (shown self.now)) }
         ensures before { out.new.before ≡ out.old.before };

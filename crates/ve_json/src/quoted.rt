@@ -79,7 +79,8 @@ fn split_escaped(bytes: &[u8]) -> Option<(&[u8], u8, &[u8])>
     None
 }
 
-/// Appends what stands in a JSON string for the bytes: those that stand for themselves piece by piece.
+/// Appends what stands in a JSON string for the bytes: those that stand for themselves piece by
+/// piece.
 fn push_all_escaped(bytes: &[u8], out: &mut Spelling) -> Result<(), Memory>
     ensures ok { OnOk result (out.new.text ≡ out.old.text ++ escape bytes.now) }
     ensures before { out.new.before ≡ out.old.before }

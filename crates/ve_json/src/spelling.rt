@@ -4,8 +4,8 @@ ghost use Rattle.std.specs.Prelude.{◌≡◌, ◌++◌, [], ◌∷◌, OnErr, O
 use std::marker::Model;
 use ve_base::{Bytes, Memory};
 
-/// A text that is being spelled, after what stood in its buffer before. Where memory is short, what was spelled can be
-/// taken away again.
+/// A text that is being spelled, after what stood in its buffer before. Where memory is short, what
+/// was spelled can be taken away again.
 #[derive(Drop)]
 pub struct Spelling {
     buffer: Bytes,

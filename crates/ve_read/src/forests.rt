@@ -27,8 +27,8 @@ pub fn read_spelled<'a>(alloc: Global, text: &'a str) -> Result<Forest<'a>, Memo
     }
 }
 
-/// Reads all that stands in a text as what stands in a node of the kind, where no mark is around, and gives the whitespace at its end.
-/// An `Err` names a byte of the text.
+/// Reads all that stands in a text as what stands in a node of the kind, where no mark is around,
+/// and gives the whitespace at its end. An `Err` names a byte of the text.
 pub fn read_whole<'a>(
     alloc: Global,
     text: &str,

@@ -102,11 +102,12 @@ fn end_soak<S: Source, K: Sink, M: Machine, L: Ledger>(
 
 /// Does what the words after the program's name ask for.
 ///
-/// - In mode `run` it reads lines, steps the machine with each, and writes each reply before the next step. At most
-///   [`MAX_SCRIPT`](ve_base::MAX_SCRIPT) bytes and one more are taken from the source, and each reply is written as one
-///   piece with its newline.
+/// - In mode `run` it reads lines, steps the machine with each, and writes each reply before the
+///   next step. At most [`MAX_SCRIPT`](ve_base::MAX_SCRIPT) bytes and one more are taken from the
+///   source, and each reply is written as one piece with its newline.
 /// - In mode `make` it writes the generated script.
-/// - In mode `soak` it steps the machine with each line of the generated script, and writes four lines on its replies.
+/// - In mode `soak` it steps the machine with each line of the generated script, and writes four
+///   lines on its replies.
 /// - Where the words are refused or ask for help, it writes the usage line.
 pub fn run<S: Source, K: Sink, M: Machine, L: Ledger>(
     alloc: Global,
@@ -116,7 +117,8 @@ pub fn run<S: Source, K: Sink, M: Machine, L: Ledger>(
     world: &mut M,
     steps: &mut Steps<L>,
 ) -> Status
-    // Whatever bytes the source has left, the machine's replies to their lines are written, and nothing else.
+    // Whatever bytes the source has left, the machine's replies to their lines are written, and
+    // nothing else.
     ensures headline { IsRun words.now → result ≡ Status.Done → IfSome (S.left source.old) (λ script.
         Appends (K.held sink.old) (K.held sink.new) (output reply_text M.meaning world.old script)
         × (S.left source.new ≡ Some [])

@@ -22,14 +22,16 @@ pub fn run_program<S: Source, K: Sink, L: Ledger>(
     sink: &mut K,
     steps: &mut Steps<L>,
 ) -> Status
-    // Whatever bytes the source has left, what the definitions write for them as a script is written, and nothing else.
+    // Whatever bytes the source has left, what the definitions write for them as a script is
+    // written, and nothing else.
     ensures headline { IsRun words.now → result ≡ Status.Done → IfSome (S.left source.old) (λ script.
         Appends (K.held sink.old) (K.held sink.new) (output_of Closed script) × (S.left source.new ≡ Some [])) }
     // In each mode and at each status, also where the source doesn't tell its bytes.
     ensures ended { EndedNew words.now
         (seen_of steps.old (S.left source.old) (K.held sink.old) (S.faults source.old) (K.faults sink.old))
         (seen_of steps.new (S.left source.new) (K.held sink.new) (S.faults source.new) (K.faults sink.new)) result }
-    // At every status what was written is a prefix of what the definitions write for the bytes taken.
+    // At every status what was written is a prefix of what the definitions write for the bytes
+    // taken.
     ensures prefix { IsRun words.now → WrotePrefixNew
         (seen_of steps.old (S.left source.old) (K.held sink.old) (S.faults source.old) (K.faults sink.old))
         (seen_of steps.new (S.left source.new) (K.held sink.new) (S.faults source.new) (K.faults sink.new)) }

@@ -1,4 +1,4 @@
-// What the values of a parse ask for.
+// The values of a parse.
 ghost use Rattle.std.specs.Prelude.{◌≡◌, ◌≤◌, ℕ, List, IfSome};
 ghost use Rattle.clap.specs.Words.{found_of, rows_of};
 ghost use Rattle.ve_words.specs.Words.{meaning_of_rows, meant_asked, mode_in, mode_named, number_in, number_up_to};
@@ -71,7 +71,7 @@ fn number_of(matches: &ArgMatches<'_>, id: &str, most: u64) -> Option<u64>
     }
 }
 
-/// What the values ask for; nothing where one of the three is missing, or no value of its kind.
+/// The values as a request; nothing where one of the three is missing, or no value of its kind.
 pub(crate) fn asked_by(matches: &ArgMatches<'_>) -> Option<Asked>
     ensures { meant_asked result ≡ meaning_of_rows (rows_of (found_of matches.now)) }
 {
