@@ -27,7 +27,7 @@ fn class_at(doc: Doc<'_>, at: usize) -> OffsetClass
     }
 }
 
-/// The innermost node round an offset of the list, and what the offset is.
+/// The innermost node round an offset of the list, and the offset's class.
 fn node_within<'a>(doc: Doc<'a>, at: usize) -> Answer<'a>
     requires doc { IsDoc doc }
     requires within { at ≤ length doc.list.now.items }
@@ -44,7 +44,7 @@ fn node_within<'a>(doc: Doc<'a>, at: usize) -> Answer<'a>
     }
 }
 
-/// To `at`: the innermost node round an offset with its range, and what the offset is; or it is
+/// To `at`: the innermost node round an offset with its range, and the offset's class; or it is
 /// past the list's end. The tree tells it.
 pub fn node<'a>(doc: Doc<'a>, at: usize) -> Answer<'a>
     requires doc { IsDoc doc }

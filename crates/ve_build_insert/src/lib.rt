@@ -10,12 +10,12 @@
 //! passed: after a success just those that the inserted items bring. It knows no tree but through
 //! `ve_edits`, and no page text.
 //!
-//! Definitions, in reading order: `Placed` (conditions on pieces, where they may stand, and the
-//! meaning of their insertion), `Reopened` (closings and copies, as they are made), `Typed` (text
-//! as pieces, and the meaning of its insertion). Insertion and split are defined in `model_edit`'s
-//! `Insert`, their refusals in `ve_edits`' `Refused`, and the new values that they bring in its
-//! `Filled`. It has no law of its own: those of `model_edit_law` hold of the results by the
-//! clauses.
+//! Definitions, in reading order. `Placed` has the conditions on pieces, where they may stand, and
+//! the meaning of their insertion. `Reopened` has closings and copies, as they are made. `Typed`
+//! has text as pieces, and the meaning of its insertion. Insertion and split are defined in
+//! `model_edit`'s `Insert`, their refusals in `ve_edits`' `Refused`, and the new values that they
+//! bring in its `Filled`. It has no law of its own: those of `model_edit_law` hold of the results
+//! by the clauses.
 #![tactic(auto)]
 
 mod inserts;

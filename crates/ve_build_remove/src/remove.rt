@@ -123,9 +123,10 @@ fn removed(alloc: Global, doc: Doc<'_>, from: usize, to: usize) -> Result<Transa
 }
 
 /// The transaction that removes a range. Where a branch of content ends in it, another begins in
-/// it, and nothing else is unmatched, the whole range goes, so that the second branch is joined to
-/// the first. Else each matched item goes. `BadRange` comes exactly where the range is none of the
-/// list, has an end inside a leaf, or holds a bracket of the internal list or of one of its items.
+/// it, and nothing else is unmatched, the whole range goes. So the second branch is joined to the
+/// first. In every other range each matched item goes. `BadRange` comes exactly where the range is
+/// none of the list, has an end inside a leaf, or holds a bracket of the internal list or of one of
+/// its items.
 pub fn removal(
     alloc: Global,
     doc: Doc<'_>,

@@ -8,10 +8,10 @@
 //! and after a refused `wrap` none. The tree is reached through `ve_edits` alone.
 //!
 //! Definitions, in reading order: `Converted` (the edits of a conversion), `Remarked` (those of a
-//! range's marks), `Setting` (the operations that set an attribute), `Nodes` (the nodes of a range
-//! that is wrapped, and the claims on them), `Round` (the brackets, and the edits that put them).
-//! Most serve private functions. The edits are defined in `model_edit`'s `Convert`, `Marking` and
-//! `Wrap`, their refusals in `ve_edits`' `Refused`. There are no laws here: those of
+//! range's marks), and `Setting` (the operations that set an attribute). Then `Nodes` (the nodes of
+//! a range that is wrapped, and the claims on them), and `Round` (the brackets, and the edits that
+//! put them). Most serve private functions. The edits are defined in `model_edit`'s `Convert`,
+//! `Marking` and `Wrap`, their refusals in `ve_edits`' `Refused`. There are no laws here: those of
 //! `model_edit_law` hold of the results by the clauses.
 #![tactic(auto)]
 

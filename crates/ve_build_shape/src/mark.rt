@@ -95,10 +95,10 @@ fn remark_range(
 /// The change that sets a mark on each character and inline leaf of a range, inside its other
 /// marks, unless it has an equal one. Origins stay.
 ///
-/// `BadRange` comes exactly where the range is none of the list or an end of it is inside a leaf;
-/// then `BadMark` where the tag marks no text or an attribute has a reserved name; then
-/// `TooManyMarks` at the first item that would have more than
-/// 64. After a refusal `new` may hold further values.
+/// `BadRange` comes exactly where the range is none of the list or an end of it is inside a leaf.
+/// Then `BadMark` comes where the tag marks no text or an attribute has a reserved name. Last,
+/// `TooManyMarks` comes at the first item that would have more than 64 marks. After a refusal `new`
+/// may hold further values.
 pub fn marking(
     alloc: Global,
     doc: Doc<'_>,

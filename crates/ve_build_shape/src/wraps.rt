@@ -133,15 +133,15 @@ fn wrapped(
 }
 
 /// The transaction of a wrap. It takes the brackets of some kinds off a range of nodes that stand
-/// side by side, and of others off each node, and puts the brackets of shapes in their place. A new
+/// side by side, and of others off each node. It puts the brackets of shapes in their place. A new
 /// opening has all attributes of its shape, and nothing else.
 ///
-/// `BadRange` comes exactly where the range isn't one or more whole nodes side by side that stand
-/// in no branch of content, or holds a bracket of the internal list or of one of its items. Then
-/// `NotWrapped` comes where a bracket that is to go doesn't stand in its place. It names the first
-/// such position in the list's order, or 0 where too few items stand before the range. A closing
-/// stands where it must only if it is the partner of the opening that goes. After want of memory
-/// `new` may hold further values, and after another refusal it is as it was.
+/// `BadRange` comes exactly where the range isn't one or more whole nodes side by side in no branch
+/// of content, or holds a bracket of the internal list or of one of its items. Then `NotWrapped`
+/// comes where a bracket that is to go doesn't stand in its place. It names the first such position
+/// in the list's order, or 0 where too few items stand before the range. A closing stands where it
+/// must only if it is the partner of the opening that goes. After want of memory `new` may hold
+/// further values, and after another refusal it is as it was.
 pub fn wrap(
     alloc: Global,
     doc: Doc<'_>,

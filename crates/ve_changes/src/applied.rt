@@ -36,8 +36,8 @@ fn passed(op: &OpWords) -> usize
     }
 }
 
-/// How long a list operations need. A length that no `usize` counts is a want of memory like any
-/// other: what a line can write, below 2^32 each, doesn't add up to one.
+/// The length of the list that operations need. A length that no `usize` counts is a want of memory
+/// like any other: what a line can write, below 2^32 each, doesn't add up to one.
 fn needs(ops: &[OpWords]) -> Result<usize, Memory>
     ensures { IfOk result (λ needs. needs ≡ model.needs ops.now) }
 {
@@ -64,7 +64,7 @@ fn value_at(alloc: Global, doc: Doc<'_>, at: usize, name: &Text) -> Result<Optio
     Ok(value)
 }
 
-/// An operation at a position. The values take what its inserted items cite.
+/// An operation at a position. The values take those that its inserted items cite.
 fn op_at(
     alloc: Global,
     doc: Doc<'_>,
@@ -102,8 +102,8 @@ fn op_at(
     }
 }
 
-/// The operations of a list that is as long as they need. The values take what the inserted items
-/// cite.
+/// The operations of a list that is as long as they need. The values take those that the inserted
+/// items cite.
 fn ops_on(
     alloc: Global,
     doc: Doc<'_>,
@@ -135,8 +135,8 @@ fn ops_on(
     Ok(made)
 }
 
-/// The draft of operations that a line writes: what they remove, and the old values of the
-/// attributes that they set, are the list's.
+/// The draft of operations that a line writes. The items that they remove, and the old values of
+/// the attributes that they set, are the list's.
 ///
 /// `BadLength` comes exactly where the items that they pass and remove aren't as many as the list
 /// has. Lengths that add up to more than 2^60, those of inserted items among them, are a want of

@@ -1,4 +1,4 @@
-// Where a selection may stand, where its caret goes, and what is erased.
+// Where a selection may stand, where its caret goes, and which range is erased.
 ghost use Rattle.std.specs.Prelude.{◌≡◌, ◌≤◌, Ok, length, IfOk, IfErr};
 ghost use Rattle.model_items.specs.Offsets as offsets;
 ghost use Rattle.model_edit.specs.Next.{next};

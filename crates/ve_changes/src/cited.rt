@@ -82,8 +82,8 @@ fn white_id(
     Ok(Some(id))
 }
 
-/// An item that cites what it is given by value. The values take its head, then its marks, then its
-/// whitespace.
+/// An item over the values, from one that is given by value. The values take its head, then its
+/// marks, then its whitespace.
 fn cited_item(
     alloc: Global,
     store: &Store,
@@ -129,8 +129,8 @@ fn cited_item(
     }
 }
 
-/// Items that cite what they are given by value. The values take what each one cites, in the order
-/// of the items.
+/// Items over the values, from those that are given by value. The values take those of each item,
+/// in the order of the items.
 pub fn cited_items(
     alloc: Global,
     store: &Store,

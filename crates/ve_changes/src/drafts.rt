@@ -40,7 +40,7 @@ fn typed(
     }
 }
 
-/// The value of an attribute as it is spelled, if there is one.
+/// The text of an attribute's value, if there is one.
 fn spelled(value: &Option<Text>) -> Option<&str>
     ensures { value_spelled result ≡ value.now }
 {

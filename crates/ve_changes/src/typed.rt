@@ -57,8 +57,8 @@ fn with_caret(batch: Batch) -> Result<Typed, Memory>
     }
 }
 
-/// Types a text on a copy of an editor: what is selected is removed, and the text stands at the
-/// lower end of it. The editor itself stays as it is, and so does the selection: the caret is told
+/// Types a text on a copy of an editor: the selection is removed, and the text stands at the lower
+/// end of it. The editor itself stays as it is, and so does the selection: the caret is told
 /// beside.
 ///
 /// It is refused as `perform_all` refuses the changes that typing is.

@@ -1,4 +1,4 @@
-// Where parts stand, and what becomes of them.
+// Surroundings of parts, and the fit of a part there.
 use ve_kinds::Kind;
 
 /// Where parts stand: in a flow parent, in a structural parent, or in content.

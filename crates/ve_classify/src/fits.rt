@@ -59,8 +59,8 @@ fn some_element(forest: &Forest<'_>, from: usize, to: usize, test: GroupTest) ->
     false
 }
 
-/// Whether a token begins no inline content: it is a text of whitespace alone, or neither a text
-/// nor an element of an inline tag that isn't held.
+/// Whether a token begins no inline content. It is a text of whitespace alone, or neither a text
+/// nor an element of an inline tag that isn't kept whole.
 fn is_block(token: &Token<'_>) -> bool
     ensures { (k : g.Token) → ShowsToken token.now k → result ≡ spec.token_block k }
 {
@@ -148,7 +148,7 @@ fn stands_in_line(name: &str) -> bool
     is_inline_tag(name)
 }
 
-/// The fit of an element that isn't held.
+/// The fit of an element that isn't kept whole.
 fn element_fit(forest: &Forest<'_>, n: usize, name: &str, around: Around) -> Fit
     requires within { n < length forest.now }
     requires leads { LeadsOn forest.now }

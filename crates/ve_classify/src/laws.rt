@@ -27,8 +27,8 @@ pub fn parts_stand()
     ensures source { PartsKeepSource }
 {}
 
-/// Siblings are read from the first one on, whatever follows: content part by part, a block,
-/// whitespace in a structural parent, and in a flow parent a run up to its end.
+/// Siblings are read from the first one on, whatever follows. Content is read part by part, a
+/// structural parent as blocks and whitespace, and a flow parent also by runs up to their ends.
 #[tactic(auto, using(crate::proofs::RunLemmas::runs_split, crate::proofs::BlockLemmas::blocks_split, crate::proofs::BlockLemmas::white_splits, crate::proofs::BlockLemmas::runs_read, crate::proofs::ContentLemmas::content_splits))]
 pub fn siblings_split()
     ensures content { ContentSplits }

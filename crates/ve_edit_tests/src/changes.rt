@@ -11,8 +11,8 @@ use ve_store::Store;
 use ve_tx::Transaction;
 use ve_tx_samples::{page, page_line, transaction};
 
-/// A page, a transaction of it, and what that makes, each so many times; and what is retained at
-/// the page's end.
+/// A page, a transaction of it, and its result, each so many times; and the items retained at the
+/// page's end.
 #[derive(Clone, Copy)]
 struct Case {
     page: &'static str,
@@ -46,7 +46,7 @@ fn repeated(alloc: Global, text: &str, times: usize, end: &str) -> Result<String
     Ok(line)
 }
 
-/// The lines of a list after a transaction, and after what takes it back.
+/// The lines of a list after a transaction, and after its inverse.
 fn there_and_back(
     alloc: Global,
     tx: &Transaction,

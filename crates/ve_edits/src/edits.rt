@@ -88,7 +88,7 @@ impl Edits {
         !self.removed.as_slice().is_empty() || !self.inserted.as_slice().is_empty()
     }
 
-    /// Puts what is to follow the operations after them.
+    /// Puts the waiting operation after the others.
     fn settle(&mut self) -> Result<(), Memory>
         ensures means { OnOk result (
             (values : _)
@@ -160,8 +160,8 @@ impl Edits {
         Ok(())
     }
 
-    /// Sets an attribute of the opening at a position to a value. The store has what the list's
-    /// items cite. Edits come in the order of their positions.
+    /// Sets an attribute of the opening at a position to a value. The store has the values that the
+    /// list's items cite. Edits come in the order of their positions.
     pub fn set(
         &mut self,
         list: &Linear,

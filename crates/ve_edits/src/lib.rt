@@ -1,7 +1,7 @@
-//! The base of all builders of edits: edits of a page's list at rising positions, collected into
-//! the one transaction that they are, and the copy of an opening, whose head new values may take.
-//! Builders also find here the other bracket of a node, the nodes that are open at an offset, the
-//! value of an attribute, and whether a range may be edited.
+//! The base of all builders of edits. Edits of a page's list at rising positions are collected into
+//! the one transaction that they are; an opening is copied, and new values may take the copy's
+//! head. Builders also find here the other bracket of a node, the nodes that are open at an offset,
+//! the value of an attribute, and whether a range may be edited.
 //!
 //! It gives transactions and writes nothing. A page is borrowed as a `Doc`: brackets are found by
 //! the tree, and a range by its items. It doesn't know which edits a user's command is; that is

@@ -50,8 +50,8 @@ impl Lines {
         }
     }
 
-    /// Puts the next line, without its newline, in place of what stood in the buffer. It answers
-    /// whether there was one.
+    /// Writes the next line, without its newline, over the buffer. It answers whether there was
+    /// one.
     pub fn next(&mut self, line: &mut Bytes) -> Result<bool, Memory>
         ensures { IfOk result (λ some.
             MatchBool some (self.old ≡ line.new ∷ self.new) (self.old ≡ [])) }

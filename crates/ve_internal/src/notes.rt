@@ -30,8 +30,8 @@ pub struct Cited<'a> {
     pub key: &'a RefKey,
 }
 
-/// The references in order, what is known of each key, how many keys a group has, and where the
-/// first body of a key opens.
+/// The references in order, the notes of each key, how many keys a group has, and where the first
+/// body of a key opens.
 #[derive(Drop)]
 pub struct Notes<'a> {
     pub refs: Vec<Cited<'a>>,

@@ -42,7 +42,7 @@ pub enum Answer<'a> {
     },
     /// The root and all in it.
     Tree(TreeWords),
-    /// The innermost node, its range, and what the offset is.
+    /// The innermost node, its range, and the offset's class.
     At {
         kind: Kind,
         from: usize,
@@ -140,7 +140,7 @@ fn push_data(
     push_items(alloc, list, store, range, out)
 }
 
-/// Appends what an offset is in.
+/// Appends the node round an offset and the offset's class.
 fn push_at(
     alloc: Global,
     kind: Kind,
@@ -272,7 +272,7 @@ fn push_words_of_tree(alloc: Global, words: &[TreeWord], out: &mut Spelling) -> 
     push_tree(alloc, words, out)
 }
 
-/// Appends the text of an answer. After an `Err` some of it may stand after what stood there.
+/// Appends the text of an answer. An `Err` may leave a part appended.
 fn push_answer(alloc: Global, answer: &Answer<'_>, out: &mut Spelling) -> Result<(), Memory>
     requires { AnswerCites answer.now }
     ensures ok { OnOk result (
@@ -319,7 +319,7 @@ fn push_answer(alloc: Global, answer: &Answer<'_>, out: &mut Spelling) -> Result
     }
 }
 
-/// Appends the answer and a newline. After an `Err` some of it may stand after what stood there.
+/// Appends the answer and a newline. An `Err` may leave a part appended.
 fn push_line(alloc: Global, answer: &Answer<'_>, out: &mut Spelling) -> Result<(), Memory>
     requires { AnswerCites answer.now }
     ensures ok { OnOk result (

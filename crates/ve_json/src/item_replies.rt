@@ -152,7 +152,8 @@ fn push_bracket(
     }
 }
 
-/// Appends what is shown first of the items of a range, and gives the position past it.
+/// Appends the run or the item that is shown first of the items of a range, and gives the position
+/// past it.
 fn push_first(
     alloc: Global,
     list: &Linear,

@@ -10,11 +10,10 @@ use ve_base::Memory;
 
 /// A value that is serialised as JSON.
 pub trait Json {
-    /// The JSON that it is spelled as.
+    /// Its JSON.
     ghost shown: { Self → Data };
 
-    /// Appends it as JSON with no space. After an `Err` some of it may stand after what stood
-    /// there.
+    /// Appends it as JSON with no space. An `Err` may leave a part appended.
     fn push_json(&self, alloc: Global, out: &mut Spelling) -> Result<(), Memory>
         ensures ok { OnOk result (out.new.text ≡ out.old.text ++ compact_text (shown self.now)) }
         ensures before { out.new.before ≡ out.old.before };
@@ -46,7 +45,7 @@ fn push_member<T: Json>(
     member.push_json(alloc, out)
 }
 
-/// Appends members as a list of JSON. After an `Err` some of it may stand after what stood there.
+/// Appends members as a list of JSON. An `Err` may leave a part appended.
 pub fn push_list<T: Json>(alloc: Global, members: &[T], out: &mut Spelling) -> Result<(), Memory>
     ensures ok { OnOk result (
         out.new.text ≡ out.old.text ++ compact_text (json_list (map T.shown members.now))) }

@@ -1,5 +1,5 @@
 //! The text of single items of a page: characters, whitespace, the tags of marks where they change,
-//! the tags of an element, and leaves, references with their composed `data-mw` among them. It
+//! and the tags of an element. Also leaves, references with their composed `data-mw` among them. It
 //! reads the values that an item cites, and knows no list: which text comes next is its caller's
 //! matter. An `Err` is want of memory, and may leave a part appended.
 //!

@@ -1,4 +1,4 @@
-// Items over values of their own, citing a store and what follows it.
+// Items over values of their own, made to cite a store and the values that follow it.
 ghost use Rattle.std.specs.Prelude.{◌≡◌, length, map, All, IfOk, OnOk};
 ghost use Rattle.model_change.specs.Store.{fill};
 ghost use Rattle.model_items.specs.Plain.{plain_list, CitesWell};
@@ -84,8 +84,8 @@ fn values_anew(
     Ok(ids)
 }
 
-/// The items of a list over its values, citing a store and what follows it, which takes the values
-/// that are new, in their order.
+/// The items of a list over its values, made to cite a store and the values that follow it. New
+/// values are taken there, in their order.
 pub fn cited_anew(
     alloc: Global,
     list: &Linear,

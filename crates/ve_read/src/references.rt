@@ -52,7 +52,7 @@ fn claim_at(
     }
 }
 
-/// The source of what is in the element at a node.
+/// The source of the inside of the element at a node.
 fn inner_source<'a>(text: &'a str, forest: &Forest<'_>, n: usize) -> &'a str
     requires within { n < length forest.now }
     requires element { SomeElement text.now forest.now n }

@@ -267,7 +267,7 @@ impl Reader {
         Ok(())
     }
 
-    /// The owners among the items are handed over, and what comes next is read as bodies.
+    /// The owners among the items are handed over, and the rest is read as bodies.
     pub fn turn_to_bodies(&mut self) -> Owners
         ensures owners { result ≡ self.old.owners }
         ensures next { self.new ≡ bodies_next self.old }

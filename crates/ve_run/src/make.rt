@@ -12,7 +12,7 @@ use std::alloc::Global;
 use ve_base::{Bytes, Sink};
 use ve_gen::Lines;
 
-/// Writes all lines that are still to come, each with its newline as one piece. They are spelled in
+/// Writes all lines that are still to come, each with its newline as one piece. They are made in
 /// `line`.
 fn write_lines<K: Sink>(lines: &mut Lines, line: &mut Bytes, sink: &mut K) -> Result<(), Stop>
     ensures ok { OnOk result (

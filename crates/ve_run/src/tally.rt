@@ -63,7 +63,7 @@ impl Tally {
         self.hashed.update(reply);
     }
 
-    /// Appends the four lines on what was counted and hashed.
+    /// Appends the four lines of the counts and the hash.
     pub fn push_text(self, alloc: Global, out: &mut Bytes) -> Result<(), Memory>
         ensures { OnOk result (
             (answers : List (List ℕ))

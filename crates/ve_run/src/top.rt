@@ -78,7 +78,7 @@ fn end_make<K: Sink>(alloc: Global, start: u64, edits: u32, sink: &mut K) -> Sta
     }
 }
 
-/// Answers the lines of the generated script, and writes what the replies are summed up as.
+/// Answers the lines of the generated script, and writes the sums of the replies.
 fn end_soak<S: Source, K: Sink, M: Machine, L: Ledger>(
     alloc: Global,
     start: u64,
@@ -100,7 +100,7 @@ fn end_soak<S: Source, K: Sink, M: Machine, L: Ledger>(
     }
 }
 
-/// Does what the words after the program's name ask for.
+/// Runs the mode that the words after the program's name ask for.
 ///
 /// - In mode `run` it reads lines, steps the machine with each, and writes each reply before the
 ///   next step. At most [`MAX_SCRIPT`](ve_base::MAX_SCRIPT) bytes and one more are taken from the
@@ -127,7 +127,7 @@ pub fn run<S: Source, K: Sink, M: Machine, L: Ledger>(
     ensures ended { Ended M.meaning words.now
         (moment (scene world.old steps.old (K.held sink.old)) (S.left source.old) (S.faults source.old) (K.faults sink.old))
         (moment (scene world.new steps.new (K.held sink.new)) (S.left source.new) (S.faults source.new) (K.faults sink.new)) result }
-    // At every status what was written is a prefix of the output of the bytes taken.
+    // At every status the output is a prefix of that of the bytes taken.
     ensures prefix { IsRun words.now → WrotePrefix M.meaning (S.left source.old) (S.left source.new)
         (scene world.old steps.old (K.held sink.old)) (scene world.new steps.new (K.held sink.new)) }
 

@@ -1,6 +1,5 @@
-// Scripts on a machine of the tests' own, from sources that give pieces of all sizes and fail once,
-// to sinks that take a byte at a time and fail once. After its fault each source and sink would go
-// on.
+// Scripts on a machine of the tests' own. Sources give pieces of all sizes and fail once; sinks
+// take a byte at a time and fail once. After its fault each source and sink would go on.
 ghost use Rattle.std.specs.Prelude.{◌≡◌};
 
 use std::alloc::Global;

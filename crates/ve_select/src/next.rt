@@ -125,9 +125,9 @@ fn next_place(
 }
 
 /// The next offset of a caret at a content offset, by one grapheme cluster (Unicode, UAX #29,
-/// extended): past a leaf whole, or to the next boundary of the run of characters beside it. None
-/// comes at the end of its content branch in that direction. It reads of the list that run, and
-/// takes memory for its text alone.
+/// extended). It goes past a leaf whole, or to the next boundary of the run of characters beside
+/// it. None comes at the end of its content branch in that direction. It reads of the list that
+/// run, and takes memory for its text alone.
 pub fn next_cluster(
     alloc: Global,
     doc: Doc<'_>,

@@ -10,7 +10,7 @@ ghost use Rattle.ve_select.specs.Passed.{passed_before};
 use crate::{Bias, Selection};
 use ve_tx::{Op, Transaction};
 
-/// Whether what is inserted at a position comes before an offset that keeps to this side.
+/// Whether an insertion at a position comes before an offset that keeps to this side.
 fn is_before(bias: Bias, place: usize, offset: usize) -> bool
     ensures { result ≡ model.is_before bias place offset }
 {
@@ -45,10 +45,10 @@ fn items_before(ops: &[Op], offset: usize, bias: Bias) -> usize
     before
 }
 
-/// Where an offset of the old list stands in the new one. Three sorts of items come before it:
-/// those that come from old items before it, those inserted at a position before it, and those
-/// inserted at its own position where it keeps to the right. The items of a replace are inserted
-/// where the replace begins. It takes no memory and walks the operations alone.
+/// Where an offset of the old list stands in the new one. Items come before it that come from old
+/// items before it, and those inserted at a position before it. Those inserted at its own position
+/// do where it keeps to the right. The items of a replace are inserted where the replace begins. It
+/// takes no memory and walks the operations alone.
 pub fn translate_offset(tx: &Transaction, offset: usize, bias: Bias) -> usize
     ensures { (values : _) → result ≡ translate (by_value values tx.now) offset bias }
 {

@@ -31,7 +31,8 @@ use ve_origin::{OriginTable, Origins};
 use ve_read::{PageRead, page, rows_stand};
 use ve_sites::Sites;
 
-/// A page that is open: its text, what was first read of it, and the sites that edit it.
+/// A page that is open: its text, the rest of the page that was first read, and the sites that edit
+/// it.
 #[derive(Drop)]
 pub struct OpenPage {
     text: Text,
@@ -225,7 +226,7 @@ impl OpenPage {
         reply_text(alloc, &answer, out)
     }
 
-    /// Does what a request asks of a site, and appends the reply. A refusal changes nothing.
+    /// Performs a request to a site, and appends the reply. A refusal changes nothing.
     fn act<L: Ledger>(
         &mut self,
         alloc: Global,

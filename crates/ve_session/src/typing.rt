@@ -85,8 +85,8 @@ fn type_here<L: Ledger>(
     Ok(Answer::Length(len_at(session, k)))
 }
 
-/// A text typed in the place of what a site has selected, made on a copy of its page: two changes
-/// that are one entry.
+/// Types a text over the selection of a site, on a copy of its page: two changes that are one
+/// entry.
 fn type_over<L: Ledger>(
     alloc: Global,
     session: &mut Sites,
@@ -122,8 +122,8 @@ fn type_over<L: Ledger>(
     Ok(Answer::Length(len_at(session, k)))
 }
 
-/// A text typed in the place of what a site has selected, or at its caret; its caret stands after
-/// the text then.
+/// Types a text over the selection of a site, or at its caret; its caret stands after the text
+/// then.
 pub fn type_at<L: Ledger>(
     alloc: Global,
     session: &mut Sites,

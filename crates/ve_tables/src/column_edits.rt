@@ -224,8 +224,9 @@ fn take_column(
 
 /// The transaction that puts a column into the table that opens at a position: before the column of
 /// this number, or after the last one where it is the number of columns. The cells that span into
-/// the column grow by one column. Each other row has a new cell with an empty paragraph: before its
-/// first cell at or right of the column, else after its last cell, else before its closing.
+/// the column grow by one column. Each other row has a new cell with an empty paragraph. It stands
+/// before the row's first cell at or right of the column, else after its last cell, else before its
+/// closing.
 ///
 /// It is refused as by `grid`. Then `BadColumn` comes exactly where there are no columns, or fewer
 /// than the number. Next is `Ragged` with the first row in which a position left of the column is

@@ -10,11 +10,11 @@
 //! list.
 //!
 //! Definitions, in reading order: `Placed` (the cells placed so far, and the next one), `Refused`
-//! (how a table is refused), and for private functions `Floors` (what the columns' lowest covered
-//! rows have to do with the cells), `Rows` (nodes just inside another), `CellQuestions` (what is
-//! asked of cells, and the causes that refuse), `Covered` (which positions cells cover), `Fresh`
-//! (the new cells of a row) and `PartWay` (how far the edits are collected). What a grid is, and a
-//! change of it, stands in `model_edit`'s `Grid` and `Tables`. Law: the next cell is the model's
+//! (how a table is refused). The others serve private functions: `Floors` (the columns' lowest
+//! covered rows beside the cells), `Rows` (nodes just inside another), `CellQuestions` (tests of
+//! cells, and the causes that refuse), `Covered` (which positions cells cover), `Fresh` (the new
+//! cells of a row) and `PartWay` (how far the edits are collected). A grid, and a change of it, are
+//! defined in `model_edit`'s `Grid` and `Tables`. Law: the next cell is the model's
 //! (`next_is_placed`).
 #![tactic(auto)]
 

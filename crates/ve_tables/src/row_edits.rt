@@ -98,10 +98,10 @@ fn take_row(
     Ok(tx)
 }
 
-/// The transaction that puts a row into the table that opens at a position: before the row of this
-/// number, in its section, or after the last row where it is the number of rows. The cells that
-/// span into the row grow by one row. In each other column the row has a new cell with an empty
-/// paragraph.
+/// The transaction that puts a row into the table that opens at a position. It goes before the row
+/// of this number, in its section, or after the last row where it is the number of rows. The cells
+/// that span into the row grow by one row. In each other column the row has a new cell with an
+/// empty paragraph.
 ///
 /// It is refused as by `grid`. Then `BadRow` comes exactly where there are no rows, or fewer than
 /// the number, and next `TooWide` exactly where there are over 1,000 columns. Last is `SpanFull`

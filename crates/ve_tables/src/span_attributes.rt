@@ -7,7 +7,7 @@ ghost use Rattle.model_edit.specs.Grid.{number_after, span_by, span_in};
 
 use ve_base::Attr;
 
-/// The number that digits spell, which may begin with 0; 1 where it is over `most`, or another
+/// The number that digits stand for, which may begin with 0; 1 where it is over `most`, or another
 /// character stands among them.
 fn number_of(text: &str, most: usize) -> usize
     requires { most ≤ max_row_span }
@@ -26,7 +26,8 @@ fn number_of(text: &str, most: usize) -> usize
     number
 }
 
-/// The span that a text spells: a number without a leading zero, up to `most`; any other text is 1.
+/// The span that a text stands for: a number without a leading zero, up to `most`; any other text
+/// is 1.
 fn spelled_span(text: &str, most: usize) -> usize
     requires { most ≤ max_row_span }
     ensures { result ≡ span_in most (Some (chars text.now)) }

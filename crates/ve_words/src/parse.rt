@@ -20,9 +20,9 @@ fn spelled<'a>(alloc: Global, words: &'a [Text]) -> Result<Vec<&'a str>, AllocEr
     Ok(texts)
 }
 
-/// The meaning of the words after the program's name: mode and numbers as `clap` reads them, `Help`
-/// exactly where it answers with help and `Usage` exactly where it refuses the words, but for want
-/// of memory.
+/// The meaning of the words after the program's name: mode and numbers as `clap` reads them. `Help`
+/// comes exactly where it answers with help and `Usage` exactly where it refuses the words, but for
+/// want of memory.
 ///
 /// `start` is below 2^64 and 0 where it isn't given; `edits` is at most 100,000, and 100 where it
 /// isn't given.

@@ -6,7 +6,7 @@ ghost use Rattle.ve_words.specs.Words.{meaning_of_rows, meant_asked, mode_in, mo
 use crate::command::{EDITS, MAX_EDITS, MODE, START};
 use clap::ArgMatches;
 
-/// What the program is to do.
+/// Modes of the program.
 #[derive(Clone, Copy, Debug, PartialEq, Eq)]
 pub enum Mode {
     /// Step a machine with the lines of the standard input.
@@ -20,7 +20,7 @@ pub enum Mode {
 /// A mode, with the numbers of a generated script.
 #[derive(Clone, Copy, Debug, PartialEq, Eq)]
 pub struct Asked {
-    /// What to do.
+    /// The mode.
     pub mode: Mode,
     /// Where the generator of edits starts.
     pub start: u64,

@@ -25,7 +25,7 @@ struct Step {
     opened: Option<ValueId>,
 }
 
-/// Appends what comes between marks: the open ones are closed that end here, and those are opened
+/// Appends the tags between marks: the open ones are closed that end here, and those are opened
 /// that begin.
 fn change_cited(
     alloc: Global,

@@ -1,4 +1,4 @@
-// Where siblings end, and what follows the node that they stand in.
+// The ends of siblings, and the rest after the node that they stand in.
 ghost use Rattle.std.specs.Prelude.{List, true, ◌≡◌, ◌≤◌, ◌<◌, ◌+◌, ◌^◌, length, drop};
 ghost use Rattle.ve_base.specs.declared.value.Value.{Value as Cited};
 ghost use Rattle.model_items.specs.Plain.{CitesWhite};

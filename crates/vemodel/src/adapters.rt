@@ -1,5 +1,5 @@
-// Readers and writers of std as sources and sinks. They are the edge that is trusted: what a
-// terminal or a pipe holds no clause knows.
+// Readers and writers of std as sources and sinks. They are the edge that is trusted: no clause
+// knows what a terminal or a pipe holds.
 ghost use Rattle.std.specs.Prelude.{◌≡◌};
 
 use std::io::{Read, Write};

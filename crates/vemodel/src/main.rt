@@ -56,8 +56,8 @@ fn run_all<R: Read + Drop, W: Write + Drop, L: Ledger>(
     requires name { blank.name ≡ L.name }
     requires parts { blank.parts ≡ L.parts }
     requires one { blank.parts ≡ 1 }
-    // Where reader and writer tell their bytes, what the definitions write for the script is
-    // written, and nothing else.
+    // Where reader and writer tell their bytes, the output that the definitions give for the script
+    // is written, and nothing else.
     ensures headline { IsRun words.now → result ≡ Status.Done → IfSome (R.remaining source.old.reader) (λ script.
         Appends (W.contents sink.old.writer) (W.contents sink.new.writer) (output_of Closed script)
         × (R.remaining source.new.reader ≡ Some [])) }
