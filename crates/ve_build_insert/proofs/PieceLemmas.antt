@@ -27,7 +27,7 @@ outer_first q (suc depth) (Opening kind head marks pre origin generated) rest = 
 outer_first q zero (Closing kind pre) rest = refl
 outer_first q (suc depth) (Closing kind pre) rest = refl
 
--- the items from a place on, with the one there
+-- the items from a position on, with the one there
 pub rest_first : (values : List Value) (items : List Item) (i : ℕ) (x : Item) → drop i items ≡ x ∷ drop (i + 1) items →
     plain_list values (drop i items) ≡ plain values x ∷ plain_list values (drop (i + 1) items)
 rest_first values items i x parts = ap (plain_list values) parts

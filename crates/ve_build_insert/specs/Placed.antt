@@ -1,4 +1,4 @@
--- What is asked of pieces, and where they may stand.
+-- Conditions on pieces, and where they may stand.
 use Rattle.std.specs.Prelude.{◌≡◌, ◌≤◌, ◌<◌, ℕ, zero, suc, ◌-◌, Bool, true, false, not, if◌then◌else◌, List, length, All, Option, None, option_map, Result}
 use Rattle.ve_base.specs.declared.value.Value.{Value}
 use Rattle.ve_kinds.specs.declared.kind.Kind.{Kind}

@@ -19,13 +19,14 @@ use ve_offsets::Doc;
 use ve_store::NewValues;
 use ve_tx::Transaction;
 
-/// The change that puts pieces at an offset. They go into the innermost open node that may hold them all, but out of no
-/// internal list or item: the nodes inside it are closed before them, and copies of those are opened after them. Content
-/// is first put into a paragraph, unless the innermost open node is a branch of content.
+/// The transaction that puts pieces at an offset. They go into the innermost open node that may
+/// hold them all, but out of no internal list or item. The nodes inside it are closed before them,
+/// and copies of those are opened after them. Content is first put into a paragraph, unless the
+/// innermost open node is a branch of content.
 ///
-/// `BadOffset` comes exactly where the offset is the list's length or past it, or inside a leaf; then `NoPlace` where no
-/// open node may hold the pieces, or where they are content and blocks side by side. After a refusal `new` may hold
-/// further values.
+/// `BadOffset` comes exactly where the offset is the list's length or past it, or inside a leaf.
+/// Then `NoPlace` comes where no open node may hold the pieces, or where they are content and
+/// blocks side by side. After a refusal `new` may hold further values.
 pub fn insertion(
     alloc: Global,
     doc: Doc<'_>,

@@ -1,4 +1,4 @@
-// What pieces are: content, blocks, or both side by side, and what may hold them.
+// Sorts of pieces: content, blocks, or both side by side, and what may hold them.
 ghost use Rattle.std.specs.Prelude.{◌≡◌, ◌+◌, ◌<◌, ◌^◌, ◌&&◌, not, IfOk};
 ghost use Rattle.std.specs.List.{list_all};
 ghost use Rattle.ve_kinds.specs.Table as table;
@@ -12,7 +12,7 @@ use ve_edits::is_content_item;
 use ve_items::{Item, Items};
 use ve_kinds::{Kind, is_content_branch, may_hold};
 
-/// What is asked of each piece that stands in no other.
+/// A test of each piece that stands in no other.
 #[derive(Clone, Copy)]
 pub enum Question {
     IsContent,

@@ -21,7 +21,7 @@ use ve_offsets::Doc;
 use ve_store::NewValues;
 use ve_tx::Transaction;
 
-/// What the item at a place cites as its marks.
+/// The marks that the item at a position cites.
 fn marks_at(doc: Doc<'_>, at: usize) -> Option<ValueId>
     requires { at < length doc.list.now.items }
     ensures { MarksAreCited doc.entry.list.now.items at result }
@@ -33,7 +33,7 @@ fn marks_at(doc: Doc<'_>, at: usize) -> Option<ValueId>
     }
 }
 
-/// What is cited as marks by the character that ends at an offset, or by the inline leaf that does.
+/// The marks cited by the character or the inline leaf that ends at an offset.
 fn marks_before(doc: Doc<'_>, at: usize) -> Option<ValueId>
     requires doc { IsDoc doc }
     ensures { AreMarksBefore doc.entry.list.now.items at result }
@@ -65,8 +65,8 @@ fn letters(alloc: Global, marks: Option<ValueId>, text: &str) -> Result<Items, M
     Ok(all)
 }
 
-/// The change that puts a text at an offset, with the marks of what stands to the left: of the character that ends
-/// there, or of the inline leaf that does. It is refused as `insertion` is.
+/// The transaction that puts a text at an offset, with the marks of its left neighbour: of the
+/// character that ends there, or of the inline leaf that does. It is refused as `insertion` is.
 pub fn text_insertion(
     alloc: Global,
     doc: Doc<'_>,

@@ -76,7 +76,8 @@ fn join_by(doc: Doc<'_>, p: usize, q: usize) -> Option<Join>
     }
 }
 
-/// The join in a range, where a closing and an opening of branches of content are all that is unmatched there.
+/// The join in a range, where a closing and an opening of branches of content are all that is
+/// unmatched there.
 pub fn join_at(doc: Doc<'_>, from: usize, to: usize, unmatched: &[usize]) -> Option<Join>
     requires doc { IsDoc doc }
     requires order { from ≤ to }

@@ -20,7 +20,7 @@ use ve_items::Item;
 use ve_offsets::Doc;
 use ve_tx::Transaction;
 
-/// The places of a range whose partners are not in it.
+/// The positions of a range whose partners are not in it.
 fn unmatched_places(
     alloc: Global,
     doc: Doc<'_>,
@@ -101,7 +101,7 @@ fn joined(
     Ok(tx)
 }
 
-/// What is removed of a range that may be.
+/// The removed pieces of a range that may be removed.
 fn removed(alloc: Global, doc: Doc<'_>, from: usize, to: usize) -> Result<Transaction, Memory>
     requires doc { IsDoc doc }
     requires order { from ≤ to }
@@ -122,10 +122,11 @@ fn removed(alloc: Global, doc: Doc<'_>, from: usize, to: usize) -> Result<Transa
     }
 }
 
-/// The change that removes a range: where a branch of content ends in it, another begins in it, and nothing else is
-/// unmatched, the whole range, so that the second branch is joined to the first; else each matched item. `BadRange` comes
-/// exactly where the range is none of the list, has an end inside a leaf, or holds a bracket of the internal list or of
-/// one of its items.
+/// The transaction that removes a range. Where a branch of content ends in it, another begins in
+/// it, and nothing else is unmatched, the whole range goes. So the second branch is joined to the
+/// first. In every other range each matched item goes. `BadRange` comes exactly where the range is
+/// none of the list, has an end inside a leaf, or holds a bracket of the internal list or of one of
+/// its items.
 pub fn removal(
     alloc: Global,
     doc: Doc<'_>,

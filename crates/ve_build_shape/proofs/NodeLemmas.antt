@@ -80,7 +80,7 @@ module _ (items : List PlainItem) (from to : ℕ) (within : to ≤ length items)
   none_counted all =
       (count_by (λ at. passes is_closing (slice_get items at)) all == 0) && (count_by (λ at. passes is_opening (slice_get items at)) all == 0)
 
-  -- one place more is counted
+  -- one position more is counted
   one_counted : (at : ℕ) (rest : List ℕ) →
       none_counted (at ∷ rest)
       ≡ ((cond (passes is_closing (slice_get items at)) 1 0 + count_by (λ at. passes is_closing (slice_get items at)) rest == 0)
@@ -192,7 +192,7 @@ starts_end depth at (Opening kind head marks pre origin generated) xs h = absurd
 starts_end zero at (Closing kind pre) xs h = refl
 starts_end (suc depth) at (Closing kind pre) xs h = absurd (cc)
 
--- the places of the nodes from a place of a range on
+-- the positions of the nodes from a position of a range on
 abbrev pub starts_from : List PlainItem → (depth at to : ℕ) → List ℕ
 starts_from items depth at to = node_starts (siblings depth at (take (to - at) (drop at items)))
 
@@ -219,7 +219,7 @@ nodes_done items depth at to nodes past =
     let n : 0 ≡ to - at = omega arith in
     sym (append-nil nodes) ∙ ap (λ k. nodes ++ node_starts (siblings depth at (take k (drop at items)))) n
 
--- they are places of the range
+-- they are positions of the range
 starts_within : (end depth at : ℕ) (xs : List PlainItem) → at + length xs ≤ end → All (λ n. n < end) (node_starts (siblings depth at xs))
 starts_within end depth at [] h = All-nil (λ n. n < end)
 starts_within end depth at (Char c marks ∷ xs) h = starts_within end depth (suc at) xs (omega arith)
@@ -239,7 +239,7 @@ nodes_within values items from to nodes order within is =
 
 -- ---- there is a node
 
--- each open node begins before the place
+-- each open node begins before the position
 abbrev Below : ℕ → List Open → Type 0
 Below at [] = Unit {0}
 Below at (node ∷ outer) = (node.from < at) × Below at outer

@@ -29,7 +29,7 @@ fn opens_element(item: Item) -> bool
     }
 }
 
-/// Whether an element begins at a place.
+/// Whether an element begins at a position.
 fn begins_element(doc: Doc<'_>, at: usize) -> bool
     ensures within { result ≡ true → at < length doc.entry.list.now.items }
     ensures means { (values : _)
@@ -65,7 +65,8 @@ fn retain(alloc: Global, count: usize) -> Result<OpList, Memory>
     Ok(ops)
 }
 
-/// The operations that set an attribute of the item at a place, which has so many items from it on.
+/// The operations that set an attribute of the item at a position, which has so many items from it
+/// on.
 fn setting_ops(
     alloc: Global,
     at: usize,
@@ -82,8 +83,8 @@ fn setting_ops(
     Ok(ops)
 }
 
-/// The change that sets an attribute of the element at a place. One whose lengths add up to more than 2^60 is a want of
-/// memory like any other.
+/// The change that sets an attribute of the element at a position. One whose lengths add up to more
+/// than 2^60 is a want of memory like any other.
 fn set(
     alloc: Global,
     doc: Doc<'_>,
@@ -109,10 +110,12 @@ fn set(
     Ok(tx)
 }
 
-/// The change that sets an attribute of the element that begins at a place to a value, or takes it off where that is
-/// `None`. Where it takes one off, it keeps the attribute's position, so that the inverse puts it back there.
+/// The change that sets an attribute of the element that begins at a position to a value, or takes
+/// it off where that is `None`. Where it takes one off, it keeps the attribute's position, so that
+/// the inverse puts it back there.
 ///
-/// `NotOpening` comes exactly where no element begins at the place; then `BadAttr` where the name is `about` or `typeof`.
+/// `NotOpening` comes exactly where no element begins at the position; then `BadAttr` where the
+/// name is `about` or `typeof`.
 pub fn attribute(
     alloc: Global,
     doc: Doc<'_>,

@@ -23,7 +23,7 @@ fn opens(item: Item, kind: Kind) -> bool
     }
 }
 
-/// Whether a node of the kind begins at a place.
+/// Whether a node of the kind begins at a position.
 fn begins(doc: Doc<'_>, at: usize, kind: Kind) -> bool
     ensures within { result ≡ true → at < length doc.entry.list.now.items }
     ensures means { (values : _)
@@ -35,7 +35,7 @@ fn begins(doc: Doc<'_>, at: usize, kind: Kind) -> bool
     opens(doc.list.get(at), kind)
 }
 
-/// Just past the node that begins at a place.
+/// Just past the node that begins at a position.
 pub fn end_of_node(doc: Doc<'_>, at: usize) -> usize
     requires doc { IsDoc doc }
     requires within { at < length doc.list.now.items }
@@ -49,7 +49,7 @@ pub fn end_of_node(doc: Doc<'_>, at: usize) -> usize
     other + 1
 }
 
-/// The first place, from one on, where no node of the next kind begins.
+/// The first position, from one on, where no node of the next kind begins.
 fn wrong_opening(doc: Doc<'_>, at: usize, kinds: &[Kind]) -> Option<usize>
     requires within { at ≤ length doc.list.now.items }
     ensures means { (values : _)
@@ -68,7 +68,7 @@ fn wrong_opening(doc: Doc<'_>, at: usize, kinds: &[Kind]) -> Option<usize>
     None
 }
 
-/// Whether the node that begins at a place ends with the item at another.
+/// Whether the node that begins at a position ends with the item at another.
 fn ends_with(doc: Doc<'_>, opening: usize, place: usize) -> bool
     requires doc { IsDoc doc }
     requires within { opening < length doc.list.now.items }
@@ -79,8 +79,8 @@ fn ends_with(doc: Doc<'_>, opening: usize, place: usize) -> bool
     partner(doc, opening) == place
 }
 
-/// The first place, from one on, where the next closing doesn't stand. So many nodes begin one after the other at `first`,
-/// and their closings are to stand there, the innermost first.
+/// The first position, from one on, where the next closing doesn't stand. So many nodes begin one
+/// after the other at `first`, and their closings are to stand there, the innermost first.
 fn wrong_closing(doc: Doc<'_>, first: usize, count: usize, at: usize) -> Option<usize>
     requires doc { IsDoc doc }
     requires openings { first + count ≤ length doc.list.now.items }
@@ -103,8 +103,8 @@ fn wrong_closing(doc: Doc<'_>, first: usize, count: usize, at: usize) -> Option<
     None
 }
 
-/// The first wrong place in the node that begins at a place: of these kinds are to be its first brackets, and its last ones
-/// their closings.
+/// The first wrong position in the node that begins at a position: of these kinds are to be its
+/// first brackets, and its last ones their closings.
 fn wrong_in_node(doc: Doc<'_>, at: usize, kinds: &[Kind]) -> Option<usize>
     requires doc { IsDoc doc }
     requires within { at < length doc.list.now.items }
@@ -121,7 +121,7 @@ fn wrong_in_node(doc: Doc<'_>, at: usize, kinds: &[Kind]) -> Option<usize>
     wrong_closing(doc, at, count, last)
 }
 
-/// The first wrong place in the nodes that begin at some places.
+/// The first wrong position in the nodes that begin at some positions.
 fn wrong_in_nodes(doc: Doc<'_>, nodes: &[usize], kinds: &[Kind]) -> Option<usize>
     requires doc { IsDoc doc }
     requires within { AreWithin doc.list.now.items nodes.now }
@@ -138,8 +138,9 @@ fn wrong_in_nodes(doc: Doc<'_>, nodes: &[usize], kinds: &[Kind]) -> Option<usize
     None
 }
 
-/// The first place, in the list's order, where a bracket that is to go doesn't stand: those of the outer kinds round the
-/// range, and those of the others at the ends of each node. Where too few items stand before the range it is 0.
+/// The first position, in the list's order, where a bracket that is to go doesn't stand. They are
+/// those of the outer kinds round the range, and those of the others at the ends of each node.
+/// Where too few items stand before the range it is 0.
 pub fn wrong_place(
     doc: Doc<'_>,
     from: usize,

@@ -19,7 +19,7 @@ use ve_offsets::Doc;
 use ve_store::NewValues;
 use ve_tx::Transaction;
 
-/// The first place of a range where an item would have too many marks.
+/// The first position of a range where an item would have too many marks.
 fn first_full(doc: Doc<'_>, from: usize, to: usize, mark: &Mark) -> Option<usize>
     requires within { to ≤ length doc.list.now.items }
     requires cites { All (CitesWell doc.store.now) doc.list.now.items }
@@ -92,12 +92,13 @@ fn remark_range(
     Ok(tx)
 }
 
-/// The change that sets a mark on each character and inline leaf of a range, inside its other marks, unless it has an
-/// equal one. Origins stay.
+/// The change that sets a mark on each character and inline leaf of a range, inside its other
+/// marks, unless it has an equal one. Origins stay.
 ///
-/// `BadRange` comes exactly where the range is none of the list or an end of it is inside a leaf; then `BadMark` where the
-/// tag marks no text or an attribute has a reserved name; then `TooManyMarks` at the first item that would have more than
-/// 64. After a refusal `new` may hold further values.
+/// `BadRange` comes exactly where the range is none of the list or an end of it is inside a leaf.
+/// Then `BadMark` comes where the tag marks no text or an attribute has a reserved name. Last,
+/// `TooManyMarks` comes at the first item that would have more than 64 marks. After a refusal `new`
+/// may hold further values.
 pub fn marking(
     alloc: Global,
     doc: Doc<'_>,
@@ -133,9 +134,11 @@ pub fn marking(
     }
 }
 
-/// The change that takes each mark equal to this off the characters and inline leaves of a range. Origins stay.
+/// The change that takes each mark equal to this off the characters and inline leaves of a range.
+/// Origins stay.
 ///
-/// `BadRange` and then `BadMark` come as in `marking`. After a refusal `new` may hold further values.
+/// `BadRange` and then `BadMark` come as in `marking`. After a refusal `new` may hold further
+/// values.
 pub fn unmarking(
     alloc: Global,
     doc: Doc<'_>,

@@ -55,7 +55,8 @@ fn is_whole_nodes(doc: Doc<'_>, from: usize, to: usize) -> bool
     is_matched(doc, from, to)
 }
 
-/// Whether a range is not one of whole nodes side by side, or holds a bracket of the internal list or of one of its items.
+/// Whether a range is not one of whole nodes side by side, or holds a bracket of the internal list
+/// or of one of its items.
 pub fn is_bad_wrap(doc: Doc<'_>, from: usize, to: usize) -> bool
     requires doc { IsDoc doc }
     ensures means { (values : _)
@@ -87,7 +88,7 @@ fn depth_past(depth: usize, item: Item) -> Option<usize>
     }
 }
 
-/// Notes the place, where a node begins there that stands in none of the open ones.
+/// Notes the position, where a node begins there that stands in none of the open ones.
 fn note(nodes: &mut Vec<usize>, depth: usize, at: usize, item: Item) -> Result<(), Memory>
     ensures { OnOk result (
         (values : _)
@@ -106,7 +107,7 @@ fn note(nodes: &mut Vec<usize>, depth: usize, at: usize, item: Item) -> Result<(
     }
 }
 
-/// The places where the nodes of a range begin.
+/// The positions where the nodes of a range begin.
 pub fn nodes_in(alloc: Global, doc: Doc<'_>, from: usize, to: usize) -> Result<Vec<usize>, Memory>
     requires order { from ≤ to }
     requires within { to ≤ length doc.list.now.items }

@@ -20,7 +20,7 @@ use ve_kinds::is_annotation_tag;
 use ve_store::{NewValues, Store, has_mark, with_mark, without_mark};
 use ve_tx::is_reserved;
 
-/// What is done with a mark.
+/// Whether a mark is set or taken off.
 #[derive(Clone, Copy)]
 pub enum Remark {
     Set,
@@ -39,8 +39,8 @@ fn has_reserved(attrs: &[Attr]) -> bool
     attrs.iter().any(|attr| is_reserved(&attr.name))
 }
 
-/// Whether a mark is none that an edit may set or take off: no text has its tag as a mark, or one of its attributes has
-/// a reserved name.
+/// Whether a mark is none that an edit may set or take off: no text has its tag as a mark, or one
+/// of its attributes has a reserved name.
 pub fn is_bad_mark(mark: &Mark) -> bool
     ensures { result ≡ model.is_bad_mark mark.now }
 {
@@ -61,7 +61,7 @@ fn marks_at(store: &Store, marks: Option<ValueId>) -> &[Mark]
     }
 }
 
-/// What an item cites as its marks.
+/// The marks that an item cites.
 fn marks_id(item: Item) -> Option<ValueId>
     ensures { CitesItsMarks item result }
 {

@@ -14,15 +14,16 @@ use ve_edits::cite_attrs;
 use ve_items::{Item, Items};
 use ve_store::{NewValues, Store};
 
-/// The brackets of nodes one inside the other: the openings from the outermost in, and the closings from the innermost
-/// out.
+/// The brackets of nodes one inside the other: the openings from the outermost in, and the closings
+/// from the innermost out.
 #[derive(Drop)]
 pub struct Brackets {
     pub openings: Items,
     pub closings: Items,
 }
 
-/// The opening of a shape: its kind and all its attributes, and nothing else. `new` takes the head where it is new.
+/// The opening of a shape: its kind and all its attributes, and nothing else. `new` takes the head
+/// where it is new.
 fn opening_of(
     alloc: Global,
     store: &Store,

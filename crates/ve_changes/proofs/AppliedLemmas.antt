@@ -35,7 +35,7 @@ of_first name (Opening kind head marks pre origin generated) items = refl
 of_first name (Char ch marks) items = refl
 of_first name (Closing kind pre) items = refl
 
--- so that of the item at a place is that of the items from there on
+-- so that of the item at a position is that of the items from there on
 pub of_place : (store : List Value) (items : List Item) (at : ℕ) (x : Item) (name : List ℕ) → slice_get items at ≡ Some x →
     present_value name (plain store x ∷ []) ≡ present_value name (drop at (plain_list store items))
 of_place store [] at x name e = cc
@@ -101,7 +101,8 @@ needs_next sum o ops whole e = let first = first_needs o ops in omega (arith, e,
 pub needs_within : (at : ℕ) (o : OpWords) (ops : List OpWords) (whole : ℕ) → at + needs (o ∷ ops) ≡ whole → at + items_passed o ≤ whole
 needs_within at o ops whole e = let first = first_needs o ops in omega (arith, e, first)
 
--- Of the operations on these items those before `rest` are made, over values that have grown by what they insert.
+-- Of the operations on these items those before `rest` are made, over values that have grown by
+-- what they insert.
 pub record Applying (v0 v : List Value) (items : List PlainItem) (ops rest : List OpWords) (at : ℕ) (made : List CitedOp) : Type 0 where
   pub cites : TxCites v (unkept made)
   pub means : ops_on ops items ≡ by_value v (unkept made) ++ ops_on rest (drop at items)

@@ -27,7 +27,7 @@ letter = record {
   selection = record { anchor = 2; focus = 1 };
 }
 
--- a refusal is told with its place, and memory without one
+-- a refusal is told with its position, and memory without one
 place_is_told : stop_at 1 (one.Refused (refusal.BadRange 9 12)) ≡ stop.Refused 1 (refusal.BadRange 9 12)
 place_is_told = refl
 

@@ -208,7 +208,7 @@ pub one_refused : (r now : Replica) (changes rest : List EditCommand) (c : EditC
 one_refused r now changes rest c i e (one.Refused why) s h = s.meant ∙ ap (after s.ts) (batch_ends i c rest now why h)
 one_refused r now changes rest c i e one.Memory s h = tt
 
--- ---- changes by their places
+-- ---- changes by their positions
 
 drop_next : (changes : List EditCommand) (i : ℕ) (c : EditCommand) → i < length changes → c ≡ get_or changes i c → drop i changes ≡ c ∷ drop (i + 1) changes
 drop_next changes i c inside is = drop_more changes i c inside ∙ ap (λ x. x ∷ drop (i + 1) changes) (sym is)

@@ -85,7 +85,7 @@ placed_cites parent pieces = by (is_content_pieces pieces && not (is_content_bra
     by true = cited-append pieces (closing_of P ∷ []) ∙ append-nil (cited pieces)
     by false = refl
 
--- What is inserted cites what the pieces do, and then more.
+-- The inserted items cite the values of the pieces, and then more.
 record Brings (pieces : List PlainItem) (t : Transaction) : Type 0 where
   more : List Value
   cites : cited (all_inserted t) ≡ cited pieces ++ more
@@ -130,7 +130,8 @@ filled_first start mid new xs ys first is =
     let there : mid ≡ fill mid xs = all_there mid xs (λ v h. subst (λ l. Contains l v) (sym first) ((fill_appends start xs).all v h)) in
     is ∙ fill-append mid xs ys ∙ ap (λ l. fill l ys) (sym there) ∙ ap (λ l. fill l ys) first ∙ sym (fill-append start xs ys)
 
--- What was found of a page where a fragment is pasted: nothing is wrong with the offset, the spelling or the marks.
+-- The findings for a page where a fragment is pasted: nothing is wrong with the offset, the
+-- spelling or the marks.
 pub record IsFine (items : List PlainItem) (at : ℕ) (html : List ℕ) : Type 0 where
   pub offset : is_bad_offset items at ≡ false
   pub spelled : fault_of (encode_utf8_all html) ≡ None
@@ -206,7 +207,7 @@ build_refused fault meant (inl e) = subst (λ f. IsRefused (build_stop f) (built
 build_refused fault meant (inr h) =
     subst (λ f. IsRefused (build_stop f) (built_transaction meant)) (sym h.2) (subst (λ m. IsRefused (build_stop (build_fault h.0)) (built_transaction m)) (sym h.1) (cause_refused h.0))
 
--- What a fragment is, as it was read: its items, over the store and what follows it.
+-- The fragment as it was read: its items, over the store and what follows it.
 pub record IsRead (store : List Value) (items : List PlainItem) (at : ℕ) (html : List ℕ) (new : Following) (pieces : List Item) : Type 0 where
   pub fine : IsFine items at html
   pub reads : plain_list (together store new) pieces ≡ pasted items at html

@@ -1,4 +1,4 @@
--- What typing is, and where its caret stands.
+-- Typing, and where its caret stands.
 use Rattle.std.proofs.Common.{◌≡◌, ◌==◌, ℕ, Bool, true, false, if◌then◌else◌, List, [], ◌∷◌, ◌++◌, ◌≢◌, map, refl, ap, ◌∙◌, sym, eq-eqb, eqb-true}
 use Rattle.ve_base.specs.declared.value.Value.{Value}
 use Rattle.model_edit.specs.declared.selection.Selection.{Selection}

@@ -25,7 +25,7 @@ pub struct Batch {
     pub entry: Entry,
 }
 
-/// Performs one change, and gives what it did as an entry. An `Err` changes nothing.
+/// Performs one change, and gives its transaction as an entry. An `Err` changes nothing.
 fn perform_one<L: Ledger>(
     alloc: Global,
     editor: &mut Editor,
@@ -49,8 +49,8 @@ fn perform_one<L: Ledger>(
     }
 }
 
-/// Performs changes in turn, and puts what they did into an entry that has nothing yet. An `Err` may leave some of them
-/// performed.
+/// Performs changes in turn, and puts their transactions into an entry that has nothing yet. An
+/// `Err` may leave some of them performed.
 fn perform_each<L: Ledger>(
     alloc: Global,
     editor: &mut Editor,
@@ -109,10 +109,12 @@ fn perform_on<L: Ledger>(
     }
 }
 
-/// Performs changes on a copy of an editor, each on what those before it make. The editor itself stays as it is; with no
-/// changes the copy is as the editor, and the entry has no transaction.
+/// Performs changes on a copy of an editor, each on the result of those before it. The editor
+/// itself stays as it is. With no changes the copy is as the editor, and the entry has no
+/// transaction.
 ///
-/// It is refused where one of them is: at the first such place, as that change is refused on what those before it make.
+/// It is refused where one of them is, at the first such position: as that change is refused on the
+/// result of those before it.
 pub fn perform_all<L: Ledger>(
     alloc: Global,
     editor: &Editor,

@@ -38,7 +38,7 @@ pub fn over_store(alloc: Global, doc: Doc<'_>, tx: Transaction) -> Draft
     Draft { tx, values }
 }
 
-/// A text put in with the marks of what stands to the left.
+/// A text put in with the marks of its left neighbour.
 pub fn text_like_left(
     alloc: Global,
     doc: Doc<'_>,

@@ -1,4 +1,5 @@
-// Items by value, citing a store's values and those that are to follow it. What is empty isn't cited.
+// Items by value, citing a store's values and those that are to follow it. What is empty isn't
+// cited.
 ghost use Rattle.std.specs.Prelude.{◌≡◌, All, IfOk, OnOk, length};
 ghost use Rattle.model_items.specs.Plain.{plain, plain_list, value_at, head_in, marks_in, white_in, CitesHead, CitesMarks, CitesWhite, CitesWell};
 ghost use Rattle.model_change.specs.Store.{cited, cited_by, fill, head_cited, marks_cited, white_cited};
@@ -10,7 +11,7 @@ use ve_base::{Head, Marks, Memory, Text, TryCopy, Value, ValueId};
 use ve_items::{Item, Items};
 use ve_store::{NewValues, Store};
 
-/// The place of a head, if it says anything.
+/// The position of a head, if it says anything.
 fn head_id(
     alloc: Global,
     store: &Store,
@@ -33,7 +34,7 @@ fn head_id(
     Ok(Some(id))
 }
 
-/// The place of marks, if there are any.
+/// The position of marks, if there are any.
 fn marks_id(
     alloc: Global,
     store: &Store,
@@ -57,7 +58,7 @@ fn marks_id(
     Ok(Some(id))
 }
 
-/// The place of whitespace, if there is any.
+/// The position of whitespace, if there is any.
 fn white_id(
     alloc: Global,
     store: &Store,
@@ -81,7 +82,8 @@ fn white_id(
     Ok(Some(id))
 }
 
-/// An item that cites what it is given by value. The values take its head, then its marks, then its whitespace.
+/// An item over the values, from one that is given by value. The values take its head, then its
+/// marks, then its whitespace.
 fn cited_item(
     alloc: Global,
     store: &Store,
@@ -127,7 +129,8 @@ fn cited_item(
     }
 }
 
-/// Items that cite what they are given by value. The values take what each one cites, in the order of the items.
+/// Items over the values, from those that are given by value. The values take those of each item,
+/// in the order of the items.
 pub fn cited_items(
     alloc: Global,
     store: &Store,

@@ -40,7 +40,7 @@ fn typed(
     }
 }
 
-/// The value of an attribute as it is spelled, if there is one.
+/// The text of an attribute's value, if there is one.
 fn spelled(value: &Option<Text>) -> Option<&str>
     ensures { value_spelled result ≡ value.now }
 {
@@ -50,12 +50,12 @@ fn spelled(value: &Option<Text>) -> Option<&str>
     }
 }
 
-/// The draft that a change of a page is, over the page's store. Its values follow the store's, and are just those that the
-/// store takes. Nothing is performed.
+/// The draft that a change of a page is, over the page's store. Its values follow the store's, and
+/// are just those that the store takes. Nothing is performed.
 ///
-/// It is refused as the change's builder refuses, with the place, the range or the depth that the builder names; operations
-/// as they are written are refused with the lengths where these differ. It is asked that they are as a line that was read
-/// writes them, in normal form.
+/// It is refused as the change's builder refuses, with the position, the range or the depth that
+/// the builder names. Operations as they are written are refused with the lengths where these
+/// differ. They have to be in normal form, as a line that was read writes them.
 pub fn change_draft(alloc: Global, doc: Doc<'_>, change: &EditCommand) -> Result<Draft, ChangeStop>
     requires written { IsWritten change.now }
     requires page { IsPage doc.store.now doc.list.now.items doc.tree.now }

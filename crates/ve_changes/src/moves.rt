@@ -89,8 +89,9 @@ fn outdent(alloc: Global, doc: Doc<'_>, at: usize) -> Result<Draft, ChangeStop>
     Ok(Draft { tx, values })
 }
 
-/// The draft that moves a row, a column or a list item of a page, over the page's store; its values are as those of
-/// `change_draft`. It is refused as the move's builder refuses, with the place or the number that the builder names.
+/// The draft that moves a row, a column or a list item of a page, over the page's store; its values
+/// are as those of `change_draft`. It is refused as the move's builder refuses, with the position
+/// or the number that the builder names.
 pub fn move_draft(alloc: Global, doc: Doc<'_>, request: &Request) -> Result<Draft, ChangeStop>
     requires moves { model.is_move request.now ≡ true }
     requires page { IsPage doc.store.now doc.list.now.items doc.tree.now }

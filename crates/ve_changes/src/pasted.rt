@@ -14,8 +14,8 @@ use ve_read::fragment;
 use ve_store::NewValues;
 use ve_tx::Draft;
 
-/// A fragment put in, as it is where the nodes at the offset are open. The offset is judged first, then the spelling, then
-/// the marks, and then where the fragment may stand.
+/// A fragment put in, as it is where the nodes at the offset are open. The offset is judged first,
+/// then the spelling, then the marks, and then where the fragment may stand.
 pub fn pasted_draft(
     alloc: Global,
     doc: Doc<'_>,

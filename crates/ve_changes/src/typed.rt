@@ -17,8 +17,8 @@ use std::sync::ledger::Ledger;
 use ve_base::{Memory, Steps, Text, TryCopy};
 use ve_editor::Editor;
 
-/// A text typed: the selection is removed, where there is one, and the text stands at its lower end with the marks to the
-/// left. The caret is to stand just after the text.
+/// A text typed: the selection is removed, where there is one, and the text stands at its lower end
+/// with the marks to the left. The caret is to stand just after the text.
 #[derive(Drop)]
 pub struct Typed {
     pub batch: Batch,
@@ -57,8 +57,9 @@ fn with_caret(batch: Batch) -> Result<Typed, Memory>
     }
 }
 
-/// Types a text on a copy of an editor: what is selected is removed, and the text stands at the lower end of it. The editor
-/// itself stays as it is, and so does the selection: the caret is told beside.
+/// Types a text on a copy of an editor: the selection is removed, and the text stands at the lower
+/// end of it. The editor itself stays as it is, and so does the selection: the caret is told
+/// beside.
 ///
 /// It is refused as `perform_all` refuses the changes that typing is.
 pub fn type_text<L: Ledger>(

@@ -1,4 +1,5 @@
--- The words of a spelled value are those that it says, each decoded; and the words that are asked for are spelled without references.
+-- The words of a spelled value are those that it says, each decoded; and the words that are asked
+-- for are spelled without references.
 use Rattle.std.proofs.Common.{◌≡◌, ℕ, zero, suc, ◌+◌, ◌<◌, ◌≤◌, Bool, true, false, not, cond, ◌&&◌, ◌||◌, List, [], ◌∷◌, ◌++◌, length, drop, take, map, refl, sym, ap, ◌∙◌, subst, arith, lit<, inl, inr, ◌⊎◌, if◌then◌else◌}
 use Rattle.std.specs.Prelude.{◌==◌, codes, bytes_eq}
 use Rattle.std.specs.List.{list_any, prefix_len, slice_range}

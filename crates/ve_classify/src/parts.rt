@@ -51,7 +51,8 @@ fn byte_at(forest: &Forest<'_>, end: usize, to: usize, byte: usize) -> usize
     }
 }
 
-/// Where the first part of the siblings at a node ends, of which some number of parts reach up to a node and a byte.
+/// Where the first part of the siblings at a node ends, of which some number of parts reach up to a
+/// node and a byte.
 pub fn part_at(forest: &Forest<'_>, n: usize, to: usize, byte: usize) -> Part
     requires within { n < to }
     requires bound { to ≤ length forest.now }

@@ -6,7 +6,7 @@ ghost use Rattle.model_spelling.specs.Written as written;
 ghost use Rattle.model_page.specs.Elements.{is_white_char, words_of};
 ghost use Rattle.ve_classify.specs.Values.{answer_of_test};
 
-/// What a word of `typeof` is asked for.
+/// A test of a word of `typeof`.
 #[derive(Clone, Copy, Debug, PartialEq, Eq)]
 pub enum TypeTest {
     /// It begins with `mw:`.
@@ -46,7 +46,7 @@ fn passes(word: &[u8], test: TypeTest) -> bool
     }
 }
 
-/// Where the word that begins at that place ends.
+/// Where the word that begins at that position ends.
 fn word_end(value: &[u8], from: usize) -> usize
     requires { from ≤ length value.now }
     ensures end { result ≡ from + prefix_len (λ c. not (is_white_char c)) (drop from value.now) }
@@ -62,8 +62,8 @@ fn word_end(value: &[u8], from: usize) -> usize
     at
 }
 
-/// Whether some word of a value passes the test, read as it is spelled: no reference stands for whitespace or for a byte of
-/// a tested word, and no tested word has an `&`.
+/// Whether some word of a value passes the test. The value is read as it stands in the page: no
+/// reference stands for whitespace or for a byte of a tested word, and no tested word has an `&`.
 pub fn some_word(value: &[u8], test: TypeTest) -> bool
     ensures { result ≡ list_any (answer_of_test test) (words_of (written.decoded value.now)) }
 {

@@ -1,4 +1,4 @@
-// What the attributes of an element say.
+// Attributes of an element.
 ghost use Rattle.std.specs.Prelude.{◌≡◌, option_map};
 ghost use Rattle.model_spelling.specs.Grammar as g;
 ghost use Rattle.model_page.specs.Elements as page;
@@ -9,7 +9,7 @@ ghost use Rattle.ve_classify.specs.Values as spec;
 use crate::types::{TypeTest, is_white_byte, some_word};
 use ve_html_scan::{AttrTokens, Token};
 
-/// The value of the attribute of a name, as it is spelled.
+/// The value of the attribute of a name, as it stands in the page.
 pub fn spelled_value<'a>(attrs: AttrTokens<'a>, name: &str) -> Option<&'a str>
     ensures { spec.OfAttrs attrs.entry (spec.spelled_value name.now) (
         option_map (λ v. v.now) result) }

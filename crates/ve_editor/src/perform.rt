@@ -1,5 +1,5 @@
-// A draft made ready to be performed, and a transaction to be taken back: all that may fail, before the list changes.
-// The tree becomes that of the new list last of all.
+// A draft made ready to be performed, and a transaction to be taken back: all that may fail, before
+// the list changes. The tree becomes that of the new list last of all.
 ghost use Rattle.std.specs.Prelude.{◌≡◌, ◌≢◌, ◌≤◌, ◌+◌, [], ◌∷◌, All, None, length, map, IfOk, IfErr, OnOk, OnErr};
 ghost use Rattle.model_items.specs.Law.{Lawful};
 ghost use Rattle.model_items.specs.Plain.{plain_list, CitesWell};
@@ -96,8 +96,8 @@ fn entry_of(
     })
 }
 
-/// The entry of a transaction and its change. Then the tree is that of the list after the change, and nodes that stay
-/// keep their numbers; at an `Err` it is the tree of the list still.
+/// The entry of a transaction and its change. Then the tree is that of the list after the change,
+/// and nodes that stay keep their numbers; at an `Err` it is the tree of the list still.
 fn with_entry<L: Ledger>(
     alloc: Global,
     list: &Linear,
@@ -132,9 +132,10 @@ fn with_entry<L: Ledger>(
     Ok(Performing { entry, change })
 }
 
-/// Makes a draft ready to be performed on a page, or says why it is not performed. The store takes its values and
-/// the list room, and then the tree becomes that of the list after the change, in which nodes that stay keep their
-/// numbers; an `Err` leaves it the list's, and may leave values after those that were there.
+/// Makes a draft ready to be performed on a page, or says why it is not performed. The store takes
+/// its values and the list room. Then the tree becomes that of the list after the change, in which
+/// nodes that stay keep their numbers. An `Err` leaves it the list's, and may leave values after
+/// those that were there.
 pub fn ready<L: Ledger>(
     alloc: Global,
     list: &mut Linear,
@@ -184,9 +185,10 @@ pub fn ready<L: Ledger>(
     }
 }
 
-/// Makes a transaction ready that applies to a page and leaves it lawful. The store takes the heads that it
-/// changes and the list room, and then the tree becomes that of the list after the change, in which nodes that stay
-/// keep their numbers; an `Err` leaves it the list's, and may leave values after those that were there.
+/// Makes a transaction ready that applies to a page and leaves it lawful. The store takes the heads
+/// that it changes and the list room. Then the tree becomes that of the list after the change, in
+/// which nodes that stay keep their numbers. An `Err` leaves it the list's, and may leave values
+/// after those that were there.
 pub fn ready_back<L: Ledger>(
     alloc: Global,
     list: &mut Linear,
@@ -221,9 +223,9 @@ pub fn ready_back<L: Ledger>(
     }
 }
 
-/// Makes a transaction ready that cites a list of values, applies to a page and leaves it lawful. The store
-/// takes what it brings and the list room, and then the tree becomes that of the list after the change; an `Err`
-/// leaves it the list's, and may leave values after those that were there.
+/// Makes a transaction ready that cites a list of values, applies to a page and leaves it lawful.
+/// The store takes its values and the list room. Then the tree becomes that of the list after the
+/// change. An `Err` leaves it the list's, and may leave values after those that were there.
 pub fn ready_other<L: Ledger>(
     alloc: Global,
     list: &mut Linear,

@@ -1,4 +1,4 @@
-// What is selected after a change.
+// The selection after a change.
 ghost use Rattle.std.specs.Prelude.{◌≡◌, ◌<◌, ◌+◌, ◌^◌, true};
 ghost use Rattle.model_items.specs.Offsets as offsets;
 ghost use Rattle.model_items.specs.Plain.{plain_list};
@@ -33,7 +33,7 @@ fn past_leaf(doc: Doc<'_>, at: usize) -> usize
     if is_inside(doc, at) { at + 1 } else { at }
 }
 
-/// What is selected on a page after a transaction that made it what it is.
+/// The selection on a page after the transaction that made it.
 pub fn moved(doc: Doc<'_>, tx: &Transaction, selection: Selection) -> Selection
     requires { IsDoc doc }
     ensures { (values others : _)

@@ -1,4 +1,4 @@
-// Whether a page may become what a change makes of it.
+// Whether a page may become the result of a change.
 ghost use Rattle.std.specs.Prelude.{◌≡◌, ◌≤◌, ◌^◌, length, IfSome, IfNone, IfErr, OnOk, None, Some};
 ghost use Rattle.ve_lawful.specs.Uncited.{verdict};
 ghost use Rattle.ve_offsets.specs.Docs.{IsDoc};
@@ -33,7 +33,7 @@ fn length_after(list: &Linear, change: &Change) -> Option<usize>
     kept.checked_add(come)
 }
 
-/// The law's verdict over what a page becomes by the change that a transaction is.
+/// The law's verdict on a page after the change of a transaction.
 fn law_after(doc: Doc<'_>, tx: &Transaction, change: &Change) -> Result<(), LawFault>
     requires doc { IsDoc doc }
     requires applies { CanApply tx.now doc.list.now.items }
@@ -48,8 +48,9 @@ fn law_after(doc: Doc<'_>, tx: &Transaction, change: &Change) -> Result<(), LawF
     check_change(doc, tx)
 }
 
-/// Whether a page may become what the change makes of it that a transaction is: the first cause why not, by the law, by
-/// the number of items and by the number of values. A length that no `usize` names is a want of memory like any other.
+/// Whether a page may become the result of a transaction's change. Else the first cause why not: by
+/// the law, by the number of items, or by the number of values. A length that no `usize` names is a
+/// want of memory like any other.
 pub fn may_become(doc: Doc<'_>, tx: &Transaction, change: &Change) -> Result<(), EditFault>
     requires doc { IsDoc doc }
     requires applies { CanApply tx.now doc.list.now.items }

@@ -86,7 +86,7 @@ none_by_value values [] [] some a b = some refl refl
 none_by_value values [] (o ∷ is) some a b = cc
 none_by_value values (x ∷ xs) inserted some a b = cc
 
--- One edit more: the place is passed to, and the replace that is pending grows.
+-- One edit more: the position is passed to, and the replace that is pending grows.
 module _ (values : List Value) (items : List Item) (edits : List Edit) (old mid : Collected) (place count : ℕ) (inserted : List Item)
     (order : old.at ≤ place) (within : place + count ≤ length items)
     (means : (t : Transaction) → collected_transaction values mid t ≡ collected_transaction values old (retaining (place - old.at) t))
@@ -156,7 +156,7 @@ pub settled : (before between now : Transaction) (n : ℕ) (r i : List PlainItem
 settled before between now n r i one two =
     two ∙ ap (λ v. v ++ replacing r i []) one ∙ append_assoc before (retaining n []) (replacing r i []) ∙ ap (λ v. before ++ v) (put_down n r i)
 
--- a replace that was pending is put down, and the place is passed to
+-- a replace that was pending is put down, and the position is passed to
 pub went_on : (values : List Value) (old set : Collected) (place : ℕ) (t : Transaction) → (old.removed ≡ [] → old.inserted ≡ [] → ⊥) → 0 < place - old.at →
     by_value values (unkept set.ops) ≡ collected_transaction values old [] → set.removed ≡ [] → set.inserted ≡ [] →
     collected_transaction values (record { at = place; ops = set.ops; retained = place - old.at; removed = set.removed; inserted = set.inserted }) t ≡ collected_transaction values old (retaining (place - old.at) t)

@@ -1,4 +1,4 @@
--- What collected edits show, which nodes are open round an offset, and what refuses.
+-- Collected edits, the nodes that are open round an offset, and refusals, at examples.
 use Rattle.std.proofs.Common.{◌≡◌, ℕ, List, [], ◌∷◌, None, Ok, Err, inl, inr, refl, false}
 use Rattle.ve_kinds.specs.declared.kind.Kind.{Kind}
 use Rattle.ve_kinds.specs.declared.kind.Kind.TheVariants.{Ul, Li, P}
@@ -50,7 +50,8 @@ two_edits_shown :
     collected_transaction [] two_edits (Retain 2 ∷ []) ≡ transaction_of (plain_list [] page) (Change 8 1 (plain_list [] (letter 120 ∷ [])) ∷ Change 10 1 [] ∷ [])
 two_edits_shown = refl
 
--- after the letter b the second paragraph is open, and round it the second list item, and round that the list
+-- after the letter b the second paragraph is open, and round it the second list item, and round
+-- that the list
 paragraph_round : IsOpeningRound [] page 9 7
 paragraph_round = record { item = opening P; kind = P; there = refl; opens = refl; openings = refl }
 
@@ -60,7 +61,7 @@ item_round = record { item = opening Li; kind = Li; there = refl; opens = refl; 
 list_round : IsOpeningRound [] page 6 0
 list_round = record { item = opening Ul; kind = Ul; there = refl; opens = refl; openings = refl }
 
--- a refusal is told by the fault of its name, with its places
+-- a refusal is told by the fault of its name, with its positions
 told : IsRefusal (fault.BadRange 3 2) (Err (BadRange 3 2))
 told = inr (BadRange 3 2, refl, refl)
 

@@ -52,7 +52,8 @@ setting_is name from to x items is =
     let change : Option (List ℕ) → Option ℕ → AttrChange = λ f k. record { name = name; from = f; to = Some to; kept = k } in
     ap (λ f. change f (position_kept f (Some to) name None x)) same ∙ ap (change from) (set_keeps from to name x)
 
--- One attribute more is set: the place is passed to, what is pending is put down, and the operation comes after it.
+-- One attribute more is set: the position is passed to, what is pending is put down, and the
+-- operation comes after it.
 module _ (store : List Value) (items : List Item) (edits : List Edit) (old mid : Collected) (place : ℕ) (x : Item) (name : List ℕ) (from : Option (List ℕ)) (to : List ℕ)
     (order : old.at ≤ place) (there : slice_get items place ≡ Some x) (present : from ≡ present_value name (plain store x ∷ []))
     (means : (t : Transaction) → collected_transaction store mid t ≡ collected_transaction store old (retaining (place - old.at) t)) where

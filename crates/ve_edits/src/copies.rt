@@ -94,8 +94,8 @@ fn copied_head(
     Ok(copied)
 }
 
-/// An opening of the same kind with the same attributes but for `id`, and nothing else. A character or a closing is its
-/// own copy. `new` takes the head where it is new; an `Err` changes nothing.
+/// An opening of the same kind with the same attributes but for `id`, and nothing else. A character
+/// or a closing is its own copy. `new` takes the head where it is new; an `Err` changes nothing.
 pub fn copy_of(
     alloc: Global,
     store: &Store,

@@ -1,4 +1,4 @@
-// Edits at rising places, collected into one transaction.
+// Edits at rising positions, collected into one transaction.
 ghost use Rattle.std.specs.Prelude.{◌≡◌, ◌≤◌, ◌<◌, ◌+◌, ◌-◌, ◌++◌, [], length, All, IfOk, OnOk, IsTrue, ◌↔◌};
 ghost use Rattle.std.specs.Str.{chars};
 ghost use Rattle.model_items.specs.Plain.{CitesWell};
@@ -16,8 +16,8 @@ use ve_items::{Item, Items, Linear};
 use ve_store::Store;
 use ve_tx::{Op, OpList, Transaction, copy_range};
 
-/// Edits at rising places of a list. What they make is operations, and after them a retain and a replace to which the
-/// next edit may still add.
+/// Edits at rising positions of a list. What they make is operations, and after them a retain and a
+/// replace to which the next edit may still add.
 #[derive(Drop)]
 pub struct Edits {
     at: usize,
@@ -88,7 +88,7 @@ impl Edits {
         !self.removed.as_slice().is_empty() || !self.inserted.as_slice().is_empty()
     }
 
-    /// Puts what is to follow the operations after them.
+    /// Puts the waiting operation after the others.
     fn settle(&mut self) -> Result<(), Memory>
         ensures means { OnOk result (
             (values : _)
@@ -109,7 +109,7 @@ impl Edits {
         Ok(())
     }
 
-    /// Goes on to a place.
+    /// Goes on to a position.
     fn pass(&mut self, place: usize) -> Result<(), Memory>
         requires { self.old.at ≤ place }
         ensures at { OnOk result (self.new.at ≡ place) }
@@ -135,7 +135,8 @@ impl Edits {
         Ok(())
     }
 
-    /// Puts items in the place of `count` items from `at` on. Edits come in the order of their places.
+    /// Puts items in the place of `count` items from `at` on. Edits come in the order of their
+    /// positions.
     pub fn change(
         &mut self,
         list: &Linear,
@@ -159,8 +160,8 @@ impl Edits {
         Ok(())
     }
 
-    /// Sets an attribute of the opening at a place to a value. The store has what the list's items cite. Edits come in the
-    /// order of their places.
+    /// Sets an attribute of the opening at a position to a value. The store has the values that the
+    /// list's items cite. Edits come in the order of their positions.
     pub fn set(
         &mut self,
         list: &Linear,
@@ -185,8 +186,8 @@ impl Edits {
         Ok(())
     }
 
-    /// The transaction that the edits of the list are. One whose lengths add up to more than 2^60 is a want of memory
-    /// like any other.
+    /// The transaction that the edits of the list are. One whose lengths add up to more than 2^60
+    /// is a want of memory like any other.
     pub fn transaction(self, list: &Linear) -> Result<Transaction, Memory>
         requires { self.at ≤ length list.now.items }
         ensures means { IfOk result (IsCollected list.now.items self) }

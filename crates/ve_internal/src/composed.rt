@@ -86,7 +86,7 @@ fn with_html(
 {
     let mut members = members;
     let html = String::from_str(alloc, html)?;
-    // The place of the body is kept while its members change.
+    // The position of the body is kept while its members change.
     let old = put_member(alloc, &mut members, "body", Value::Null)?;
     let mut body = members_or_new(alloc, old);
     let _ = put_member(alloc, &mut body, "html", Value::String(html))?;
@@ -120,8 +120,8 @@ fn spelled(alloc: Global, members: Map<String, Value>) -> Result<Text, Memory>
     Ok(Text::from_string(Value::Object(members).to_string(alloc)?))
 }
 
-/// An editable `data-mw` with this text of the body, or without a body, as compact JSON whose members stand in the order of
-/// their names' bytes. All other members stay, those of the body too.
+/// An editable `data-mw` with this text of the body, or without a body, as compact JSON whose
+/// members stand in the order of their names' bytes. All other members stay, those of the body too.
 pub fn compose(alloc: Global, mw: &str, body: Option<&str>) -> Result<Text, Memory>
     requires { IsSome (model.reference_of mw.now) }
     ensures text { IfOk result (λ t.

@@ -1,4 +1,5 @@
--- The commands by their words alone, and what reads the members of each: together they are the tables of `model_world`.
+-- The commands by their words alone, and what reads the members of each: together they are the
+-- tables of `model_world`.
 use Rattle.std.specs.Prelude.{ℕ, List, [], ◌∷◌, ◌++◌, map, codes, Option, Some, None, option_and_then, Result, Err}
 use Rattle.serde_json.specs.Data.{Data, object, Members}
 use Rattle.serde_json.specs.Find.{get_member}

@@ -1,4 +1,4 @@
--- What a reader gives is what is meant; want of memory says nothing of it.
+-- A reader gives the model's value; want of memory says nothing of it.
 use Rattle.std.specs.Prelude.{◌≡◌, Option, Some, None, Result, Ok, Err}
 use Rattle.model_world.specs.declared.field.Field.{Field}
 use Rattle.ve_json.specs.declared.fault.ValueFault.{ValueFault}

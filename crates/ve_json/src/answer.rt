@@ -1,4 +1,4 @@
-// What a script's lines are answered.
+// Answers to a script's lines.
 ghost use Rattle.std.specs.Prelude.{All, ◌≡◌, ◌≤◌, ◌++◌, ◌∷◌, [], length, slice_range, OnErr, OnOk};
 ghost use Rattle.model_items.specs.Plain.{plain_list, CitesWell};
 ghost use Rattle.model_world.specs.Shown.{items_shown, json_text};
@@ -26,14 +26,14 @@ use ve_items::Linear;
 use ve_kinds::Kind;
 use ve_store::Store;
 
-/// The answer to a line: `model_world`'s reply, but that the items of a page are lent.
+/// The answer to a line: `model_world`'s reply, but that the items of a page are borrowed.
 #[derive(Drop)]
 pub enum Answer<'a> {
     /// How many items the list has now.
     Length(usize),
     /// The page, written out.
     Page(Text),
-    /// The items of a list from one place up to another. They cite values of the store.
+    /// The items of a list from one position up to another. They cite values of the store.
     Items {
         list: &'a Linear,
         store: &'a Store,
@@ -42,7 +42,7 @@ pub enum Answer<'a> {
     },
     /// The root and all in it.
     Tree(TreeWords),
-    /// The innermost node, its range, and what the offset is.
+    /// The innermost node, its range, and the offset's class.
     At {
         kind: Kind,
         from: usize,
@@ -58,7 +58,8 @@ pub enum Answer<'a> {
     },
     /// How many entries were sent.
     Sent(usize),
-    /// How many of the submission's entries were accepted, of how many, and the ranges in conflict, the committed one first.
+    /// How many of the submission's entries were accepted, of how many, and the ranges in conflict,
+    /// the committed one first.
     Served {
         accepted: usize,
         total: usize,
@@ -116,7 +117,7 @@ fn push_page(page: &Text, out: &mut Spelling) -> Result<(), Memory>
     push_quoted(page.as_str(), out)
 }
 
-/// Appends the items of a list from one place up to another.
+/// Appends the items of a list from one position up to another.
 fn push_data(
     alloc: Global,
     list: &Linear,
@@ -139,7 +140,7 @@ fn push_data(
     push_items(alloc, list, store, range, out)
 }
 
-/// Appends what an offset is in.
+/// Appends the node round an offset and the offset's class.
 fn push_at(
     alloc: Global,
     kind: Kind,
@@ -271,7 +272,7 @@ fn push_words_of_tree(alloc: Global, words: &[TreeWord], out: &mut Spelling) -> 
     push_tree(alloc, words, out)
 }
 
-/// Appends the text of an answer. After an `Err` some of it may stand after what stood there.
+/// Appends the text of an answer. An `Err` may leave a part appended.
 fn push_answer(alloc: Global, answer: &Answer<'_>, out: &mut Spelling) -> Result<(), Memory>
     requires { AnswerCites answer.now }
     ensures ok { OnOk result (
@@ -318,7 +319,7 @@ fn push_answer(alloc: Global, answer: &Answer<'_>, out: &mut Spelling) -> Result
     }
 }
 
-/// Appends the answer and a newline. After an `Err` some of it may stand after what stood there.
+/// Appends the answer and a newline. An `Err` may leave a part appended.
 fn push_line(alloc: Global, answer: &Answer<'_>, out: &mut Spelling) -> Result<(), Memory>
     requires { AnswerCites answer.now }
     ensures ok { OnOk result (

@@ -180,7 +180,8 @@ pub fn kinds_in(alloc: Global, json: &Value) -> Result<Kinds, ValueFault>
     Ok(kinds)
 }
 
-/// The attributes among the members of an item or of a node to be put round others; none where they are absent.
+/// The attributes among the members of an item or of a node to be put round others; none where they
+/// are absent.
 pub fn attrs_among(alloc: Global, members: &Map<String, Value>) -> Result<Attrs, ValueFault>
     ensures { Reads result (values.member_or (codes "attrs") [] attributes.free_attrs_in (members_view members.now.entries)) }
 {

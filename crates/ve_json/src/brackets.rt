@@ -1,4 +1,5 @@
-// Openings and closings as JSON. Members stand in the order of their names, each but the first only where it isn't empty.
+// Openings and closings as JSON. Members stand in the order of their names, each but the first only
+// where it isn't empty.
 ghost use Rattle.json.specs.Print.{quoted};
 ghost use Rattle.std.specs.Prelude.{◌≡◌, ◌++◌, ◌∷◌, [], codes, option_map, OnOk};
 ghost use Rattle.model_world.specs.Names as names;
@@ -16,7 +17,7 @@ use std::alloc::Global;
 use ve_base::{Attr, Head, Mark, Memory, RefKey};
 use ve_kinds::Kind;
 
-/// What an opening says, lent by its page.
+/// The parts of an opening, borrowed from its page.
 #[derive(Clone, Copy)]
 pub struct OpeningParts<'v> {
     pub kind: Kind,

@@ -68,8 +68,8 @@ fn marks_among(alloc: Global, members: &Map<String, Value>) -> Result<Marks, Val
     }
 }
 
-/// Whether marks, or whitespace before it, may stand with an opening: marks with inline leaves alone, and whitespace
-/// with everything else.
+/// Whether marks, or whitespace before it, may stand with an opening: marks with inline leaves
+/// alone, and whitespace with everything else.
 fn may_open(kind: Kind, marks: &Marks, pre: &Text) -> bool
     ensures { result ≡ words.may_open kind marks.now pre.now }
 {

@@ -17,7 +17,7 @@ use ve_items::{Item, Linear};
 use ve_node_text::{head_of, marks_of, white_of};
 use ve_store::{Store, same_mark};
 
-/// Characters of one list of marks, and the place past them.
+/// Characters of one list of marks, and the position past them.
 #[derive(Drop)]
 pub struct MarkedRun {
     pub text: Text,
@@ -39,7 +39,7 @@ fn equal_marks(one: &[Mark], other: &[Mark]) -> bool
     true
 }
 
-/// Whether the marks that two items cite are equal. Of one place no value is read.
+/// Whether the marks that two items cite are equal. Of one position no value is read.
 #[tactic(auto, using(crate::proofs::RunLemmas::marks_itself))]
 fn same_marks(store: &Store, one: Option<ValueId>, other: Option<ValueId>) -> bool
     requires one { CitesMarks store.now one }
@@ -152,7 +152,8 @@ fn push_bracket(
     }
 }
 
-/// Appends what is shown first of the items of a range, and gives the place past it.
+/// Appends the run or the item that is shown first of the items of a range, and gives the position
+/// past it.
 fn push_first(
     alloc: Global,
     list: &Linear,
@@ -191,7 +192,7 @@ fn push_first(
     }
 }
 
-/// Appends the items of a list from one place up to another.
+/// Appends the items of a list from one position up to another.
 pub fn push_items(
     alloc: Global,
     list: &Linear,

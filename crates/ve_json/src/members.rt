@@ -1,4 +1,5 @@
-// The members of a command: each reader looks its member up once, and names it where it is missing or not well formed.
+// The members of a command: each reader looks its member up once, and names it where it is missing
+// or not well formed.
 ghost use Rattle.std.specs.Prelude.{◌≡◌, [], None, Some, false, option_map, IfOk, IfErr};
 ghost use Rattle.serde_json.specs.Find.{as_bool, get_member};
 ghost use Rattle.serde_json.specs.View.{view, members_view};

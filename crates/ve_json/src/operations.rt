@@ -1,4 +1,5 @@
-// The operations of a transaction, as a line writes them. What they remove, and the old values of attributes, are the list's.
+// The operations of a transaction, as a line writes them. What they remove, and the old values of
+// attributes, are the list's.
 ghost use Rattle.std.specs.Prelude.{◌≡◌, None};
 ghost use Rattle.serde_json.specs.View.{view, members_view};
 ghost use Rattle.model_world.specs.declared.edit_command.OpWords.TheVariants as words;
@@ -56,8 +57,8 @@ fn op_in(alloc: Global, json: &Value) -> Result<OpWords, ValueFault>
     }
 }
 
-/// Whether the setting of this attribute may stand before these operations: up to the next retain there are only
-/// settings of other attributes.
+/// Whether the setting of this attribute may stand before these operations: up to the next retain
+/// there are only settings of other attributes.
 fn setting_may_precede(name: &Text, later: &[OpWords]) -> bool
     ensures { result ≡ operations.word_may_precede (words.Attr name.now None) later.now }
 {

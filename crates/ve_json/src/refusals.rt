@@ -52,7 +52,7 @@ fn four(second: &'static str, range: (usize, usize), next: (usize, usize)) -> Wo
     }
 }
 
-/// What is told of a bad member.
+/// The words of a refusal for a bad member.
 fn bad_member(field: Field) -> Words
     ensures { words_text result ≡ refusal_text (a_refusal.BadCommand field) }
 {
@@ -63,7 +63,7 @@ fn bad_member(field: Field) -> Words
     }
 }
 
-/// What is told of a page's text.
+/// The words of a refusal for a page's text.
 fn bad_text(word: HtmlWord, at: usize) -> Words
     ensures { words_text result ≡ refusal_text (a_refusal.Html word at) }
 {

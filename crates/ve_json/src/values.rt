@@ -1,4 +1,4 @@
-// What a JSON value is read as: numbers, texts and pairs.
+// Numbers, texts and pairs read from a JSON value.
 ghost use Rattle.std.specs.Prelude.{◌≡◌, map, option_map};
 ghost use Rattle.std.specs.List.{list_any};
 ghost use Rattle.serde_json.specs.Find.{as_array, get_member};

@@ -21,7 +21,8 @@ use ve_offsets::Doc;
 use ve_store::NewValues;
 use ve_tx::Transaction;
 
-/// The edit before the item: the list ends there, and the item that it stands in; where the list would be empty, it goes.
+/// The edit before the item: the list ends there, and the item that it stands in; where the list
+/// would be empty, it goes.
 fn ended(alloc: Global, doc: Doc<'_>, at: usize, list: ListStart) -> Result<Edits, Memory>
     requires list { list.from < length doc.list.now.items }
     requires within { at ≤ length doc.list.now.items }
@@ -76,10 +77,11 @@ fn outdented(
     Ok(tx)
 }
 
-/// The change that moves a list item out of its list, to stand after the item that the list stands in. What follows it in
-/// its list becomes a list in it, and what follows the list in the outer item is then its own too. `NotListItem` comes
-/// exactly where no list item begins at the place, and `NotNested` exactly where its list stands in no list item. After
-/// want of memory `new` may hold further values.
+/// The transaction that moves a list item out of its list, to stand after the item that the list
+/// stands in. The items after it in its list become a list in it. The nodes after the list in the
+/// outer item are then its own too. `NotListItem` comes exactly where no list item begins at the
+/// position, and `NotNested` exactly where its list stands in no list item. After want of memory
+/// `new` may hold further values.
 pub fn outdent(
     alloc: Global,
     doc: Doc<'_>,

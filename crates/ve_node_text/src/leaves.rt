@@ -9,8 +9,8 @@ use std::alloc::Global;
 use ve_base::{Bytes, Head, Memory};
 use ve_kinds::Kind;
 
-/// Appends a leaf, where `body` is the text of the body that it carries, if it is a reference that carries
-/// one. An alien or a generated leaf is its source.
+/// Appends a leaf, where `body` is the text of the body that it carries, if it is a reference that
+/// carries one. An alien or a generated leaf is its source.
 pub fn put_leaf(
     alloc: Global,
     out: &mut Bytes,

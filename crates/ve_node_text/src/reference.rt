@@ -17,7 +17,8 @@ fn is_data_mw(attr: &Attr) -> bool
     attr.name.as_str() == "data-mw"
 }
 
-/// Appends an attribute of a reference whose body has this text, if it carries one: the composed `data-mw` in the place of its own.
+/// Appends an attribute of a reference whose body has this text, if it carries one: the composed
+/// `data-mw` in the place of its own.
 fn push_attr_of(
     alloc: Global,
     out: &mut Bytes,

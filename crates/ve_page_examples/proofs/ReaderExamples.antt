@@ -1,4 +1,5 @@
--- Worked examples of what is read so far, of leaves, heads and owners, and items that aren't put together.
+-- Worked examples of what is read so far, of leaves, heads and owners, and items that aren't put
+-- together.
 use Rattle.std.proofs.Common.{◌≡◌, ℕ, true, false, List, [], ◌∷◌, length, Some, None, refl, ap, subst, arith}
 use Rattle.std.specs.Prelude.{Option, codes, slice_get}
 use Rattle.model_spelling.specs.Grammar.{Attr as Spelled}
@@ -193,7 +194,7 @@ the_first_owner_is_free = refl
 a_use_is_free : claim_of (owner_ key_n ∷ []) (reading (Some (codes "n")) None) ≡ Some (record { key = key_n; html = None })
 a_use_is_free = refl
 
--- an owner that starts at the byte 5 isn't lent as one at its place, which is 0
+-- an owner that starts at the byte 5 isn't borrowed as one at its position, which is 0
 no_place_is_the_byte : (o : Owner) → o.at ≡ 0 → slice_get (owner_ key_n ∷ []) 0 ≡ Some (lent_owner o) → ⊥
 no_place_is_the_byte o first h =
     let found : Some (owner_ key_n) ≡ Some (lent_owner o) = h in

@@ -14,7 +14,8 @@ use ve_base::{Memory, TryCopy};
 use ve_rebase::{JoinedEntries, entries_over_list};
 use ve_tx::{Entry, Parcel, TxList};
 
-/// What takes a parcel back just after it: the inverses of its transactions, the last one first.
+/// The parcel that takes another back just after it: the inverses of its transactions, the last one
+/// first.
 fn inverse_of(alloc: Global, parcel: &Parcel) -> Result<Parcel, Memory>
     requires { ParcelCites parcel.now }
     ensures back { IfOk result (λ back.
@@ -64,10 +65,11 @@ fn over_later(alloc: Global, later: &[Parcel], back: &Parcel) -> Result<Parcel, 
     Ok(made)
 }
 
-/// What takes back entry `i` under all later ones, as a parcel: it runs on the list that all entries make.
-/// It has as many transactions as the entry, and keeps its values and both numbers.
+/// The parcel that takes back entry `i` under all later ones: it runs on the list that all entries
+/// make. It has as many transactions as the entry, and keeps its values and both numbers.
 ///
-/// `Conflict` comes exactly where a later entry conflicts with it, and names the first two ranges that do.
+/// `Conflict` comes exactly where a later entry conflicts with it, and names the first two ranges
+/// that do.
 pub fn reversal(alloc: Global, entries: &[Parcel], i: usize) -> Result<Parcel, RevokeFault>
     requires within { i < length entries.now }
     requires cite { All ParcelCites entries.now }

@@ -262,7 +262,8 @@ module _ (text : List ℕ) (nodes : List Node) (around : Around) (n : ℕ) (whit
 
 -- ---- the loop
 
--- Siblings and whitespace are left, after which all is read as it was to be, and what is over a limit is what was to be.
+-- Siblings and whitespace are left, after which all is read as it was to be, and what is over a
+-- limit is what was to be.
 pub record Left (text : List ℕ) (nodes : List Node) (around : Around) (n to byte : ℕ) (white : List ℕ) (old now : ReadSoFar) (parts : Parts) (at : ℕ) : Type 0 where
   pub forest : Forest
   pub place : ℕ

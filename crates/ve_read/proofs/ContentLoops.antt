@@ -48,7 +48,8 @@ with_none r =
 
 -- ---- what is left
 
--- Parts are left, after which all is read as it was to be, and what is over a limit is what was to be.
+-- Parts are left, after which all is read as it was to be, and what is over a limit is what was to
+-- be.
 pub record Left (text : List ℕ) (nodes : List Node) (n to byte : ℕ) (old now : ReadSoFar) (parts : Parts) (at : ℕ) : Type 0 where
   pub forest : Forest
   pub place : ℕ

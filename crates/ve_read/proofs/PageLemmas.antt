@@ -145,7 +145,7 @@ read_as_small text from to short body spelled within =
     ∙ ap (body_by text from to) spelled
     ∙ ap (within_by (opened_at text from to)) within
 
--- What stands in the parts that were read of a body.
+-- The parts that were read of a body.
 pub record HasParts (from : ℕ) (text : List ℕ) (r : ReadSoFar) (list : List Item) (values : List Value) : Type 0 where
   pub read : IsBodyRead from text r
   pub items : plain_list values list ≡ r.items
@@ -172,7 +172,7 @@ rows_are d text rows even e =
 
 -- ---- what is handed over
 
--- What was found of a page, by the calls that found it.
+-- The findings for a page, by the calls that made them.
 pub record Found (text : List ℕ) (at : Span) (bytes : List ℕ) (r : ReadSoFar) (list : List Item) (values : List Value) : Type 0 where
   pub short : length text ≤ max_page
   pub body : body_at text ≡ Ok (at.from, at.to)
@@ -192,7 +192,7 @@ sized_page text body source r list values h =
     let n = parts_count text body.from body.to r list values p in
     (read_as_small text body.from body.to h.short h.body p.read.spelled p.read.within, n.0, n.1)
 
--- The page, and the places of its rows, where it is small enough.
+-- The page, and the positions of its rows, where it is small enough.
 pub page_is : (text : List ℕ) (source : List ℕ) (r : ReadSoFar) (p : PageRead) (rows : List OriginRow) → Found text p.body source r p.list.items p.values → InsidesAreEven
     → All (CitesWell p.values) p.list.items → rows ≡ r.rows → p.rows ≡ map (row_moved p.body.from) rows → if_small (opened_at text p.body.from p.body.to) ≡ Ok (opened_at text p.body.from p.body.to)
     → IsReadPage text p × HasPlaces p

@@ -1,4 +1,4 @@
-// Blocks, one after the other, and what stands in them.
+// Blocks, one after the other, and their insides.
 ghost use Rattle.std.specs.Prelude.{◌≡◌, ◌<◌, ◌≤◌, [], length, true, IfErr, IfOk, OnOk};
 ghost use Rattle.model_page.specs.Fit.{around_in as inside};
 ghost use Rattle.ve_read.specs.Places.{SomeBlock, SomeSiblings, holds_blocks};
@@ -20,7 +20,7 @@ use ve_html_tree::Forest;
 use ve_kinds::Kind;
 use ve_reader::{NodeStart, ReadStop, Reader, element_head};
 
-/// A branch, after whitespace: its opening, what stands in it, and its closing.
+/// A branch, after whitespace: its opening, its inside, and its closing.
 #[cycle(blocks)]
 fn push_branch(
     alloc: Global,
@@ -104,7 +104,8 @@ fn push_block(
     }
 }
 
-/// What stands first, where this whitespace is waiting; it gives the whitespace that is waiting then.
+/// Reads the first unit, where this whitespace is waiting; it gives the whitespace that is waiting
+/// then.
 #[cycle(blocks)]
 fn push_unit<'a>(
     alloc: Global,
@@ -179,9 +180,10 @@ fn read_blocks<'a>(
     Ok(white)
 }
 
-/// Reads all siblings of a page that stand at a node of its forest, up to the node and the byte where they end, as what stands in a
-/// node of the kind, where no mark is around; and gives the whitespace after the last of them. An `Err` names the first of them that
-/// is over a limit, by its byte in the text, or is want of memory; some of them may have been read then.
+/// Reads all siblings of a page that stand at a node of its forest, up to the node and the byte
+/// where they end. They are read as the inside of a node of the kind, where no mark is around. It
+/// gives the whitespace after the last of them. An `Err` names the first of them that is over a
+/// limit, by its byte in the text, or is want of memory. Some of them may have been read then.
 #[cycle(blocks)]
 pub fn read_siblings<'a>(
     alloc: Global,

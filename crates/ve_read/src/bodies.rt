@@ -58,7 +58,8 @@ fn open_internal(
     }
 }
 
-/// The internal item of an owner, with its body. The page's body begins at the byte `from`, and owners are counted from it.
+/// The internal item of an owner, with its body. The page's body begins at the byte `from`, and
+/// owners are counted from it.
 fn read_owner(
     alloc: Global,
     reader: &mut Reader,
@@ -104,8 +105,8 @@ fn read_owners(
     Ok(())
 }
 
-/// Reads the internal list of a page that was read but for it, after the whitespace at the end. What is over a limit in a body is named
-/// by the byte of the page where its owner starts.
+/// Reads the internal list of a page that was read but for it, after the whitespace at the end.
+/// What is over a limit in a body is named by the byte of the page where its owner starts.
 pub fn read_bodies(
     alloc: Global,
     reader: &mut Reader,

@@ -82,9 +82,9 @@ fn read_part(
     }
 }
 
-/// Reads content of a page: the parts of the siblings that stand at a node of its forest, up to the node and the byte where
-/// they end, inside of the marks around. An `Err` names the first of them that is over a limit, by its byte in the text, or is
-/// want of memory.
+/// Reads content of a page: the siblings that stand at a node of its forest, up to the node and the
+/// byte where they end, inside of the marks around. An `Err` names the first of them that is over a
+/// limit, by its byte in the text, or is want of memory.
 #[cycle(content)]
 pub fn read_content(
     alloc: Global,

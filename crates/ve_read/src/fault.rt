@@ -107,7 +107,7 @@ pub fn fault_in_page(fault: HtmlFault, from: usize) -> ReadFault
     }
 }
 
-/// What is over a limit in the body, which begins at a byte of the page.
+/// The limit that the body passes, which begins at a byte of the page.
 pub fn stop_in_page(stop: ReadStop, from: usize) -> ReadFault
     ensures { (limit : Option Limit)
         → stop_limit stop limit
@@ -126,7 +126,7 @@ pub fn stop_in_page(stop: ReadStop, from: usize) -> ReadFault
     }
 }
 
-/// What is over a limit in the body of a reference, by the byte of the page where that starts.
+/// The limit that the body of a reference passes, by the byte of the page where that starts.
 pub fn stop_at_owner(stop: ReadStop, at: usize) -> ReadFault
     ensures { (limit : Option Limit)
         → stop_limit stop limit

@@ -99,7 +99,7 @@ fn paragraph_of(alloc: Global, text: &str) -> Result<Items, Memory>
     Ok(items)
 }
 
-/// What a text becomes as what stands in a node of the kind, over values of its own.
+/// The items of a text as the inside of a node of the kind, over values of its own.
 fn read_in(
     alloc: Global,
     text: &str,
@@ -157,9 +157,10 @@ fn items_in(
     Ok(items)
 }
 
-/// Reads a fragment that is to stand where the kinds of the state are open: its items, citing a store and what follows it, which takes the
-/// values that are new, in the order in which the items cite them. It becomes what it is in the innermost open kind that it fits, and
-/// whitespace alone is a paragraph where blocks may stand. No item has an origin, and none is generated.
+/// Reads a fragment that is to stand where the kinds of the state are open: its items, citing a
+/// store and the values that follow it. New values are taken there, in the order in which the items
+/// cite them. The fragment is read in the innermost open kind that it fits, and whitespace alone is
+/// a paragraph where blocks may stand. No item has an origin, and none is generated.
 ///
 /// `Html` comes exactly where no forest spells the text; then `TooManyMarks` where an annotation would stand inside of more than
 /// `MAX_MARKS` marks. How deep the items are isn't judged. After an `Err` further values may follow the store.

@@ -15,9 +15,9 @@ use ve_html_tree::Forest;
 use ve_kinds::Kind;
 use ve_reader::{NodeStart, ReadStop, Reader};
 
-/// Reads the run of a page that begins at a node, up to the node and the byte where it ends, as the paragraph that is made for it. No
-/// mark is around. An `Err` names the first of it that is over a limit, by its byte in the text, or is want of memory; some of it may
-/// have been read then.
+/// Reads the run of a page that begins at a node, up to the node and the byte where it ends, as the
+/// paragraph that is made for it. No mark is around. An `Err` names the first of it that is over a
+/// limit, by its byte in the text, or is want of memory. Some of it may have been read then.
 pub fn read_paragraph(
     alloc: Global,
     text: &str,

@@ -24,7 +24,7 @@ use ve_internal::reference_of;
 use ve_kinds::Kind;
 use ve_reader::{Claim, NewOwner, Purpose, ReadStop, Reader, reference_head};
 
-/// What the group of a page from a node up to another is as a reference, where it is one.
+/// The claim of the group of a page from a node up to another, where it is a reference.
 fn claim_at(
     alloc: Global,
     forest: &Forest<'_>,
@@ -52,7 +52,7 @@ fn claim_at(
     }
 }
 
-/// The source of what is in the element at a node.
+/// The source of the inside of the element at a node.
 fn inner_source<'a>(text: &'a str, forest: &Forest<'_>, n: usize) -> &'a str
     requires within { n < length forest.now }
     requires element { SomeElement text.now forest.now n }

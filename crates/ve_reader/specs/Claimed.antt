@@ -1,4 +1,4 @@
--- What a reference is after the owners so far, by the texts that its `data-mw` says.
+-- The claim of a reference after the owners so far, by the texts of its `data-mw`.
 use Rattle.std.specs.Prelude.{◌≡◌, ℕ, ◌&&◌, if◌then◌else◌, List, Option, Some, None, option_map, is_some, chars}
 use Rattle.ve_base.specs.declared.head.Key.TheVariants.{Named, Auto}
 use Rattle.ve_base.specs.declared.head.RefKey.{RefKey}
@@ -10,7 +10,7 @@ use Rattle.ve_internal.specs.Read.{as_texts}
 use Rattle.ve_reader.specs.declared.owners.Claim.{Claim}
 use Rattle.ve_reader.specs.declared.owners.Owner.{Owner}
 
--- an owner that is lent
+-- an owner that is borrowed
 abbrev pub lent_owner : Owner → PageOwner
 lent_owner o = record { at = o.at; key = o.key.now; html = o.html.now }
 
@@ -29,7 +29,8 @@ claim_of owners reading =
 abbrev pub page_claim : List PageOwner → page.RefRead → Claim
 page_claim owners reading = record { key = key_of owners reading; html = option_map chars reading.html }
 
--- It is the key of model_page, and the body's text; none where model_page takes the reading for none.
+-- It is the key of model_page, and the body's text; none where model_page takes the reading for
+-- none.
 abbrev pub ClaimsAreKeys : Type 0
 ClaimsAreKeys =
     (owners : List PageOwner) (reading : page.RefRead)

@@ -16,8 +16,8 @@ use ve_items::Linear;
 use ve_kinds::Kind;
 use ve_store::Store;
 
-/// Items that are put together, seen by value, with the marks around. The values that they cite are taken as the items
-/// come: each once, in the order in which items cite them.
+/// Items that are put together, seen by value, with the marks around. The values that they cite are
+/// taken as the items come: each once, in the order in which items cite them.
 #[derive(Drop)]
 pub struct ItemDraft {
     items: GrowingList,
@@ -170,7 +170,8 @@ impl ItemDraft {
         }
     }
 
-    /// The items, and the values that they cite: each once, in the order in which the items cite them.
+    /// The items, and the values that they cite: each once, in the order in which the items cite
+    /// them.
     pub fn into_parts(self) -> Result<(Linear, Store), Memory>
         ensures items { IfOk result (λ parts. plain_list parts.1 parts.0.items ≡ self.items) }
         ensures values { IfOk result (λ parts. parts.1 ≡ fill [] (cited self.items)) }

@@ -1,4 +1,5 @@
-// One item more, over the values that it cites. After an `Err` values may have come in, and no item.
+// One item more, over the values that it cites. After an `Err` values may have come in, and no
+// item.
 ghost use Rattle.std.specs.Prelude.{◌≡◌, IfOk, OnOk, OnErr};
 ghost use Rattle.std.specs.Str.{chars};
 ghost use Rattle.model_items.specs.declared.plain_item.PlainItem.TheVariants as plain;
@@ -15,7 +16,7 @@ use ve_items::Item;
 use ve_kinds::Kind;
 use ve_store::Store;
 
-/// A character. It gives the place of its marks.
+/// A character. It gives the position of its marks.
 #[tactic(auto, using(crate::proofs::ExtendLemmas::more_char, ve_tx::proofs::ValuesLemmas::extends_by_fill))]
 pub fn put_char(
     alloc: Global,
@@ -37,7 +38,7 @@ pub fn put_char(
     Ok(marks)
 }
 
-/// The opening of an inline leaf. It gives the place of its marks.
+/// The opening of an inline leaf. It gives the position of its marks.
 pub fn put_leaf(
     alloc: Global,
     items: &mut GrowingList,

@@ -1,4 +1,4 @@
-// What is read, as it grows.
+// The state of reading, as it grows.
 ghost use Rattle.std.specs.Prelude.{◌≡◌, [], false, length, All, IfOk, IfSome, OnOk};
 ghost use Rattle.std.specs.Str.{chars};
 ghost use Rattle.ve_kinds.specs.declared.kind.Kind.TheVariants.{Ref};
@@ -26,7 +26,8 @@ use ve_kinds::Kind;
 use ve_origin::{OriginRow, OriginTable};
 use ve_store::Store;
 
-/// A node that is to come: its kind, its head, whether it was made for text that stood in none, and its bytes.
+/// A node that is to come: its kind, its head, whether it was made for text that stood in none, and
+/// its bytes.
 #[derive(Drop)]
 pub struct NodeStart {
     pub kind: Kind,
@@ -57,7 +58,7 @@ pub struct ReadParts {
     pub rows: OriginTable,
 }
 
-/// What is read so far, of a page, a body or a fragment.
+/// The items read so far, of a page, a body or a fragment.
 #[derive(Drop)]
 pub struct Reader {
     draft: ItemDraft,
@@ -96,14 +97,15 @@ impl Reader {
         }
     }
 
-    /// What is read.
+    /// Whether a page, a body or a fragment is read.
     pub fn purpose(&self) -> Purpose
         ensures { result ≡ self.now.purpose }
     {
         self.purpose
     }
 
-    /// What a reference is here by its `data-mw`. None where it would own a body that has an owner.
+    /// The claim of a reference here by its `data-mw`. None where it would own a body that has an
+    /// owner.
     pub fn claim(&self, reading: RefRead) -> Option<Claim>
         ensures claim { result ≡ claim_of self.now.owners reading }
         ensures free { IfSome result (λ c.
@@ -242,7 +244,8 @@ impl Reader {
         Ok(())
     }
 
-    /// A reference, with the marks around, and the body that it owns, if it owns one: no owner so far has its key.
+    /// A reference, with the marks around, and the body that it owns, if it owns one: no owner so
+    /// far has its key.
     pub fn push_reference(
         &mut self,
         head: Head,
@@ -264,7 +267,7 @@ impl Reader {
         Ok(())
     }
 
-    /// The owners among the items are handed over, and what comes next is read as bodies.
+    /// The owners among the items are handed over, and the rest is read as bodies.
     pub fn turn_to_bodies(&mut self) -> Owners
         ensures owners { result ≡ self.old.owners }
         ensures next { self.new ≡ bodies_next self.old }
@@ -273,8 +276,8 @@ impl Reader {
         replace(&mut self.owners, Owners::new(self.alloc))
     }
 
-    /// All that was read: the items over the values that they cite, each once and in the order in which the
-    /// items cite them, and a row for each origin.
+    /// All that was read: the items over the values that they cite, each once and in the order in
+    /// which the items cite them, and a row for each origin.
     pub fn into_parts(self) -> Result<ReadParts, Memory>
         ensures items { IfOk result (λ parts.
             plain_list parts.values parts.list.items ≡ self.items) }

@@ -239,7 +239,8 @@ row_fails : (xs ys : List Transaction) (y : Transaction) (why : RebaseFault) →
 row_fails xs ys y Memory h = tt
 row_fails xs ys y (Conflict a b) h = ap (λ r. after_row r (λ over. join_list over ys)) h
 
--- committed ones and those of mine that are left start from lists of one length, and what is left ends where all of mine does
+-- committed ones and those of mine that are left start from lists of one length, and what is left
+-- ends where all of mine does
 pub record GoesOn (n : ℕ) (mine now left : List Shifted) : Type 0 where
   pub size : ℕ
   pub committed : FollowFrom size now

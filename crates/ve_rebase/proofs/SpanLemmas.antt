@@ -200,7 +200,8 @@ span-retained (suc n) = refl
 
 -- so joined spans are spans of what is joined
 
--- what joining chooses by: both change attributes only; the first is active; the second is; the first ends at the second's start or before
+-- what joining chooses by: both change attributes only; the first is active; the second is; the
+-- first ends at the second's start or before
 abbrev choose : {A : Type 0} → (both active active_too near : Bool) → (unmet first_idle second_idle left right : A) → A
 choose both active active_too near unmet first_idle second_idle left right =
     if both then unmet else (if not active then first_idle else (if not active_too then second_idle else (if near then left else right)))

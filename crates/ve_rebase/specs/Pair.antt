@@ -1,4 +1,4 @@
--- What joining two transactions answers, and what it makes of each from a span.
+-- Answers of joining two transactions, and the result of each from a span.
 use Rattle.std.specs.Prelude.{◌≡◌, ◌≤◌, ◌+◌, ℕ, true, false, List, length, Some}
 use Rattle.ve_base.specs.declared.value.Value.{Value}
 use Rattle.model_change.specs.Transaction.{Transaction, all_inserted, total_length, is_reduced}

@@ -1,4 +1,5 @@
--- Transactions as joining has moved them so far: each keeps its operations, between the ends of a span. By value each reads a list of values of its own.
+-- Transactions as joining has moved them so far: each keeps its operations, between the ends of a
+-- span. By value each reads a list of values of its own.
 use Rattle.std.specs.Prelude.{◌≡◌, ℕ, true, List, [], ◌∷◌, length, map, All, Result, Ok}
 use Rattle.ve_base.specs.Limits.{max_total_length}
 use Rattle.ve_base.specs.declared.value.Value.{Value}
@@ -11,7 +12,8 @@ use Rattle.ve_rebase.specs.Span.{span_of, old_size, new_size}
 use Rattle.ve_rebase.specs.Pair.{FitsIn, between}
 use Rattle.ve_rebase.specs.Lists.{zipped}
 
--- a transaction between the ends of a span: reduced, of the same middle, inserting as much, and the span is its own
+-- a transaction between the ends of a span: reduced, of the same middle, inserting as much, and the
+-- span is its own
 pub record StandsIn (s : ActiveSpan) (t : Transaction) : Type 0 where
   pub reduced : is_reduced (between s t) ≡ true
   pub middle : core (between s t) ≡ core t

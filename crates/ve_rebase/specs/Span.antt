@@ -1,4 +1,5 @@
--- What joining asks of a transaction: where its active range lies, what stays before and after it, and how much longer it makes the list. Nothing else of it changes.
+-- Spans: where a transaction's active range lies, what stays before and after it, and how much
+-- longer it makes the list. Joining asks nothing else of it, and nothing else of it changes.
 use Rattle.std.specs.Prelude.{ℕ, ◌+◌, ◌-◌, Bool, false, not, ◌&&◌, nat_le, if◌then◌else◌}
 use Rattle.model_change.specs.Transaction.{Transaction, old_length, new_length}
 use Rattle.model_change.specs.Join.{first, last, core, reach, is_active, is_attribute_transaction}

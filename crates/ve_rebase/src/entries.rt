@@ -67,11 +67,11 @@ fn parcels_with(
     Ok(made)
 }
 
-/// An entry joined with committed ones: these as they are after mine, and mine as it is after them. Each
-/// parcel keeps its values and both numbers, and has as many transactions as before.
+/// An entry joined with committed ones: these as they are after mine, and mine as it is after them.
+/// Each parcel keeps its values and both numbers, and has as many transactions as before.
 ///
-/// The transactions of all committed entries are joined with those of mine as `lists` joins them, with the
-/// same refusal, but each entry cites its own values.
+/// The transactions of all committed entries are joined with those of mine as `lists` joins them,
+/// with the same refusal, but each entry cites its own values.
 pub fn entry_over_list(
     alloc: Global,
     committed: &ParcelList,

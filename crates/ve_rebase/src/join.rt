@@ -1,4 +1,4 @@
-// Whether two transactions can be joined, and what joining makes of them.
+// Whether two transactions can be joined, and their join.
 ghost use Rattle.std.specs.Prelude.{◌≡◌, ◌≤◌, ◌<◌, ◌^◌, false, IfOk, IfErr};
 ghost use Rattle.model_change.specs.Transaction.{old_length};
 ghost use Rattle.model_change.specs.Join.{conflict, join};
@@ -16,8 +16,9 @@ use std::alloc::Global;
 use ve_base::{MAX_TOTAL_LENGTH, Memory};
 use ve_tx::Transaction;
 
-/// Whether two transactions on one list conflict: where both set attributes alone, whether at one place both have an operation on one name or
-/// each has one that adds or removes; else whether their active ranges overlap. It takes no memory, and passes the operations of each twice.
+/// Whether two transactions on one list conflict. Where both set attributes alone: whether at one
+/// position both have an operation on one name, or each has one that adds or removes. Else: whether
+/// their active ranges overlap. It takes no memory, and passes the operations of each twice.
 pub fn conflict(a: &Transaction, b: &Transaction) -> bool
     ensures { (values : _) → result ≡ conflict (by_value values a.now) (by_value values b.now) }
 {
@@ -42,15 +43,17 @@ fn clash(a: &Transaction, span: ActiveSpan, b: &Transaction, other: ActiveSpan) 
     }
 }
 
-/// Two transactions on one list, joined: the first as it is after the second, and the second as it is after the first. Where both insert at one
-/// place, what the first inserts comes first.
+/// Two transactions on one list, joined: the first as it is after the second, and the second as it
+/// is after the first. Where both insert at one position, the first's inserted items come first.
 ///
-/// It is refused with both active ranges exactly where `conflict` is true. Else only memory can be short, which is also the answer where the
-/// lengths of a joined one would add up to more than `max_total_length`. That never comes where the list with all that both insert is within
-/// that bound (`JoinsNormal` in model_change).
+/// It is refused with both active ranges exactly where `conflict` is true. Else it can only fail as
+/// `Memory`. That is also the answer where the lengths of a joined one would add up to more than
+/// `max_total_length`. They never do where the list with all that both insert is within that bound
+/// (`JoinsNormal` in model_change).
 ///
-/// Where both apply to a list, applying the second of the results after `a` gives the same list as applying the first after `b`: `join` has this
-/// law (`JoinsAgree` in model_change). It reads no value, copies only what the results hold, and passes the operations of each a few times.
+/// Where both apply to a list, applying the second of the results after `a` gives the same list as
+/// applying the first after `b`: `join` has this law (`JoinsAgree` in model_change). It reads no
+/// value, copies only what the results hold, and passes the operations of each a few times.
 pub fn pair(
     alloc: Global,
     a: &Transaction,

@@ -12,7 +12,8 @@ use crate::span::ActiveSpan;
 use std::alloc::Global;
 use ve_tx::TxList;
 
-/// The committed ones in turn over one of mine: they become what they are over it, and the span is that of mine over them.
+/// The committed ones in turn over one of mine: they become what they are over it, and the span is
+/// that of mine over them.
 fn row(committed: &mut Vec<Shifted<'_>>, mine: Shifted<'_>) -> Result<ActiveSpan, RebaseFault>
     requires shifted { All IsShifted committed.old.items }
     requires follow { FollowFrom (old_size mine.span) committed.old.items }
@@ -58,15 +59,19 @@ pub fn rows(
     Ok(())
 }
 
-/// Two lists of transactions joined: the committed ones as they are after mine, and mine as they are after the committed ones, row by row. Where
-/// both insert at one place, what a committed one inserts comes first.
+/// Two lists of transactions joined: the committed ones as they are after mine, and mine as they
+/// are after the committed ones, row by row. Where both insert at one position, a committed one's
+/// inserted items come first.
 ///
-/// It is refused with the active ranges of the first two that conflict, as they stand by then, in the order of mine and then of the committed
-/// ones. Else only memory can be short, which is also the answer where a list or a joined transaction would be longer than a transaction may be.
-/// That never comes where the first list with all that both sides insert is within that bound (the law `joined_stay_normal`).
+/// It is refused with the active ranges of the first two that conflict, as they stand by then, in
+/// the order of mine and then of the committed ones. Else it can only fail as `Memory`. That is
+/// also the answer where a list or a joined transaction would be longer than a transaction may be.
+/// None is where the first list with all that both sides insert is within that bound (the law
+/// `joined_stay_normal`).
 ///
-/// It reads no value: what each side cites stays as it is. A pair costs a few sums of their spans, and operations are passed only where the
-/// ranges of two that set attributes overlap. Each result is written once.
+/// It reads no value: what each side cites stays as it is. A pair costs a few sums of their spans,
+/// and operations are passed only where the ranges of two that set attributes overlap. Each result
+/// is written once.
 pub fn lists(
     alloc: Global,
     committed: &TxList,

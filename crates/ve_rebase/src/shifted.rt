@@ -1,4 +1,4 @@
-// Transactions as joining has moved them so far: whether two conflict, and what joining makes of them.
+// Transactions as joining has moved them so far: whether two conflict, and their join.
 ghost use Rattle.std.specs.Prelude.{◌≡◌, ◌≤◌, ◌++◌, [], ◌∷◌, All, length, map, IfOk, IfErr};
 ghost use Rattle.model_change.specs.Join.{conflict};
 ghost use Rattle.ve_base.specs.Limits.{max_total_length};
@@ -17,8 +17,8 @@ use std::alloc::Global;
 use ve_base::{MAX_TOTAL_LENGTH, Memory};
 use ve_tx::{Op, Transaction, TxList};
 
-/// A transaction that is lent, and the span that joining has given it so far. It stands for the transaction's operations between the ends of the
-/// span, which are written out only at the end.
+/// A borrowed transaction, and the span that joining has given it so far. It stands for the
+/// transaction's operations between the ends of the span, which are written out only at the end.
 #[derive(Clone, Copy)]
 pub struct Shifted<'a> {
     pub tx: &'a Transaction,
@@ -54,7 +54,8 @@ fn conflicts(a: Shifted<'_>, b: Shifted<'_>) -> bool
     attributes_meet(ops, a.span.first, others, b.span.first)
 }
 
-/// What joining makes of the spans of two on lists of one length, or both active ranges where they conflict.
+/// The join of the spans of two transactions on lists of one length, or both active ranges where
+/// they conflict.
 pub fn paired(a: Shifted<'_>, b: Shifted<'_>) -> Result<(ActiveSpan, ActiveSpan), RebaseFault>
     requires first { IsShifted a }
     requires second { IsShifted b }

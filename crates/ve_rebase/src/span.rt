@@ -1,11 +1,12 @@
-// What joining asks of a transaction.
+// Spans: all that joining asks of a transaction.
 ghost use Rattle.std.specs.Prelude.{◌≡◌, ◌≤◌, ◌<◌, ◌+◌, ◌-◌, ◌^◌, ◌&&◌, nat_le};
 ghost use Rattle.ve_base.specs.Limits.{max_total_length};
 ghost use Rattle.ve_rebase.specs.Pair.{FitsIn};
 ghost use Rattle.ve_rebase.specs.Span.{old_size, new_size, end, meet, span_between, inert, joined_first, joined_second};
 
-/// Where a transaction is active, how many items it leaves before and after that, and the lengths of what lies between: the old one and the new
-/// one. `attributes` says that it has attribute operations and no replace; `reach` is the length of the active range, in the old list.
+/// Where a transaction is active, how many items it leaves before and after that, and the lengths
+/// of what lies between: the old one and the new one. `attributes` says that it has attribute
+/// operations and no replace; `reach` is the length of the active range, in the old list.
 #[derive(Clone, Copy)]
 pub struct ActiveSpan {
     pub active: bool,
@@ -86,7 +87,8 @@ impl ActiveSpan {
     }
 }
 
-/// How many items a transaction leaves on that side where another one is active, once that other one is done.
+/// How many items a transaction leaves on that side where another one is active, once that other
+/// one is done.
 fn moved(count: usize, other: ActiveSpan) -> usize
     requires other { FitsIn max_total_length other }
     requires count { count ≤ max_total_length }
@@ -110,7 +112,8 @@ fn inert(count: usize) -> ActiveSpan
     }
 }
 
-/// The span of the first of two transactions on one list that don't conflict, joined: as it is after the second.
+/// The span of the first of two transactions on one list that don't conflict, joined: as it is
+/// after the second.
 pub fn joined_first(a: ActiveSpan, b: ActiveSpan) -> ActiveSpan
     requires first { FitsIn max_total_length a }
     requires second { FitsIn max_total_length b }

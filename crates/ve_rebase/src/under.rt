@@ -23,7 +23,7 @@ pub struct EntriesUnder {
     pub kept: EntryList,
 }
 
-/// The entry at a place of two lists, the one after the other.
+/// The entry at a position of two lists, the one after the other.
 pub fn entry_in<'a>(first: &'a [Entry], second: &'a [Entry], at: usize) -> &'a Entry
     requires { at < length first.now + length second.now }
     ensures { slice_get (first.now ++ second.now) at ≡ Some result.now }
@@ -43,7 +43,8 @@ fn copied<'a>(alloc: Global, over: &[Shifted<'a>]) -> Result<Vec<Shifted<'a>>, M
     Ok(all)
 }
 
-/// The next entry joined over the other's transactions as they are by now. At an `Err` these stay as they are.
+/// The next entry joined over the other's transactions as they are by now. At an `Err` these stay
+/// as they are.
 fn joined_under(
     alloc: Global,
     over: &mut Vec<Shifted<'_>>,
@@ -68,8 +69,8 @@ fn joined_under(
     })
 }
 
-/// The entries of both lists joined over the other's, one after the other, up to the first conflict: the other's transactions moved over those
-/// before it, and these.
+/// The entries of both lists joined over the other's, one after the other, up to the first
+/// conflict: the other's transactions moved over those before it, and these.
 fn joined_all<'a>(
     alloc: Global,
     foreign: &'a Parcel,
@@ -97,12 +98,14 @@ fn joined_all<'a>(
     Ok((over, kept))
 }
 
-/// The entries that a site sent and those that it didn't send, joined over an entry of another site, one
-/// after the other, up to the first conflict: those before it, and the other's entry over them. Each entry
-/// that is kept keeps both numbers, the other's its values, and each has as many transactions as before.
+/// The entries that a site sent and those that it didn't send, joined over an entry of another
+/// site, one after the other, up to the first conflict. The result is those before it, and the
+/// other's entry over them. Each entry that is kept keeps both numbers, the other's its values, and
+/// each has as many transactions as before.
 ///
-/// Only memory can be short, which is also the answer where a joined transaction would be longer than a
-/// transaction may be. The other's transactions are moved along as a span each, and written once.
+/// The only `Err` is want of memory, which is also the answer where a joined transaction would be
+/// longer than a transaction may be. The other's transactions are moved along as a span each, and
+/// written once.
 pub fn entries_under(
     alloc: Global,
     foreign: &Parcel,

@@ -1,4 +1,4 @@
--- What a transaction makes of a list, as a walk over its operations reads it.
+-- The result of a transaction on a list, as a walk over its operations reads it.
 use Rattle.std.proofs.Common.{◌≡◌, ℕ, suc, ◌+◌, ◌-◌, ◌<◌, ◌≤◌, ◌^◌, Bool, true, false, ◌&&◌, if◌then◌else◌, nat_lt, not, inl, inr, List, [], ◌∷◌, ◌++◌, length, get_or, take, drop, map, slice_range, slice_get, Some, Result, Ok, Err, refl, sym, ap, ◌∙◌, subst, arith, take-append-drop, drop-cons, length-take-le}
 use Rattle.std.specs.Prelude.{OnOk, IfErr}
 use Rattle.std.proofs.Math.Seq.{take-add, drop-append_seam}
@@ -153,7 +153,7 @@ fails_inside items s f h =
     let long = length-map items (plain []) in
     omega (arith, within, long)
 
--- a range, as it is lent
+-- a range, as it is borrowed
 pub lent_piece : (items piece : List Item) (at count done n : ℕ) → done + n ≤ count → piece ≡ slice_range items (at + done) (at + done + n) →
     piece ≡ slice_range (take count (drop at items)) done (done + n)
 lent_piece items piece at count done n h lent =
@@ -338,7 +338,7 @@ retained_same items at count s t p q =
     let same : s ≡ cut.0 = Ok-same {E = LawFault} s cut.0 (sym p ∙ cut.1) in
     ap (λ u. law.after u (plain_list [] (take count (drop at items)))) same ∙ cut.2
 
--- two stacks alike place by place
+-- two stacks alike position by position
 pub same_stacks : (xs ys : List Kind) → length xs ≡ length ys → ((n : ℕ) → n < length xs → slice_get xs n ≡ slice_get ys n) → xs ≡ ys
 same_stacks [] [] l h = refl
 same_stacks [] (y ∷ ys) l h = absurd (omega (arith, l))

@@ -239,7 +239,8 @@ none_above b k j (x ∷ xs) ns h l = (one l.0, none_above b k j xs ns h l.1)
     one (Opens i d e) = apart_above x ns (omega (arith, h, e))
     one (Writes i d e) = apart_above x ns (omega (arith, h, e))
 
--- A script with numbers of its own makes as many nodes, and their numbers are distinct and none of those given.
+-- A script with numbers of its own makes as many nodes, and their numbers are distinct and none of
+-- those given.
 pub record NewNumbers (numbers : List ℕ) (acts acts' : List Act) (ss : List Sign) (supply supply' : ℕ → ℕ) : Type 0 where
   pub distinct : AllApart (puts (script_for supply' (marks acts' ss) (first_reader 0)))
   pub made : AllFrom (puts (script_for supply' (marks acts' ss) (first_reader 0))) numbers

@@ -1,4 +1,5 @@
--- Links that lead to nodes still do after a node is taken from its parent's children, or put among another's.
+-- Links that lead to nodes still do after a node is taken from its parent's children, or put among
+-- another's.
 use Rattle.std.proofs.Common.{◌≡◌, ℕ, List, Option, Some, None, IsSome, IfSome, option_map, sym, subst}
 use Rattle.std.proofs.lemmas.Map.{update_here}
 use Rattle.ve_arena.specs.declared.node.NodeId.{NodeId}

@@ -184,7 +184,7 @@ grown_range ops (Some r) k at new_at o s e =
           omega (arith, all, one, sums, f.from_is, s.new_at_is);
     }
 
--- places behind operations, by those of what follows
+-- positions behind operations, by those of what follows
 module _ (values : List Value) where
   past : (tx more : List Operation) (r q : ℕ) → new_place (by_value values more) r ≡ Some q →
       new_place (by_value values (tx ++ more)) (all_taken (map bare tx) + r) ≡ Some (all_given (map bare tx) + q)

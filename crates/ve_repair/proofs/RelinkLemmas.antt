@@ -96,7 +96,8 @@ pub all-rs : (ls rs : List ℕ) → AllApart (ls ++ rs) → AllApart rs
 all-rs [] rs h = h
 all-rs (n ∷ ls) rs h = all-rs ls rs h.1
 
--- the last of the left ones is none of the right ones, and the first of the right ones none of the left ones
+-- the last of the left ones is none of the right ones, and the first of the right ones none of the
+-- left ones
 last-apart : (n : ℕ) (ls rs : List ℕ) → AllApart (n ∷ (ls ++ rs)) → Apart (last_of n ls) rs
 last-apart n [] rs h = h.0
 last-apart n (m ∷ ls) rs h = last-apart m ls rs h.1

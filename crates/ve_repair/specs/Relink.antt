@@ -17,12 +17,12 @@ pub record RightPart (a : Links) (p : ℕ) (start : Option ℕ) (ns : List ℕ) 
   pub last : a.last p ≡ last_or start ns
   pub row : AreSiblings a.parent a.before a.after p start ns None
 
--- what follows `left` among the children of p
+-- the child of p after `left`
 abbrev pub set_right : ℕ → Option ℕ → Option ℕ → Links → Links
 set_right p None to a = record a { first = link_set a.first p to }
 set_right p (Some left) to a = record a { after = link_set a.after left to }
 
--- what stands before `right` among the children of p
+-- the child of p before `right`
 abbrev pub set_left : ℕ → Option ℕ → Option ℕ → Links → Links
 set_left p None to a = record a { last = link_set a.last p to }
 set_left p (Some right) to a = record a { before = link_set a.before right to }

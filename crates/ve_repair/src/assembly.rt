@@ -38,7 +38,8 @@ pub(crate) struct Begun {
     pub sizes: Sizes,
 }
 
-/// The script of operations, with so many items in front of them that stand in one text with theirs.
+/// The script of operations, with so many items in front of them that stand in one text with
+/// theirs.
 fn read_all<L: Ledger>(
     reader: &mut ChangeReader,
     arena: &mut Arena,
@@ -58,7 +59,8 @@ fn read_all<L: Ledger>(
     reader.read(arena, ops, steps)
 }
 
-/// The writes that a script asks for: links, and then lengths. It reads the old tree, and writes nothing.
+/// The writes that a script asks for: links, and then lengths. It reads the old tree, and writes
+/// nothing.
 fn planned(
     arena: &Arena,
     root: NodeId,
@@ -98,8 +100,9 @@ fn undone<L: Ledger>(
     Err(Memory)
 }
 
-/// Makes the nodes of a list's tree those of the list that a transaction gives, which is lawful; the transaction has a
-/// replace. `list` is the old list, which no code reads. At `Memory` each node is as before.
+/// Makes the nodes of a list's tree those of the list that a transaction gives, which is lawful;
+/// the transaction has a replace. `list` is the old list, which no code reads. At `Memory` each
+/// node is as before.
 pub(crate) fn relink_nodes<L: Ledger>(
     alloc: Global,
     arena: &mut Arena,

@@ -1,4 +1,4 @@
-// What is open when a script ends.
+// The levels that are open when a script ends.
 ghost use Rattle.std.specs.Prelude.{◌≡◌, ◌≤◌, ◌++◌, OnOk, List};
 ghost use Rattle.model_items.specs.Tree.{item_count};
 ghost use Rattle.ve_tree.specs.Named.{Named, unnumbered};
@@ -9,7 +9,8 @@ use crate::script::How;
 use ve_arena::{Arena, NodeId};
 use ve_base::Memory;
 
-/// The siblings from one on become the last children so far of the innermost new node, one after the other. `most` is no less than the items that they take.
+/// The siblings from one on become the last children so far of the innermost new node, one after
+/// the other. `most` is no less than the items that they take.
 fn keep_rest(
     plan: &mut Plan,
     arena: &Arena,
@@ -54,7 +55,8 @@ fn keep_level(
     keep_rest(plan, arena, first, most)
 }
 
-/// All levels that are open, from the innermost outwards: `first` is what comes next in the innermost one.
+/// All levels that are open, from the innermost outwards: `first` is what comes next in the
+/// innermost one.
 pub(crate) fn close_all(
     plan: &mut Plan,
     arena: &Arena,

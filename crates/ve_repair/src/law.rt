@@ -34,7 +34,7 @@ fn pass(state: &mut State, items: &[Item]) -> Result<(), LawFault>
     Ok(())
 }
 
-/// Goes on by so many items of a list from a place on, as it lends them.
+/// Goes on by so many items of a list from a position on, as it lends them.
 fn pass_range(state: &mut State, list: &Linear, at: usize, count: usize) -> Result<(), LawFault>
     requires within { at + count ≤ length list.now.items }
     requires fits { at + count < 2 ^ 64 }
@@ -73,8 +73,8 @@ fn is_same(one: &State, other: &State) -> bool
     }
 }
 
-/// Goes on by items that stay. Where the state before them is the old list's, the state behind them is too: many are then
-/// skipped, and so are the first and the last of a list.
+/// Goes on by items that stay. Where the state before them is the old list's, the state behind them
+/// is too: many are then skipped, and so are the first and the last of a list.
 fn pass_retained(
     state: &mut State,
     doc: Doc<'_>,
@@ -100,7 +100,7 @@ fn pass_retained(
     pass_range(state, doc.list, at, count)
 }
 
-/// Goes on by what an operation puts into the new list.
+/// Goes on by the items that an operation puts into the new list.
 fn pass_op(
     state: &mut State,
     doc: Doc<'_>,
@@ -155,10 +155,11 @@ fn ended(state: &State, len: usize) -> Result<(), LawFault>
     }
 }
 
-/// Whether the list is lawful once a transaction is made, or the first place of the new list where it is not. It takes no
-/// memory, and writes nothing. Items that stay before the first change it doesn't read, and those behind the last change
-/// only where the list isn't lawful. Of those that stay between two changes it reads up to 64 in a row, and a longer row
-/// only where the new list has other nodes open there than the old one.
+/// Whether the list is lawful once a transaction is made, or the first position of the new list
+/// where it is not. It takes no memory, and writes nothing. Items that stay before the first change
+/// it doesn't read, and those behind the last change only where the list isn't lawful. Of those
+/// that stay between two changes it reads up to 64 in a row. A longer row it reads only where the
+/// new list has other nodes open there than the old one.
 pub fn check_change(doc: Doc<'_>, tx: &Transaction) -> Result<(), LawFault>
     requires doc { IsDoc doc }
     requires applies { CanApply tx.now doc.list.now.items }

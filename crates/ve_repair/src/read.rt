@@ -1,4 +1,5 @@
-// The script of a change: one pass over its operations, with a cursor in the old tree. Nothing is written but the nodes that it makes.
+// The script of a change: one pass over its operations, with a cursor in the old tree. Nothing is
+// written but the nodes that it makes.
 ghost use Rattle.std.specs.Prelude.{◌≡◌, ◌≤◌, ℕ, ◌<◌, ◌+◌, ◌^◌, [], ◌∷◌, ◌++◌, None, Some, IfOk, OnOk, OnErr, length, replicate, option_map};
 ghost use Rattle.ve_arena.specs.Arena.{slot_at, new_node};
 ghost use Rattle.ve_tree.specs.Links.{number_of};
@@ -35,7 +36,8 @@ pub struct TextRun {
     pub any: bool,
 }
 
-/// The cursor in the old tree, the text node of the last retained character, the run of the new list, and the script so far.
+/// The cursor in the old tree, the text node of the last retained character, the run of the new
+/// list, and the script so far.
 #[derive(Drop)]
 pub(crate) struct ChangeReader {
     at: Cursor,
@@ -228,7 +230,8 @@ impl ChangeReader {
         };
     }
 
-    /// Of a text that had a retained character before nothing is noted; of another one, that it stays where the run keeps none, and else that it goes.
+    /// Of a text that had a retained character before nothing is noted; of another one, that it
+    /// stays where the run keeps none, and else that it goes.
     fn note_text(&mut self, n: NodeId, run: TextRun) -> Result<(), Memory>
         requires { self.old.run ≡ Some run }
         ensures reader { OnOk result (self.new ≡ kept_text n self.old) }
@@ -265,7 +268,7 @@ impl ChangeReader {
 }
 
 impl ChangeReader {
-    /// What the cursor passes stays.
+    /// Retains the token that the cursor passes.
     fn retain_passed<L: Ledger>(
         &mut self,
         arena: &mut Arena,
@@ -370,7 +373,7 @@ impl ChangeReader {
         self.note(Step::Text { how: How::Cut, n })
     }
 
-    /// What the cursor passes goes.
+    /// Removes the token that the cursor passes.
     fn remove_passed(&mut self, passed: Passed) -> Result<(), Memory>
         ensures read { OnOk result (RemovesPassed self.old passed self.new) }
         ensures same { MakesSame self.old.script self.new.script }
@@ -591,7 +594,8 @@ impl ChangeReader {
         Ok(())
     }
 
-    /// The operations from the first replace to the last, and then the rest of the text that they end in.
+    /// The operations from the first replace to the last, and then the rest of the text that they
+    /// end in.
     pub(crate) fn read<L: Ledger>(
         &mut self,
         arena: &mut Arena,

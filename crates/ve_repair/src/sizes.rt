@@ -12,14 +12,14 @@ use std::marker::Model;
 use ve_arena::{Arena, NodeId};
 use ve_base::Memory;
 
-/// An open node, and the place of its list where it begins.
+/// An open node, and the position of its list where it begins.
 #[derive(Clone, Copy, Drop)]
 pub struct OpenFrom {
     pub node: NodeId,
     pub from: usize,
 }
 
-/// The open nodes of both lists, and both places.
+/// The open nodes of both lists, and both positions.
 #[derive(Drop)]
 pub(crate) struct Sizes {
     old_open: Stack<OpenFrom>,
@@ -47,7 +47,7 @@ fn resize(arena: &Arena, n: NodeId, len: usize, writes: &mut Vec<Write>) -> Resu
     Ok(())
 }
 
-/// The innermost open node ends at a place.
+/// The innermost open node ends at a position.
 fn end_at(
     arena: &Arena,
     levels: &Stack<OpenFrom>,
@@ -78,7 +78,7 @@ impl Sizes {
         }
     }
 
-    /// Both lists are at a place.
+    /// Both lists are at a position.
     pub(crate) fn start(&mut self, place: usize)
         ensures { self.new ≡ started place self.old }
     {
@@ -86,7 +86,8 @@ impl Sizes {
         self.new_at = place;
     }
 
-    /// A node that is open in both lists where the changed range begins, inside those that are open already.
+    /// A node that is open in both lists where the changed range begins, inside those that are open
+    /// already.
     pub(crate) fn begin(&mut self, level: OpenFrom) -> Result<(), Memory>
         ensures { OnOk result (self.new ≡ with_level level self.old) }
     {
@@ -234,7 +235,8 @@ impl Sizes {
         Ok(())
     }
 
-    /// What is open at the end of the range, innermost first: what follows in the old list is as long as before.
+    /// Notes the lengths of the nodes that are open at the end of the range, innermost first: the
+    /// rest of the old list is as long as before.
     pub(crate) fn close(&mut self, arena: &Arena, writes: &mut Vec<Write>) -> Result<(), Memory>
         requires old { AllOpenLive arena.now self.old.old_open }
         requires new { AllOpenLive arena.now self.old.new_open }

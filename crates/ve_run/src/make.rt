@@ -12,7 +12,8 @@ use std::alloc::Global;
 use ve_base::{Bytes, Sink};
 use ve_gen::Lines;
 
-/// Writes all lines that are still to come, each with its newline as one piece. They are spelled in `line`.
+/// Writes all lines that are still to come, each with its newline as one piece. They are made in
+/// `line`.
 fn write_lines<K: Sink>(lines: &mut Lines, line: &mut Bytes, sink: &mut K) -> Result<(), Stop>
     ensures ok { OnOk result (
         Appends (K.held sink.old) (K.held sink.new) (with_newlines lines.old)) }

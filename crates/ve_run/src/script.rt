@@ -30,7 +30,8 @@ fn read_at_most<S: Source>(source: &mut S, buffer: &mut [u8], most: usize) -> Re
     }
 }
 
-/// Reads to the end, answers each line that a newline ends, and keeps what follows the last of them.
+/// Reads to the end, answers each line that a newline ends, and keeps the rest after the last of
+/// them.
 fn read_lines<S: Source, K: Sink, M: Machine, L: Ledger>(
     source: &mut S,
     kept: &mut Bytes,

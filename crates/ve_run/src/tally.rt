@@ -1,4 +1,4 @@
-// What is counted and hashed of replies.
+// Counts and hashes of replies.
 ghost use Rattle.std.specs.Prelude.{◌≡◌, ◌<◌, ◌≤◌, ◌++◌, ◌∷◌, [], ◌^◌, ℕ, List, codes, decimal, OnOk, ◌+◌, if◌then◌else◌};
 ghost use Rattle.ve_run.specs.Soak.{begins, four_lines, IsTally, summed_up};
 
@@ -6,7 +6,8 @@ use sha2::{Digest, Sha256};
 use std::alloc::Global;
 use ve_base::{Bytes, Memory};
 
-/// How many reply lines there were, how many of them begin `ok` and how many `no`, and the hasher that holds all of them.
+/// How many reply lines there were, how many of them begin `ok` and how many `no`, and the hasher
+/// that holds all of them.
 #[derive(Drop)]
 pub struct Tally {
     pub lines: u64,
@@ -62,7 +63,7 @@ impl Tally {
         self.hashed.update(reply);
     }
 
-    /// Appends the four lines on what was counted and hashed.
+    /// Appends the four lines of the counts and the hash.
     pub fn push_text(self, alloc: Global, out: &mut Bytes) -> Result<(), Memory>
         ensures { OnOk result (
             (answers : List (List ℕ))

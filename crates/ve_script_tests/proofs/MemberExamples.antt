@@ -1,5 +1,5 @@
--- Worked members of commands and parts of replies, beside the scripts of model_world: each tells a call from one that is wrong
--- in the way that is said above it.
+-- Worked members of commands and parts of replies, beside the scripts of model_world: each tells a
+-- call from one that is wrong in the way that is said above it.
 use Rattle.std.proofs.Common.{◌≡◌, true, false, List, [], ◌∷◌, length, replicate, refl}
 use Rattle.std.specs.Prelude.{codes, nat_le}
 use Rattle.ve_base.specs.Limits.{max_marks}

@@ -17,7 +17,7 @@ use ve_base::Memory;
 use ve_items::{Item, Linear};
 use ve_offsets::Doc;
 
-/// A place that is counted from the start of a run.
+/// A position that is counted from the start of a run.
 fn counted_from(start: usize, found: Option<usize>) -> Option<usize>
     requires { ForSome found (λ n. start + n < 2 ^ 64) }
     ensures { result ≡ option_map (λ n. start + n) found }
@@ -28,7 +28,8 @@ fn counted_from(start: usize, found: Option<usize>) -> Option<usize>
     }
 }
 
-/// The next boundary of the run of characters round an offset. The text of the run is all the memory that it takes.
+/// The next boundary of the run of characters round an offset. The text of the run is all the
+/// memory that it takes.
 fn boundary_at(
     alloc: Global,
     list: &Linear,
@@ -54,7 +55,7 @@ fn boundary_at(
     }
 }
 
-/// The next place ahead, by the item after the offset: a leaf is passed whole.
+/// The next position ahead, by the item after the offset: a leaf is passed whole.
 fn next_ahead(alloc: Global, doc: Doc<'_>, offset: usize, by: By) -> Result<Option<usize>, Memory>
     requires doc { IsDoc doc }
     requires within { offset ≤ length doc.list.now.items }
@@ -76,7 +77,7 @@ fn next_ahead(alloc: Global, doc: Doc<'_>, offset: usize, by: By) -> Result<Opti
     }
 }
 
-/// The next place back, by the item before the offset: a leaf is passed whole.
+/// The next position back, by the item before the offset: a leaf is passed whole.
 fn next_back(alloc: Global, doc: Doc<'_>, offset: usize, by: By) -> Result<Option<usize>, Memory>
     requires { offset ≤ length doc.list.now.items }
     ensures { IfOk result (λ place.
@@ -97,7 +98,7 @@ fn next_back(alloc: Global, doc: Doc<'_>, offset: usize, by: By) -> Result<Optio
     }
 }
 
-/// The next place in a direction: what stands beside the offset there decides.
+/// The next position in a direction: what stands beside the offset there decides.
 fn next_place(
     alloc: Global,
     doc: Doc<'_>,
@@ -123,9 +124,10 @@ fn next_place(
     }
 }
 
-/// Where a caret at a content offset goes by one grapheme cluster (Unicode, UAX #29, extended): past a leaf whole, or to the
-/// next boundary of the run of characters beside it. None comes at the end of its content branch in that direction. It reads
-/// of the list that run, and takes memory for its text alone.
+/// The next offset of a caret at a content offset, by one grapheme cluster (Unicode, UAX #29,
+/// extended). It goes past a leaf whole, or to the next boundary of the run of characters beside
+/// it. None comes at the end of its content branch in that direction. It reads of the list that
+/// run, and takes memory for its text alone.
 pub fn next_cluster(
     alloc: Global,
     doc: Doc<'_>,
@@ -141,7 +143,8 @@ pub fn next_cluster(
     next_place(alloc, doc, offset, dir, By::Cluster)
 }
 
-/// Where a caret at a content offset goes by one word: as `next_cluster`, to the next word boundary (Unicode, UAX #29).
+/// Where a caret at a content offset goes by one word: as `next_cluster`, to the next word boundary
+/// (Unicode, UAX #29).
 pub fn next_word(
     alloc: Global,
     doc: Doc<'_>,

@@ -24,11 +24,13 @@ first = inserts 2 65 3
 abbrev begun : Serving
 begun = record { committed = first ∷ []; queues = [] ∷ [] ∷ (Foreign (first ∷ []) ∷ []) ∷ [] }
 
--- On the five letters site 1 puts one after the fourth, takes the second and the third out, and puts one at the end.
+-- On the five letters site 1 puts one after the fourth, takes the second and the third out, and
+-- puts one at the end.
 abbrev three : Submission
 three = record { base = 0; entries = inserts 4 66 1 ∷ removes 1 (Char 98 [] ∷ Char 99 [] ∷ []) 3 ∷ inserts 4 67 0 ∷ [] }
 
--- The first goes after the committed letter. The second takes out what stands round that, so it and the third are refused.
+-- The first goes after the committed letter. The second takes out what stands round that, so it and
+-- the third are refused.
 one_of_three : after_serving 1 three begun ≡ record {
   committed = first ∷ inserts 5 66 1 ∷ [];
   queues = (Foreign (inserts 5 66 1 ∷ []) ∷ []) ∷ (Ack 1 ∷ []) ∷ (Foreign (first ∷ []) ∷ Foreign (inserts 5 66 1 ∷ []) ∷ []) ∷ [];
@@ -68,7 +70,8 @@ fed_once = refl
 nothing_to_feed : first_feed 0 begun ≡ (None, begun)
 nothing_to_feed = refl
 
--- a site by the feed that is handed out: as it was, where there is none, and with what it sent committed, where that was answered
+-- a site by the feed that is handed out: as it was, where there is none, and with what it sent
+-- committed, where that was answered
 no_feed : (s : Site) → site_with (first_feed 0 begun).0 s ≡ s
 no_feed s = refl
 

@@ -1,4 +1,5 @@
--- What the server does is what the turns of a session do to the committed entries and the queues.
+-- The server's calls are turns of a session: they do the same to the committed entries and the
+-- queues.
 use Rattle.std.specs.Prelude.{◌≡◌, ℕ, List, map, slice_get, slice_set, Option, Some, None}
 use Rattle.model_site.specs.Site.{Site, Submission}
 use Rattle.model_site.specs.Session.{Member, Session, SiteFeed, serve_one, site_after, take_next}
@@ -18,7 +19,7 @@ abbrev pub TurnsFeed : Type 0
 TurnsFeed = (k : ℕ) (m : Member) (w : Session) → slice_get w.members k ≡ Some m →
     serving_of (after_turn w (take_next k m w)) ≡ (first_feed k (serving_of w)).1
 
--- what a site becomes by a feed, if there is one
+-- a site after a feed, if there is one
 abbrev pub site_with : Option SiteFeed → Site → Site
 site_with None site = site
 site_with (Some feed) site = site_after feed site

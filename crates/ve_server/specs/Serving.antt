@@ -1,4 +1,4 @@
--- The server by itself: the committed entries, and for each site what it is to be fed.
+-- The server by itself: the committed entries, and the queue to each site.
 use Rattle.std.specs.Prelude.{ℕ, suc, List, [], ◌∷◌, ◌++◌, map, slice_index_or, slice_set, Option, Some, None}
 use Rattle.model_site.specs.Entries.{Parcel}
 use Rattle.model_site.specs.Site.{Submission}
@@ -14,7 +14,8 @@ pub record Serving : Type 0 where
 abbrev pub serving_of : Session → Serving
 serving_of w = record { committed = w.committed; queues = map (λ m. m.feeds) w.members }
 
--- the sender's queue gets how many entries were accepted, and each other one the entries, if there is one
+-- the sender's queue gets how many entries were accepted, and each other one the entries, if there
+-- is one
 abbrev pub all_queued : (sender k : ℕ) → List Parcel → List (List SiteFeed) → List (List SiteFeed)
 all_queued sender k entries [] = []
 all_queued sender k entries (feeds ∷ queues) = (feeds ++ feed_for sender k entries) ∷ all_queued sender (suc k) entries queues
@@ -24,7 +25,7 @@ abbrev pub after_serving : (sender : ℕ) → Submission → Serving → Serving
 after_serving sender s v = let j = accepted_of v.committed s in
     record { committed = v.committed ++ j.kept; queues = all_queued sender 0 j.kept v.queues }
 
--- what the sender is told of it
+-- the answer to the sender
 abbrev pub answer_to : Submission → Serving → Served
 answer_to s v = served_as (accepted_of v.committed s) s
 

@@ -15,7 +15,7 @@ use std::marker::Model;
 use ve_base::{Memory, TryCopy};
 use ve_rebase::{JoinedEntries, entries_over_list};
 
-/// The committed entries, and for each site what it is to be fed, the next one first.
+/// The committed entries, and for each site its feeds, the next one first.
 #[derive(Drop)]
 pub struct Server {
     committed: Parcels,
@@ -31,7 +31,8 @@ impl Model for Server {
     ghost view = { λ s. record { committed = s.committed; queues = feeds_in s.queues.items } };
 }
 
-/// A submission's entries joined over those committed since its base, up to the first conflict, and the ranges that conflict.
+/// A submission's entries joined over those committed since its base, up to the first conflict, and
+/// the ranges that conflict.
 fn accepted(
     alloc: Global,
     committed: &Parcels,
@@ -50,7 +51,7 @@ fn accepted(
     Ok((Parcels::from_list(kept), clash))
 }
 
-/// What the site at a place is fed when entries of the sender are accepted: the sender their number, any
+/// The feed to one site when entries of the sender are accepted: to the sender their number, to any
 /// other site the entries, if there is one.
 fn feed_for(
     alloc: Global,
@@ -69,7 +70,8 @@ fn feed_for(
     Ok(Some(Feed::Foreign(entries.copy(alloc)?)))
 }
 
-/// Stages in each queue what its site is fed when these entries of the sender are accepted. What can be taken stays, whatever comes.
+/// Stages in each queue what its site is fed when these entries of the sender are accepted. What
+/// can be taken stays, whatever comes.
 fn stage_all(
     alloc: Global,
     queues: &mut [Queue],
@@ -118,12 +120,12 @@ impl Server {
         &self.committed
     }
 
-    /// Joins a submission's entries, one after the other, over those committed since its base. At the first
-    /// conflict that entry and the rest are refused. The accepted ones are committed; the sender is told
-    /// their number, and each other site gets them, if there is one. The answer says how many were accepted
-    /// of how many, and which ranges are in conflict.
+    /// Joins a submission's entries, one after the other, over those committed since its base. At
+    /// the first conflict that entry and the rest are refused. The accepted ones are committed; the
+    /// sender is told their number, and each other site gets them, if there is one. The answer says
+    /// how many were accepted of how many, and which ranges are in conflict.
     ///
-    /// Only memory can be short, and then nothing changes.
+    /// The only `Err` is want of memory, and then nothing changes.
     pub fn serve(&mut self, submit: &Submit) -> Result<Served, Memory>
         requires base { submit.now.base ≤ length self.old.committed }
         requires run { RunFromOneLength (flattened (drop submit.now.base self.old.committed))

@@ -27,7 +27,7 @@ pub still_there : (k : ℕ) (site : Site) (old new : Shared) → new ≡ with_si
 still_there k site old new e within =
     subst (λ (x : Shared). k < sites x) (sym e) (subst (λ n. k < n) (sym (put_length old.session.members k _)) within)
 
--- what was made on the editor that is lent was made on the site's page
+-- what was made on the editor that is borrowed was made on the site's page
 pub batch_at : (lent r : Replica) (given changes : List EditCommand) (b : Batch) → lent ≡ r → given ≡ changes → IsBatch lent (batch_on lent given) b →
     IsBatch r (batch_on r changes) b
 batch_at lent r given changes b same as_given is =

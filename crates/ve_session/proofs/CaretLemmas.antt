@@ -30,7 +30,7 @@ is_selected r k old new s asks same = record {
   cites = tt;
 }
 
--- the focus moves to its next place
+-- the focus moves to its next position
 pub moves : (k : ℕ) (old : Shared) (dir : Dir) (by : By) (keep : Bool) (at : ℕ) →
     next_place (site_at old k).replica.items (site_at old k).replica.selection.focus dir by ≡ Ok at → (page : Opened) →
     request_outcome (asker page old k) (request.Move dir by keep)

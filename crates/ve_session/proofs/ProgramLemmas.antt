@@ -1,4 +1,4 @@
--- What a run of a new world does, taken over to the plain machine of the definitions.
+-- A run of a new world, taken over to the plain machine of the definitions.
 use Rattle.std.proofs.Common.{◌≡◌, ◌≤◌, ◌+◌, ℕ, List, [], ◌∷◌, ◌++◌, Option, Some, None, map, refl, ap, subst, ◌∙◌, sym}
 use Rattle.std.specs.Option.{IfSome}
 use Rattle.std.specs.Io.KnownBytes.{Appends}

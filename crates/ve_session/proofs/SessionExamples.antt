@@ -1,4 +1,4 @@
--- What comes of a command, and what it may cost, computed from the definitions.
+-- The outcome of a command, and what it may cost, computed from the definitions.
 use Rattle.std.proofs.Common.{◌≡◌, refl, true, false, []}
 use Rattle.std.specs.Prelude.{Ok, Err, None}
 use Rattle.model_site.specs.Replica.{opened_with}
@@ -37,7 +37,8 @@ refusal_keeps = refl
 reply_brings : kept_or_new (started (opened_with []) 1) (Ok (Caret 0 0, started (opened_with []) 2)) ≡ (Caret 0 0, started (opened_with []) 2)
 reply_brings = refl
 
--- where nothing is unsent, undoing builds the tree of a copy at most; a turn without a feed takes no step
+-- where nothing is unsent, undoing builds the tree of a copy at most; a turn without a feed takes
+-- no step
 nothing_erased : steps_to_erase [] (Err NothingToUndo) ≡ 0
 nothing_erased = refl
 

@@ -1,4 +1,4 @@
--- What is replied to a request that changes nothing is what comes of it.
+-- The reply to a request that changes nothing is its outcome.
 use Rattle.std.proofs.Common.{◌≡◌, ℕ, true, false, Bool, refl, ap, ◌∙◌, sym}
 use Rattle.std.specs.Prelude.{if◌then◌else◌, List, Result, Ok, Err, IfOk}
 use Rattle.model_items.specs.declared.plain_item.PlainItem.{PlainItem}

@@ -1,4 +1,4 @@
--- What the crates below refuse is what the request is refused for.
+-- A fault of the crates below is the refusal of the request.
 use Rattle.std.proofs.Common.{◌≡◌, ℕ, Bool, true, false, ap, ◌∙◌}
 use Rattle.std.specs.Prelude.{Result, nat_lt}
 use Rattle.model_change.specs.Replay.{revoke}

@@ -1,4 +1,4 @@
--- What the turn of a site makes of its session is what the model answers.
+-- The session after the turn of a site is the model's.
 use Rattle.std.proofs.Common.{◌≡◌, ◌<◌, ℕ, zero, suc, List, [], ◌∷◌, length, refl, ap, sym, ◌∙◌, arith, Option, Some, None}
 use Rattle.std.specs.Prelude.{Result, Ok, Err, slice_index_or}
 use Rattle.model_change.specs.Transaction.{Transaction}
@@ -21,7 +21,7 @@ use Rattle.ve_json.specs.declared.answer.Answer.TheVariants as answer
 use Rattle.ve_session.specs.Asked.{asker, kept_or_new, IsAnswered, IsPerformed, IsStopped}
 use Rattle.ve_sites.specs.Shared.{Shared, member_at, site_at, sites, with_member_at, with_site_at}
 
--- ---- members put into place
+-- ---- members put into position
 
 pub put_there : (ms : List Member) (k : ℕ) (m d : Member) → k < length ms → slice_index_or (put_member k m ms) k d ≡ m
 put_there [] k m d within = absurd (let none : ⊥ = omega (arith, within) in none)

@@ -46,7 +46,7 @@ module _ (k : ℕ) (old : Shared) (text : List ℕ) (at : ℕ)
   stopped (stop.Refused why) e = λ page. ap (typed_or_no (asker page old k)) (ap (batch_on r) (sym is_typing) ∙ lone_refused r put why e)
   stopped stop.Memory e = tt
 
-  -- there is no such change of the list that is lent
+  -- there is no such change of the list that is borrowed
   pub untyped : (why : ChangeStop) (lent : List PlainItem) → lent ≡ r.items → IsRefused why (change_of lent put) → IsStopped (request.TypeText text) k old why
   untyped why lent items e = stopped why (undrafted r lent put why items e)
 

@@ -1,4 +1,4 @@
--- What comes of a request in a world, and what holds of the site that is asked.
+-- The outcome of a request in a world, and the invariant of the site that is asked.
 use Rattle.std.proofs.Common.{◌≡◌, ◌≤◌, ◌<◌, ℕ, Bool, true, false, List, [], ◌∷◌, ◌++◌, length, refl, ap, sym, ◌∙◌, Some}
 use Rattle.std.proofs.lemmas.Option.{slice_get-get_or, slice_get_past}
 use Rattle.std.specs.Prelude.{nat_lt, Result, Ok, Err, slice_get}

@@ -1,4 +1,4 @@
--- What is asked of a world or of one of its sites, and what comes of it.
+-- Requests to a world or to one of its sites, and their outcome.
 use Rattle.std.specs.Prelude.{◌≡◌, ℕ, nat_lt, Bool, true, false, List, length, Ok, Err}
 use Rattle.ve_base.specs.Limits.{max_line}
 use Rattle.model_page.specs.PageItems.{Opened}
@@ -53,7 +53,8 @@ abbrev pub kept_or_new : Session → Outcome → Reply × Session
 kept_or_new w (Ok both) = both
 kept_or_new w (Err refused) = (refused, w)
 
--- The answer and the new session are what the model answers to the request, on whatever page it is asked.
+-- The answer and the new session are what the model answers to the request, on whatever page it is
+-- asked.
 pub record IsAnswered (r : Request) (k : ℕ) (old : Shared) (answer : Answer) (new : Shared) : Type 0 where
   pub replies : (page : Opened) → kept_or_new old.session (request_outcome (asker page old k) r) ≡ (reply_of answer, new.session)
   pub first : new.first ≡ old.first

@@ -1,4 +1,5 @@
--- How many steps a line takes at most: those of the trees that are built for it, and of the transactions that it makes. And the machine that a world is.
+-- How many steps a line takes at most: those of the trees that are built for it, and of the
+-- transactions that it makes. And the machine that a world is.
 use Rattle.std.specs.Prelude.{ℕ, ◌*◌, if◌then◌else◌, nat_lt, List, length, [], ◌∷◌, Option, Some, None, Result, Ok, Err, slice_get}
 use Rattle.ve_base.specs.Limits.{max_line}
 use Rattle.model_items.specs.declared.plain_item.PlainItem.{PlainItem}

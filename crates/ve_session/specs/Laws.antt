@@ -1,4 +1,4 @@
--- What a world replies, in the subject's words.
+-- Replies of a world, in the subject's words.
 use Rattle.std.specs.Prelude.{◌≡◌, ℕ, List, Some, chars, slice_get}
 use Rattle.model_script.specs.Output.{output, state_after}
 use Rattle.model_site.specs.Session.{Member}
@@ -12,7 +12,8 @@ use Rattle.ve_session.specs.Cost.{meaning}
 use Rattle.ve_session.specs.Opened.{world_on, IsLed, OnPage}
 use Rattle.ve_session.specs.States.{State}
 
--- Where lines lead to a page, and a site's list is as it was opened, `html` gives that page to it, byte for byte.
+-- Where lines lead to a page, and a site's list is as it was opened, `html` gives that page to it,
+-- byte for byte.
 abbrev pub UneditedIsTold : Type 0
 UneditedIsTold =
     (p : OnPage) (k : ℕ) (m : Member) → IsLed (world_on p) → slice_get p.session.members k ≡ Some m →

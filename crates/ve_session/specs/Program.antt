@@ -1,4 +1,4 @@
--- What a run of a new world does, in the words of the definitions.
+-- A run of a new world, in the words of the definitions.
 use Rattle.std.specs.Prelude.{◌≡◌, ℕ, List, Option}
 use Rattle.model_script.specs.Output.{Meaning}
 use Rattle.model_world.specs.declared.reply.Reply.{Reply}
@@ -35,7 +35,8 @@ with_world w s = record {
   writes_failed = s.writes_failed;
 }
 
--- A run from a world without a page ended so, and this is what it has done, and the world that it left.
+-- A run from a world without a page ended so, and this is what it has done, and the world that it
+-- left.
 pub record EndedNew (words : List (List ℕ)) (before after : Seen) (status : Status) : Type 0 where
   pub world : World
   pub ended : Ended counting_meaning words (with_world Closed before) (with_world world after) status

@@ -1,4 +1,4 @@
--- What a world keeps between lines.
+-- The state that a world keeps between lines.
 use Rattle.std.specs.Prelude.{Bool, true, false, ℕ, List}
 use Rattle.model_world.specs.World.{World, Closed, reply}
 

@@ -124,7 +124,7 @@ pub fn move_part<L: Ledger>(
     perform(session, k, &draft, steps)
 }
 
-/// What a site has selected taken out, or what stands from its caret to the next place.
+/// Erases the selection of a site, or the range from its caret to the next position.
 pub fn erase<L: Ledger>(
     alloc: Global,
     session: &mut Sites,

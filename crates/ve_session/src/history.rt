@@ -1,4 +1,4 @@
-// What a site takes back and makes again.
+// Undo and redo of a site.
 ghost use Rattle.std.specs.Prelude.{◌≡◌, ◌<◌, ◌≤◌, ◌+◌, IfErr, IfOk, OnErr};
 ghost use Rattle.model_world.specs.declared.command.Request.TheVariants as request;
 ghost use Rattle.ve_session.specs.Asked.{IsAnswered, IsStopped};
@@ -38,7 +38,7 @@ pub fn undo<L: Ledger>(
     }
 }
 
-/// What a site undid last made again.
+/// Makes the entry again that a site undid last.
 pub fn redo<L: Ledger>(
     session: &mut Sites,
     k: usize,

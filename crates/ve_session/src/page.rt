@@ -31,7 +31,8 @@ use ve_origin::{OriginTable, Origins};
 use ve_read::{PageRead, page, rows_stand};
 use ve_sites::Sites;
 
-/// A page that is open: its text, what was first read of it, and the sites that edit it.
+/// A page that is open: its text, the rest of the page that was first read, and the sites that edit
+/// it.
 #[derive(Drop)]
 pub struct OpenPage {
     text: Text,
@@ -53,7 +54,8 @@ impl Model for OpenPage {
 }
 
 impl OpenPage {
-    /// Opens a page for so many sites, each of which gets a tree of its list. It is refused as `page` refuses it.
+    /// Opens a page for so many sites, each of which gets a tree of its list. It is refused as
+    /// `page` refuses it.
     pub fn open<L: Ledger>(
         alloc: Global,
         text: Text,
@@ -90,7 +92,7 @@ impl OpenPage {
         ensures counted { steps.old ≤ steps.new }
         ensures steps { steps.new ≤ steps.old + steps_to_open sites (open_page text) }
     {
-        // a page that opens is a sound list, and its rows have their places in it
+        // a page that opens is a sound list, and its rows have their positions in it
         layers_fit();
         rows_stand();
         let Ok(count) = u32::try_from(sites) else {
@@ -107,7 +109,8 @@ impl OpenPage {
         })
     }
 
-    /// Tells that some lines lead to its world, which its type keeps, and that the text of its page is UTF-8.
+    /// Tells that some lines lead to its world, which its type keeps, and that the text of its page
+    /// is UTF-8.
     pub fn lines_lead(&self)
         ensures led { IsLed (world_on self.now) }
         ensures utf8 { HasUtf8Page (world_on self.now) }
@@ -138,7 +141,8 @@ impl OpenPage {
         self.session.site(k).editor()
     }
 
-    /// Appends the page as it was opened, as the reply to `html`, where a site's list has the page's items.
+    /// Appends the page as it was opened, as the reply to `html`, where a site's list has the
+    /// page's items.
     fn show_opened(&self, alloc: Global, k: usize, out: &mut Bytes) -> Result<(), Memory>
         requires site { k < length self.now.session.members }
         requires unedited { option_map (λ m. m.site.replica.items) (
@@ -157,7 +161,8 @@ impl OpenPage {
         reply_text(alloc, &answer, out)
     }
 
-    /// Appends the page that a site's list gives, as the reply to `html`. Where the list is as it was opened, no node of it is looked for.
+    /// Appends the page that a site's list gives, as the reply to `html`. Where the list is as it
+    /// was opened, no node of it is looked for.
     fn show_html(&self, alloc: Global, k: usize, out: &mut Bytes) -> Result<(), Memory>
         requires site { k < length self.now.session.members }
         ensures reply { OnOk result (
@@ -170,7 +175,8 @@ impl OpenPage {
             ≡ world_on self.now }
         ensures err { OnErr result (out.new ≡ out.old) }
     {
-        // in every world that lines lead to references are editable, and stores begin with the first one
+        // in every world that lines lead to references are editable, and stores begin with the
+        // first one
         every_site_holds();
         every_item_stands();
         replies_are_as_asked();
@@ -220,7 +226,7 @@ impl OpenPage {
         reply_text(alloc, &answer, out)
     }
 
-    /// Does what a request asks of a site, and appends the reply. A refusal changes nothing.
+    /// Performs a request to a site, and appends the reply. A refusal changes nothing.
     fn act<L: Ledger>(
         &mut self,
         alloc: Global,

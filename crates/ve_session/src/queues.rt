@@ -1,4 +1,4 @@
-// What goes between a site and the server.
+// Turns between a site and the server.
 ghost use Rattle.std.specs.Prelude.{◌≡◌, ◌<◌, ◌≤◌, ◌+◌, IfErr, IfOk, OnErr, option_map};
 ghost use Rattle.model_world.specs.Answers.{ranges, taken_reply};
 ghost use Rattle.model_world.specs.declared.command.Request.TheVariants as request;
@@ -27,7 +27,7 @@ fn ranges(clash: Option<Clash>) -> Option<((usize, usize), (usize, usize))>
     }
 }
 
-/// What a site is told of a turn at its feeds.
+/// The answer to a site's turn at its feeds.
 fn taken_answer(taken: Taken) -> Answer<'static>
     ensures { reply_of result ≡ taken_reply taken }
 {

@@ -1,4 +1,4 @@
-// What a site selects.
+// The selection of a site.
 ghost use Rattle.std.specs.Prelude.{◌≡◌, ◌<◌, IfErr, IfOk, OnErr};
 ghost use Rattle.model_world.specs.declared.command.Request.TheVariants as request;
 ghost use Rattle.model_site.specs.Site.{with_selection};
@@ -50,7 +50,8 @@ pub fn select(
     }
 }
 
-/// The end of a site's selection that moves set to its next place, and the other with it unless it is kept.
+/// The end of a site's selection that moves set to its next position, and the other with it unless
+/// it is kept.
 pub fn move_caret(
     alloc: Global,
     session: &mut Sites,

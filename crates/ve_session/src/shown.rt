@@ -1,4 +1,4 @@
-// What a site answers to the requests that change nothing, but for the page written out.
+// Answers of a site to the requests that change nothing, but for the page written out.
 ghost use Rattle.std.specs.Prelude.{◌≡◌, ◌<◌, true, IfOk};
 ghost use Rattle.ve_session.specs.Asked.{is_shown, IsAnswered};
 ghost use Rattle.ve_sites.specs.Shared.{sites};
@@ -26,7 +26,7 @@ pub fn is_shown(request: &Request) -> bool
     )
 }
 
-/// The answer of a site to a request that changes nothing, other than `html`. Items are lent.
+/// The answer of a site to a request that changes nothing, other than `html`. Items are borrowed.
 pub fn shown<'a>(
     alloc: Global,
     session: &'a Sites,

@@ -19,7 +19,7 @@ use ve_changes::ChangeStop;
 use ve_json::{Answer, Request};
 use ve_sites::Sites;
 
-/// What a request to a site does, and its answer.
+/// The effect of a request to a site, and its answer.
 fn done<L: Ledger>(
     alloc: Global,
     session: &mut Sites,

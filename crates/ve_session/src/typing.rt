@@ -27,7 +27,7 @@ use ve_offsets::Doc;
 use ve_sites::Sites;
 use ve_tx::Draft;
 
-/// The draft by which a text is put at a place, with the marks to the left.
+/// The draft by which a text is put at a position, with the marks to the left.
 fn put_draft(alloc: Global, doc: Doc<'_>, at: usize, text: &Text) -> Result<Draft, ChangeStop>
     requires page { IsPage doc.store.now doc.list.now.items doc.tree.now }
     ensures ok { IfOk result (
@@ -85,7 +85,8 @@ fn type_here<L: Ledger>(
     Ok(Answer::Length(len_at(session, k)))
 }
 
-/// A text typed in the place of what a site has selected, made on a copy of its page: two changes that are one entry.
+/// Types a text over the selection of a site, on a copy of its page: two changes that are one
+/// entry.
 fn type_over<L: Ledger>(
     alloc: Global,
     session: &mut Sites,
@@ -121,7 +122,8 @@ fn type_over<L: Ledger>(
     Ok(Answer::Length(len_at(session, k)))
 }
 
-/// A text typed in the place of what a site has selected, or at its caret; its caret stands after the text then.
+/// Types a text over the selection of a site, or at its caret; its caret stands after the text
+/// then.
 pub fn type_at<L: Ledger>(
     alloc: Global,
     session: &mut Sites,

@@ -19,7 +19,8 @@ use ve_editor::Editor;
 use ve_json::{Answer, Command, CommandFault, Refusal, Request, command, reply_text};
 use ve_run::Machine;
 
-/// The page that is open, if one is. After it ran out of memory a world is spent.
+/// The page that is open, if one is. After it ran out of memory a world is spent: every later step
+/// says so.
 #[derive(Drop)]
 pub struct World {
     alloc: Global,
@@ -74,8 +75,8 @@ impl World {
         }
     }
 
-    /// Tells that some lines lead to its world, which its type keeps, and that a page that is open is UTF-8. So what the
-    /// laws say of every world that lines lead to holds of it.
+    /// Tells that some lines lead to its world, which its type keeps, and that a page that is open
+    /// is UTF-8. So the laws of every world that lines lead to hold of it.
     pub fn lines_lead(&self)
         ensures led { IsLed self.now.world }
         ensures utf8 { HasUtf8Page self.now.world }
@@ -205,9 +206,11 @@ impl World {
         }
     }
 
-    /// Answers one line of a script: appends the text of the reply and a newline. A refusal leaves the world as it was.
+    /// Answers one line of a script: appends the text of the reply and a newline. A refusal leaves
+    /// the world as it was.
     ///
-    /// After `Memory` nothing is appended, and the world is spent: it has no page, and every later step answers `Memory`.
+    /// After `Memory` nothing is appended, and the world is spent: it has no page, and every later
+    /// step answers `Memory`.
     pub fn step<L: Ledger>(
         &mut self,
         line: &[u8],

@@ -1,4 +1,4 @@
--- What always holds of a site is kept by each thing that it does.
+-- The invariant of a site is kept by each thing that it does.
 use Rattle.std.proofs.Common.{◌≡◌, ℕ, List, [], ◌∷◌, ◌++◌, Option, Ok, arith, refl, sym, ap, ◌∙◌, subst}
 use Rattle.std.proofs.lemmas.List.{append-nil}
 use Rattle.model_items.specs.declared.plain_item.PlainItem.{PlainItem}
@@ -28,7 +28,7 @@ selects_kept = record {
   cuts = λ n r p. p;
 }
 
--- whatever is pending, with it taken back the ground is as it was
+-- whatever is pending, with it taken back the confirmed list is as it was
 pub ground_is : (floor : List PlainItem) (s : Site) → Sound floor → Holds floor [] (as_opened s) → ground_of s ≡ floor
 ground_is floor s sound h =
     ap (replay (reversal (flattened (parcels (pending s))))) h.list ∙ (reversal_undoes (flattened (parcels (pending s))) floor sound.lawful sound.apart h.runs).back

@@ -1,4 +1,5 @@
--- What a site's fields mean once it took an entry of another site, and that they are a site's again.
+-- The meaning of a site's fields once it took an entry of another site, and that they are a site's
+-- again.
 use Rattle.std.proofs.Common.{◌≡◌, ◌≤◌, ◌+◌, ℕ, suc, List, [], ◌∷◌, ◌++◌, length, map, flat_map, take, drop, All, Option, None, refl, sym, ap, ◌∙◌, subst, arith}
 use Rattle.std.proofs.lemmas.List.{map-append, length-append, length-map, length-take, take-append-drop, take-map, drop-map, take_all}
 use Rattle.std.proofs.lemmas.List.Elements.{All-nil, All-cons, All-head, All-tail}

@@ -13,8 +13,8 @@ use ve_editor::Editor;
 use ve_rebase::entry_in;
 use ve_tx::{Entry, EntryList, Parcel};
 
-/// Takes back all entries but the first so many, the last one first. An `Err` may leave some of them taken
-/// back.
+/// Takes back all entries but the first so many, the last one first. An `Err` may leave some of
+/// them taken back.
 fn take_back<L: Ledger>(
     editor: &mut Editor,
     sent: &[Entry],
@@ -43,9 +43,9 @@ fn take_back<L: Ledger>(
     Ok(())
 }
 
-/// Takes back all entries but the first so many, and performs a parcel then. It gives how many values the
-/// store has after that. Where none is taken back it is done in place, and else on a copy, so that an `Err`
-/// changes nothing.
+/// Takes back all entries but the first so many, and performs a parcel then. It gives how many
+/// values the store has after that. Where none is taken back it is done in place, and else on a
+/// copy, so that an `Err` changes nothing.
 pub fn admit_under<L: Ledger>(
     editor: &mut Editor,
     sent: &[Entry],
@@ -84,7 +84,7 @@ pub fn admit_under<L: Ledger>(
     Ok(last.store_after)
 }
 
-/// Entries parted at a place.
+/// Entries parted at a position.
 pub fn parted(
     alloc: Global,
     entries: EntryList,
@@ -109,8 +109,8 @@ pub fn parted(
     Ok((first, second))
 }
 
-/// The same entries with one number as both of theirs: taking one of them back cuts nothing off a store of so
-/// many values.
+/// The same entries with one number as both of theirs: taking one of them back cuts nothing off a
+/// store of so many values.
 pub fn renumbered(mut entries: Vec<Entry>, stored: usize) -> Vec<Entry>
     ensures { result.items ≡ map (numbered_alike stored) entries.items }
 {

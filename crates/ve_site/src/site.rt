@@ -24,15 +24,15 @@ use ve_rebase::{EntriesUnder, entries_under};
 use ve_server::{Feed, Parcels, Submit};
 use ve_tx::{Draft, Entry, EntryList, Parcel};
 
-/// A site: its editor, the entries that it sent and has no answer for, those that it has not sent, and what
-/// it undid. It is seen as its number beside the model's site.
+/// A site: its editor, the entries that it sent and has no answer for, those that it has not sent,
+/// and those that it undid. The view is its number beside the model's site.
 pub struct Site {
     number: u32,
     editor: Editor,
     // how many committed entries its list has
     seen: usize,
     sent: Vec<Entry>,
-    // the entries that are not sent, and what was undone
+    // the entries that are not sent, and those that were undone
     history: History,
     // how many entries it sent since the page was opened
     shared: usize,
@@ -87,7 +87,8 @@ impl Site {
     ghost use Rattle.ve_site.specs.Refusal.{IsUndoRefusal, IsRedoRefusal, IsSendRefusal};
     ghost use Rattle.model_site.specs.Refused.{edit_cause};
 
-    /// A site with the page that was opened, which has seen no committed entry and has nothing pending. It takes no memory.
+    /// A site with the page that was opened, which has seen no committed entry and has nothing
+    /// pending. It takes no memory.
     pub fn new(alloc: Global, number: u32, editor: Editor) -> Site
         requires sound { Sound editor.items }
         requires selection { StandsIn editor.items editor.selection }
@@ -136,7 +137,7 @@ impl Site {
         self.editor.select(selection);
     }
 
-    /// Performs a draft as a new entry; what was undone can't be redone then. It is refused as
+    /// Performs a draft as a new entry; undone entries can't be redone then. It is refused as
     /// `Editor::perform` refuses, and an `Err` changes nothing.
     pub fn edit<L: Ledger>(&mut self, draft: &Draft, steps: &mut Steps<L>) -> Result<(), EditFault>
         requires draft { IsDraftOf self.old.site.replica.store draft.now }
@@ -167,9 +168,9 @@ impl Site {
         Ok(())
     }
 
-    /// Takes a changed copy of its editor in the place of its own, and the entry that the changes are: edits
-    /// that were performed one after the other and are one, as a batch is. What was undone can't be redone
-    /// then. An `Err` changes nothing.
+    /// Takes a changed copy of its editor in place of its own, and the entry of the changes. They
+    /// are edits that were performed one after the other and are one, as a batch is. The undone
+    /// entries can't be redone then. An `Err` changes nothing.
     pub fn settle(&mut self, editor: Editor, entry: Entry) -> Result<(), Memory>
         requires settles { Settles self.old.site.replica editor entry }
         ensures site { OnOk result (
@@ -183,10 +184,10 @@ impl Site {
         Ok(())
     }
 
-    /// Takes back the last entry that is not sent. It can be redone until another edit is made or a feed is
-    /// taken.
-    /// Where nothing is unsent, `NothingToUndo` comes exactly if the site sent no entry since the page was
-    /// opened, and `AlreadyShared` exactly if it did. An `Err` changes nothing.
+    /// Takes back the last entry that is not sent. It can be redone until another edit is made or a
+    /// feed is taken. Where nothing is unsent, `NothingToUndo` comes exactly if the site sent no
+    /// entry since the page was opened, and `AlreadyShared` exactly if it did. An `Err` changes
+    /// nothing.
     pub fn undo<L: Ledger>(&mut self, steps: &mut Steps<L>) -> Result<(), UndoFault>
         ensures site { OnOk result (undo self.old.site ≡ Ok self.new.site) }
         ensures number { self.new.number ≡ self.old.number }
@@ -213,8 +214,9 @@ impl Site {
         Ok(())
     }
 
-    /// Performs again what was undone last, as a new entry. `NothingToRedo` comes exactly where nothing was
-    /// undone since the last edit or take that was not redone. An `Err` changes nothing.
+    /// Performs the last undone entry again, as a new entry. `NothingToRedo` comes exactly where
+    /// nothing was undone since the last edit or take that was not redone. An `Err` changes
+    /// nothing.
     pub fn redo<L: Ledger>(&mut self, steps: &mut Steps<L>) -> Result<(), RedoFault>
         ensures site { OnOk result (redo self.old.site ≡ Ok self.new.site) }
         ensures number { self.new.number ≡ self.old.number }
@@ -251,7 +253,7 @@ impl Site {
         self.history.done().is_empty()
     }
 
-    /// Its pending entries as they would travel: those that it sent, and then those that it has not sent.
+    /// Its pending entries, serialised: those that it sent, and then those that it has not sent.
     pub fn pending(&self) -> Result<Parcels, Memory>
         ensures { IfOk result (λ entries. entries ≡ parcels (pending self.now.site)) }
     {
@@ -261,9 +263,9 @@ impl Site {
         Ok(entries)
     }
 
-    /// Performs a parcel as a new entry of its own, as one that takes a committed entry back; what was undone
-    /// can't be redone then. It is asked that the parcel's transactions run on the list; the limits of items
-    /// and of values don't bind it. An `Err` changes nothing.
+    /// Performs a parcel as a new entry of its own, as one that takes a committed entry back;
+    /// undone entries can't be redone then. The parcel's transactions have to run on the list. The
+    /// limits of items and of values don't bind it. An `Err` changes nothing.
     pub fn adopt<L: Ledger>(&mut self, back: &Parcel, steps: &mut Steps<L>) -> Result<(), Memory>
         requires cites { ParcelCites back.now }
         requires run { AllRun (parcel_by_value back.now) self.old.site.replica.items }
@@ -282,9 +284,9 @@ impl Site {
         Ok(())
     }
 
-    /// Sends all entries that are not sent, as one submission made on the committed entries that it has seen.
-    /// `InFlight` comes exactly where a submission is not acknowledged yet, and else `NothingToSend` exactly
-    /// where nothing is unsent. An `Err` changes nothing.
+    /// Sends all entries that are not sent, as one submission made on the committed entries that it
+    /// has seen. `InFlight` comes exactly where a submission is not acknowledged yet, and else
+    /// `NothingToSend` exactly where nothing is unsent. An `Err` changes nothing.
     pub fn send(&mut self) -> Result<Submit, SendFault>
         ensures sent { IfOk result (λ sent.
             send self.old.site ≡ Ok (self.new.site, submission_of sent)) }
@@ -357,8 +359,8 @@ impl Site {
         })
     }
 
-    /// Takes an entry of another site, and gives how many entries are still pending. An `Err` changes
-    /// nothing.
+    /// Takes an entry of another site, and gives how many entries are still pending. An `Err`
+    /// changes nothing.
     fn take_entry<L: Ledger>(
         &mut self,
         foreign: &Parcel,
@@ -401,8 +403,8 @@ impl Site {
         Ok(left)
     }
 
-    /// Takes entries of other sites, one after the other, and gives how many entries are still pending. One
-    /// is taken in place, and more on a copy, so that an `Err` changes nothing.
+    /// Takes entries of other sites, one after the other, and gives how many entries are still
+    /// pending. One is taken in place, and more on a copy, so that an `Err` changes nothing.
     fn take_foreign<L: Ledger>(
         &mut self,
         entries: &Parcels,
@@ -432,8 +434,8 @@ impl Site {
         Ok(left)
     }
 
-    /// Takes the answer to what it sent: the entries that it still holds as sent are committed. An `Err`
-    /// changes nothing.
+    /// Takes the answer to what it sent: the entries that it still holds as sent are committed. An
+    /// `Err` changes nothing.
     fn acknowledge(&mut self) -> Result<(), Memory>
         ensures site { OnOk result (self.new ≡ with_site (take_ack self.old.site) self.old) }
         ensures kept { OnErr result (self.new ≡ self.old) }
@@ -448,16 +450,16 @@ impl Site {
         Ok(())
     }
 
-    /// Takes what the server sends next: entries of other sites, or the answer to what it sent. Nothing can
-    /// be redone then.
+    /// Takes the server's next message: entries of other sites, or the answer to its submission.
+    /// Nothing can be redone then.
     ///
-    /// Each entry of another site is performed over the pending entries, and these are joined over it. At the
-    /// first conflict that entry and all later ones are taken back first, the last one first, and dropped. It
-    /// is asked that these entries run one after the other from the ground, the list with the pending entries
-    /// taken back. An answer has no condition.
+    /// Each entry of another site is performed over the pending entries, and these are joined over
+    /// it. At the first conflict that entry and all later ones are taken back first, the last one
+    /// first, and dropped. These entries have to run one after the other from the confirmed list,
+    /// the list with the pending entries taken back. An answer has no condition.
     ///
-    /// Only memory can be short, which is also the answer where a joined transaction would be longer than a
-    /// transaction may be. An `Err` changes nothing.
+    /// The only `Err` is want of memory, which is also the answer where a joined transaction would
+    /// be longer than a transaction may be. It changes nothing.
     pub fn take<L: Ledger>(&mut self, feed: &Feed, steps: &mut Steps<L>) -> Result<Taken, Memory>
         requires may { MayTake (feed_of feed.now) self.old.site }
         ensures site { OnOk result (

@@ -1,4 +1,4 @@
--- Sites with their queues, place by place.
+-- Sites with their queues, position by position.
 use Rattle.std.proofs.Common.{◌≡◌, ◌<◌, ◌+◌, ℕ, zero, suc, List, [], ◌∷◌, ◌++◌, length, replicate, set, get_or, slice_get, Some, refl, sym, ap, ◌∙◌, arith}
 use Rattle.model_site.specs.Entries.{Parcel}
 use Rattle.model_site.specs.Session.{Member, SiteFeed, all_fed, feed_for, put_member}
@@ -7,7 +7,7 @@ use Rattle.ve_server.specs.Serving.{all_queued}
 use Rattle.ve_sites.specs.IsShared.{AreNumbered}
 use Rattle.ve_sites.specs.Senders.{Sender, first_senders, member_of, members_of}
 
--- ---- one place
+-- ---- one position
 
 pub members_count : (ss : List Sender) (qs : List (List SiteFeed)) → length qs ≡ length ss → length (members_of ss qs) ≡ length ss
 members_count [] qs e = refl
@@ -28,7 +28,7 @@ members_at (s ∷ ss) [] k m d e lt is = cc
 members_at (s ∷ ss) (q ∷ qs) zero m d e lt is = ap (λ x. member_of x q) (sym is)
 members_at (s ∷ ss) (q ∷ qs) (suc k) m d e lt is = members_at ss qs k m d (omega (arith, e)) (omega (arith, lt)) is
 
--- ---- one place written
+-- ---- one position written
 
 -- the site alone, and the site with its queue
 pub members_put : (ss : List Sender) (qs : List (List SiteFeed)) (k : ℕ) (t : Sender) → length qs ≡ length ss → k < length ss →

@@ -82,7 +82,7 @@ not_from_one h = let e = h.0 in cc
 two_begin : first_senders 3 2 unsent_b ≡ record { number = 3; site = unsent_b; submissions = [] } ∷ record { number = 4; site = unsent_b; submissions = [] } ∷ []
 two_begin = refl
 
--- ---- places
+-- ---- positions
 
 two_sites : sites shared ≡ 2
 two_sites = refl

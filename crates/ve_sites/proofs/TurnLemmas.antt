@@ -39,7 +39,8 @@ runs_on [] items run = tt
 runs_on (t ∷ ts) items run =
     ((parts_of_Applies t items run.0.applies).0, subst (λ n. RunOnLength n ts) (gives_new_length t items run.0.applies) (runs_on ts (edited t items) run.1))
 
--- The submission's base is committed, and its entries run from the list that those committed since run from.
+-- The submission's base is committed, and its entries run from the list that those committed since
+-- run from.
 pub record MayServe (committed : List Parcel) (s : Submission) : Type 0 where
   pub from : s.base ≤ length committed
   pub run : RunFromOneLength (flattened (drop s.base committed)) (flattened s.entries)
@@ -85,7 +86,7 @@ nothing_waits (x ∷ xs) next = cc
 
 -- ---- what a site is asked
 
--- with its pending entries taken back, the ground is what the committed ones that it has seen give
+-- with its pending entries taken back, the list is that of the committed ones that it has seen
 ground_is : (base : List PlainItem) (before : List Parcel) (s : Site) → Sound (ground base before) → Holds base before s → ground_of s ≡ ground base before
 ground_is base before s sound h =
     ap (replay (reversal (flattened (parcels (pending s))))) h.list ∙ (reversal_undoes (flattened (parcels (pending s))) (ground base before) sound.lawful sound.apart h.runs).back

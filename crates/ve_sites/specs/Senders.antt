@@ -1,4 +1,4 @@
--- What the fields of a session mean.
+-- The meaning of a session's fields.
 use Rattle.std.specs.Prelude.{◌≡◌, ℕ, zero, suc, List, [], ◌∷◌, ◌++◌, map, length, Ok}
 use Rattle.ve_base.specs.declared.value.Value.{Value}
 use Rattle.model_items.specs.declared.item.Item.{Item}
@@ -12,7 +12,8 @@ use Rattle.ve_server.specs.declared.feed.Submit.{Submit}
 use Rattle.ve_site.specs.Numbered.{Numbered}
 use Rattle.ve_sites.specs.Shared.{Shared}
 
--- a site under its number, and the submissions that it sent and the server has not served, the next one first
+-- a site under its number, and the submissions that it sent and the server has not served, the next
+-- one first
 pub record Sender : Type 0 where
   pub number : ℕ
   pub site : Site

@@ -1,4 +1,4 @@
-// What one site does by itself.
+// Turns of one site by itself.
 ghost use Rattle.std.specs.Prelude.{◌≡◌, ◌≤◌, ◌<◌, ◌+◌, ◌∷◌, [], Ok, List, drop, length, IfOk, IfErr, OnOk, OnErr};
 ghost use Rattle.model_change.specs.Replay.{revoke};
 ghost use Rattle.model_change.specs.Transaction.{InsertedApart};
@@ -27,7 +27,8 @@ use ve_server::Parcels;
 use ve_site::Site;
 use ve_tx::{Draft, Entry, ParcelList};
 
-/// The entries that a site knows from one on: the committed ones that it has seen, and then its pending ones.
+/// The entries that a site knows from one on: the committed ones that it has seen, and then its
+/// pending ones.
 fn known_from(alloc: Global, committed: &Parcels, i: usize, site: &Site) -> Result<Parcels, Memory>
     requires from { i ≤ site.now.site.seen }
     requires seen { site.now.site.seen ≤ length committed.now }
@@ -40,7 +41,7 @@ fn known_from(alloc: Global, committed: &Parcels, i: usize, site: &Site) -> Resu
 }
 
 impl Sites {
-    /// Performs a draft at the site at a place, as a new entry. It is refused as `Editor::perform` refuses,
+    /// Performs a draft at site `k`, as a new entry. It is refused as `Editor::perform` refuses,
     /// and an `Err` changes nothing.
     pub fn edit<L: Ledger>(
         &mut self,
@@ -71,8 +72,9 @@ impl Sites {
         self.members[k].edit(draft, steps)
     }
 
-    /// Takes a changed copy of the editor of the site at a place, and the entry that the changes are: edits
-    /// that were performed one after the other and are one, as a batch is. An `Err` changes nothing.
+    /// Takes a changed copy of the editor of site `k`, and the entry of the changes. They are edits
+    /// that were performed one after the other and are one, as a batch is. An `Err` changes
+    /// nothing.
     pub fn settle(&mut self, k: usize, editor: Editor, entry: Entry) -> Result<(), Memory>
         requires site { k < sites self.old }
         requires settles { Settles (site_at self.old k).replica editor entry }
@@ -84,8 +86,8 @@ impl Sites {
         self.members[k].settle(editor, entry)
     }
 
-    /// Takes back the last entry that the site at a place has not sent. It is refused as `Site::undo`
-    /// refuses, and an `Err` changes nothing.
+    /// Takes back the last entry that site `k` has not sent. It is refused as `Site::undo` refuses,
+    /// and an `Err` changes nothing.
     pub fn undo<L: Ledger>(&mut self, k: usize, steps: &mut Steps<L>) -> Result<(), UndoFault>
         requires site { k < sites self.old }
         ensures site { OnOk result (undo (site_at self.old k) ≡ Ok (site_at self.new k)) }
@@ -101,8 +103,8 @@ impl Sites {
         self.members[k].undo(steps)
     }
 
-    /// Performs again what the site at a place undid last, as a new entry. It is refused as `Site::redo`
-    /// refuses, and an `Err` changes nothing.
+    /// Performs again the last entry that site `k` undid, as a new entry. It is refused as
+    /// `Site::redo` refuses, and an `Err` changes nothing.
     pub fn redo<L: Ledger>(&mut self, k: usize, steps: &mut Steps<L>) -> Result<(), RedoFault>
         requires site { k < sites self.old }
         ensures site { OnOk result (redo (site_at self.old k) ≡ Ok (site_at self.new k)) }
@@ -118,7 +120,7 @@ impl Sites {
         self.members[k].redo(steps)
     }
 
-    /// Selects something else at the site at a place.
+    /// Selects something else at site `k`.
     pub fn select(&mut self, k: usize, selection: Selection)
         requires site { k < sites self.old }
         requires stands { StandsIn (site_at self.old k).replica.items selection }
@@ -128,9 +130,9 @@ impl Sites {
         self.members[k].select(selection);
     }
 
-    /// Takes back, at the site at a place, the committed entry `i` under all later entries that the site
-    /// knows, as a new entry of its own. `Conflict` comes exactly where a later one conflicts with what takes
-    /// it back, and names the first two ranges that do. An `Err` changes nothing.
+    /// Takes back, at site `k`, the committed entry `i` under all later entries that the site
+    /// knows, as a new entry of its own. `Conflict` comes exactly where a later one conflicts with
+    /// the reversal, and names the first two ranges that do. An `Err` changes nothing.
     pub fn revoke<L: Ledger>(
         &mut self,
         k: usize,

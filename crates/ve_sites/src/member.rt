@@ -153,8 +153,8 @@ impl Member {
         self.site.select(selection);
     }
 
-    /// Has the site send, and keeps what it sent behind what waits. It gives how many entries these are. An
-    /// `Err` changes nothing.
+    /// Has the site send, and keeps what it sent behind what waits. It gives how many entries these
+    /// are. An `Err` changes nothing.
     pub fn send(&mut self) -> Result<usize, SendFault>
         ensures sent { IfOk result (λ count. HasGone count self.old self.new) }
         ensures refused { IfErr result (IsSendRefusal (send self.old.site)) }

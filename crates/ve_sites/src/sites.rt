@@ -22,8 +22,9 @@ use ve_server::Server;
 use ve_site::Site;
 use ve_store::Store;
 
-/// A page under edit by several sites, each with its queues to and from one server. It is seen as the
-/// model's session beside the list that it was opened with. Sites are named by their numbers, from 0.
+/// A page under edit by several sites, each with its queues to and from one server. The view is the
+/// model's session beside the list that it was opened with. Sites are named by their numbers, from
+/// 0.
 #[derive(Drop)]
 pub struct Sites {
     // the list as it was opened, and the values that it cites
@@ -96,8 +97,8 @@ fn all_begun<L: Ledger>(
 }
 
 impl Sites {
-    /// A session of so many sites, each of which has the page as it was opened. Each site's tree is built, in
-    /// as many steps as `Editor::new` may take.
+    /// A session of so many sites, each of which has the page as it was opened. Each site's tree is
+    /// built, in as many steps as `Editor::new` may take.
     pub fn new<L: Ledger>(
         alloc: Global,
         list: Linear,
@@ -143,7 +144,7 @@ impl Sites {
         &self.first
     }
 
-    /// Lends the site at a place.
+    /// Lends site `k`.
     pub fn site(&self, k: usize) -> &Site
         requires site { k < sites_of self.now }
         ensures { result.now.site ≡ site_at self.now k }

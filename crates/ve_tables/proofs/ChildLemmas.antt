@@ -47,11 +47,11 @@ within [] n x h = absurd (cc)
 within (y ∷ items) zero x h = omega arith
 within (y ∷ items) (suc n) x h = let less = within items n x h in omega arith
 
--- the places of those of some kinds
+-- the positions of those of some kinds
 abbrev pub among : List Kind → List Open → List ℕ
 among kinds nodes = places_of (filter (λ (node : Open). is_among kinds node.kind) nodes)
 
--- the places of the nodes of these kinds from a place on
+-- the positions of the nodes of these kinds from a position on
 abbrev pub places_from : List Kind → List PlainItem → ℕ → List ℕ
 places_from kinds items place = among kinds (siblings 0 place (drop place items))
 

@@ -1,4 +1,5 @@
--- Rows of a table by the places of their sections' nodes, and cells placed one at a time as the model places them.
+-- Rows of a table by the positions of their sections' nodes, and cells placed one at a time as the
+-- model positions them.
 use Rattle.std.specs.Prelude.{slice_get, codes, flat_map}
 use Rattle.std.proofs.Common.{◌≡◌, inl, inr, ℕ, suc, ◌+◌, true, false, if◌then◌else◌, List, [], ◌∷◌, ◌++◌, map, length, Option, Some, Ok, Err, refl, sym, ap, ◌∙◌, subst}
 use Rattle.std.proofs.lemmas.List.{length-map}
@@ -28,7 +29,7 @@ section_places (tr ∷ later) =
     ap (λ n. record { at = tr.from; left = suc n } ∷ model.section_rows later) (sym (length-map later (λ (node : Open). node.from)))
     ∙ ap (λ v. record { at = tr.from; left = suc (length (places_of later)) } ∷ v) (section_places later)
 
--- rows of sections that stand at these places
+-- rows of sections that stand at these positions
 abbrev pub rows_of_places : (ℕ → List ℕ) → List ℕ → List model.TableRow
 rows_of_places inside [] = []
 rows_of_places inside (place ∷ places) = rows_at (inside place) ++ rows_of_places inside places
@@ -40,7 +41,7 @@ rows_flat trs inside (s ∷ sections) same =
     ap (λ v. v ++ flat_map (λ (s : Open). model.section_rows (trs s)) sections) (section_places (trs s) ∙ ap rows_at (sym (same s)))
     ∙ ap (λ v. rows_at (inside s.from) ++ v) (rows_flat trs inside sections same)
 
--- A row's cells are placed by their places alone.
+-- A row's cells are placed by their positions alone.
 pub row_places : (items : List PlainItem) (row left end : ℕ) (nodes : List Open) (before : List GridCell) →
     model.with_row items row left end (map cell_open (places_of nodes)) before ≡ model.with_row items row left end nodes before
 row_places items row left end [] before = refl
@@ -119,7 +120,7 @@ pub colspan_is : chars (codes "colspan") ≡ codes "colspan"
 unfolding chars
 colspan_is = refl
 
--- the cells at the places of a row's
+-- the cells at the positions of a row's
 pub row_is : (items : List PlainItem) (old : Placed) (at : ℕ) (cells : List ℕ) → cells ≡ child_places (Td ∷ Th ∷ []) items at → row_placed items old cells ≡ row_after items old at
 row_is items old at cells e = ap (row_placed items old) e ∙ row_places items old.row old.left old.end (model.row_cells items at) old.cells
 

@@ -1,4 +1,4 @@
--- What is asked of a table's cells, and the causes that refuse a change of it.
+-- Tests of a table's cells, and the causes that refuse a change of it.
 use Rattle.std.specs.Option.{option_or}
 use Rattle.std.specs.Prelude.{◌≡◌, ℕ, Bool, ◌&&◌, ◌||◌, ◌==◌, nat_le, nat_lt, List, [], ◌∷◌, ◌++◌, map, Option, option_map}
 use Rattle.std.specs.List.{range_with_len}
@@ -33,7 +33,8 @@ row_out_causes row g = (nat_le g.rows row, BadRow row g.rows) ∷ at_first (cell
 abbrev pub ragged_causes : ℕ → Grid → (row count : ℕ) → List (Bool × TableCause)
 ragged_causes column g row count = map (λ row. (has_gap_before g.cells row column, Ragged row)) (range_with_len row count)
 
--- The row found is the first ragged one: it is told before whatever causes come after, and these alone are told where there is none.
+-- The row found is the first ragged one: it is told before whatever causes come after, and these
+-- alone are told where there is none.
 abbrev pub IsFirstRagged : ℕ → Grid → Option ℕ → Type 0
 IsFirstRagged column g found =
     (later : List (Bool × TableCause)) → first_fault (ragged_causes column g 0 g.rows ++ later) ≡ option_or (option_map Ragged found) (first_fault later)

@@ -1,4 +1,4 @@
-// What is asked of a table's cells before rows or columns change.
+// Tests of a table's cells before rows or columns change.
 ghost use Rattle.std.specs.Prelude.{◌≡◌, option_map};
 ghost use Rattle.model_edit.specs.Grid as grid;
 ghost use Rattle.model_edit.specs.Tables as model;
@@ -8,7 +8,7 @@ ghost use Rattle.ve_tables.specs.CellQuestions.{cell_answer};
 use model_edit::GridCell;
 use ve_base::{MAX_COLUMN_SPAN, MAX_ROW_SPAN};
 
-/// What is asked of each cell, with the number of a row or a column.
+/// A test of each cell, with the number of a row or a column.
 #[derive(Clone, Copy)]
 pub enum CellQuestion {
     /// Whether it spans into the row, and has the greatest span.
@@ -79,7 +79,7 @@ fn is_full_at_column(cell: GridCell, column: usize) -> bool
     MAX_COLUMN_SPAN <= cell.columns
 }
 
-/// What a question answers of a cell.
+/// The answer of a test for a cell.
 fn answer(question: CellQuestion, cell: GridCell) -> bool
     ensures { result ≡ cell_answer question cell }
 {
@@ -90,7 +90,7 @@ fn answer(question: CellQuestion, cell: GridCell) -> bool
     }
 }
 
-/// The place of the first cell of which the answer is yes.
+/// The position of the first cell of which the answer is yes.
 pub fn first_cell(cells: &[GridCell], question: CellQuestion) -> Option<usize>
     ensures { (named : _)
         → first_fault (at_first (cell_answer question) cells.now named) ≡ option_map named result }

@@ -35,7 +35,7 @@ fn closes(item: Item) -> bool
     }
 }
 
-/// Appends the place of an item that opens a node of one of these kinds.
+/// Appends the position of an item that opens a node of one of these kinds.
 fn note(places: &mut ListOf<usize>, place: usize, item: Item, kinds: &[Kind]) -> Result<(), Memory>
     ensures { OnOk result (
         (values : _)
@@ -52,7 +52,8 @@ fn note(places: &mut ListOf<usize>, place: usize, item: Item, kinds: &[Kind]) ->
     }
 }
 
-/// The places of the nodes of these kinds that stand just inside the node which opens at a place, in order.
+/// The positions of the nodes of these kinds that stand just inside the node which opens at a
+/// position, in order.
 pub fn children_of(
     alloc: Global,
     doc: Doc<'_>,

@@ -28,7 +28,8 @@ use ve_edits::{Edits, partner};
 use ve_offsets::Doc;
 use ve_tx::Transaction;
 
-/// The number of the first cell from one on that doesn't begin in a row, where none of those cells begins above it.
+/// The number of the first cell from one on that doesn't begin in a row, where none of those cells
+/// begins above it.
 fn run_end(cells: &[GridCell], from: usize, row: usize, rows: usize) -> usize
     requires within { from ≤ length cells.now }
     requires rise { AreInRows row rows (drop from cells.now) }
@@ -89,8 +90,8 @@ fn grow_cells(
     Ok(())
 }
 
-/// Where a new cell stands in a row that has these cells: before the first at or right of the column, else after the last,
-/// else before the row's closing.
+/// Where a new cell stands in a row that has these cells: before the first at or right of the
+/// column, else after the last, else before the row's closing.
 fn cell_place(doc: Doc<'_>, row: TableRow, column: usize, cells: &[GridCell]) -> usize
     requires doc { IsDoc doc }
     requires row { row.at < length doc.list.now.items }
@@ -221,14 +222,16 @@ fn take_column(
     Ok(tx)
 }
 
-/// The change that puts a column into the table that opens at a place: before the column of this number, or after the
-/// last one where it is the number of columns. The cells that span into the column grow by one column, and each other row
-/// has a new cell with an empty paragraph: before its first cell at or right of the column, else after its last cell, else
-/// before its closing.
+/// The transaction that puts a column into the table that opens at a position: before the column of
+/// this number, or after the last one where it is the number of columns. The cells that span into
+/// the column grow by one column. Each other row has a new cell with an empty paragraph. It stands
+/// before the row's first cell at or right of the column, else after its last cell, else before its
+/// closing.
 ///
-/// It is refused as by `grid`; then `BadColumn` comes exactly where there are no columns, or fewer than the number; then
-/// `Ragged` with the first row in which a place left of the column is covered by no cell; then `SpanFull` with the place
-/// of the first cell that would grow to more than 1,000 columns.
+/// It is refused as by `grid`. Then `BadColumn` comes exactly where there are no columns, or fewer
+/// than the number. Next is `Ragged` with the first row in which a position left of the column is
+/// covered by no cell. Last is `SpanFull` with the position of the first cell that would grow to
+/// more than 1,000 columns.
 pub fn col_in(
     alloc: Global,
     doc: Doc<'_>,
@@ -256,10 +259,11 @@ pub fn col_in(
     }
 }
 
-/// The change that takes the column of a number out of the table that opens at a place. A cell of more columns that covers
-/// it loses one column.
+/// The change that takes the column of a number out of the table that opens at a position. A cell
+/// of more columns that covers it loses one column.
 ///
-/// It is refused as by `grid`; then `BadColumn` comes exactly where the number isn't below that of the columns.
+/// It is refused as by `grid`; then `BadColumn` comes exactly where the number isn't below that of
+/// the columns.
 pub fn col_out(
     alloc: Global,
     doc: Doc<'_>,

@@ -76,8 +76,8 @@ impl Placing {
         }
     }
 
-    /// Places a cell with its spans after those before it. `Crooked` comes exactly where it would cover a place that is
-    /// covered, or pass the last row of its section.
+    /// Positions a cell with its spans after those before it. `Crooked` comes exactly where it
+    /// would cover a position that is covered, or pass the last row of its section.
     pub fn with_cell(self, at: usize, rows: usize, columns: usize) -> Result<Placing, TableFault>
         requires row { self.row < 2 ^ 62 }
         requires rows { 1 ≤ rows }

@@ -98,13 +98,14 @@ fn take_row(
     Ok(tx)
 }
 
-/// The change that puts a row into the table that opens at a place: before the row of this number, in its section, or
-/// after the last row where it is the number of rows. The cells that span into the row grow by one row, and in each other
-/// column the row has a new cell with an empty paragraph.
+/// The transaction that puts a row into the table that opens at a position. It goes before the row
+/// of this number, in its section, or after the last row where it is the number of rows. The cells
+/// that span into the row grow by one row. In each other column the row has a new cell with an
+/// empty paragraph.
 ///
-/// It is refused as by `grid`; then `BadRow` comes exactly where there are no rows, or fewer than the number; then
-/// `TooWide` exactly where there are over 1,000 columns; then `SpanFull` with the place of the first cell that would grow
-/// to more than 65,534 rows.
+/// It is refused as by `grid`. Then `BadRow` comes exactly where there are no rows, or fewer than
+/// the number, and next `TooWide` exactly where there are over 1,000 columns. Last is `SpanFull`
+/// with the position of the first cell that would grow to more than 65,534 rows.
 pub fn row_in(alloc: Global, doc: Doc<'_>, at: usize, row: usize) -> Result<Transaction, TableFault>
     requires doc { IsDoc doc }
     requires cites { All (CitesWell doc.store.now) doc.list.now.items }
@@ -123,11 +124,12 @@ pub fn row_in(alloc: Global, doc: Doc<'_>, at: usize, row: usize) -> Result<Tran
     }
 }
 
-/// The change that takes the row of a number out of the table that opens at a place. The cells that span into it from
-/// above lose one row.
+/// The change that takes the row of a number out of the table that opens at a position. The cells
+/// that span into it from above lose one row.
 ///
-/// It is refused as by `grid`; then `BadRow` comes exactly where the number isn't below that of the rows; then `Spanned` with the
-/// place of the first cell that begins in the row and covers more rows.
+/// It is refused as by `grid`. Then `BadRow` comes exactly where the number isn't below that of the
+/// rows. Last is `Spanned` with the position of the first cell that begins in the row and covers
+/// more rows.
 pub fn row_out(
     alloc: Global,
     doc: Doc<'_>,

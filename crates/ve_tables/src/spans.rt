@@ -20,7 +20,7 @@ fn digits(alloc: Global, number: usize) -> Result<Text, Memory>
     Ok(Text::from_string(spelled))
 }
 
-/// Sets a span of the cell at a place to a number. Edits come in the order of their places.
+/// Sets a span of the cell at a position to a number. Edits come in the order of their positions.
 pub fn set_span(
     alloc: Global,
     doc: Doc<'_>,
@@ -41,7 +41,7 @@ pub fn set_span(
     Ok(())
 }
 
-/// Just past where the node ends that begins at a place.
+/// Just past where the node ends that begins at a position.
 pub fn node_end(doc: Doc<'_>, at: usize) -> usize
     requires doc { IsDoc doc }
     requires within { at < length doc.list.now.items }

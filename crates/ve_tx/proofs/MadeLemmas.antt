@@ -18,7 +18,7 @@ use Rattle.model_change.proofs.InverseLemmas.{reduced_parts}
 use Rattle.ve_tx.specs.Making.{Extends, item_with_head, first_headed, IsOpening}
 use Rattle.ve_tx.proofs.ValuesLemmas.{extends_itself, extends_on, list-extended, all-extended, filled_on}
 
--- each attribute operation is allowed, those before it at its place being done
+-- each attribute operation is allowed, those before it at its position being done
 abbrev pub AreAllowed : Transaction → List PlainItem → Type 0
 AreAllowed [] items = Unit {0}
 AreAllowed (Retain count ∷ ops) items = AreAllowed ops (drop count items)
@@ -36,7 +36,8 @@ abbrev pub BeginsOpen : List PlainItem → Type 0
 BeginsOpen [] = ⊥
 BeginsOpen (item ∷ items) = IsOpening item
 
--- The new items so far, with what the operations that are left make of the rest of the old ones, are the whole; so it is of the values.
+-- The new items so far, with what the operations that are left make of the rest of the old ones,
+-- are the whole; so it is of the values.
 pub record IsMade (first_values : List Value) (old whole : List PlainItem) (all_values values : List Value) (made : List Item) (at : ℕ) (head : Option Head) (ops : Transaction) : Type 0 where
   pub reduced : is_reduced ops ≡ true
   pub fits : at + old_length ops ≡ length old

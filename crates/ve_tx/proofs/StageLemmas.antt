@@ -89,7 +89,7 @@ opening_headed : (head : Option Head) (p q : PlainItem) → q ≡ p → (is_some
 opening_headed None p q e h = tt
 opening_headed (Some head) p q e h = subst IsOpening (sym e) (h refl)
 
--- the items from a place on, cut behind the first one
+-- the items from a position on, cut behind the first one
 headed-parts : (head : Option Head) (n at : ℕ) (items : List PlainItem) → 0 < n →
     first_headed head (take n (drop at items)) ≡ take 1 (first_headed head (drop at items)) ++ take (n - 1) (drop (at + 1) items)
 headed-parts head n at items some =

@@ -29,7 +29,8 @@ MayBeMade (Retain count) items = Unit {0}
 MayBeMade (Replace removed inserted) items = Unit {0}
 MayBeMade (Attribute change) items = first_allows change items ≡ true
 
--- the items of a list from the cursor on, by value, the first one with its changed head, where it has one
+-- the items of a list from the cursor on, by value, the first one with its changed head, where it
+-- has one
 abbrev pub ahead : List Value → List Item → Cursor → List PlainItem
 ahead values items cursor = headed_from values items cursor.at cursor.head
 
@@ -42,7 +43,8 @@ abbrev pub Passes : List Value → List Item → Operation → (cursor next : Cu
 Passes values items operation cursor next =
     ahead values items next ≡ items_past (operation_by_value values operation) (ahead values items cursor)
 
--- the second operation is, by value, the first with the position that the attribute which it removes has at the cursor
+-- the second operation is, by value, the first with the position that the attribute which it
+-- removes has at the cursor
 abbrev pub Fills : List Value → List Item → Cursor → (operation full : Operation) → Type 0
 Fills values items cursor operation full =
     operation_by_value values full ≡ op_filled (operation_by_value values operation) (ahead values items cursor)

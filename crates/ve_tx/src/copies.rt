@@ -1,4 +1,5 @@
-// Values that are copied out of a store, and what cites the copies in place of the store.
+// Values that are copied out of a store, and the numbers that cite the copies in place of the
+// store.
 ghost use Rattle.std.specs.Prelude.{◌≡◌, [], All, IfOk, OnOk, map, vec_len};
 ghost use Rattle.model_change.specs.Store.{fill, cited_by, cited};
 ghost use Rattle.model_items.specs.Plain.{plain, plain_list, CitesWell};
@@ -37,7 +38,7 @@ impl Copies {
         }
     }
 
-    /// What cites, among the copies, the value that is cited in the store.
+    /// The number among the copies of the value that is cited in the store.
     fn cite(
         &mut self,
         alloc: Global,

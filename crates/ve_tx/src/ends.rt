@@ -33,8 +33,8 @@ fn core_end(ops: &[Op]) -> usize
     }
 }
 
-/// Copies of all operations but the first and the last retain, with their positions, between retains of these lengths; a
-/// retain of 0 is left out.
+/// Copies of all operations but the first and the last retain, with their positions, between
+/// retains of these lengths; a retain of 0 is left out.
 pub fn with_ends(
     alloc: Global,
     first: usize,

@@ -6,8 +6,8 @@ use crate::TxList;
 use std::alloc::Global;
 use ve_base::{ListOf, Memory, TryCopy};
 
-/// Transactions that were made one after the other, and are undone together. The numbers are the lengths of the store
-/// before and after them.
+/// Transactions that were made one after the other, and are undone together. The numbers are the
+/// lengths of the store before and after them.
 #[derive(Drop)]
 pub struct Entry {
     pub txs: TxList,
@@ -19,8 +19,8 @@ pub struct Entry {
 pub type EntryList = ListOf<Entry>;
 
 impl Entry {
-    /// Makes one entry of this and a later one: the later one's transactions follow, the first number stays, and the
-    /// second becomes the later one's. An `Err` changes nothing.
+    /// Makes one entry of this and a later one: the later one's transactions follow, the first
+    /// number stays, and the second becomes the later one's. An `Err` changes nothing.
     pub fn append(&mut self, later: Entry) -> Result<(), Memory>
         ensures ok { OnOk result (self.new ≡ entry_with self.old later) }
         ensures err { OnErr result (self.new ≡ self.old) }

@@ -22,14 +22,14 @@ use ve_base::{Head, Memory, Text, TryCopy};
 use ve_items::Linear;
 use ve_store::Store;
 
-/// A place of the old list, with the head of the item there, where operations have changed it.
+/// A position of the old list, with the head of the item there, where operations have changed it.
 #[derive(Drop)]
 struct Cursor {
     at: usize,
     head: Option<Head>,
 }
 
-/// Past so many items. A changed head stays after with its item.
+/// Past so many items. A changed head stays with its item.
 fn past(cursor: Cursor, count: usize) -> Cursor
     requires { cursor.at + count ≤ max_total_length }
     ensures at { result.at ≡ cursor.at + count }
@@ -45,7 +45,8 @@ fn past(cursor: Cursor, count: usize) -> Cursor
     }
 }
 
-/// The position to keep: that of the attribute, where it is removed, and else the one that is kept already.
+/// The position to keep: that of the attribute, where it is removed, and else the one that is kept
+/// already.
 fn position_to_keep(
     head: &Head,
     name: &Text,
@@ -103,8 +104,8 @@ fn step(
     }
 }
 
-/// Copies of the operations, each with its position or, where it removes an attribute, with the position that the
-/// attribute has just before.
+/// Copies of the operations, each with its position or, where it removes an attribute, with the
+/// position that the attribute has just before.
 pub fn filled(
     alloc: Global,
     ops: &[Op],

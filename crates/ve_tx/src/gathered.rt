@@ -28,7 +28,7 @@ impl Gathered {
         }
     }
 
-    /// Puts an operation in at a place.
+    /// Puts an operation in at a position.
     pub fn insert(&mut self, at: usize, op: Op, kept: Option<usize>) -> Result<(), Memory>
         requires even { vec_len self.old.ops ≡ vec_len self.old.kept }
         requires within { at ≤ vec_len self.old.ops }
@@ -67,7 +67,8 @@ impl Gathered {
         Ok(())
     }
 
-    /// Puts an operation that keeps no position after the others. The result is how many there are then.
+    /// Puts an operation that keeps no position after the others. The result is how many there are
+    /// then.
     pub fn append(&mut self, op: Op) -> Result<usize, Memory>
         requires even { vec_len self.old.ops ≡ vec_len self.old.kept }
         ensures even { OnOk result (vec_len self.new.ops ≡ vec_len self.new.kept) }

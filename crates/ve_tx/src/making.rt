@@ -90,7 +90,8 @@ pub fn next_head(
     })
 }
 
-/// The place of a head in the store, which takes it where it is new; one that says nothing is not cited.
+/// The position of a head in the store, which takes it where it is new; one that says nothing is
+/// not cited.
 fn cited(store: &mut Store, head: Head) -> Result<Option<ValueId>, Memory>
     ensures cites { IfOk result (CitesHead store.new) }
     ensures head { IfOk result (λ id. head_in (value_at store.new id) ≡ head) }
@@ -168,7 +169,8 @@ fn settle(
     Ok(())
 }
 
-/// How many items operations bring: those that they insert, and an opening for each attribute operation.
+/// How many items operations bring: those that they insert, and an opening for each attribute
+/// operation.
 pub fn brought_by(ops: &[Op]) -> usize
     requires { total_size ops.now ≤ max_total_length }
     ensures { result ≡ brought_by ops.now }
@@ -184,8 +186,9 @@ pub fn brought_by(ops: &[Op]) -> usize
     count
 }
 
-/// The splices that operations are which apply to the list: one for each replace, and one for each opening of which they
-/// change the head. Heads that are new go into the store. What is retained is neither read nor copied.
+/// The splices of operations that apply to the list: one for each replace, and one for each opening
+/// of which they change the head. Heads that are new go into the store. Retained items are neither
+/// read nor copied.
 pub fn new_splices(
     alloc: Global,
     ops: &[Op],
@@ -237,7 +240,7 @@ pub fn new_splices(
     Ok(splices)
 }
 
-/// Appends the list's items from one place up to another, as they are lent.
+/// Appends the list's items from one position up to another, as they are borrowed.
 pub fn copy_range(items: &mut Items, list: &Linear, from: usize, to: usize) -> Result<(), Memory>
     requires order { from ≤ to }
     requires within { to ≤ length list.now.items }

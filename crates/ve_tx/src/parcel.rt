@@ -1,4 +1,4 @@
-// Entries as they travel from one store to another.
+// Parcels: entries serialised with their values, to go from one store to another.
 ghost use Rattle.std.specs.Prelude.{◌≡◌, [], All, map, IfOk};
 ghost use Rattle.model_change.specs.Store.{fill};
 ghost use Rattle.model_items.specs.Plain.{AreDistinct};
@@ -26,9 +26,10 @@ pub struct Parcel {
 pub type ParcelList = ListOf<Parcel>;
 
 impl Parcel {
-    /// The parcel of an entry: the same transactions by value, with their kept positions, and both numbers. Its values
-    /// are those that the transactions cite in the store, each once, in the order in which they are first cited: in one
-    /// operation by the items removed and then by those inserted, and in one item by head, marks and whitespace.
+    /// The parcel of an entry: the same transactions by value, with their kept positions, and both
+    /// numbers. Its values are those that the transactions cite in the store, each once, in the
+    /// order in which they are first cited. In one operation the items removed come before those
+    /// inserted; in one item come head, marks and whitespace.
     pub fn of(alloc: Global, entry: &Entry, store: &Store) -> Result<Parcel, Memory>
         requires { All (TxCites store.now) entry.now.txs }
         ensures txs { IfOk result (λ parcel.

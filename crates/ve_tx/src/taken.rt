@@ -1,4 +1,4 @@
-// Values that a store takes from a list, and what cites them there in place of the list.
+// Values that a store takes from a list, and the numbers that cite them there in place of the list.
 ghost use Rattle.std.specs.Prelude.{◌≡◌, [], All, IfOk, OnOk, OnErr, map, vec_len};
 ghost use Rattle.model_change.specs.Store.{fill, cited_by, cited};
 ghost use Rattle.model_items.specs.Plain.{plain, plain_list, CitesWell};
@@ -24,7 +24,7 @@ use ve_store::Store;
 pub struct CitedValues {
     // where each value stands in the list
     pub places: IndexSet<usize>,
-    // beside it, what cites it in the store
+    // beside it, its number in the store
     pub ids: Vec<ValueId>,
 }
 
@@ -40,7 +40,8 @@ impl CitedValues {
         }
     }
 
-    /// What cites, in the store, the value that is cited in the list. The store takes it where it is new.
+    /// The number in the store of the value that is cited in the list. The store takes it where it
+    /// is new.
     fn cite(
         &mut self,
         alloc: Global,
@@ -182,7 +183,8 @@ impl CitedValues {
         }
     }
 
-    /// The operations of a transaction with their positions, citing the store. An `Err` may leave values after those that it had.
+    /// The operations of a transaction with their positions, citing the store. An `Err` may leave
+    /// values after those that it had.
     pub fn ops(
         &mut self,
         alloc: Global,

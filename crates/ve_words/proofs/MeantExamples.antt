@@ -1,4 +1,4 @@
--- What words mean, at examples, which compute.
+-- The meaning of words, at examples, which compute.
 use Rattle.std.proofs.Common.{◌≡◌, [], ◌∷◌, codes, refl}
 use Rattle.clap.proofs.OnLiterals.{clap_on_literals}
 use Rattle.ve_words.specs.Words.{Asks, HelpWanted, Refused, meaning_of}

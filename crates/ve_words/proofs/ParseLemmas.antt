@@ -1,4 +1,4 @@
--- What a parse of the words comes to, wherever the names of the modes are lent from.
+-- The result of parsing the words, wherever the names of the modes are borrowed from.
 use Rattle.std.proofs.Common.{◌≡◌, ◌∙◌, ◌⊎◌, inl, inr, ℕ, List, [], ◌∷◌, Option, Some, None, Result, Ok, Err, IfOk, IsErrOf, refl, sym, ap, ap₂, arith, subst, true, map}
 use Rattle.std.specs.Option.{ok_or}
 use Rattle.std.specs.Str.{encode_utf8_all}

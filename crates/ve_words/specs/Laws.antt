@@ -1,4 +1,4 @@
--- What holds of whatever words mean.
+-- Laws of whatever words mean.
 use Rattle.std.specs.Prelude.{◌≡◌, ◌<◌, ◌≤◌, ◌^◌, ℕ, List, [], map}
 use Rattle.std.specs.Str.{encode_utf8_all}
 use Rattle.clap.specs.Words.{fault_of}
@@ -14,7 +14,8 @@ NumbersAreInRange = (words : List (List ℕ)) (mode : Mode) (start edits : ℕ) 
 abbrev pub AsksSomething : Meant → Type 0
 AsksSomething meaning = (mode : Mode) × (start : ℕ) × (edits : ℕ) × (meaning ≡ Asks mode start edits)
 
--- Words in which the rules find no fault ask for a mode: none of the three values is missing, or of another kind.
+-- Words in which the rules find no fault ask for a mode: none of the three values is missing, or of
+-- another kind.
 abbrev pub AcceptedWordsAsk : Type 0
 AcceptedWordsAsk = (words : List (List ℕ)) → fault_of (vemodel mode_names) (map encode_utf8_all words) ≡ []
     → AsksSomething (meaning_of words)

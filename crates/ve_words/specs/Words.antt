@@ -1,4 +1,4 @@
--- What words mean.
+-- The meaning of words.
 use Rattle.std.specs.Prelude.{ℕ, List, [], ◌∷◌, Option, Some, None, map, codes, option_and_then, if◌then◌else◌}
 use Rattle.std.specs.Str.{bytes_eq, encode_utf8_all}
 use Rattle.std.specs.Str.Parse.{digits_value, without_leading_plus}

@@ -9,7 +9,7 @@ use crate::{Asked, Unasked};
 use std::alloc::{AllocError, Global};
 use ve_base::Text;
 
-/// The words in UTF-8, lent in order.
+/// The words in UTF-8, borrowed in order.
 fn spelled<'a>(alloc: Global, words: &'a [Text]) -> Result<Vec<&'a str>, AllocError>
     ensures { IfOk result (λ lent. map (λ s. s.now) lent.items ≡ map encode_utf8_all words.now) }
 {
@@ -20,10 +20,12 @@ fn spelled<'a>(alloc: Global, words: &'a [Text]) -> Result<Vec<&'a str>, AllocEr
     Ok(texts)
 }
 
-/// What the words after the program's name ask for: mode and numbers as `clap` reads them, `Help` exactly where it
-/// answers with help and `Usage` exactly where it refuses the words, but for want of memory.
+/// The meaning of the words after the program's name: mode and numbers as `clap` reads them. `Help`
+/// comes exactly where it answers with help and `Usage` exactly where it refuses the words, but for
+/// want of memory.
 ///
-/// `start` is below 2^64 and 0 where it isn't given; `edits` is at most 100,000, and 100 where it isn't given.
+/// `start` is below 2^64 and 0 where it isn't given; `edits` is at most 100,000, and 100 where it
+/// isn't given.
 pub fn asked(alloc: Global, words: &[Text]) -> Result<Asked, Unasked>
     ensures ok { IfOk result (λ asked.
         meaning_of words.now ≡ Meant.Asks asked.mode asked.start asked.edits) }

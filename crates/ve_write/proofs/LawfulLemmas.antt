@@ -79,7 +79,7 @@ spelled bodies at (Opening kind head marks pre origin generated ∷ items) s h =
     joined t inside (o ∷ outer) cs n f =
         ap (λ l. start_item t ∷ l) (f ∙ sym (append_assoc (node_list_items inside) (record { item = Closing t.kind o.pre; body = None } ∷ node_list_items o.later) (closings s.stack outer)))
 
--- ---- the node at a place
+-- ---- the node at a position
 
 node_over : (n : Nodes) (rest : List Carried) (depth : ℕ) → node_from (node_list_items n ++ rest) depth ≡ node_list_items n ++ node_from rest depth
 node_over Empty rest depth = refl
@@ -183,7 +183,7 @@ past (Node t inside pre later) rest s k kinds e h =
     tails : (xs ys : List Kind) (a b : Kind) → a ∷ xs ≡ b ∷ ys → xs ≡ ys
     tails xs ys a b e = cc
 
--- ---- a place among siblings that begin before the internal list
+-- ---- a position among siblings that begin before the internal list
 
 closings_length : (k l : List Kind) (outer : List Outer) → length k ≡ length l → length (closings k outer) ≡ length (closings l outer)
 closings_length [] [] outer e = refl

@@ -18,7 +18,8 @@ use ve_kinds::Kind;
 use ve_node_text::head_of;
 use ve_store::Store;
 
-/// Whether an opening is that of a paragraph without attributes that was made for text, with no whitespace before it.
+/// Whether an opening is that of a paragraph without attributes that was made for text, with no
+/// whitespace before it.
 fn is_plain_paragraph(
     alloc: Global,
     store: &Store,
@@ -39,7 +40,8 @@ fn is_plain_paragraph(
     kind == Kind::P && generated && head_of(store, head, &none).attrs.is_empty() && pre.is_none()
 }
 
-/// Whether no whitespace stands at a place among siblings: before the next one, or before their parent's closing.
+/// Whether no whitespace stands at a position among siblings: before the next one, or before their
+/// parent's closing.
 fn is_tight(list: &Linear, at: usize) -> bool
     requires { at ≤ length list.now.items }
     ensures { (values : List Cited)
@@ -56,7 +58,8 @@ fn is_tight(list: &Linear, at: usize) -> bool
     }
 }
 
-/// Whether the node at a place is written without its tags; `before` says whether the sibling before it is.
+/// Whether the node at a position is written without its tags; `before` says whether the sibling
+/// before it is.
 pub fn is_bare(
     alloc: Global,
     list: &Linear,

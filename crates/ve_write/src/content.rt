@@ -1,4 +1,4 @@
-// What content branches hold.
+// The text of content branches.
 ghost use Rattle.std.specs.Prelude.{◌≡◌, ◌≤◌, ◌<◌, ◌++◌, [], true, false, OnOk, IfOk, length, drop, unwrap_or, IsUtf8};
 ghost use Rattle.model_items.specs.Plain.{value_at, head_in, marks_in, plain_list, CitesHead, CitesMarks};
 ghost use Rattle.model_page.specs.Editable.{all_refer, head_refers};
@@ -25,7 +25,8 @@ struct Step {
     opened: Option<ValueId>,
 }
 
-/// Appends what comes between marks: the open ones are closed that end here, and those are opened that begin.
+/// Appends the tags between marks: the open ones are closed that end here, and those are opened
+/// that begin.
 fn change_cited(
     alloc: Global,
     out: &mut Bytes,
@@ -45,7 +46,7 @@ fn change_cited(
     change_marks(alloc, out, marks_of(store, opened), marks_of(store, marks))
 }
 
-/// What is written of the opening of a leaf in content.
+/// The text of the opening of a leaf in content.
 #[derive(Clone, Copy, Debug)]
 struct Leaf {
     kind: Kind,
@@ -53,7 +54,7 @@ struct Leaf {
     origin: Option<u32>,
 }
 
-/// Appends the leaf at a place: the bytes that it was, if it is kept, or else its text.
+/// Appends the leaf at a position: the bytes that it was, if it is kept, or else its text.
 fn put_inline_leaf(
     alloc: Global,
     out: &mut Bytes,
@@ -132,7 +133,8 @@ fn put_inline(
     }
 }
 
-/// Appends the characters that stand from a place on, as far as a lent piece goes, where these marks are open.
+/// Appends the characters that stand from a position on, as far as a borrowed piece goes, where
+/// these marks are open.
 fn put_letters(
     alloc: Global,
     out: &mut Bytes,
@@ -174,7 +176,7 @@ fn put_letters(
     })
 }
 
-/// Appends the content that begins at a place, and says where it ends.
+/// Appends the content that begins at a position, and says where it ends.
 pub fn put_content(
     alloc: Global,
     out: &mut Bytes,

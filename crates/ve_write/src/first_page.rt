@@ -1,4 +1,5 @@
-// What is lent to writing, and what of it stands for itself: whitespace and leaves.
+// The borrowed page of writing, and those of its items that are written by themselves: whitespace
+// and leaves.
 ghost use Rattle.std.specs.Prelude.{◌≡◌, ◌++◌, true, OnOk, option_map, encode_utf8_all, IsUtf8};
 ghost use Rattle.model_items.specs.Plain.{value_at, head_in, white_in, CitesHead, CitesWhite};
 ghost use Rattle.model_page.specs.Editable.{head_refers};
@@ -21,9 +22,9 @@ pub struct First<'a> {
     pub origins: &'a Origins<'a>,
 }
 
-/// What is written: a list and its values, the texts of the bodies that its references carry, by the places of
-/// the references, and the table of its references. Where the page that was first read is lent, too, nodes that
-/// are kept are copied; else the table may be empty.
+/// The page to write: a list and its values, the texts of the bodies that its references carry, by
+/// the positions of the references, and the table of its references. Where the page that was first
+/// read is borrowed, too, nodes that are kept are copied; else the table may be empty.
 #[derive(Clone, Copy)]
 pub struct Page<'a, 'b> {
     pub list: &'a Linear,
@@ -33,7 +34,7 @@ pub struct Page<'a, 'b> {
     pub first: Option<First<'b>>,
 }
 
-/// The text of the body that the reference at a place carries, if it carries one.
+/// The text of the body that the reference at a position carries, if it carries one.
 fn text_at<'a>(texts: &'a IndexMap<usize, Text>, at: usize) -> Option<&'a str>
     ensures { option_map (λ text. text.now) result ≡ text_of texts.now at }
 {
@@ -53,7 +54,7 @@ pub fn put_white(out: &mut Bytes, store: &Store, id: Option<ValueId>) -> Result<
     out.push(white_of(store, id).as_bytes())
 }
 
-/// Appends the leaf at a place, which cites this head.
+/// Appends the leaf at a position, which cites this head.
 pub fn put_cited_leaf(
     alloc: Global,
     out: &mut Bytes,

@@ -28,7 +28,8 @@ fn is_inline_node(token: &Token<'_>) -> bool
     }
 }
 
-/// Whether all nodes of the top level are inline elements and whitespace. What is in them is passed over.
+/// Whether all nodes of the top level are inline elements and whitespace. What is in them is passed
+/// over.
 fn are_inline(forest: &Forest<'_>) -> bool
     requires { (f : spelled.Forest) × ShowNodes forest.now (forest_nodes 0 0 f) }
     ensures { (f : spelled.Forest)
@@ -56,7 +57,8 @@ fn read_inline(alloc: Global, source: &str) -> Result<bool, HtmlFault>
     Ok(are_inline(&forest))
 }
 
-/// Whether a source reads as inline elements and whitespace alone. One that doesn't read at all does not.
+/// Whether a source reads as inline elements and whitespace alone. One that doesn't read at all
+/// does not.
 pub fn reads_inline(alloc: Global, source: &str) -> Result<bool, Memory>
     ensures { IfOk result (λ b.
         b ≡ unwrap_or (option_map is_inline_source (forest_of source.now)) false) }

@@ -19,8 +19,8 @@ use ve_base::{Bytes, Memory};
 use ve_items::Linear;
 use ve_store::Store;
 
-/// Appends the whole list: the bytes of nodes that are kept, and the text of all others. The texts that are
-/// lent with it have to be those of all bodies that its references carry.
+/// Appends the whole list: the bytes of nodes that are kept, and the text of all others. The texts
+/// that are borrowed with it have to be those of all bodies that its references carry.
 pub fn put_list(alloc: Global, out: &mut Bytes, page: Page<'_, '_>) -> Result<(), Memory>
     requires cites { AllCite page.store.now page.list.now.items }
     requires refers { all_refer (plain_list page.store.now page.list.now.items) ≡ true }
@@ -36,7 +36,8 @@ pub fn put_list(alloc: Global, out: &mut Bytes, page: Page<'_, '_>) -> Result<()
     Ok(())
 }
 
-/// Appends the text of the body whose internal item stands at a place of the list. References in it carry no bodies.
+/// Appends the text of the body whose internal item stands at a position of the list. References in
+/// it carry no bodies.
 pub fn put_body(
     alloc: Global,
     out: &mut Bytes,

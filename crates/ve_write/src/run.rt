@@ -1,4 +1,4 @@
-// What a paragraph holds that is to be read as a run.
+// Paragraphs that are to be read as a run.
 ghost use Rattle.std.specs.Prelude.{◌≡◌, ◌≤◌, ◌<◌, ◌||◌, List, not, false, length, drop, IfOk, IfSome};
 ghost use Rattle.ve_base.specs.declared.value.Value.{Value as Cited};
 ghost use Rattle.model_items.specs.Plain.{value_at, head_in, marks_in, CitesHead, CitesMarks};
@@ -32,7 +32,8 @@ fn is_content(ch: char, marks: Option<ValueId>) -> bool
     !is_white(ch) || marks.is_some()
 }
 
-/// Whether an inline leaf is read as a part of a run again: a source that is kept and has no marks has to be inline.
+/// Whether an inline leaf is read as a part of a run again: a source that is kept and has no marks
+/// has to be inline.
 fn stays_inline(
     alloc: Global,
     store: &Store,
@@ -57,7 +58,8 @@ fn stays_inline(
     reads_inline(alloc, head_of(store, head, &none).raw.as_str())
 }
 
-/// What is known of a run after an item: where it goes on, and whether some content was seen. `None` where a leaf doesn't stay in the run.
+/// The state of a run after an item: where it goes on, and whether some content was seen. `None`
+/// where a leaf doesn't stay in the run.
 #[derive(Clone, Copy, Debug)]
 struct Step {
     at: usize,
@@ -113,7 +115,7 @@ fn pass_one(
     }
 }
 
-/// Whether the siblings from a place on hold some content, and their leaves stay in a run.
+/// Whether the siblings from a position on hold some content, and their leaves stay in a run.
 pub fn is_run(alloc: Global, list: &Linear, store: &Store, from: usize) -> Result<bool, Memory>
     requires cites { AllCite store.now list.now.items }
     requires within { from ≤ length list.now.items }

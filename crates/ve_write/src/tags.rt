@@ -12,7 +12,7 @@ use ve_kinds::Kind;
 use ve_node_text::{head_of, put_end_tag, put_start_tag};
 use ve_store::Store;
 
-/// What is written of the opening of a block.
+/// The text of the opening of a block.
 #[derive(Clone, Copy, Debug)]
 pub struct Element {
     pub kind: Kind,
