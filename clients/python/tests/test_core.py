@@ -1,14 +1,15 @@
-"""Tests of the client against the program, with the replies of docs/FORMAT.md and of the scripts in examples/."""
+"""Tests of the client against the program and the C library, with the replies of docs/FORMAT.md and of the scripts in examples/."""
 import json
 import os
 import pickle
 import stat
 import tempfile
+import threading
 import unittest
 from pathlib import Path
 from unittest import mock
 
-from vemodel import Ack, Cell, Core, Ended, Foreign, Grid, Node, Program, Reference, Refused, Selection, Served
+from vemodel import Ack, Cell, Core, Ended, Foreign, Grid, Library, Node, Program, Reference, Refused, Selection, Served, library
 from vemodel.program import find
 
 EXAMPLES = Path(__file__).resolve().parents[3] / "examples"
@@ -71,8 +72,12 @@ def tree(node):
 
 
 class Commands(unittest.TestCase):
+    def begin(self):
+        """Returns a core over the program."""
+        return Core(find())
+
     def setUp(self):
-        self.core = Core()
+        self.core = self.begin()
         self.addCleanup(self.core.close)
 
     def refused(self, call, *given, **named):
@@ -83,7 +88,7 @@ class Commands(unittest.TestCase):
     def same(self, answer):
         """Compares what `answer` gives for each line of each script, from a core without a page on, with its reply."""
         for name, lines in scripts():
-            with Core() as core:
+            with self.begin() as core:
                 for number, (line, reply) in enumerate(lines, 1):
                     self.assertEqual(answer(core, line), reply, f"{name}:{number}")
 
@@ -172,6 +177,56 @@ class Commands(unittest.TestCase):
     def test_close_twice(self):
         self.core.close()
         self.core.close()
+        with self.assertRaises(ValueError):
+            self.core.html()
+
+
+@unittest.skipUnless(library.find(), "there is no library")
+class CommandsOverTheLibrary(Commands):
+    def begin(self):
+        return Core(library=library.find())
+
+    def test_it_is_the_library_that_is_found(self):
+        with mock.patch.dict(os.environ):
+            os.environ.pop("VEMODEL", None)
+            with Core() as core:
+                self.assertIsInstance(core._world, Library)
+        with mock.patch.dict(os.environ, {"VEMODEL": str(find())}), Core() as core:
+            self.assertIsInstance(core._world, Program)
+        with self.assertRaises(TypeError):
+            Core(find(), library=library.find())
+
+    def test_threads(self):
+        """A core in each of four threads, and then one in all."""
+        wrong = []
+
+        def type_letters(core):
+            for _ in range(200):
+                if core.text(1, "x") < 5:
+                    wrong.append(core)
+
+        def alone():
+            with self.begin() as core:
+                core.open("<p></p>")
+                type_letters(core)
+                if core.html() != f"<p>{'x' * 200}</p>":
+                    wrong.append(core)
+
+        self.core.open("<p></p>")
+        for run in (alone, lambda: type_letters(self.core)):
+            threads = [threading.Thread(target=run) for _ in range(4)]
+            for it in threads:
+                it.start()
+            for it in threads:
+                it.join()
+        self.assertEqual((wrong, self.core.html()), ([], f"<p>{'x' * 800}</p>"))
+
+    def test_a_world_that_is_not_closed(self):
+        core = self.begin()
+        core.open("<p>ab</p>")
+        handle = core._world._handle
+        del core
+        self.assertFalse(handle.is_open)
 
 
 class Ends(unittest.TestCase):
@@ -205,6 +260,12 @@ class Ends(unittest.TestCase):
             self.assertEqual(find(), Path("/no/such/program"))
             with self.assertRaises(FileNotFoundError):
                 Core()
+        with mock.patch.dict(os.environ, {"VEMODEL": "", "VEMODEL_LIBRARY": "/no/such/library.so"}):
+            self.assertEqual(library.find(), Path("/no/such/library.so"))
+            with self.assertRaises(OSError):
+                Core()
+        with mock.patch.dict(os.environ, {"VEMODEL": "", "VEMODEL_LIBRARY": ""}), Core() as core:
+            self.assertIsInstance(core._world, Program)
         with mock.patch.dict(os.environ):
             os.environ.pop("VEMODEL", None)
             self.assertEqual(find(), EXAMPLES.parent / "bin" / "vemodel")

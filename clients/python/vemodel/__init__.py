@@ -8,6 +8,7 @@
         core.html()              # '<p>aXb</p>'
 """
 from .core import Ack, Cell, Core, Foreign, Grid, Node, Reference, Refused, Selection, Served
+from .library import Library
 from .program import Ended, Program
 
 __all__ = [
@@ -17,6 +18,7 @@ __all__ = [
     "Ended",
     "Foreign",
     "Grid",
+    "Library",
     "Node",
     "Program",
     "Reference",

@@ -2,9 +2,12 @@
 from __future__ import annotations
 
 import json
+import os
 import re
 from typing import Any, Iterable, List, Literal, Mapping, NamedTuple, Optional, Protocol, Sequence, Tuple, Type, Union
 
+from .library import Library
+from .library import find as find_library
 from .program import Program, StrPath
 
 #: An item as `data` shows it, and as `apply` takes it: a text, `[text, marks]`, an opening or a closing.
@@ -127,13 +130,19 @@ class Core:
 
     An offset is the number of items before a place. A character is one item, however many bytes or UTF-16 units it takes, so
     offsets go with the indices of a Python `str`. A method that makes a change returns the length of the list after it. Each method
-    raises Refused where the core refuses the command, and Ended where the program ends before it replies.
+    raises Refused where the core refuses the command, and Ended where the program ends before it replies, or the library has no memory.
     """
 
-    def __init__(self, program: StrPath | None = None) -> None:
-        """Starts the program at this path, else the one that the variable VEMODEL names, else bin/vemodel of the repository round
-        this file. Raises OSError where it can't be started."""
-        self._world: World = Program(program)
+    def __init__(self, program: StrPath | None = None, *, library: StrPath | None = None) -> None:
+        """Begins over the program or the C library at this path.
+
+        Where neither is given, it is the program that the variable VEMODEL names, else the library that VEMODEL_LIBRARY names, else the
+        library of the repository round this file, where it is built or released, else bin/vemodel there. Raises OSError where it
+        can't be started or loaded, and TypeError where both are given.
+        """
+        if program is not None and library is not None:
+            raise TypeError("a core is over a program or over a library")
+        self._world: World = Library(library) if library is not None else _world(program)
 
     def __enter__(self) -> Core:
         return self
@@ -333,6 +342,20 @@ class Core:
 
 
 _spelled = json.JSONEncoder(ensure_ascii=False, separators=(",", ":")).encode
+
+
+def _world(program: StrPath | None) -> World:
+    """Returns the program at a path, or what is found."""
+    if program is not None or os.environ.get("VEMODEL"):
+        return Program(program)
+    library = find_library()
+    try:
+        return Library(library) if library else Program()
+    except OSError:
+        # That of the repository is for Linux on x86-64 alone.
+        if os.environ.get("VEMODEL_LIBRARY"):
+            raise
+        return Program()
 
 
 def _attrs(attrs: Attrs | None) -> list[tuple[str, str]]:

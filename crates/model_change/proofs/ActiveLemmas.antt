@@ -1,4 +1,4 @@
--- What stands outside the active range stays.
+-- The items outside the active range stay.
 use Rattle.std.proofs.Common.{◌≡◌, ◌-◌, ◌≤◌, ◌++◌, length, take, drop, sym, ap, ◌∙◌, arith, take-append-drop}
 use Rattle.std.proofs.lemmas.List.{drop-drop, length-drop, length-take-le}
 use Rattle.model_change.specs.Transaction.{edited}

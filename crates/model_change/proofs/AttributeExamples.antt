@@ -17,7 +17,7 @@ added_at_its_place : item_changed (change (codes "id") None (Some (codes "x")) (
     ≡ with_attrs P (attr_ (codes "id") (codes "x") ∷ attr_ (codes "lang") (codes "en") ∷ [])
 added_at_its_place = refl
 
--- a place past the end counts as the end
+-- a position past the end counts as the end
 added_past_the_end : attrs_changed (codes "id") (Some 7) None (Some (codes "x")) (attr_ (codes "lang") (codes "en") ∷ [])
     ≡ attr_ (codes "lang") (codes "en") ∷ attr_ (codes "id") (codes "x") ∷ []
 added_past_the_end = refl

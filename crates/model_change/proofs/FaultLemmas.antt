@@ -1,4 +1,4 @@
--- The cause that is given is the first, in words of places in the old list.
+-- The cause that is given is the first, in words of positions in the old list.
 use Rattle.std.specs.Option.{option_or}
 use Rattle.std.specs.Prelude.{option_map}
 use Rattle.std.proofs.Common.{◌≡◌, ℕ, zero, suc, ◌+◌, Bool, true, false, not, ◌==◌, if◌then◌else◌, eqb-true, eq-eqb, List, [], ◌∷◌, ◌++◌, length, drop, All, slice_get, Option, Some, None, refl, sym, ap, ◌∙◌, subst, append_assoc}
@@ -16,7 +16,7 @@ use Rattle.model_change.specs.Fault.{differs_at, mismatch_at, first_allows, bad_
 use Rattle.model_change.proofs.InverseLemmas.{reduced_parts}
 use Rattle.model_change.proofs.AttributeJoin.{allows-other}
 
--- all hold, or the first that fails has this place
+-- all hold, or the first that fails has this position
 abbrev Outcome : {A : Type 0} → (ℕ × A → Type 0) → List (ℕ × A) → Option ℕ → Type 0
 Outcome Holds placed None = All Holds placed
 Outcome Holds placed (Some at) = FirstAt Holds placed at
@@ -67,7 +67,7 @@ module _ {A : Type 0} (Holds : ℕ × A → Type 0) where
   first_is_one xs at there h k =
       ap (λ (p : ℕ × A). p.0) (one_first h.prefix k.prefix (at, h.one) (there, k.one) h.suffix k.suffix (sym h.parts ∙ k.parts) h.fine k.fine h.fails k.fails)
 
--- the list from a place on
+-- the list from a position on
 
 drop_item : (L : List PlainItem) (at : ℕ) (item : PlainItem) (items : List PlainItem) → drop at L ≡ item ∷ items → slice_get L at ≡ Some item
 drop_item [] zero item items h = cc

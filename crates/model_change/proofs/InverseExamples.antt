@@ -26,7 +26,7 @@ page_ attrs = with_attrs P attrs ∷ (chars_ (codes "a") ++ (close_ P ∷ end_))
 abbrev id_lang : List Attr
 id_lang = attr_ (codes "id") (codes "x") ∷ attr_ (codes "lang") (codes "en") ∷ []
 
--- an attribute is removed, keeps its place, and comes back there
+-- an attribute is removed, keeps its position, and comes back there
 removed : apply (sets (codes "id") (Some (codes "x")) None None) (page_ id_lang) ≡ Ok (page_ (attr_ (codes "lang") (codes "en") ∷ []))
 removed = refl
 
@@ -36,7 +36,8 @@ position_is_kept = refl
 put_back : apply (inverse (sets (codes "id") (Some (codes "x")) None (Some 0))) (page_ (attr_ (codes "lang") (codes "en") ∷ [])) ≡ Ok (page_ id_lang)
 put_back = refl
 
--- two removals at one place keep the position that each then has, and are undone in reverse order
+-- two removals at one position keep the position that each then has, and are undone in reverse
+-- order
 abbrev removes_both : Transaction
 removes_both = Attribute (change (codes "id") (Some (codes "x")) None None) ∷ Attribute (change (codes "lang") (Some (codes "en")) None None) ∷ Retain 5 ∷ []
 
@@ -47,6 +48,7 @@ both_kept = refl
 both_back : apply (inverse (filled removes_both (page_ id_lang))) (page_ []) ≡ Ok (page_ id_lang)
 both_back = refl
 
--- Where a head has two attributes of one name, which no list of attributes has, the inverse does not apply.
+-- Where a head has two attributes of one name, which no list of attributes has, the inverse does
+-- not apply.
 one_name_twice : apply (inverse (sets (codes "id") (Some (codes "x")) None (Some 0))) (page_ (attr_ (codes "id") (codes "y") ∷ [])) ≡ Err (BadAttr 0)
 one_name_twice = refl

@@ -8,7 +8,7 @@ use Rattle.model_change.specs.Inverse.{inverse}
 use Rattle.model_change.specs.Join.{active_range, conflict, join, join_row, join_list, first, core, last, with_ends}
 use Rattle.model_change.proofs.ExampleItems.{with_attrs, close_, chars_, end_, paragraph, attr_, inserts}
 
--- two insertions at one place: the first one stays left
+-- two insertions at one position: the first one stays left
 tie : join (inserts 1 (codes "A") 3) (inserts 1 (codes "B") 3) ≡ (inserts 1 (codes "A") 4, inserts 2 (codes "B") 3)
 tie = refl
 

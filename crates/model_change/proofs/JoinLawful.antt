@@ -2,7 +2,7 @@
 use Rattle.std.proofs.Common.{◌≡◌, ℕ, zero, suc, false, List, [], ◌∷◌, refl, sym, ap, ◌∙◌, subst, arith}
 use Rattle.model_items.specs.declared.plain_item.PlainItem.{PlainItem}
 use Rattle.model_items.specs.declared.plain_item.PlainItem.TheVariants.{Char, Opening, Closing}
-use Rattle.model_items.specs.Law.{State, start, step, followed, after, Lawful}
+use Rattle.model_items.specs.Law.{State, start, step, outcome_then, after, Lawful}
 use Rattle.model_items.proofs.LawLemmas.{after_from_Lawful, Lawful_from_after, both_changes}
 use Rattle.model_change.specs.Attributes.{AttrChange, item_changed}
 use Rattle.model_change.specs.Transaction.{Transaction, new_length, edited}
@@ -21,8 +21,8 @@ step-item_changed c (Closing kind pre) s = refl
 
 after-changed_at : (c : AttrChange) (at : ℕ) (items : List PlainItem) (s : State) → after s (changed_at (item_changed c) at items) ≡ after s items
 after-changed_at c at [] s = refl
-after-changed_at c zero (item ∷ items) s = ap (λ r. followed 1 r (λ next. after next items)) (step-item_changed c item s)
-after-changed_at c (suc at) (item ∷ items) s = ap (followed 1 (step s item)) (λ i next. after-changed_at c at items next i)
+after-changed_at c zero (item ∷ items) s = ap (λ r. outcome_then 1 r (λ next. after next items)) (step-item_changed c item s)
+after-changed_at c (suc at) (item ∷ items) s = ap (outcome_then 1 (step s item)) (λ i next. after-changed_at c at items next i)
 
 after-all_placed : (cs : List (ℕ × AttrChange)) (items : List PlainItem) (s : State) → after s (all_placed cs items) ≡ after s items
 after-all_placed [] items s = refl

@@ -233,7 +233,8 @@ pub record Beside (a b a2 b2 : Transaction) (items : List PlainItem) : Type 0 wh
 pub Agree_from_Beside : (a b a2 b2 : Transaction) (items : List PlainItem) → Beside a b a2 b2 items → Agree a b a2 b2 items
 Agree_from_Beside a b a2 b2 items s = record { first_then = s.first_then; second_then = s.second_then; one_list = s.left_then ∙ sym s.right_then }
 
--- Two changes side by side, each written with its ends, agree when the first one's end and the second one's beginning are moved
+-- Two changes side by side, each written with its ends, agree when the first one's end and the
+-- second one's beginning are moved
 side_by_side : (X A B : List PlainItem) (ops others : Transaction) (n suffix m further suffix' m' : ℕ) →
     n ≡ length X → m ≡ length X + length A → m' ≡ length X + length (edited ops A) →
     reach ops ≤ length A → Fits ops A → Fits others B →

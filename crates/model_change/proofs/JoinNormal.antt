@@ -1,4 +1,4 @@
--- What is joined is in normal form.
+-- Joined transactions are in normal form.
 use Rattle.std.proofs.Common.{◌≡◌, ℕ, zero, suc, ◌+◌, ◌-◌, ◌<◌, ◌≤◌, max, true, not, ◌&&◌, List, [], ◌∷◌, ◌++◌, length, drop, refl, sym, subst, arith, lt-ltb}
 use Rattle.std.proofs.lemmas.Bool.{and_parts, and_from}
 use Rattle.std.proofs.lemmas.List.{length-drop}

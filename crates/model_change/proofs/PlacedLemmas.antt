@@ -1,4 +1,5 @@
--- A transaction of attribute operations alone is a list of changes at places; two that don't meet may be applied in either order.
+-- A transaction of attribute operations alone is a list of changes at positions; two that don't
+-- meet may be applied in either order.
 use Rattle.std.proofs.Common.{◌≡◌, ℕ, zero, suc, ◌+◌, ◌-◌, ◌≤◌, Bool, true, false, ◌&&◌, ◌==◌, eq-eqb, List, [], ◌∷◌, ◌++◌, length, take, drop, refl, sym, ap, ◌∙◌, subst, arith, append_assoc, take-append-drop}
 use Rattle.std.proofs.lemmas.Bool.{or_parts, or_from}
 use Rattle.std.proofs.lemmas.List.{length-append, length-drop, length-take-le}
@@ -125,7 +126,7 @@ clash_swap c d h =
     let p = or_parts (text_same c.name d.name) (adds_or_removes c && adds_or_removes d) h in
     or_from (text_same d.name c.name) (adds_or_removes d && adds_or_removes c) (text_other c.name d.name p.0) (and_swap (adds_or_removes c) (adds_or_removes d) p.1)
 
--- at one place they don't clash
+-- at one position they don't clash
 pub apart_at : (c d : ℕ × AttrChange) → meets c d ≡ false → c.0 ≡ d.0 → clash c.1 d.1 ≡ false
 apart_at c d h e = let same : (c.0 == d.0) ≡ true = eq-eqb c.0 d.0 e in rw same at h
 

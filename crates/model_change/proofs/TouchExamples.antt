@@ -24,7 +24,8 @@ end_ = open_ InternalList ∷ Closing InternalList [] ∷ []
 typing : touch (Retain 2 ∷ Replace [] (chars_ (codes "X")) ∷ Retain 4 ∷ []) (paragraph (codes "ab") ++ end_) ≡ 3
 typing = refl
 
--- a split: one new paragraph with its text; the text and the paragraph before, and the root, by their lengths
+-- a split: one new paragraph with its text; the text and the paragraph before, and the root, by
+-- their lengths
 split : touch (Retain 2 ∷ Replace [] (Closing P [] ∷ open_ P ∷ []) ∷ Retain 4 ∷ []) (paragraph (codes "ab") ++ end_) ≡ 5
 split = refl
 

@@ -1,4 +1,4 @@
--- All nodes are counted; and what is retained stands at its new place.
+-- All nodes are counted; and what is retained stands at its new position.
 use Rattle.std.proofs.Common.{◌≡◌, ℕ, zero, suc, ◌+◌, ◌-◌, ◌<◌, ◌≤◌, Bool, true, false, nat_lt, if◌then◌else◌, List, [], ◌∷◌, ◌++◌, length, take, drop, slice_get, Option, Some, None, option_map, ◌⊎◌, refl, sym, ap, ◌∙◌, subst, inl, inr, arith, ltb-true}
 use Rattle.std.proofs.lemmas.Bool.{ltb-false, le-ltb}
 use Rattle.std.proofs.lemmas.List.{length-append, length-take-le}
@@ -39,7 +39,7 @@ shape-item_changed c (Char ch marks) = refl
 shape-item_changed c (Opening kind head marks pre origin generated) = refl
 shape-item_changed c (Closing kind pre) = refl
 
--- a place that comes of a choice
+-- a position that comes of a choice
 place_by : (b : Bool) (at to : ℕ) (o : Option ℕ) (n : ℕ) → (if b then Some at else option_map (λ p. n + p) o) ≡ Some to →
     ((b ≡ true) × (at ≡ to)) ⊎ ((b ≡ false) × ((p : ℕ) × (o ≡ Some p) × (n + p ≡ to)))
 place_by true at to o n h = let e : at ≡ to = cc in inl (refl, e)

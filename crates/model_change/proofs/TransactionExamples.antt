@@ -16,7 +16,8 @@ marked_text : apply (Retain 3 ∷ Replace [] (Char 99 bold ∷ []) ∷ Retain 3 
     ≡ Ok (open_ P ∷ Char 97 bold ∷ Char 98 bold ∷ Char 99 bold ∷ close_ P ∷ end_)
 marked_text = refl
 
--- a removal over two kinds: the paragraph's closing and the heading's opening go, and the heading's closing becomes the paragraph's
+-- a removal over two kinds: the paragraph's closing and the heading's opening go, and the heading's
+-- closing becomes the paragraph's
 two_kinds_join : apply (Retain 2 ∷ Replace (chars_ (codes "b") ++ (close_ P ∷ open_ H2 ∷ chars_ (codes "c"))) [] ∷ Retain 1 ∷ Replace (close_ H2 ∷ []) (close_ P ∷ []) ∷ Retain 2 ∷ [])
     (paragraph (codes "ab") ++ (open_ H2 ∷ (chars_ (codes "cd") ++ (close_ H2 ∷ end_))))
     ≡ Ok (paragraph (codes "ad") ++ end_)

@@ -1,4 +1,5 @@
--- The change of one attribute of an opening: what it does to the attributes, where it is allowed, and what is needed to undo it.
+-- The change of one attribute of an opening: what it does to the attributes, where it is allowed,
+-- and what is needed to undo it.
 use Rattle.std.specs.Prelude.{◌≡◌, ℕ, suc, Bool, true, false, not, ◌&&◌, ◌||◌, if◌then◌else◌, List, [], ◌∷◌, ◌++◌, take, drop, codes, Option, Some, None, is_some}
 use Rattle.ve_base.specs.declared.attrs.Attr.{Attr}
 use Rattle.ve_base.specs.Names.{NamesApart}
@@ -7,8 +8,8 @@ use Rattle.model_items.specs.declared.plain_item.PlainItem.{PlainItem}
 use Rattle.model_items.specs.declared.plain_item.PlainItem.TheVariants.{Char, Opening, Closing}
 use Rattle.model_items.specs.Same.{text_same, option_same, bool_same}
 
--- `from` is the value before and `to` the value after, `None` where the attribute is absent. An attribute that is added is put at the
--- place `kept`, or at the end.
+-- `from` is the value before and `to` the value after, `None` where the attribute is absent. An
+-- attribute that is added is put at the position `kept`, or at the end.
 pub record AttrChange : Type 0 where
   pub name : List ℕ
   pub from : Option (List ℕ)
@@ -25,7 +26,7 @@ abbrev pub position_of : List ℕ → List Attr → ℕ
 position_of name [] = 0
 position_of name (a ∷ attrs) = if text_same a.name name then 0 else suc (position_of name attrs)
 
--- at a place, which counts as the end where it is past the end
+-- at a position, which counts as the end where it is past the end
 abbrev pub attr_added : Option ℕ → Attr → List Attr → List Attr
 attr_added None a attrs = attrs ++ a ∷ []
 attr_added (Some at) a attrs = take at attrs ++ a ∷ drop at attrs
@@ -70,7 +71,8 @@ item_changed c (Closing kind pre) = Closing kind pre
 abbrev pub is_reserved : List ℕ → Bool
 is_reserved name = text_same name (codes "about") || text_same name (codes "typeof")
 
--- the change may be made: the item is the opening of an element kind, where the attribute has the old value, and its name is not reserved
+-- the change may be made: the item is the opening of an element kind, where the attribute has the
+-- old value, and its name is not reserved
 abbrev pub allows : AttrChange → PlainItem → Bool
 allows c (Opening kind head marks pre origin generated) =
     is_element kind && (option_same text_same (value_of c.name head.attrs) c.from && not (is_reserved c.name))
@@ -81,7 +83,8 @@ allows c (Closing kind pre) = false
 abbrev pub adds_or_removes : AttrChange → Bool
 adds_or_removes c = not (bool_same (is_some c.from) (is_some c.to))
 
--- two changes of one item that depend on their order: of one name, or each adds or removes an attribute
+-- two changes of one item that depend on their order: of one name, or each adds or removes an
+-- attribute
 abbrev pub clash : AttrChange → AttrChange → Bool
 clash c d = text_same c.name d.name || (adds_or_removes c && adds_or_removes d)
 
@@ -101,11 +104,12 @@ position_kept None to name kept item = kept
 abbrev pub change_filled : AttrChange → PlainItem → AttrChange
 change_filled c item = record { name = c.name; from = c.from; to = c.to; kept = position_kept c.from c.to c.name c.kept item }
 
--- what undoes the change
+-- the inverse of the change
 abbrev pub change_back : AttrChange → AttrChange
 change_back c = record { name = c.name; from = c.to; to = c.from; kept = c.kept }
 
--- putting back what the change removes, at its kept position or at the end, gives the attributes again
+-- putting back what the change removes, at its kept position or at the end, gives the attributes
+-- again
 abbrev pub IsPutBack : List ℕ → Option ℕ → Option (List ℕ) → Option (List ℕ) → List Attr → Type 0
 IsPutBack name kept (Some old) None attrs = attr_added kept (record { name = name; value = old }) (attr_removed name attrs) ≡ attrs
 IsPutBack name kept (Some old) (Some value) attrs = Unit {0}
@@ -127,7 +131,8 @@ abbrev pub AllNamesApart : List PlainItem → Type 0
 AllNamesApart [] = Unit {0}
 AllNamesApart (item ∷ items) = NamesApartIn item × AllNamesApart items
 
--- Where names are apart, a change that is allowed is undone by the change back, which is allowed then, if what it removes is put back.
+-- Where names are apart, a change that is allowed is undone by the change back, which is allowed
+-- then, if what it removes is put back.
 pub record IsChangedBack (c : AttrChange) (item : PlainItem) : Type 0 where
   pub undone : item_changed (change_back c) (item_changed c item) ≡ item
   pub allowed : allows (change_back c) (item_changed c item) ≡ true

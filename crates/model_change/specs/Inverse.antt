@@ -1,4 +1,4 @@
--- What undoes a transaction.
+-- The inverse of a transaction: the one that undoes it.
 use Rattle.std.specs.Prelude.{◌≡◌, true, List, [], ◌∷◌, ◌++◌, length, drop}
 use Rattle.model_items.specs.declared.plain_item.PlainItem.{PlainItem}
 use Rattle.model_change.specs.Attributes.{AttrChange, item_changed, change_filled, change_back, PutsBack, AllNamesApart}
@@ -9,15 +9,16 @@ abbrev pub attribute_ops : List AttrChange → Transaction
 attribute_ops [] = []
 attribute_ops (change ∷ changes) = Attribute change ∷ attribute_ops changes
 
--- What undoes the operations, after the changes that undo the attribute operations just before them: those of one place come in
--- reverse order.
+-- The inverse of the operations, after the changes that undo the attribute operations just before
+-- them: those of one position come in reverse order.
 abbrev pub inverse_after : List AttrChange → Transaction → Transaction
 inverse_after changes [] = attribute_ops changes
 inverse_after changes (Retain count ∷ ops) = attribute_ops changes ++ Retain count ∷ inverse_after [] ops
 inverse_after changes (Replace removed inserted ∷ ops) = attribute_ops changes ++ Replace inserted removed ∷ inverse_after [] ops
 inverse_after changes (Attribute change ∷ ops) = inverse_after (change_back change ∷ changes) ops
 
--- removed and inserted change places, and so do the old and the new value of each attribute; positions are kept
+-- removed and inserted change places, and so do the old and the new value of each attribute;
+-- positions are kept
 abbrev pub inverse : Transaction → Transaction
 inverse = inverse_after []
 
@@ -25,7 +26,8 @@ abbrev pub first_filled : AttrChange → List PlainItem → AttrChange
 first_filled change [] = change
 first_filled change (item ∷ items) = change_filled change item
 
--- With the position of each attribute that it removes: the one just before that operation, the earlier operations at its place being done.
+-- With the position of each attribute that it removes: the one just before that operation, the
+-- earlier operations at its position being done.
 abbrev pub filled : Transaction → List PlainItem → Transaction
 filled [] items = []
 filled (Retain count ∷ ops) items = Retain count ∷ filled ops (drop count items)
@@ -49,7 +51,8 @@ pub record IsUndoneBy (t back : Transaction) (items : List PlainItem) : Type 0 w
   pub undone : edited back (edited t items) ≡ items
   pub restorable : IsRestorable back (edited t items)
 
--- Where names are apart, the inverse of a transaction that applies and can put back what it removes gives the old list back.
+-- Where names are apart, the inverse of a transaction that applies and can put back what it removes
+-- gives the old list back.
 abbrev pub InverseUndoes : Type 0
 InverseUndoes = (t : Transaction) (items : List PlainItem) → is_reduced t ≡ true → AllNamesApart items → Applies t items →
     IsRestorable t items → IsUndoneBy t (inverse t) items

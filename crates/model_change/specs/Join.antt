@@ -1,5 +1,5 @@
--- When two transactions on one list conflict, and otherwise how each is changed to apply after the other. After VisualEditor's
--- `ve.dm.Change` in outline; the exact rule is this project's own.
+-- When two transactions on one list conflict, and otherwise how each is changed to apply after the
+-- other. After VisualEditor's `ve.dm.Change` in outline; the exact rule is this project's own.
 use Rattle.std.specs.Prelude.{◌≡◌, ℕ, zero, suc, ◌+◌, ◌-◌, ◌≤◌, max, Bool, true, false, not, ◌&&◌, ◌||◌, ◌==◌, nat_le, if◌then◌else◌, List, [], ◌∷◌, ◌++◌, length, take, drop, Option, Some, None, Result, Ok, Err}
 use Rattle.ve_base.specs.Limits.{max_total_length}
 use Rattle.model_items.specs.declared.plain_item.PlainItem.{PlainItem}
@@ -60,7 +60,8 @@ start_of t = first t
 abbrev pub end_of : Transaction → ℕ
 end_of t = first t + reach (core t)
 
--- from the start of the first operation that isn't a retain to the end of the last; an attribute operation at p covers p to p + 1
+-- from the start of the first operation that isn't a retain to the end of the last; an attribute
+-- operation at p covers p to p + 1
 abbrev pub active_range : Transaction → Option (ℕ × ℕ)
 active_range t = if is_active t then Some (start_of t, end_of t) else None
 
@@ -79,7 +80,7 @@ has_attribute (Replace removed inserted ∷ ops) = has_attribute ops
 abbrev pub is_attribute_transaction : Transaction → Bool
 is_attribute_transaction t = has_attribute t && not (has_replace t)
 
--- at one place, and of one name or both adding or removing
+-- at one position, and of one name or both adding or removing
 abbrev pub meets : ℕ × AttrChange → ℕ × AttrChange → Bool
 meets (p, c) (q, d) = (p == q) && clash c d
 
@@ -99,7 +100,8 @@ abbrev pub overlap : Transaction → Transaction → Bool
 overlap a b =
     (is_active a && is_active b) && (not (nat_le (end_of a) (start_of b)) && not (nat_le (end_of b) (start_of a)))
 
--- two attribute transactions conflict where operations of theirs meet, all others where their active ranges overlap
+-- two attribute transactions conflict where operations of theirs meet, all others where their
+-- active ranges overlap
 abbrev pub conflict : Transaction → Transaction → Bool
 conflict a b =
     if both_attributes a b then some_meet (placed_changes 0 a) (placed_changes 0 b) else overlap a b
@@ -113,7 +115,8 @@ retained (suc n) = Retain (suc n) ∷ []
 abbrev pub with_ends : ℕ → Transaction → ℕ → Transaction
 with_ends m ops n = retained m ++ (ops ++ retained n)
 
--- t after another that lies wholly before it: its first retain changes by the other one's change of length
+-- t after another that lies wholly before it: its first retain changes by the other one's change of
+-- length
 abbrev pub moved_on : Transaction → Transaction → Transaction
 moved_on t other = with_ends ((first t + new_length other) - old_length other) (core t) (last t)
 
@@ -121,8 +124,8 @@ moved_on t other = with_ends ((first t + new_length other) - old_length other) (
 abbrev pub with_new_end : Transaction → Transaction → Transaction
 with_new_end t other = with_ends (first t) (core t) ((last t + new_length other) - old_length other)
 
--- The first over the second, and the second over the first, where they don't conflict. The first is left where it ends at the other's
--- start or before.
+-- The first over the second, and the second over the first, where they don't conflict. The first is
+-- left where it ends at the other's start or before.
 abbrev pub join : Transaction → Transaction → Transaction × Transaction
 join a b =
     if both_attributes a b then (a, b)
@@ -157,8 +160,8 @@ abbrev pub list_with : Transaction → Result (List Transaction × List Transact
 list_with mine (Ok joined) = Ok (joined.0, mine ∷ joined.1)
 list_with mine (Err clash) = Err clash
 
--- The committed ones, each the first argument, in turn over one of mine: they over it, and it over them; or the first two ranges in
--- conflict.
+-- The committed ones, each the first argument, in turn over one of mine: they over it, and it over
+-- them; or the first two ranges in conflict.
 abbrev pub join_row : List Transaction → Transaction → Result (List Transaction × Transaction) RangeConflict
 join_row [] mine = Ok ([], mine)
 join_row (one ∷ committed) mine =
@@ -170,13 +173,13 @@ abbrev pub after_row : Result (List Transaction × Transaction) RangeConflict �
 after_row (Ok row) rest = list_with row.1 (rest row.0)
 after_row (Err clash) rest = Err clash
 
--- The committed ones over mine, and mine over the committed ones, row by row; or the first two ranges in conflict, in the order of
--- mine and then of the committed ones.
+-- The committed ones over mine, and mine over the committed ones, row by row. Else the first two
+-- ranges in conflict, in the order of mine and then of the committed ones.
 abbrev pub join_list : List Transaction → List Transaction → Result (List Transaction × List Transaction) RangeConflict
 join_list committed [] = Ok (committed, [])
 join_list committed (one ∷ mine) = after_row (join_row committed one) (λ over. join_list over mine)
 
--- What stands before the active range and after it stays as it is.
+-- The items before the active range and after it stay as they are.
 abbrev pub OnlyActiveChanges : Type 0
 OnlyActiveChanges = (t : Transaction) (items : List PlainItem) → is_reduced t ≡ true → Applies t items →
     (piece : List PlainItem) × (edited t items ≡ take (start_of t) items ++ (piece ++ drop (end_of t) items))
@@ -201,25 +204,27 @@ abbrev pub JoinsLawful : Type 0
 JoinsLawful = (a b : Transaction) (items : List PlainItem) → MayJoin a b items → Lawful items → Lawful (edited a items) →
     Lawful (edited b items) → Lawful (edited (join a b).1 (edited a items))
 
--- What is joined is again reduced.
+-- Joined transactions are again reduced.
 abbrev pub JoinsReduced : Type 0
 JoinsReduced = (a b : Transaction) (items : List PlainItem) → MayJoin a b items →
     (is_reduced (join a b).0 ≡ true) × (is_reduced (join a b).1 ≡ true)
 
--- What each one inserts stays, so its lengths add up to the other's new length and what it inserts.
+-- Each keeps all that it inserts, so its lengths add up to the other's new length and its inserted
+-- items.
 abbrev pub JoinsLengths : Type 0
 JoinsLengths = (a b : Transaction) (items : List PlainItem) → MayJoin a b items →
     (total_length (join a b).0 ≡ new_length b + length (all_inserted a))
     × (total_length (join a b).1 ≡ new_length a + length (all_inserted b))
 
--- So the bound of the normal form is kept where the list with all that both insert is within it. (It is not kept without that: on the
--- empty list let a insert 2^60 items and b one. Both are in normal form, and a over b is not.)
+-- So the bound of the normal form is kept where the list with all that both insert is within it.
+-- (It is not kept without that: on the empty list let a insert 2^60 items and b one. Both are in
+-- normal form, and a over b is not.)
 abbrev pub JoinsNormal : Type 0
 JoinsNormal = (a b : Transaction) (items : List PlainItem) → MayJoin a b items →
     length items + (length (all_inserted a) + length (all_inserted b)) ≤ max_total_length →
     (is_normal (join a b).0 ≡ true) × (is_normal (join a b).1 ≡ true)
 
--- What is joined can put back what it removes, where a and b can.
+-- Joined transactions can put back what they remove, where a and b can.
 abbrev pub JoinsRestorable : Type 0
 JoinsRestorable = (a b : Transaction) (items : List PlainItem) → MayJoin a b items → IsRestorable a items → IsRestorable b items →
     IsRestorable (join a b).1 (edited a items) × IsRestorable (join a b).0 (edited b items)

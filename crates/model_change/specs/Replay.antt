@@ -1,4 +1,5 @@
--- Whole lists of transactions, one after the other: joined, taken back, and taken back under later ones.
+-- Whole lists of transactions, one after the other: joined, taken back, and taken back under later
+-- ones.
 use Rattle.std.specs.Prelude.{◌≡◌, ℕ, suc, ◌+◌, ◌<◌, ◌≤◌, true, List, [], ◌∷◌, ◌++◌, length, take, drop, slice_index_or, Result, Ok, Err}
 use Rattle.model_items.specs.declared.plain_item.PlainItem.{PlainItem}
 use Rattle.model_items.specs.Law.{Lawful}
@@ -13,8 +14,9 @@ abbrev pub replay : List Transaction → List PlainItem → List PlainItem
 replay [] items = items
 replay (t ∷ ts) items = replay ts (edited t items)
 
--- A reduced transaction that applies to the list, leaves a lawful one, can put back what it removes, and inserts no opening with two
--- attributes of one name. Every entry of a history is of such ones: joining and reversing keep this.
+-- A reduced transaction that applies to the list and leaves a lawful one. It can put back what it
+-- removes, and inserts no opening with two attributes of one name. Every entry of a history is of
+-- such ones: joining and reversing keep this.
 pub record Runs (t : Transaction) (items : List PlainItem) : Type 0 where
   pub reduced : is_reduced t ≡ true
   pub applies : Applies t items
@@ -27,7 +29,8 @@ abbrev pub AllRun : List Transaction → List PlainItem → Type 0
 AllRun [] items = Unit {0}
 AllRun (t ∷ ts) items = Runs t items × AllRun ts (edited t items)
 
--- Two lists of transactions from one lawful list, joined: each side's run after the other's, and one list comes of both.
+-- Two lists of transactions from one lawful list, joined: each side's run after the other's, and
+-- one list comes of both.
 pub record ListsAgree (committed mine : List Transaction) (joined : List Transaction × List Transaction)
     (items : List PlainItem) : Type 0 where
   pub mine_after : AllRun joined.1 (replay committed items)
@@ -90,12 +93,13 @@ made_before entries i = flattened (take i entries)
 abbrev pub made_after : List (List Transaction) → ℕ → List Transaction
 made_after entries i = flattened (drop (suc i) entries)
 
--- What takes entry i back under the entries after it: its reversal, joined over them; or the first two ranges in conflict.
+-- The transactions that take entry i back under the entries after it: its reversal, joined over
+-- them. Else the first two ranges in conflict.
 abbrev pub revoke : List (List Transaction) → ℕ → Result (List Transaction) RangeConflict
 revoke entries i = mine_of (join_list (made_after entries i) (reversal (entry_at entries i)))
 
--- What takes it back runs on the list with all entries. The list is then as it would be had the entry never been made, and the later
--- ones been joined over its absence.
+-- Taking it back runs on the list with all entries. The list is then as it would be had the entry
+-- never been made, and the later ones been joined over its absence.
 pub record IsTakenBack (entries : List (List Transaction)) (i : ℕ) (back : List Transaction) (base : List PlainItem) : Type 0 where
   pub without : List Transaction
   pub joined : join_list (made_after entries i) (reversal (entry_at entries i)) ≡ Ok (without, back)
@@ -117,7 +121,8 @@ abbrev pub removed_by : List Transaction → ℕ
 removed_by [] = 0
 removed_by (t ∷ ts) = length (all_removed t) + removed_by ts
 
--- What takes the entry back is no longer than the base with all that the entries insert and the entry removes.
+-- The result of taking the entry back is no longer than the base with all that the entries insert
+-- and the entry removes.
 abbrev pub RevokeIsWithin : Type 0
 RevokeIsWithin = (entries : List (List Transaction)) (i : ℕ) (back : List Transaction) (base : List PlainItem) → i < length entries →
     Lawful base → AllNamesApart base → AllRun (flattened entries) base → revoke entries i ≡ Ok back →

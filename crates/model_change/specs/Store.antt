@@ -13,7 +13,7 @@ use Rattle.model_items.specs.Same.{head_same, value_same}
 use Rattle.model_change.specs.Attributes.{AttrChange, item_changed}
 use Rattle.model_change.specs.Transaction.{Retain, Replace, Attribute, Transaction, on_first, all_inserted, old_length, new_length, edited, is_reduced}
 
--- what is empty cites no value
+-- empty whitespace cites no value
 abbrev pub white_cited : List ℕ → List Value
 white_cited [] = []
 white_cited (c ∷ cs) = value.White (c ∷ cs) ∷ []
@@ -52,8 +52,8 @@ abbrev pub head_if : Bool → List PlainItem → List Value
 head_if true (Opening kind head marks pre origin generated ∷ items) = head_cited head
 head_if _ _ = []
 
--- the final heads of the openings that attribute operations change, in the order of the list; the flag says that the first item is
--- such a one
+-- the final heads of the openings that attribute operations change, in the order of the list; the
+-- flag says that the first item is such a one
 abbrev pub heads_from : Bool → Transaction → List PlainItem → List Value
 heads_from changed [] items = head_if changed items
 heads_from changed (Retain count ∷ ops) items = head_if changed items ++ heads_from false ops (drop count items)
@@ -63,7 +63,8 @@ heads_from changed (Attribute change ∷ ops) items = heads_from true ops (on_fi
 abbrev pub changed_heads : Transaction → List PlainItem → List Value
 changed_heads = heads_from false
 
--- what performing a transaction on a list fills the values with: what its inserted items cite, and then the changed heads
+-- the values that performing a transaction on a list brings: those that its inserted items cite,
+-- and then the changed heads
 abbrev pub brought : Transaction → List PlainItem → List Value
 brought t items = cited (all_inserted t) ++ changed_heads t items
 
@@ -71,14 +72,14 @@ brought t items = cited (all_inserted t) ++ changed_heads t items
 abbrev pub IsInserted : Transaction → Value → Type 0
 IsInserted t v = (item : PlainItem) × Contains (all_inserted t) item × Contains (cited_by item) v
 
--- what the head of an item cites
+-- the values that the head of an item cites
 abbrev pub cited_head : PlainItem → List Value
 cited_head (Opening kind head marks pre origin generated) = head_cited head
 cited_head (Char c marks) = []
 cited_head (Closing kind pre) = []
 
--- The value is the head that an opening has in the new list, of which an attribute operation speaks. It stands after what the
--- operations before that one give.
+-- The value is the head that an opening has in the new list, of which an attribute operation
+-- speaks. It stands after what the operations before that one give.
 pub record IsChangedHead (t : Transaction) (items : List PlainItem) (v : Value) : Type 0 where
   pub before : Transaction
   pub change : AttrChange
@@ -88,17 +89,19 @@ pub record IsChangedHead (t : Transaction) (items : List PlainItem) (v : Value) 
   pub there : slice_get (edited t items) (new_length before) ≡ Some opening
   pub cites : Contains (cited_head opening) v
 
--- The changed heads are the heads in the new list of the openings whose attributes it changes, and no others.
+-- The changed heads are the heads in the new list of the openings whose attributes it changes, and
+-- no others.
 abbrev pub HeadsAreChanged : Type 0
 HeadsAreChanged = (t : Transaction) (items : List PlainItem) (v : Value) → is_reduced t ≡ true → old_length t ≤ length items →
     Contains (changed_heads t items) v ↔ IsChangedHead t items v
 
--- What a transaction brings is what its inserted items cite, and these heads, and nothing else.
+-- A transaction brings the values that its inserted items cite, and these heads, and nothing else.
 abbrev pub BroughtIsNew : Type 0
 BroughtIsNew = (t : Transaction) (items : List PlainItem) (v : Value) → is_reduced t ≡ true → old_length t ≤ length items →
     Contains (brought t items) v ↔ (IsInserted t v ⊎ IsChangedHead t items v)
 
--- Filling appends values, each one of those that were to be put in, and then all of these are there; distinct values stay distinct.
+-- Filling appends values, each one of those that were to be put in, and then all of these are
+-- there; distinct values stay distinct.
 pub record IsFilled (values vs filled : List Value) : Type 0 where
   pub appended : List Value
   pub parts : filled ≡ values ++ appended

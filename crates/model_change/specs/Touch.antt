@@ -1,5 +1,5 @@
--- How many nodes of the tree a transaction touches: those that go, those that come, and those that stay under another parent or with
--- another length.
+-- How many nodes of the tree a transaction touches: those that go, those that come, and those that
+-- stay under another parent or with another length.
 use Rattle.std.specs.Prelude.{◌≡◌, ℕ, zero, suc, ◌+◌, ◌-◌, Bool, true, false, not, ◌&&◌, ◌==◌, nat_lt, nat_le, if◌then◌else◌, List, [], ◌∷◌, ◌++◌, length, map, count_by, sum_by, slice_get, Option, Some, None, option_map}
 use Rattle.std.specs.List.{list_any}
 use Rattle.model_items.specs.declared.plain_item.PlainItem.{PlainItem}
@@ -7,7 +7,7 @@ use Rattle.model_items.specs.Tree.{Forest, Empty, Run, Branch, item_count, tree_
 use Rattle.model_change.specs.Transaction.{Retain, Replace, Attribute, Transaction, edited}
 use Rattle.model_change.specs.Inverse.{inverse}
 
--- a node by the place of its opening, or of its first character
+-- a node by the position of its opening, or of its first character
 pub data NodeName : Type 0 where
   TheRoot : NodeName
   Opened : (at : ℕ) → NodeName
@@ -19,7 +19,7 @@ pub record Node : Type 0 where
   -- in items, with the brackets
   pub count : ℕ
 
--- the nodes of a forest whose first item stands at a place
+-- the nodes of a forest whose first item stands at a position
 abbrev pub nodes_from : NodeName → ℕ → Forest → List Node
 nodes_from parent at Empty = []
 nodes_from parent at (Run count later) = record { name = Text at; parent = parent; count = count } ∷ nodes_from parent (at + count) later
@@ -43,18 +43,19 @@ abbrev pub or_next : Option ℕ → Option ℕ → Option ℕ
 or_next (Some p) next = Some p
 or_next None next = next
 
--- the new place of the first retained item of a range
+-- the new position of the first retained item of a range
 abbrev pub first_retained : Transaction → ℕ → ℕ → Option ℕ
 first_retained t at zero = None
 first_retained t at (suc count) = or_next (new_place t at) (first_retained t (suc at) count)
 
--- where a node's opening stands in the other list, or the first retained character of a text; none for the root, which has no opening
+-- where a node's opening stands in the other list, or the first retained character of a text; none
+-- for the root, which has no opening
 abbrev pub image : Transaction → NodeName → ℕ → Option ℕ
 image t TheRoot count = None
 image t (Opened at) count = new_place t at
 image t (Text at) count = first_retained t at count
 
--- a node with its own place, and its parent's, in the other list
+-- a node with its own position, and its parent's, in the other list
 pub record Seen : Type 0 where
   pub node : Node
   pub there : Option ℕ
@@ -67,8 +68,8 @@ abbrev pub lies_in : Option ℕ → ℕ → ℕ → Bool
 lies_in None from count = false
 lies_in (Some p) from count = nat_le from p && nat_lt p (from + count)
 
--- The roots match; two bracket nodes where the new opening is the old one, retained; two texts where the first retained character of
--- each lies in the other.
+-- The roots match; two bracket nodes where the new opening is the old one, retained; two texts
+-- where the first retained character of each lies in the other.
 abbrev pub match_by : NodeName → Option ℕ → ℕ → NodeName → Option ℕ → ℕ → Bool
 match_by TheRoot there count TheRoot there' count' = true
 match_by (Opened at) there count (Opened at') there' count' = lies_in there at' 1
@@ -90,8 +91,9 @@ touch_count old new =
     + count_by (λ n. not (list_any (λ o. matches o n) old)) new
     + sum_by (λ o. count_by (λ n. matches o n && not (is_alike o n)) new) old
 
--- For a transaction that applies to a lawful list and gives a lawful one: the old nodes without a match, the new ones without a match,
--- and the pairs that match under other parents or with other lengths.
+-- The number of touched nodes, for a transaction that applies to a lawful list and gives a lawful
+-- one. They are the old nodes without a match, the new ones without a match, and the pairs that
+-- match under other parents or with other lengths.
 abbrev pub touch : Transaction → List PlainItem → ℕ
 touch t items = touch_count (map (seen_by t) (nodes_of items)) (map (seen_by (inverse t)) (nodes_of (edited t items)))
 
@@ -99,7 +101,8 @@ touch t items = touch_count (map (seen_by t) (nodes_of items)) (map (seen_by (in
 abbrev pub NodesAreCounted : Type 0
 NodesAreCounted = (items : List PlainItem) → length (nodes_of items) ≡ number_of_nodes items
 
--- What is retained stands at its new place with the shape that it had, and the inverse leads back to the old place.
+-- A retained item stands at its new position with the shape that it had, and the inverse leads back
+-- to the old position.
 pub record IsRetained (t : Transaction) (items : List PlainItem) (at to : ℕ) (old : PlainItem) : Type 0 where
   pub new : PlainItem
   pub stands : slice_get (edited t items) to ≡ Some new

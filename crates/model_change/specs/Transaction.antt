@@ -31,21 +31,21 @@ new_length (Retain count ∷ ops) = count + new_length ops
 new_length (Replace removed inserted ∷ ops) = length inserted + new_length ops
 new_length (Attribute change ∷ ops) = new_length ops
 
--- what it inserts, in order
+-- its inserted items, in order
 abbrev pub all_inserted : Transaction → List PlainItem
 all_inserted [] = []
 all_inserted (Retain count ∷ ops) = all_inserted ops
 all_inserted (Replace removed inserted ∷ ops) = inserted ++ all_inserted ops
 all_inserted (Attribute change ∷ ops) = all_inserted ops
 
--- what it removes, in order
+-- its removed items, in order
 abbrev pub all_removed : Transaction → List PlainItem
 all_removed [] = []
 all_removed (Retain count ∷ ops) = all_removed ops
 all_removed (Replace removed inserted ∷ ops) = removed ++ all_removed ops
 all_removed (Attribute change ∷ ops) = all_removed ops
 
--- what it retains, removes and inserts, together
+-- the number of items that it retains, removes and inserts, together
 abbrev pub total_length : Transaction → ℕ
 total_length t = old_length t + length (all_inserted t)
 
@@ -53,16 +53,16 @@ abbrev pub on_first : (PlainItem → PlainItem) → List PlainItem → List Plai
 on_first f [] = []
 on_first f (item ∷ items) = f item ∷ items
 
--- The new list: the old one cut at the operations' places, with the inserted items for the removed ones, and with the attributes set.
--- What stands past all operations is kept.
+-- The new list: the old one cut at the operations' positions, with the inserted items for the
+-- removed ones, and with the attributes set. What stands past all operations is kept.
 abbrev pub edited : Transaction → List PlainItem → List PlainItem
 edited [] items = items
 edited (Retain count ∷ ops) items = take count items ++ edited ops (drop count items)
 edited (Replace removed inserted ∷ ops) items = inserted ++ edited ops (drop (length removed) items)
 edited (Attribute change ∷ ops) items = edited ops (on_first (item_changed change) items)
 
--- The operation may stand before those that follow: no two retains or replaces are neighbours, and the attribute operations of one
--- place have different names and are followed by a retain.
+-- The operation may stand before those that follow. No two retains or replaces are neighbours. The
+-- attribute operations of one position have different names and are followed by a retain.
 abbrev pub may_precede : Op → Transaction → Bool
 may_precede (Retain count) (Retain other ∷ ops) = false
 may_precede (Retain count) _ = true
@@ -83,7 +83,8 @@ abbrev pub is_reduced : Transaction → Bool
 is_reduced [] = true
 is_reduced (op ∷ ops) = is_something op && (may_precede op ops && is_reduced ops)
 
--- the normal form, in which a transaction is written in one way; its lengths add up to a number that a machine can count with
+-- the normal form, in which a transaction is written in one way; its lengths add up to a number
+-- that a machine can count with
 abbrev pub is_normal : Transaction → Bool
 is_normal t = is_reduced t && nat_le (total_length t) max_total_length
 

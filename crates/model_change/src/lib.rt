@@ -1,6 +1,6 @@
-//! Transactions on lists of items: what they give, where they apply, their inverse, how two are joined, and
-//! what whole histories of them keep. It knows no site and no selection, and not how an edit becomes a
-//! transaction. There are definitions in specs/:
+//! Transactions on lists of items: the list that each gives, where it applies, its inverse, the
+//! join of two, and laws of whole histories. It knows no site and no selection, and not how an edit
+//! becomes a transaction. There are definitions in specs/:
 //!
 //! - `Attributes`: the change of one attribute;
 //! - `Transaction`: operations along a list, the list that they give, and the normal form;
@@ -11,9 +11,9 @@
 //! - `Store`: the values that items cite, and the list that changes fill;
 //! - `Touch`: how many nodes of the tree a transaction touches.
 //!
-//! The laws stand in `laws`: each public function there does nothing, and its contract is a law that is
-//! proved. "Names apart" means everywhere that no head has two attributes of one name. Lists of attributes
-//! keep that by their type; a law over plain lists has it as a premise.
+//! The laws stand in `laws`: each public function there does nothing, and its contract is a law
+//! that is proved. "Names apart" means everywhere that no head has two attributes of one name.
+//! Lists of attributes keep that by their type; a law over plain lists has it as a premise.
 #![tactic(auto)]
 
 mod laws;

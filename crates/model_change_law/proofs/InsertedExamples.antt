@@ -1,4 +1,4 @@
--- What two insertions insert once they are joined.
+-- The items that two insertions insert once they are joined.
 use Rattle.std.proofs.Common.{◌≡◌, codes, refl}
 use Rattle.model_change.specs.Transaction.{all_inserted}
 use Rattle.model_change.specs.Join.{join}

@@ -1,4 +1,4 @@
--- What is retained is changed by the attribute operations of its place alone.
+-- A retained item is changed by the attribute operations of its position alone.
 use Rattle.std.proofs.Common.{◌≡◌, ℕ, zero, suc, ◌+◌, ◌-◌, ◌<◌, ◌≤◌, Bool, true, false, ◌==◌, nat_lt, if◌then◌else◌, List, [], ◌∷◌, length, take, drop, slice_get, Option, Some, None, option_map, ◌⊎◌, inl, inr, refl, sym, ap, ◌∙◌, arith, eq-eqb, ltb-true}
 use Rattle.std.proofs.lemmas.Bool.{ltb-false, ne_eqb}
 use Rattle.std.proofs.lemmas.List.{length-take-le}
@@ -18,12 +18,12 @@ get-drop (suc n) [] i h = refl
 get-drop (suc n) (x ∷ xs) zero h = absurd (omega arith)
 get-drop (suc n) (x ∷ xs) (suc i) h = let e : suc i - suc n ≡ i - n = omega arith in ap (slice_get (drop n xs)) e ∙ get-drop n xs i (omega arith)
 
--- a place that is passed by so many items
+-- a position that is passed by so many items
 passed_by : (to n : ℕ) (o : Option ℕ) → option_map (λ p. n + p) o ≡ Some to → (p : ℕ) × (o ≡ Some p) × (n + p ≡ to)
 passed_by to n None h = cc
 passed_by to n (Some p) h = let e : n + p ≡ to = cc in (p, refl, e)
 
--- a place that comes of a choice: within what is passed, or after it
+-- a position that comes of a choice: within what is passed, or after it
 place_by : (b : Bool) (at to n : ℕ) (o : Option ℕ) → (if b then Some at else option_map (λ p. n + p) o) ≡ Some to →
     ((b ≡ true) × (at ≡ to)) ⊎ ((b ≡ false) × ((p : ℕ) × (o ≡ Some p) × (n + p ≡ to)))
 place_by true at to n o h = let e : at ≡ to = cc in inl (refl, e)
@@ -34,7 +34,7 @@ place_after : (b : Bool) (to n : ℕ) (o : Option ℕ) → (if b then None else 
 place_after true to n o h = cc
 place_after false to n o h = (refl, passed_by to n o h)
 
--- an operation at a place, and one at another
+-- an operation at a position, and one at another
 here : (change : AttrChange) (later : List AttrChange) (b : Bool) → b ≡ true → (if b then change ∷ later else later) ≡ change ∷ later
 here change later true h = refl
 here change later false h = cc
@@ -43,7 +43,7 @@ elsewhere : (change : AttrChange) (later : List AttrChange) (b : Bool) → b ≡
 elsewhere change later true h = cc
 elsewhere change later false h = refl
 
--- operations that stand from a later place on say nothing of an earlier one
+-- operations that stand from a later position on say nothing of an earlier one
 none_before : (ops : Transaction) (from at : ℕ) → at < from → changes_at at (placed_changes from ops) ≡ []
 none_before [] from at past = refl
 none_before (Retain count ∷ ops) from at past = none_before ops (from + count) at (omega arith)

@@ -1,4 +1,4 @@
--- What becomes of the items that a transaction retains.
+-- The items that a transaction retains.
 use Rattle.std.specs.Prelude.{◌≡◌, ℕ, ◌==◌, if◌then◌else◌, List, [], ◌∷◌, slice_get, Some}
 use Rattle.model_items.specs.declared.plain_item.PlainItem.{PlainItem}
 use Rattle.model_items.specs.declared.plain_item.PlainItem.TheVariants.{Char, Opening, Closing}
@@ -7,7 +7,7 @@ use Rattle.model_change.specs.Transaction.{Transaction, edited}
 use Rattle.model_change.specs.Fault.{placed_changes}
 use Rattle.model_change.specs.Touch.{new_place}
 
--- of changes at places of the old list, those at one place, in order
+-- of changes at positions of the old list, those at one position, in order
 abbrev pub changes_at : ℕ → List (ℕ × AttrChange) → List AttrChange
 changes_at at [] = []
 changes_at at (placed ∷ later) = if placed.0 == at then placed.1 ∷ changes_at at later else changes_at at later
@@ -30,8 +30,9 @@ without_attrs (Opening kind head marks pre origin generated) =
 without_attrs (Char ch marks) = Char ch marks
 without_attrs (Closing kind pre) = Closing kind pre
 
--- What is retained stands at its new place with the transaction's attribute operations of its old place made on it, and with nothing
--- else changed: a letter stays the letter that it was, with its marks, and an item without such an operation stays itself.
+-- A retained item stands at its new position, with the transaction's attribute operations of its
+-- old position made on it. Nothing else of it changes: a letter stays the letter that it was, with
+-- its marks, and an item without such an operation stays itself.
 abbrev pub RetainedIsChanged : Type 0
 RetainedIsChanged = (t : Transaction) (items : List PlainItem) (at to : ℕ) (old : PlainItem) → new_place t at ≡ Some to →
     slice_get items at ≡ Some old → slice_get (edited t items) to ≡ Some (all_changed (changes_at at (placed_changes 0 t)) old)

@@ -34,7 +34,8 @@ followed = node Ul (node Li (p (codes "a") ++ node Ul (node Li (p (codes "b")) +
 follower_kept : list_after followed (outdent followed 6) ≡ Some (node Ul (node Li (p (codes "a")) ++ node Li (p (codes "b") ++ node Ul (node Li (p (codes "c"))))) ++ internal)
 follower_kept = refl
 
--- the sibling before ends with a list of the item's own kind: the item joins it. The item comes to stand two places earlier
+-- the sibling before ends with a list of the item's own kind: the item joins it. The item comes to
+-- stand two positions earlier
 abbrev two_lists : List PlainItem
 two_lists = node Ul (node Li (p (codes "a") ++ node Ul (node Li (p (codes "b")))) ++ node Li (p (codes "c"))) ++ internal
 

@@ -150,6 +150,7 @@ not_opening = refl
 not_branch : convert with_id 1 P ≡ Err (NotBranch 1)
 not_branch = refl
 
--- an empty branch's brackets are neighbours: one replace; both are replaced even where the kind stays
+-- an empty branch's brackets are neighbours: one replace; both are replaced even where the kind
+-- stays
 same_kind : convert (node P [] ++ internal) 0 P ≡ Ok (Replace (o P ∷ c P ∷ []) (o P ∷ c P ∷ []) ∷ Retain 2 ∷ [])
 same_kind = refl

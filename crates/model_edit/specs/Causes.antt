@@ -1,4 +1,5 @@
--- Why an edit of a list, of a table or of a list item is refused. Want of memory is none of these: no definition answers it.
+-- Why an edit of a list, of a table or of a list item is refused. Want of memory is none of these:
+-- no definition answers it.
 use Rattle.std.specs.Prelude.{ℕ}
 use Rattle.model_edit.specs.declared.build_fault.BuildFault.{BuildFault}
 use Rattle.model_edit.specs.declared.build_fault.BuildFault.TheVariants as build

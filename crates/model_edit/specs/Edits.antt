@@ -1,4 +1,5 @@
--- A change of a list as edits at rising places, and the one transaction in normal form that makes it.
+-- A change of a list as edits at rising positions, and the one transaction in normal form that
+-- makes it.
 use Rattle.std.specs.Prelude.{ℕ, zero, suc, ◌+◌, ◌-◌, ◌≤◌, ◌≡◌, Bool, true, false, not, ◌&&◌, List, [], ◌∷◌, ◌++◌, length, take, drop, Option, None}
 use Rattle.model_items.specs.declared.plain_item.PlainItem.{PlainItem}
 use Rattle.model_items.specs.declared.plain_item.PlainItem.TheVariants.{Opening}
@@ -7,9 +8,9 @@ use Rattle.model_change.specs.Attributes.{AttrChange, value_of, change_filled, i
 use Rattle.model_change.specs.Transaction.{Retain, Replace, Attribute, Transaction, on_first}
 
 pub data Edit : Type 0 where
-  -- `count` items from a place on are replaced
+  -- `count` items from a position on are replaced
   Change : (at count : ℕ) (inserted : List PlainItem) → Edit
-  -- an attribute of the opening at a place is set, or removed
+  -- an attribute of the opening at a position is set, or removed
   Set : (at : ℕ) (name : List ℕ) (to : Option (List ℕ)) → Edit
 
 -- a transaction after n retained items
@@ -43,7 +44,7 @@ setting name to [] = record { name = name; from = None; to = to; kept = None }
 setting name to (item ∷ items) =
     change_filled (record { name = name; from = present_value name (item ∷ items); to = to; kept = None }) item
 
--- over the items from the place `at` on
+-- over the items from the position `at` on
 abbrev pub transaction_from : ℕ → List PlainItem → List Edit → Transaction
 transaction_from at items [] = retaining (length items) []
 transaction_from at items (Change place count inserted ∷ edits) =
@@ -69,7 +70,8 @@ substituted_from at items (Set place name to ∷ edits) =
 abbrev pub substituted : List PlainItem → List Edit → List PlainItem
 substituted items edits = substituted_from 0 items edits
 
--- the edits stand at rising places up to `end`, and past each opening of which an attribute is set
+-- the edits stand at rising positions up to `end`, and past each opening of which an attribute is
+-- set
 abbrev pub InOrder : (at end : ℕ) → List Edit → Type 0
 InOrder at end [] = at ≤ end
 InOrder at end (Change place count inserted ∷ edits) = (at ≤ place) × InOrder (place + count) end edits

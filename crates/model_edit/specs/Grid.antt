@@ -17,7 +17,7 @@ use Rattle.model_edit.specs.Causes.{TableCause, NotTable, Crooked}
 abbrev pub children_of : List Kind → List PlainItem → ℕ → List Open
 children_of kinds items at = filter (λ (node : Open). is_among kinds node.kind) (children items at)
 
--- a tr's place, and how many rows its section has from it on
+-- a tr's position, and how many rows its section has from it on
 pub record TableRow : Type 0 where
   pub at : ℕ
   pub left : ℕ
@@ -80,8 +80,8 @@ cells_meet a b =
     && (nat_lt a.column (b.column + b.columns) && nat_lt b.column (a.column + a.columns))
 
 -- the next cell of a row, not left of `end`, after the cells before it
-abbrev pub placed : List PlainItem → List GridCell → (row end : ℕ) → Open → GridCell
-placed items before row end cell =
+abbrev pub placed_cell : List PlainItem → List GridCell → (row end : ℕ) → Open → GridCell
+placed_cell items before row end cell =
     record {
       at = cell.from;
       row = row;
@@ -90,7 +90,7 @@ placed items before row end cell =
       columns = cell_span (codes "colspan") max_column_span (slice_get items cell.from);
     }
 
--- it covers a place that an earlier one covers, or passes the last row of its section
+-- it covers a position that an earlier one covers, or passes the last row of its section
 abbrev pub is_crooked : (left : ℕ) → List GridCell → GridCell → Bool
 is_crooked left before cell = nat_lt left cell.rows || list_any (cells_meet cell) before
 
@@ -98,7 +98,7 @@ is_crooked left before cell = nat_lt left cell.rows || list_any (cells_meet cell
 abbrev pub with_row : List PlainItem → (row left end : ℕ) → List Open → List GridCell → Result (List GridCell) TableCause
 with_row items row left end [] before = Ok before
 with_row items row left end (cell ∷ cells) before =
-    let one = placed items before row end cell in
+    let one = placed_cell items before row end cell in
     if is_crooked left before one then Err (Crooked one.at)
     else with_row items row left (one.column + one.columns) cells (before ++ one ∷ [])
 

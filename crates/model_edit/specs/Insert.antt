@@ -54,7 +54,8 @@ in_paragraph parent pieces =
     then opening_of P [] ∷ pieces ++ closing_of P ∷ []
     else pieces
 
--- how far out the innermost kind stands that may hold the pieces, the root past the outermost; no internal list or item is left
+-- how far out the innermost kind stands that may hold the pieces, the root past the outermost; no
+-- internal list or item is left
 abbrev pub levels_up : List PlainItem → List Kind → Option ℕ
 levels_up pieces [] = if may_hold_pieces Root pieces then Some 0 else None
 levels_up pieces (inner ∷ outer) =

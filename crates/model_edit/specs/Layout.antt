@@ -55,7 +55,8 @@ moved_right column r =
     if nat_le column r.column then record r { column = suc r.column }
     else (if grows_right column r then record r { columns = suc r.columns } else r)
 
--- the columns at which nothing grows into the new row, and the rows at which nothing grows into the new column
+-- the columns at which nothing grows into the new row, and the rows at which nothing grows into the
+-- new column
 abbrev pub new_columns : Layout → ℕ → List ℕ
 new_columns g row =
     filter (λ column. not (list_any (λ r. grows_down row r && has_column r column) g.rectangles)) (range_with_len 0 g.columns)

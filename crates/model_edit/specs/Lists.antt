@@ -14,7 +14,7 @@ use Rattle.model_edit.specs.Causes.{ListCause, NotListItem, NoSibling, NotNested
 abbrev pub is_list_item : List PlainItem → ℕ → Bool
 is_list_item items at = passes (is_opening_of Li) (slice_get items at)
 
--- the item just before a place passes the test
+-- the item just before a position passes the test
 abbrev pub passes_before : (PlainItem → Bool) → List PlainItem → ℕ → Bool
 passes_before test items zero = false
 passes_before test items (suc at) = passes test (slice_get items at)
@@ -23,7 +23,8 @@ passes_before test items (suc at) = passes test (slice_get items at)
 abbrev pub list_ends : Kind → List PlainItem
 list_ends kind = closing_of kind ∷ closing_of Li ∷ []
 
--- The item joins the list that ends the sibling before it, or a new list there. `kind` is that of the item's own list.
+-- The item joins the list that ends the sibling before it, or a new list there. `kind` is that of
+-- the item's own list.
 abbrev pub indent_edits : List PlainItem → ℕ → Kind → List Edit
 indent_edits items at kind =
     (if passes_before (is_closing_of kind) items (at - 1)
@@ -40,7 +41,8 @@ indent items at =
     else Err (NoSibling at))
     else Err (NotListItem at)
 
--- an item that is first in its list leaves the outer item without that list; else the list ends before it
+-- an item that is first in its list leaves the outer item without that list; else the list ends
+-- before it
 abbrev pub end_before : ℕ → Open → Edit
 end_before at list =
     if suc list.from == at then Change list.from 1 (closing_of Li ∷ []) else Change at 0 (list_ends list.kind)
@@ -52,7 +54,8 @@ copy_at items at = copies (slice_get items at)
     copies (Some item) = copy_of item ∷ []
     copies None = []
 
--- an item that is last in its list takes what follows the list; else what follows it becomes a list inside it
+-- an item that is last in its list takes what follows the list; else what follows it becomes a list
+-- inside it
 abbrev pub begin_after : List PlainItem → (closing : ℕ) → Open → Edit
 begin_after items closing list =
     if partner items list.from == suc closing then Change closing 2 [] else Change closing 1 (copy_at items list.from)

@@ -1,4 +1,4 @@
--- The next place of a caret, by clusters or by words.
+-- The next position of a caret, by clusters or by words.
 use Rattle.std.specs.Prelude.{ℕ, ◌+◌, ◌-◌, true, nat_lt, List, [], ◌∷◌, ◌++◌, length, reverse, take, drop, find, slice_get, encode_utf8_all, Option, Some, None, option_map}
 use Rattle.std.specs.Str.{chars}
 use Rattle.model_items.specs.declared.plain_item.PlainItem.{PlainItem}
@@ -73,7 +73,7 @@ abbrev pub cutting : By → Cutting
 cutting Cluster = graphemes true
 cutting Word = word_bounds
 
--- the next place of a caret that stands at a content offset
+-- the next position of a caret that stands at a content offset
 abbrev pub next : List PlainItem → ℕ → Dir → By → Option ℕ
 next items at Ahead by = next_ahead (slice_get items at) (cutting by) items at
 next items at Back by = next_back (slice_get items (at - 1)) (cutting by) items at

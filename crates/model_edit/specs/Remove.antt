@@ -13,7 +13,8 @@ use Rattle.model_edit.specs.Edits.{Edit, Change, transaction_of}
 abbrev pub is_bad_removal : List PlainItem → ℕ → ℕ → Bool
 is_bad_removal items from to = is_bad_span items from to || some_in_range is_internal_bracket items from to
 
--- one branch of content is joined to another: `first` ends in the range, and `second` begins in it and ends past it
+-- one branch of content is joined to another: `first` ends in the range, and `second` begins in it
+-- and ends past it
 pub record Join : Type 0 where
   pub first : Kind
   pub second : Kind

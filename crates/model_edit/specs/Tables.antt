@@ -38,7 +38,7 @@ first_fault [] = None
 first_fault ((true, fault) ∷ causes) = Some fault
 first_fault ((false, fault) ∷ causes) = first_fault causes
 
--- what is asked of the cells, each with its fault
+-- the tests on the cells, each with its fault
 abbrev pub at_first : (GridCell → Bool) → List GridCell → (ℕ → TableCause) → List (Bool × TableCause)
 at_first test [] named = []
 at_first test (cell ∷ cells) named = (test cell, named cell.at) ∷ at_first test cells named
@@ -81,7 +81,8 @@ row_in items at row = on_grid (grid items at) (λ (g : Grid).
 abbrev pub has_gap_before : List GridCell → (row column : ℕ) → Bool
 has_gap_before cells row column = list_any (λ k. not (is_covered cells row k)) (range_with_len 0 column)
 
--- just before the first of a row's cells at or right of the column, else just after the last, else before the row's closing
+-- just before the first of a row's cells at or right of the column, else just after the last, else
+-- before the row's closing
 abbrev pub cell_place : List PlainItem → TableRow → ℕ → List GridCell → ℕ
 cell_place items row column [] = partner items row.at
 cell_place items row column (cell ∷ []) = if nat_le column cell.column then cell.at else end_of_node items cell.at

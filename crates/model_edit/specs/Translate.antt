@@ -7,12 +7,13 @@ use Rattle.model_edit.specs.declared.selection.Bias.{Bias}
 use Rattle.model_edit.specs.declared.selection.Bias.TheVariants.{Left, Right}
 use Rattle.model_edit.specs.declared.selection.Selection.{Selection}
 
--- what is inserted at a place counts as before the offset
+-- an insertion at a position counts as before the offset
 abbrev pub is_before : Bias → (place offset : ℕ) → Bool
 is_before Left place offset = nat_lt place offset
 is_before Right place offset = nat_le place offset
 
--- the items of the new list that come from old items before the offset, or were inserted before it; `at` old items are after
+-- the items of the new list that come from old items before the offset, or were inserted before it;
+-- `at` old items are after
 abbrev pub items_before : Bias → (offset at : ℕ) → Transaction → ℕ
 items_before bias offset at [] = 0
 items_before bias offset at (Retain count ∷ ops) = min count (offset - at) + items_before bias offset (at + count) ops
@@ -26,7 +27,8 @@ translate t offset bias = items_before bias offset 0 t
 abbrev pub between : ℕ → ℕ → Selection
 between anchor focus = record { anchor = anchor; focus = focus }
 
--- the lower end keeps to the right of what is inserted there, and the higher to the left; a caret keeps to the left
+-- the lower end keeps to the right of what is inserted there, and the higher to the left; a caret
+-- keeps to the left
 abbrev pub translate_range : Transaction → Selection → Selection
 translate_range t s =
     if s.anchor == s.focus then between (translate t s.anchor Left) (translate t s.focus Left)

@@ -22,16 +22,17 @@ is_whole_nodes items from to =
 abbrev pub is_bad_wrap : List PlainItem → ℕ → ℕ → Bool
 is_bad_wrap items from to = not (is_whole_nodes items from to) || some_in_range is_internal_bracket items from to
 
--- a place, and whether the right bracket stands there
+-- a position, and whether the right bracket stands there
 abbrev pub Claim : Type 0
 Claim = ℕ × Bool
 
--- openings of the kinds stand from the place on
+-- openings of the kinds stand from the position on
 abbrev pub opening_claims : List PlainItem → ℕ → List Kind → List Claim
 opening_claims items at [] = []
 opening_claims items at (kind ∷ kinds) = (at, passes (is_opening_of kind) (slice_get items at)) ∷ opening_claims items (suc at) kinds
 
--- the closings of the `count` openings that begin at `first` stand from the place on, innermost first
+-- the closings of the `count` openings that begin at `first` stand from the position on, innermost
+-- first
 abbrev pub closing_claims : List PlainItem → (first count at : ℕ) → List Claim
 closing_claims items first zero at = []
 closing_claims items first (suc count) at = (at, partner items (first + count) == at) ∷ closing_claims items first count (suc at)
@@ -49,7 +50,7 @@ first_wrong ((at, false) ∷ claims) = Some at
 abbrev pub nodes_in : List PlainItem → ℕ → ℕ → List Open
 nodes_in items from to = siblings 0 from (slice_range items from to)
 
--- the first place, in the order of the list, where the bracket that is to go does not stand
+-- the first position, in the order of the list, where the bracket that is to go does not stand
 abbrev pub wrong_place : List PlainItem → ℕ → ℕ → List Kind → List Kind → Option ℕ
 wrong_place items from to outer each =
     if nat_lt from (length outer) then Some 0
@@ -64,7 +65,7 @@ openings_of shapes = map (λ (s : Shape). opening_of s.kind s.attrs) shapes
 abbrev pub closings_of : List Shape → List PlainItem
 closings_of shapes = reverse (map (λ (s : Shape). closing_of s.kind) shapes)
 
--- the first and the last `count` items of what stands between two places are replaced
+-- the first and the last `count` items of what stands between two positions are replaced
 abbrev pub node_edits : (from to count : ℕ) → List Shape → List Edit
 node_edits from to count shapes =
     Change from count (openings_of shapes) ∷ Change (to - count) count (closings_of shapes) ∷ []

@@ -1,16 +1,19 @@
-//! What edits of a list of items mean: which transaction each is, and when it is refused. Where a caret goes,
-//! and what the grid of a table is. It knows no site, no page text and no limit on a list's length. There are
-//! definitions in specs/, and the types that they speak of:
+//! Edits of a list of items: the transaction that each is, and when it is refused. Also where a
+//! caret goes, and the grid of a table. It knows no site, no page text and no limit on a list's
+//! length. There are definitions in specs/, and the types that they speak of:
 //!
 //! - `Causes`: why an edit is refused;
 //! - `Brackets`: the openings and closings that edits make;
-//! - `Edits`: edits at rising places, and the one transaction that they are;
-//! - `Insert`, `Remove`, `Marking`, `Wrap`, `Convert`: insertion, text and split; removal; marks; wrapping; kinds and attributes;
+//! - `Edits`: edits at rising positions, and the one transaction that they are;
+//! - `Insert`, `Remove`, `Marking`, `Wrap`, `Convert`: insertion, text and split; removal; marks;
+//!   wrapping; kinds and attributes;
 //! - `Lists`: list items moved deeper and out;
-//! - `Grid`, `Tables`, `Layout`: the grid of a table, rows and columns put in and taken out, and what the grid then is;
-//! - `Translate`, `Next`: where offsets and selections stand after a change, and where a caret goes next.
+//! - `Grid`, `Tables`, `Layout`: the grid of a table, rows and columns put in and taken out, and
+//!   what the grid then is;
+//! - `Translate`, `Next`: where offsets and selections stand after a change, and where a caret goes
+//!   next.
 //!
-//! What an offset of a list is stands in `model_items`; the laws of edits are `model_edit_law`'s.
+//! The offsets of a list are defined in `model_items`; the laws of edits are `model_edit_law`'s.
 #![tactic(auto)]
 
 mod build_fault;

@@ -1,6 +1,7 @@
-// What is selected, and how a caret moves.
+// Selections, and the moves of a caret.
 
-/// The two ends of what is selected, as offsets in a list of items. A caret has both at one place.
+/// The two ends of what is selected, as offsets in a list of items. A caret has both at one
+/// position.
 #[derive(Clone, Copy, Debug, PartialEq, Eq)]
 pub struct Selection {
     /// The end at which selecting began.

@@ -1,4 +1,4 @@
-// What is put round nodes, and what is taken off them.
+// The kinds that a wrap puts round nodes and takes off them.
 use std::alloc::Global;
 use ve_base::{Attrs, ListOf, Memory, TryCopy};
 use ve_kinds::Kind;
@@ -25,7 +25,8 @@ impl TryCopy for Shape {
 /// Nodes one inside the other, the outermost first.
 pub type Shapes = ListOf<Shape>;
 
-/// What is taken off a range of sibling nodes and off each of them, and what is put round them in its place.
+/// The kinds that are taken off a range of sibling nodes and off each of them, and those that are
+/// put round them instead.
 #[derive(Drop)]
 pub struct WrapPlan {
     /// The nodes that now stand round the range.

@@ -1,4 +1,4 @@
--- What each edit inserts has names apart.
+-- The items that each edit inserts have names apart.
 use Rattle.std.specs.Prelude.{slice_get, filter, flat_map}
 use Rattle.std.specs.List.{list_any, range_with_len, enumerate_from}
 use Rattle.std.proofs.Common.{◌≡◌, ℕ, zero, suc, ◌-◌, ◌==◌, true, false, not, ◌&&◌, if◌then◌else◌, List, [], ◌∷◌, ◌++◌, length, map, reverse, take, Option, Some, None, Result, Ok, subst}

@@ -1,4 +1,4 @@
--- What edits of worked lists insert.
+-- The items that edits of worked lists insert.
 use Rattle.std.proofs.Common.{◌≡◌, List, [], ◌∷◌, ◌++◌, Option, Some, None, refl}
 use Rattle.std.specs.Prelude.{codes, Result, Ok, Err}
 use Rattle.ve_kinds.specs.declared.kind.Kind.TheVariants.{P}

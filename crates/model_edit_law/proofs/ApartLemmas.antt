@@ -1,4 +1,5 @@
--- Names apart: in parts of lists, in copies of openings, and in what the transaction of edits inserts.
+-- Names apart: in parts of lists, in copies of openings, and in what the transaction of edits
+-- inserts.
 use Rattle.std.specs.Prelude.{slice_get, codes, flat_map}
 use Rattle.std.proofs.Common.{◌≡◌, inl, inr, ℕ, zero, suc, ◌+◌, ◌-◌, Bool, true, false, if◌then◌else◌, List, [], ◌∷◌, ◌++◌, length, map, reverse, take, drop, Contains, Option, Some, None, refl, sym, ap, ◌∙◌, subst}
 use Rattle.std.proofs.lemmas.Grind.{reverse_onto}

@@ -1,4 +1,4 @@
--- What the law tells of the open nodes of a list.
+-- Open nodes of a list, as the law tells them.
 use Rattle.std.specs.Prelude.{slice_get}
 use Rattle.std.proofs.Common.{inl, inr, ◌⊎◌, Result, ◌≡◌, ℕ, zero, suc, ◌+◌, ◌<◌, ◌≤◌, Bool, true, false, not, ◌&&◌, ◌||◌, if◌then◌else◌, nat_lt, List, [], ◌∷◌, ◌++◌, length, map, take, drop, Option, Some, Ok, Err, refl, sym, ap, ◌∙◌, subst, arith, append-nil, zero-add, add-one}
 use Rattle.std.proofs.lemmas.Bool.{cases_Bool, and_parts, and_from, ltb-true, lt-ltb}
@@ -10,7 +10,7 @@ use Rattle.ve_kinds.specs.Table.{kind_same, may_hold, is_content_branch}
 use Rattle.model_items.proofs.SameLemmas.{Means-kind_same}
 use Rattle.model_items.specs.declared.law_fault.LawFault.{LawFault}
 use Rattle.model_items.specs.declared.law_fault.LawFault.TheVariants.{Unlawful, TooDeep}
-use Rattle.model_items.specs.Law.{State, start, finish, top, is_empty, is_over, may_open, opened, closed, step, followed, outcome_moved, after, Lawful}
+use Rattle.model_items.specs.Law.{State, start, finish, top, is_empty, is_over, may_open, state_opened, state_closed, step, outcome_then, outcome_moved, after, Lawful}
 use Rattle.model_items.proofs.LawLemmas.{after-append, after_whole, if_ok, Ok-same, joined-ok, after_parts, opened_before, closed_before, after_from_Lawful}
 use Rattle.std.proofs.lemmas.List.{append_assoc, length-append}
 use Rattle.model_items.specs.Tree.{Open, opens_after, opens_with, length_to_close}
@@ -29,7 +29,7 @@ fits seen [] = true
 fits seen (k ∷ outer) =
     may_open (state_of outer (seen_before k seen)) k && (nat_lt (length outer) 100 && fits (seen_before k seen) outer)
 
-fits-opened : (s u : State) (k : Kind) → opened s k ≡ Ok u → fits s.seen s.stack ≡ true → fits u.seen u.stack ≡ true
+fits-opened : (s u : State) (k : Kind) → state_opened s k ≡ Ok u → fits s.seen s.stack ≡ true → fits u.seen u.stack ≡ true
 fits-opened s u k h f =
     let p = if_ok (may_open s k) _ _ u h in
     let q = if_ok (nat_lt (length s.stack) 100) _ _ u p.1 in
@@ -40,7 +40,7 @@ fits-opened s u k h f =
     (let P : Bool → Type 0 = λ v. (may_open (state_of s.stack v) k && (nat_lt (length s.stack) 100 && fits v s.stack)) ≡ true in
     subst P b.1 (and_from _ _ p.0 (and_from _ _ q.0 f)))
 
-fits-closed : (s u : State) (k : Kind) → closed s.stack s.seen k ≡ Ok u → fits s.seen s.stack ≡ true → fits u.seen u.stack ≡ true
+fits-closed : (s u : State) (k : Kind) → state_closed s.stack s.seen k ≡ Ok u → fits s.seen s.stack ≡ true → fits u.seen u.stack ≡ true
 fits-closed s u k h f =
     let b = closed_before s.stack s.seen k u h in
     let g : fits u.seen (k ∷ u.stack) ≡ true = subst (λ st. fits u.seen st ≡ true) b.0 (subst (λ v. fits v s.stack ≡ true) b.1 f) in
@@ -137,7 +137,8 @@ pub slice_get-at : (items : List PlainItem) (x : PlainItem) (rest : List PlainIt
 slice_get-at [] x rest = refl
 slice_get-at (y ∷ items) x rest = slice_get-at items x rest
 
--- Just past the partner of each open node, innermost first: the items so far, and those up to its closing.
+-- Just past the partner of each open node, innermost first: the items so far, and those up to its
+-- closing.
 abbrev pub Ends : ℕ → List PlainItem → List Open → Type 0
 Ends depth done [] = Unit {0}
 Ends depth done (node ∷ nodes) =
@@ -246,10 +247,10 @@ pub leads_cons : (s t u : State) (x : PlainItem) (items : List PlainItem) → Le
 leads_cons s t u x items h g =
     elim h [
       | inl a ↦ elim g [
-        | inl b ↦ inl (ap (λ v. followed 1 v (λ next. after next items)) a ∙ ap (outcome_moved 1) b)
-        | inr b ↦ inr (1 + b.0, ap (λ v. followed 1 v (λ next. after next items)) a ∙ ap (outcome_moved 1) b.1)
+        | inl b ↦ inl (ap (λ v. outcome_then 1 v (λ next. after next items)) a ∙ ap (outcome_moved 1) b)
+        | inr b ↦ inr (1 + b.0, ap (λ v. outcome_then 1 v (λ next. after next items)) a ∙ ap (outcome_moved 1) b.1)
       ]
-      | inr a ↦ inr (a.0, ap (λ v. followed 1 v (λ next. after next items)) a.1)
+      | inr a ↦ inr (a.0, ap (λ v. outcome_then 1 v (λ next. after next items)) a.1)
     ]
 
 pub leads_append : (s t u : State) (xs ys : List PlainItem) → Leads (after s xs) t → Leads (after t ys) u → Leads (after s (xs ++ ys)) u
@@ -257,24 +258,25 @@ leads_append s t u xs ys h g =
     elim h [
       | inl a ↦ elim g [
         | inl b ↦ inl (after_whole xs ys s t u a b)
-        | inr b ↦ inr (length xs + b.0, after-append s xs ys ∙ ap (λ r. followed (length xs) r (λ v. after v ys)) a ∙ ap (outcome_moved (length xs)) b.1)
+        | inr b ↦ inr (length xs + b.0, after-append s xs ys ∙ ap (λ r. outcome_then (length xs) r (λ v. after v ys)) a ∙ ap (outcome_moved (length xs)) b.1)
       ]
-      | inr a ↦ inr (a.0, after-append s xs ys ∙ ap (λ r. followed (length xs) r (λ v. after v ys)) a.1)
+      | inr a ↦ inr (a.0, after-append s xs ys ∙ ap (λ r. outcome_then (length xs) r (λ v. after v ys)) a.1)
     ]
 
 -- an opening that is allowed where it stands
-pub opened_leads : (s : State) (k : Kind) → may_open s k ≡ true → kind_same k InternalList ≡ false → Leads (opened s k) (state_of (k ∷ s.stack) s.seen)
+pub opened_leads : (s : State) (k : Kind) → may_open s k ≡ true → kind_same k InternalList ≡ false → Leads (state_opened s k) (state_of (k ∷ s.stack) s.seen)
 opened_leads s k may other = choose (nat_lt (length s.stack) 100)
   where
-    choose : (b : Bool) → Leads (opened s k) (state_of (k ∷ s.stack) s.seen)
+    choose : (b : Bool) → Leads (state_opened s k) (state_of (k ∷ s.stack) s.seen)
     choose b =
         elim (cases_Bool (nat_lt (length s.stack) 100)) [
           | inl few ↦ inl (rw (may, few) (ap (λ v. Ok (state_of (k ∷ s.stack) v)) (ap (λ b. s.seen || b) other ∙ or_false s.seen)))
           | inr many ↦ inr (0, rw (may, many))
         ]
 
--- The items begin with what stands inside a node of kind k, under the nodes `inner` that are open in it, and its closing.
--- What stands inside may stand so in any node that holds the same, no deeper.
+-- The items begin with what stands inside a node of kind k, under the nodes `inner` that are open
+-- in it, and its closing. What stands inside may stand so in any node that holds the same, no
+-- deeper.
 pub record Closes (inner outer : List Kind) (k : Kind) (items : List PlainItem) : Type 0 where
   pub inside : List PlainItem
   pub pre : List ℕ
@@ -324,8 +326,8 @@ may_open_kept s inner outer outer' k k' kind seen e may same =
     not_il true e h = absurd (let g : (false && not s.seen) ≡ true = ap (λ b. b && not s.seen) (sym e) ∙ h in cc)
 
 -- an opening inside, under other outer nodes
-opened_kept : (s t : State) (inner outer outer' : List Kind) (k k' kind : Kind) (seen : Bool) → s.stack ≡ inner ++ k ∷ outer → opened s kind ≡ Ok t →
-    HoldsSame k k' → length outer' ≤ length outer → opened (state_of (inner ++ k' ∷ outer') seen) kind ≡ Ok (state_of (kind ∷ (inner ++ k' ∷ outer')) seen)
+opened_kept : (s t : State) (inner outer outer' : List Kind) (k k' kind : Kind) (seen : Bool) → s.stack ≡ inner ++ k ∷ outer → state_opened s kind ≡ Ok t →
+    HoldsSame k k' → length outer' ≤ length outer → state_opened (state_of (inner ++ k' ∷ outer') seen) kind ≡ Ok (state_of (kind ∷ (inner ++ k' ∷ outer')) seen)
 opened_kept s t inner outer outer' k k' kind seen e h same low =
     let new = inner ++ k' ∷ outer' in
     let p = if_ok (may_open s kind) _ _ t h in
@@ -365,7 +367,7 @@ closes_more x inner inner' outer k items step_ steps keeps leads_ r = record {
   ends = λ other. step_ (r.inside ++ Closing k r.pre ∷ other) ∙ ap suc (r.ends other);
   through = λ depth other. steps depth (r.inside ++ Closing k r.pre ∷ other) ∙ ap suc (r.through depth other) ∙ omega arith;
   kept = λ k' outer' seen same low.
-      ap (λ v. followed 1 v (λ next. after next r.inside)) (keeps k' outer' seen same low) ∙ ap (λ v. outcome_moved 1 v) (r.kept k' outer' seen same low);
+      ap (λ v. outcome_then 1 v (λ next. after next r.inside)) (keeps k' outer' seen same low) ∙ ap (λ v. outcome_moved 1 v) (r.kept k' outer' seen same low);
   leads = λ k' outer' seen same.
       leads_cons (state_of (inner ++ k' ∷ outer') seen) (state_of (inner' ++ k' ∷ outer') seen) (state_of (k' ∷ outer') seen) x r.inside
       (leads_ k' outer' seen same) (r.leads k' outer' seen same);
@@ -438,7 +440,7 @@ slice_get-split (y ∷ items) (suc n) x h =
 pub record NodeParts (items : List PlainItem) (at : ℕ) (kind : Kind) : Type 0 where
   pub before : State
   pub reached : after start (take at items) ≡ Ok before
-  pub allowed : (u : State) × (opened before kind ≡ Ok u)
+  pub allowed : (u : State) × (state_opened before kind ≡ Ok u)
   pub closed : Closes [] before.stack kind (drop (suc at) items)
   pub its_partner : partner items at ≡ at + suc (length closed.inside)
   pub within : suc (partner items at) ≤ length items
@@ -462,7 +464,7 @@ node_parts items at kind head marks pre origin generated lawful h =
     ∙ ap (λ v. at + suc (length v)) c.whole ∙ ap (λ n. at + suc n) (length-append c.inside (Closing kind c.pre ∷ c.rest)) in
     record { before = p.0; reached = p.1; allowed = (q.0, q.1); closed = c; its_partner = far; within = omega arith }
 
--- the place of an item is in the list
+-- the position of an item is in the list
 pub slice_get-within : (items : List PlainItem) (n : ℕ) (x : PlainItem) → slice_get items n ≡ Some x → n < length items
 slice_get-within [] n x h = cc
 slice_get-within (y ∷ items) zero x h = omega arith
@@ -525,7 +527,7 @@ fits_parts k outer seen other f =
 
 -- an opening that fits leads on
 pub opened_fits : (k : Kind) (outer : List Kind) (seen : Bool) → kind_same k InternalList ≡ false → fits seen (k ∷ outer) ≡ true →
-    opened (state_of outer seen) k ≡ Ok (state_of (k ∷ outer) seen)
+    state_opened (state_of outer seen) k ≡ Ok (state_of (k ∷ outer) seen)
 opened_fits k outer seen other f =
     let p = fits_parts k outer seen other f in
     let may = p.0 in

@@ -11,7 +11,7 @@ use Rattle.model_items.specs.Tree.{Open}
 use Rattle.model_items.specs.Offsets.{partner, end_of_node}
 use Rattle.model_edit.specs.declared.grid_cell.GridCell.{GridCell}
 use Rattle.model_edit.specs.Causes.{TableCause}
-use Rattle.model_edit.specs.Grid.{TableRow, children_of, section_rows, row_cells, placed, is_crooked, with_row, with_rows}
+use Rattle.model_edit.specs.Grid.{TableRow, children_of, section_rows, row_cells, placed_cell, is_crooked, with_row, with_rows}
 use Rattle.model_edit_law.specs.Spans.{rectangle_of, of_row, cell_span_at}
 use Rattle.model_edit_law.proofs.TablePlaceLemmas.{Chain, from_of, row_at, Home, Homes, children_of_stand, section_stands, sections_stand, if_ok_else}
 use Rattle.model_edit_law.proofs.TableFineLemmas.{row_within, rows_apart, row_ahead}
@@ -67,7 +67,7 @@ row_adds : (items : List PlainItem) (row left end : ℕ) (nodes : List Open) (be
     (more : List GridCell) × (cells ≡ before ++ more) × AllIn row more × Pairs items more nodes
 row_adds items row left end [] before cells h = let e : before ≡ cells = cc in ([], sym e ∙ sym (append-nil before), tt, tt)
 row_adds items row left end (n ∷ nodes) before cells h =
-    let one = placed items before row end n in
+    let one = placed_cell items before row end n in
     let p = if_ok_else (is_crooked left before one) _ _ cells h in
     let r = row_adds items row left (one.column + one.columns) nodes (before ++ one ∷ []) cells p.1 in
     (one ∷ r.0, r.1 ∙ append_assoc before (one ∷ []) r.0, (refl, r.2), (refl, refl, refl, r.3))

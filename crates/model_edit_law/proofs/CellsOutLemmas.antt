@@ -71,7 +71,7 @@ substituted_drop (suc k) q end (x ∷ list) edits h l =
     ∙ substituted_drop k (suc q) end list edits (subst (λ m. InOrder m end edits) z h) (omega arith)
     ∙ ap (λ m. substituted_from m (drop k list) edits) y
 
--- the node at the place where it goes
+-- the node at the position where it goes
 abbrev pub node_to : Kind → Option ℕ → Option Open
 node_to kind None = None
 node_to kind (Some b) = Some (record { kind = kind; from = b })
@@ -83,7 +83,7 @@ module _ (items : List PlainItem) where
   abbrev pub size : GridCell → ℕ
   size c = end_of_node items c.at - c.at
 
-  -- where a place is afterwards, `s` items before it having gone already
+  -- where a position is afterwards, `s` items before it having gone already
   abbrev pub fate : ℕ → List GridCell → ℕ → Option ℕ
   fate s [] a = Some (a - s)
   fate s (c ∷ cells) a =
@@ -124,7 +124,7 @@ module _ (items : List PlainItem) where
       by true e next = let p = c.0 in fate_narrow s x cells a e (omega arith)
       by false e next = fate_wide s x cells a e ∙ next
 
-  -- from a place of the chain on, the list is the old one
+  -- from a position of the chain on, the list is the old one
   abbrev pub Tail : (low q : ℕ) → List PlainItem → Type 0
   Tail low q list = (k : ℕ) → low ≤ q + k → drop k list ≡ drop (q + k) items
 
@@ -251,7 +251,7 @@ module _ (items : List PlainItem) where
             ∙ ap (filter_map (node_fate s cells)) (siblings-shapes d' c.at (narrowed c rest) ∙ ap (nodes_in d' c.at) (shapes_first (setting (codes "colspan") (Some (decimal (c.columns - 1))) rest) rest) ∙ sym (siblings-shapes d' c.at rest))
             ∙ siblings_alike (node_fate s cells) f d' c.at rest (λ o l'. ap (node_to o.kind) (sym (fate_wide s c cells o.from t))))
 
-    -- a place that lies in none of the cells
+    -- a position that lies in none of the cells
     abbrev pub Clear : ℕ → List GridCell → Type 0
     Clear a [] = Unit {0}
     Clear a (c ∷ cells) = ((a < c.at) ⊎ (end_of_node items c.at ≤ a)) × Clear a cells

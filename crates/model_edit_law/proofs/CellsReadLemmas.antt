@@ -1,4 +1,5 @@
--- Cells taken out of a list and cells of which the width is set: what is read at the places of the others.
+-- Cells taken out of a list and cells of which the width is set: what is read at the positions of
+-- the others.
 use Rattle.std.specs.Prelude.{slice_get, filter, codes, decimal}
 use Rattle.std.proofs.Common.{◌≡◌, ◌⊎◌, inl, inr, ℕ, zero, suc, ◌+◌, ◌-◌, ◌<◌, ◌≤◌, ◌==◌, Bool, true, false, cond, not, if◌then◌else◌, nat_lt, List, [], ◌∷◌, ◌++◌, length, take, drop, Option, Some, None, refl, sym, ap, ◌∙◌, subst, arith, length-drop}
 use Rattle.std.proofs.lemmas.Bool.{ltb-true, ltb-false, eq-eqb, ne_eqb, true≢false}

@@ -133,7 +133,7 @@ module _ (items : List PlainItem) (at column : ℕ) (g : Grid) (lawful : Lawful 
       ∙ ap (λ k. left (siblings 0 (suc a) (drop k items))) z in
       ap (filter (λ (o : Open). is_among kinds o.kind)) all ∙ filter_fate stays kinds (children items a)
 
-  -- what stands at a cell's place afterwards
+  -- what stands at a cell's position afterwards
   read : (c : GridCell) (b : ℕ) (o : Option PlainItem) → Among c g.cells → slice_get items c.at ≡ o → c.at < length items → stays c.at ≡ Some b →
       slice_get without b ≡ (if (if covers c then is_wide c else false) then set_in (codes "colspan") (one_narrower c) o else o)
   read c b o m here room e =
@@ -337,7 +337,7 @@ module _ (items : List PlainItem) (at column : ℕ) (g : Grid) (lawful : Lawful 
           beside c low high inside' (inl l) = inl (omega arith)
           beside c low high inside' (inr l) = inr (omega arith)
 
-  -- the table still opens at its place
+  -- the table still opens at its position
   pub opens_narrow : passes (is_opening_of Table) (slice_get without at) ≡ true
   opens_narrow =
       let u = (s.table).within in

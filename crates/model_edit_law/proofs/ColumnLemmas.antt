@@ -5,7 +5,7 @@ use Rattle.std.proofs.Common.{◌≡◌, ◌⊎◌, inl, inr, ℕ, zero, suc, �
 use Rattle.std.proofs.lemmas.Bool.{eqb-true, eqb-false, eq-eqb, ne_eqb, and_parts, and_from, or_parts, or_from, ltb-true, ltb-false, le-leb, lt-ltb, false_from_ne_true, true≢false}
 use Rattle.std.proofs.lemmas.List.{append_assoc}
 use Rattle.model_edit.specs.Layout.{Rectangle, has_row, has_column, without_column}
-use Rattle.model_edit_law.specs.Spans.{CellSpan, Line, covered, free_from, width, meet, laid, bent, lay_row, lay, size_of, of_row, AllSome, EachSome, lines_left}
+use Rattle.model_edit_law.specs.Spans.{CellSpan, Line, covers_cell, free_from, width, meet, laid, bent, lay_row, lay, size_of, of_row, AllSome, EachSome, lines_left}
 use Rattle.model_edit_law.specs.TableLaws.{ColOutLays}
 use Rattle.model_edit_law.proofs.LeastLemmas.{Least, placed_least, least_one, covers_in, same_has, has_parts}
 use Rattle.model_edit_law.proofs.LayLemmas.{filter_map-append, meet_numbers, next_row, not_bent}
@@ -14,17 +14,17 @@ and_false : (a : Bool) → (a && false) ≡ false
 and_false true = refl
 and_false false = refl
 
-covered_grow : (xs ys : List Rectangle) (row c : ℕ) → covered xs row c ≡ true → covered (xs ++ ys) row c ≡ true
+covered_grow : (xs ys : List Rectangle) (row c : ℕ) → covers_cell xs row c ≡ true → covers_cell (xs ++ ys) row c ≡ true
 covered_grow [] ys row c h = cc
 covered_grow (x ∷ xs) ys row c h = by (has_row x row && has_column x c) h (covered_grow xs ys row c)
   where
-    by : (b : Bool) → (b || covered xs row c) ≡ true → (covered xs row c ≡ true → covered (xs ++ ys) row c ≡ true) → (b || covered (xs ++ ys) row c) ≡ true
+    by : (b : Bool) → (b || covers_cell xs row c) ≡ true → (covers_cell xs row c ≡ true → covers_cell (xs ++ ys) row c ≡ true) → (b || covers_cell (xs ++ ys) row c) ≡ true
     by true h next = refl
     by false h next = next h
 
 -- nothing before covers what a cell covers that meets none
 pub uncovered : (one : Rectangle) (before : List Rectangle) (c : ℕ) → 1 ≤ one.rows → one.column ≤ c → c < one.column + one.columns → list_any (meet one) before ≡ false →
-    covered before one.row c ≡ false
+    covers_cell before one.row c ≡ false
 uncovered one [] c tall low high h = refl
 uncovered one (r ∷ before) c tall low high h =
     let p = or_parts (meet one r) _ h in
@@ -139,12 +139,12 @@ module _ (gone : ℕ) where
           ap (λ o. covers_in o row k) f.1
           ∙ (λ i. (nat_le (n.its_row i) row && nat_lt row (n.its_row i + n.its_rows i)) && columns_same r.column r.columns r'.column r'.columns k c n.its_columns b i)
 
-  covered_columns : (row k c : ℕ) (all : List Rectangle) → Beside k c → covered (fmc all) row k ≡ covered all row c
+  covered_columns : (row k c : ℕ) (all : List Rectangle) → Beside k c → covers_cell (fmc all) row k ≡ covers_cell all row c
   covered_columns row k c [] b = refl
   covered_columns row k c (r ∷ all) b = by (without_column gone r) (covers_narrow row k c r b) (covered_columns row k c all b)
     where
-      by : (o : Option Rectangle) → covers_in o row k ≡ (has_row r row && has_column r c) → covered (fmc all) row k ≡ covered all row c → covered (cons_option o (fmc all)) row k ≡ covered (r ∷ all) row c
-      by None e rest = rest ∙ ap (λ b. b || covered all row c) e
+      by : (o : Option Rectangle) → covers_in o row k ≡ (has_row r row && has_column r c) → covers_cell (fmc all) row k ≡ covers_cell all row c → covers_cell (cons_option o (fmc all)) row k ≡ covers_cell (r ∷ all) row c
+      by None e rest = rest ∙ ap (λ b. b || covers_cell all row c) e
       by (Some r') e rest = (λ i. e i || rest i)
 
   meet_narrow : (a a' b b' : Rectangle) → Narrowed a a' → Narrowed b b' → meet a' b' ≡ true → meet a b ≡ true
@@ -167,10 +167,11 @@ module _ (gone : ℕ) where
           ap (λ o. list_any (meet a') (cons_option o (fmc all))) f.1
           ∙ or_from (meet a' f.0) _ (false_from_ne_true (meet a' f.0) (λ t. true≢false (sym (meet_narrow a a' b f.0 x f.2 t) ∙ m))) rest
 
-  -- From the end of the cell before on: the new place is not after the old one, and what lies between is covered.
+  -- From the end of the cell before on: the new position is not after the old one, and what lies
+  -- between is covered.
   record Seam (row end end' : ℕ) (before : List Rectangle) : Type 0 where
     pub low : (d : ℕ) → Slid end d → end' ≤ d
-    pub filled : (k c : ℕ) → Beside k c → end' ≤ k → c < end → covered before row c ≡ true
+    pub filled : (k c : ℕ) → Beside k c → end' ≤ k → c < end → covers_cell before row c ≡ true
 
   slid : (c : ℕ) → (d : ℕ) × Slid c d
   slid c = by (nat_lt gone c) refl
@@ -179,10 +180,10 @@ module _ (gone : ℕ) where
       by true e = (c - 1, inr (ltb-true gone c e, (let l = ltb-true gone c e in omega arith)))
       by false e = (c, inl (ltb-false gone c e, refl))
 
-  filled_up : (row end end' column c k : ℕ) (B : List Rectangle) → Seam row end end' B → Least (covered B row) end column → Beside k c → end' ≤ k → c < column → covered B row c ≡ true
+  filled_up : (row end end' column c k : ℕ) (B : List Rectangle) → Seam row end end' B → Least (covers_cell B row) end column → Beside k c → end' ≤ k → c < column → covers_cell B row c ≡ true
   filled_up row end end' column c k B s l b low high = by (nat_lt c end) refl
     where
-      by : (t : Bool) → nat_lt c end ≡ t → covered B row c ≡ true
+      by : (t : Bool) → nat_lt c end ≡ t → covers_cell B row c ≡ true
       by true e = s.filled k c b low (ltb-true c end e)
       by false e = l.passed c (ltb-false c end e) high
 
@@ -233,7 +234,7 @@ module _ (gone : ℕ) where
       let one = laid B row end s in
       let l = placed_least B row end in
       let d = slid end in
-      least_one (covered (fmc B) row) (covered (fmc B) row) end' _ _ (λ c. refl) (placed_least (fmc B) row end')
+      least_one (covers_cell (fmc B) row) (covers_cell (fmc B) row) end' _ _ (λ c. refl) (placed_least (fmc B) row end')
       (record {
         low = starts end end' one.column one.columns r'.column r'.columns d.0 l.low d.1 (seam.low d.0 d.1) n.its_columns;
         passed = λ k low high.
@@ -264,7 +265,7 @@ module _ (gone : ℕ) where
       lower low first d (inl y) = (let y0 = y.0 in let y1 = y.1 in omega arith)
       lower low first d (inr y) = (let y0 = y.0 in let y1 = y.1 in omega arith)
 
-      between : (k c : ℕ) → Beside k c → end' ≤ k → c < (laid B row end s).column + s.columns → Least (covered B row) end (laid B row end s).column → covered (B ++ laid B row end s ∷ []) row c ≡ true
+      between : (k c : ℕ) → Beside k c → end' ≤ k → c < (laid B row end s).column + s.columns → Least (covers_cell B row) end (laid B row end s).column → covers_cell (B ++ laid B row end s ∷ []) row c ≡ true
       between k c (inr y) m h l = absurd (let y0 = y.0 in let y1 = y.1 in omega arith)
       between k c (inl y) m h l =
           let y0 = y.0 in
@@ -275,7 +276,7 @@ module _ (gone : ℕ) where
   AllIn row [] = Unit {0}
   AllIn row (r ∷ all) = (r.row ≡ row) × AllIn row all
 
-  -- What a row adds, and what it adds without the column.
+  -- The rectangles that a row adds, and those that it adds without the column.
   record Row (row left end' : ℕ) (B C : List Rectangle) : Type 0 where
     pub more : List Rectangle
     pub whole : C ≡ B ++ more
@@ -361,7 +362,7 @@ module _ (gone : ℕ) where
   From-append row [] (r ∷ ys) a f = let l = f.0 in (omega arith, From-append row [] ys tt f.1)
   From-append row (r ∷ xs) ys a f = let e = a.0 in (omega arith, From-append row xs ys a.1 f)
 
-  -- What all rows add, and what they add without the column.
+  -- The rectangles that all rows add, and those that they add without the column.
   record Rest (lines : List Line) (row : ℕ) (B R : List Rectangle) : Type 0 where
     pub later : List Rectangle
     pub whole : R ≡ B ++ later

@@ -76,7 +76,7 @@ may_precede-from change place items (Change at count inserted ∷ edits) h =
 may_precede-from change place items (Set at name to ∷ edits) h =
     let first = h.0 in may_precede-retaining change (at - place) _ (omega arith)
 
--- what is left of a list past a place
+-- what is left of a list past a position
 length-rest : (n : ℕ) (items : List PlainItem) (at place : ℕ) → at ≤ place → place ≤ at + length items → n ≡ place - at → place + length (drop n items) ≡ at + length items
 length-rest n items at place low high e = omega (arith, length-drop n items)
 
@@ -445,7 +445,8 @@ edited-two a m b n c new1 new2 items at1 count1 at2 count2 whole e1 f1 e2 f2 =
       ordered,
     )
 
--- Edits that change nothing that passes a test: what is removed and what is inserted has none of it.
+-- Edits that change nothing that passes a test: what is removed and what is inserted has none of
+-- it.
 abbrev pub Silent : (PlainItem → Bool) → ℕ → List PlainItem → List Edit → Type 0
 Silent test at items [] = Unit {0}
 Silent test at items (Change place count inserted ∷ edits) =

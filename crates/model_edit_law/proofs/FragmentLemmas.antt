@@ -1,4 +1,5 @@
--- Pieces that are children of some kind lead back to each state whose kind may hold them, so a fragment leaves a lawful list lawful, but for nesting.
+-- Pieces that are children of some kind lead back to each state whose kind may hold them, so a
+-- fragment leaves a lawful list lawful, but for nesting.
 use Rattle.std.specs.List.{list_all}
 use Rattle.std.proofs.Common.{◌≡◌, inl, inr, suc, ◌-◌, Bool, true, false, not, ◌&&◌, if◌then◌else◌, nat_le, List, [], ◌∷◌, ◌++◌, length, Ok, Err, refl, sym, ap, ◌∙◌, subst, arith}
 use Rattle.std.proofs.lemmas.Bool.{and_parts, and_from, or_parts, leb-false, not-true, cases_Bool}

@@ -1,4 +1,5 @@
--- Moving a list item deeper keeps characters and leaves in order, and leaves a lawful list, but for nesting.
+-- Moving a list item deeper keeps characters and leaves in order, and leaves a lawful list, but for
+-- nesting.
 use Rattle.std.proofs.Common.{◌≡◌, ◌⊎◌, inl, inr, ℕ, zero, suc, ◌+◌, ◌-◌, Bool, true, false, cond, if◌then◌else◌, List, [], ◌∷◌, ◌++◌, length, take, drop, Option, Some, None, Result, Ok, Err, refl, sym, ap, ◌∙◌, subst, arith, length-append}
 use Rattle.std.specs.Prelude.{filter, slice_get}
 use Rattle.std.proofs.lemmas.Bool.{and_parts, and_from, cases_Bool}
@@ -13,7 +14,7 @@ use Rattle.ve_kinds.specs.Table.{kind_same, may_hold, is_leaf}
 use Rattle.model_items.proofs.SameLemmas.{Means-kind_same}
 use Rattle.model_items.specs.declared.law_fault.LawFault.{LawFault}
 use Rattle.model_items.specs.declared.law_fault.LawFault.TheVariants.{Unlawful, TooDeep}
-use Rattle.model_items.specs.Law.{State, start, top, may_open, step, followed, outcome_moved, after, verdict, Lawful}
+use Rattle.model_items.specs.Law.{State, start, top, may_open, step, outcome_then, outcome_moved, after, verdict, Lawful}
 use Rattle.model_items.proofs.LawLemmas.{Ok-same, joined-ok, after_parts, closed_before, piece_fits, piece_fails}
 use Rattle.model_change.specs.Transaction.{Transaction, edited}
 use Rattle.model_edit.specs.Brackets.{opening_of, closing_of, is_closing_of}
@@ -176,7 +177,7 @@ module _ (items : List PlainItem) (a : ℕ) (lawful : Lawful items) (r : Sibling
 
   sibling_kept : after (state_of (Li ∷ u.stack) u.seen) (c1 ∷ (x ∷ (inside ++ cx ∷ []))) ≡ Ok u
   sibling_kept =
-      ap (λ b. followed 1 (if b then Ok (state_of u.stack u.seen) else Err (Unlawful 0)) (λ next. after next (x ∷ (inside ++ cx ∷ [])))) (Means-kind_same.itself Li)
+      ap (λ b. outcome_then 1 (if b then Ok (state_of u.stack u.seen) else Err (Unlawful 0)) (λ next. after next (x ∷ (inside ++ cx ∷ [])))) (Means-kind_same.itself Li)
       ∙ ap (outcome_moved 1) item_kept
 
   alone_stays : Stays (take a items ++ ((opening_of k [] ∷ moved) ++ rest))
@@ -226,7 +227,7 @@ module _ (items : List PlainItem) (a : ℕ) (lawful : Lawful items) (r : Sibling
         let same = Ok-same {E = LawFault} q.0 (state_of (Li ∷ u.stack) u.seen) q.2 in
         let before : p.0 ≡ state_of (k ∷ Li ∷ u.stack) u.seen = λ i. state_of ((c.0 ∙ ap (λ (v : State). k ∷ v.stack) same) i) ((c.1 ∙ ap (λ (v : State). v.seen) same) i) in
         let kept : after (state_of (k ∷ Li ∷ u.stack) u.seen) (ck ∷ c1 ∷ (x ∷ (inside ++ cx ∷ []))) ≡ Ok u =
-        ap (λ v. followed 1 (if v then Ok (state_of (Li ∷ u.stack) u.seen) else Err (Unlawful 0)) (λ next. after next (c1 ∷ (x ∷ (inside ++ cx ∷ []))))) (Means-kind_same.itself k)
+        ap (λ v. outcome_then 1 (if v then Ok (state_of (Li ∷ u.stack) u.seen) else Err (Unlawful 0)) (λ next. after next (c1 ∷ (x ∷ (inside ++ cx ∷ []))))) (Means-kind_same.itself k)
         ∙ ap (outcome_moved 1) sibling_kept in
         leads_verdict (take b items) (ck ∷ c1 ∷ (x ∷ (inside ++ cx ∷ []))) rest moved (state_of (k ∷ Li ∷ u.stack) u.seen) u
         (subst Lawful whole_more lawful) (p.1 ∙ ap Ok before) kept item_deeper

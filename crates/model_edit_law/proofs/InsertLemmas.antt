@@ -11,7 +11,7 @@ use Rattle.model_items.specs.declared.plain_item.PlainItem.TheVariants.{Char, Op
 use Rattle.ve_kinds.specs.Table.{kind_same}
 use Rattle.model_items.proofs.SameLemmas.{Means-kind_same}
 use Rattle.model_items.specs.declared.law_fault.LawFault.TheVariants.{Unlawful}
-use Rattle.model_items.specs.Law.{State, start, finish, may_open, opened, followed, outcome_moved, after, Lawful}
+use Rattle.model_items.specs.Law.{State, start, finish, may_open, state_opened, outcome_then, outcome_moved, after, Lawful}
 use Rattle.model_items.proofs.LawLemmas.{Ok-same, after_whole, after_parts, after_from_Lawful, piece_fits}
 use Rattle.model_change.specs.Transaction.{Transaction, edited}
 use Rattle.model_edit.specs.Causes.{BuildCause}
@@ -39,7 +39,7 @@ pub closings_fit : (openings : List PlainItem) (inner outer : List Kind) (seen :
 closings_fit [] [] outer seen o = refl
 closings_fit (Opening kind head marks pre origin generated ∷ openings) (k ∷ inner) outer seen o =
     let same : kind_same k kind ≡ true = ap (λ v. kind_same v kind) (sym o.0) ∙ Means-kind_same.itself kind in
-    ap (λ b. followed 1 (if b then Ok (state_of (inner ++ outer) seen) else Err (Unlawful 0)) (λ next. after next (map closing_for openings))) same
+    ap (λ b. outcome_then 1 (if b then Ok (state_of (inner ++ outer) seen) else Err (Unlawful 0)) (λ next. after next (map closing_for openings))) same
     ∙ ap (outcome_moved 1) (closings_fit openings inner outer seen o.1)
 closings_fit [] (k ∷ inner) outer seen o = absurd o
 closings_fit (Opening kind head marks pre origin generated ∷ openings) [] outer seen o = absurd o
@@ -50,9 +50,9 @@ pub not_internal : (k : Kind) → is_internal k ≡ false → kind_same k Intern
 not_internal k h = (or_parts (kind_same k InternalList) _ h).0
 
 open_fits : (kind k : Kind) (outer : List Kind) (seen : Bool) → kind ≡ k → kind_same k InternalList ≡ false →
-    may_open (state_of outer seen) k ≡ true → nat_lt (length outer) 100 ≡ true → opened (state_of outer seen) kind ≡ Ok (state_of (k ∷ outer) seen)
+    may_open (state_of outer seen) k ≡ true → nat_lt (length outer) 100 ≡ true → state_opened (state_of outer seen) kind ≡ Ok (state_of (k ∷ outer) seen)
 open_fits kind k outer seen e other may few =
-    ap (opened (state_of outer seen)) e
+    ap (state_opened (state_of outer seen)) e
     ∙ rw (may, few) (ap (λ v. Ok (state_of (k ∷ outer) v)) (ap (λ b. seen || b) other ∙ or_false seen))
   where
     or_false : (b : Bool) → (b || false) ≡ b
@@ -72,7 +72,7 @@ copies_fit (Opening kind head marks pre origin generated ∷ openings) (k ∷ in
     ap (after (state_of outer seen)) (reverse_onto (map copy_of openings) copy [])
     ∙ after_whole (reverse (map copy_of openings)) (copy ∷ []) (state_of outer seen) (state_of (inner ++ outer) seen) (state_of (k ∷ (inner ++ outer)) seen)
     (copies_fit openings inner outer seen o.1 p.1 q.2)
-    (ap (λ r. followed 1 r (λ next. Ok next)) (open_fits kind k (inner ++ outer) seen o.0 other q.0 q.1))
+    (ap (λ r. outcome_then 1 r (λ next. Ok next)) (open_fits kind k (inner ++ outer) seen o.0 other q.0 q.1))
 copies_fit [] (k ∷ inner) outer seen o none f = absurd o
 copies_fit (Opening kind head marks pre origin generated ∷ openings) [] outer seen o none f = absurd o
 copies_fit (Char c marks ∷ openings) inner outer seen o none f = absurd o
@@ -85,14 +85,14 @@ if_ok_else false e r t h = (refl, h)
 sub-zero_lem : (n : ℕ) → n - 0 ≡ n
 sub-zero_lem n = omega arith
 
--- the list with items put in at one place
+-- the list with items put in at one position
 pub edited-put : (items : List PlainItem) (at : ℕ) (new : List PlainItem) → at ≤ length items →
     edited (transaction_of items (Change at 0 new ∷ [])) items ≡ take at items ++ (new ++ drop at items)
 edited-put items at new h =
     edited-transaction_from 0 items (Change at 0 new ∷ []) (omega arith, omega arith)
     ∙ ap (λ n. take n items ++ (new ++ drop n items)) (sub-zero_lem at)
 
--- items put in at a place that lead back to the state there leave the list lawful
+-- items put in at a position that lead back to the state there leave the list lawful
 pub put_lawful : (items : List PlainItem) (at : ℕ) (new : List PlainItem) → at ≤ length items → Lawful items →
     ((s : State) → after start (take at items) ≡ Ok s → after s new ≡ Ok s) →
     Lawful (edited (transaction_of items (Change at 0 new ∷ [])) items)

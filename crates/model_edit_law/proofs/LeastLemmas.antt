@@ -1,4 +1,5 @@
--- A cell's column is the least free one, however many cells were placed before; and which places are covered after a row is taken out.
+-- A cell's column is the least free one, however many cells were placed before; and which positions
+-- are covered after a row is taken out.
 use Rattle.std.specs.Prelude.{filter_map, fold}
 use Rattle.std.specs.List.{cons_option}
 use Rattle.std.proofs.Common.{map, ◌≡◌, ◌⊎◌, inl, inr, ℕ, zero, suc, ◌+◌, ◌-◌, ◌<◌, ◌≤◌, ◌==◌, Bool, true, false, ◌&&◌, ◌||◌, if◌then◌else◌, nat_lt, nat_le, List, [], ◌∷◌, Option, Some, None, refl, sym, ap, ◌∙◌, subst, arith}
@@ -6,9 +7,9 @@ use Rattle.std.proofs.lemmas.Bool.{cases_Bool, eqb-true, eqb-false, and_parts, a
 use Rattle.model_edit.specs.declared.grid_cell.GridCell.{GridCell}
 use Rattle.model_edit.specs.Grid.{covers_row, covers_column, is_covered, first_free}
 use Rattle.model_edit.specs.Layout.{Rectangle, has_row, has_column, without_row}
-use Rattle.model_edit_law.specs.Spans.{covered, free_from, width, rectangle_of, LowIn}
+use Rattle.model_edit_law.specs.Spans.{covers_cell, free_from, width, rectangle_of, LowIn}
 
--- how many places from one on pass
+-- how many positions from one on pass
 abbrev count : (ℕ → Bool) → ℕ → ℕ → ℕ
 count p from zero = 0
 count p from (suc n) = (if p from then 1 else 0) + count p (suc from) n
@@ -33,7 +34,7 @@ count_or p q from (suc n) =
     by false true r = omega arith
     by false false r = omega arith
 
--- an interval has no more places than it is long
+-- an interval has no more positions than it is long
 count_interval : (on : Bool) (a w from n : ℕ) → (count (λ c. on && (nat_le a c && nat_lt c (a + w))) from n ≤ w) × (count (λ c. on && (nat_le a c && nat_lt c (a + w))) from n ≤ (a + w) - from)
 count_interval on a w from zero = (omega arith, omega arith)
 count_interval on a w from (suc n) =
@@ -58,65 +59,65 @@ width_from a [] = omega arith
 width_from a (cell ∷ cells) = let r = width_from (a + cell.columns) cells in let q = width_from (0 + cell.columns) cells in omega arith
 
 -- in one row cells cover no more columns than they are wide
-count_covered : (cells : List Rectangle) (row from n : ℕ) → count (covered cells row) from n ≤ width cells
+count_covered : (cells : List Rectangle) (row from n : ℕ) → count (covers_cell cells row) from n ≤ width cells
 count_covered [] row from n = by from n
   where
     by : (from n : ℕ) → count (λ c. false) from n ≤ 0
     by from zero = omega arith
     by from (suc n) = let r = by (suc from) n in omega arith
 count_covered (cell ∷ cells) row from n =
-    let a = count_or (λ c. has_row cell row && has_column cell c) (covered cells row) from n in
+    let a = count_or (λ c. has_row cell row && has_column cell c) (covers_cell cells row) from n in
     let b = (count_interval (has_row cell row) cell.column cell.columns from n).0 in
     let c = count_covered cells row from n in
     let w = width_from (0 + cell.columns) cells in
     omega arith
 
--- the least place from one on that does not pass
+-- the least position from one on that does not pass
 pub record Least (p : ℕ → Bool) (from at : ℕ) : Type 0 where
   pub low : from ≤ at
   pub passed : (c : ℕ) → from ≤ c → c < at → p c ≡ true
   pub free : p at ≡ false
 
 seek_least : (cells : List Rectangle) (row column fuel : ℕ) →
-    ((k : ℕ) → ((c : ℕ) → column ≤ c → c < column + k → covered cells row c ≡ true) → k ≤ fuel) → Least (covered cells row) column (free_from cells row column fuel)
+    ((k : ℕ) → ((c : ℕ) → column ≤ c → c < column + k → covers_cell cells row c ≡ true) → k ≤ fuel) → Least (covers_cell cells row) column (free_from cells row column fuel)
 seek_least cells row column zero enough = record {
   low = omega arith;
   passed = λ c low high. absurd (omega arith);
-  free = false_from_ne_true (covered cells row column)
-      (λ e. let k = enough 1 (λ c low high. let z : column ≡ c = omega arith in subst (λ n. covered cells row n ≡ true) z e) in omega arith);
+  free = false_from_ne_true (covers_cell cells row column)
+      (λ e. let k = enough 1 (λ c low high. let z : column ≡ c = omega arith in subst (λ n. covers_cell cells row n ≡ true) z e) in omega arith);
 }
 seek_least cells row column (suc fuel) enough =
-    elim (cases_Bool (covered cells row column)) [
-      | inl yes_ ↦ subst (λ b. Least (covered cells row) column (if b then free_from cells row (suc column) fuel else column)) (sym yes_)
+    elim (cases_Bool (covers_cell cells row column)) [
+      | inl yes_ ↦ subst (λ b. Least (covers_cell cells row) column (if b then free_from cells row (suc column) fuel else column)) (sym yes_)
           (more yes_ (seek_least cells row (suc column) fuel
           (λ k all. let r = enough (suc k) (λ c low high. at_or_past yes_ k all c low high) in omega arith)))
-      | inr no_ ↦ subst (λ b. Least (covered cells row) column (if b then free_from cells row (suc column) fuel else column)) (sym no_)
+      | inr no_ ↦ subst (λ b. Least (covers_cell cells row) column (if b then free_from cells row (suc column) fuel else column)) (sym no_)
           (record { low = omega arith; passed = λ c low high. absurd (omega arith); free = no_ })
     ]
   where
-    at_or_past : covered cells row column ≡ true → (k : ℕ) → ((c : ℕ) → suc column ≤ c → c < suc column + k → covered cells row c ≡ true) →
-        (c : ℕ) → column ≤ c → c < column + suc k → covered cells row c ≡ true
+    at_or_past : covers_cell cells row column ≡ true → (k : ℕ) → ((c : ℕ) → suc column ≤ c → c < suc column + k → covers_cell cells row c ≡ true) →
+        (c : ℕ) → column ≤ c → c < column + suc k → covers_cell cells row c ≡ true
     at_or_past e k all c low high =
         elim (Rattle.std.proofs.lemmas.Bool.cases_eq column c) [
-          | inl same ↦ subst (λ n. covered cells row n ≡ true) same e
+          | inl same ↦ subst (λ n. covers_cell cells row n ≡ true) same e
           | inr other ↦ all c (omega arith) (omega arith)
         ]
 
-    more : covered cells row column ≡ true → Least (covered cells row) (suc column) (free_from cells row (suc column) fuel) → Least (covered cells row) column (free_from cells row (suc column) fuel)
+    more : covers_cell cells row column ≡ true → Least (covers_cell cells row) (suc column) (free_from cells row (suc column) fuel) → Least (covers_cell cells row) column (free_from cells row (suc column) fuel)
     more e l = record {
       low = (let a = l.low in omega arith);
       passed = λ c low high.
           elim (Rattle.std.proofs.lemmas.Bool.cases_eq column c) [
-            | inl same ↦ subst (λ n. covered cells row n ≡ true) same e
+            | inl same ↦ subst (λ n. covers_cell cells row n ≡ true) same e
             | inr other ↦ l.passed c (omega arith) high
           ];
       free = l.free;
     }
 
 -- A cell's column is the least free one.
-pub placed_least : (cells : List Rectangle) (row end : ℕ) → Least (covered cells row) end (free_from cells row end (width cells))
+pub placed_least : (cells : List Rectangle) (row end : ℕ) → Least (covers_cell cells row) end (free_from cells row end (width cells))
 placed_least cells row end =
-    seek_least cells row end (width cells) (λ k all. let a = count_all (covered cells row) end k all in let b = count_covered cells row end k in omega arith)
+    seek_least cells row end (width cells) (λ k all. let a = count_all (covers_cell cells row) end k all in let b = count_covered cells row end k in omega arith)
 
 -- which is one
 pub least_one : (p q : ℕ → Bool) (from m n : ℕ) → ((c : ℕ) → p c ≡ q c) → Least p from m → Least q from n → m ≡ n
@@ -135,10 +136,10 @@ least_one p q from m n same a b =
     never a b e f t = true≢false (sym t ∙ sym e ∙ f)
 
 -- so a cell's column depends only on what is covered in its row
-pub placed_same : (cells cells' : List Rectangle) (row row' end : ℕ) → ((c : ℕ) → covered cells row c ≡ covered cells' row' c) →
+pub placed_same : (cells cells' : List Rectangle) (row row' end : ℕ) → ((c : ℕ) → covers_cell cells row c ≡ covers_cell cells' row' c) →
     free_from cells row end (width cells) ≡ free_from cells' row' end (width cells')
 placed_same cells cells' row row' end same =
-    least_one (covered cells row) (covered cells' row') end _ _ same (placed_least cells row end) (placed_least cells' row' end)
+    least_one (covers_cell cells row) (covers_cell cells' row') end _ _ same (placed_least cells row end) (placed_least cells' row' end)
 
 -- what row of the new grid an old row is
 abbrev pub row_after : ℕ → ℕ → ℕ
@@ -234,18 +235,18 @@ one_kept gone row row' column r low before past other =
 
 -- Taking a row out keeps what is covered in each other row.
 pub covered_kept : (gone row row' column : ℕ) (all : List Rectangle) → LowIn gone all → (row < gone → row' ≡ row) → (gone < row → suc row' ≡ row) → (row ≡ gone → ⊥) →
-    covered (filter_map (without_row gone) all) row' column ≡ covered all row column
+    covers_cell (filter_map (without_row gone) all) row' column ≡ covers_cell all row column
 covered_kept gone row row' column [] low before past other = refl
 covered_kept gone row row' column (r ∷ all) low before past other =
     by (without_row gone r) (one_kept gone row row' column r low.0 before past other) (covered_kept gone row row' column all low.1 before past other)
   where
-    by : (o : Option Rectangle) → covers_in o row' column ≡ (has_row r row && has_column r column) → covered (filter_map (without_row gone) all) row' column ≡ covered all row column →
-        covered (cons_option o (filter_map (without_row gone) all)) row' column ≡ covered (r ∷ all) row column
-    by None e rest = rest ∙ ap (λ b. b || covered all row column) e
+    by : (o : Option Rectangle) → covers_in o row' column ≡ (has_row r row && has_column r column) → covers_cell (filter_map (without_row gone) all) row' column ≡ covers_cell all row column →
+        covers_cell (cons_option o (filter_map (without_row gone) all)) row' column ≡ covers_cell (r ∷ all) row column
+    by None e rest = rest ∙ ap (λ b. b || covers_cell all row column) e
     by (Some r') e rest = (λ i. e i || rest i)
 
 -- a cell is placed as its rectangle
-covered-cells : (cells : List GridCell) (row column : ℕ) → is_covered cells row column ≡ covered (map rectangle_of cells) row column
+covered-cells : (cells : List GridCell) (row column : ℕ) → is_covered cells row column ≡ covers_cell (map rectangle_of cells) row column
 covered-cells [] row column = refl
 covered-cells (c ∷ cells) row column = ap (λ b. (covers_row c row && covers_column c column) || b) (covered-cells cells row column)
 

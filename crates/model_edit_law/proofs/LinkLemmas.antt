@@ -9,7 +9,7 @@ use Rattle.model_edit.specs.Brackets.{is_opening_of}
 use Rattle.model_items.specs.Offsets.{passes}
 use Rattle.model_edit.specs.declared.grid_cell.GridCell.{GridCell}
 use Rattle.model_edit.specs.Causes.{TableCause, NotTable, Crooked}
-use Rattle.model_edit.specs.Grid.{TableRow, table_rows, row_cells, cells_meet, placed, is_crooked, with_row, with_rows, right_end, grid_with}
+use Rattle.model_edit.specs.Grid.{TableRow, table_rows, row_cells, cells_meet, placed_cell, is_crooked, with_row, with_rows, right_end, grid_with}
 use Rattle.model_edit.specs.Layout.{Rectangle, layout_of}
 use Rattle.model_edit_law.specs.Spans.{free_from, rectangle_of, meet, laid, bent, lay_row, lay, cell_span_at, line_at, table_lines}
 use Rattle.model_edit_law.specs.TableLaws.{GridLays}
@@ -32,7 +32,7 @@ map_append : (xs ys : List GridCell) → map rectangle_of (xs ++ ys) ≡ map rec
 map_append [] ys = refl
 map_append (x ∷ xs) ys = ap (λ v. rectangle_of x ∷ v) (map_append xs ys)
 
-placed_laid : (items : List PlainItem) (before : List GridCell) (row end : ℕ) (n : Open) → rectangle_of (placed items before row end n) ≡ laid (map rectangle_of before) row end (cell_span_at items n)
+placed_laid : (items : List PlainItem) (before : List GridCell) (row end : ℕ) (n : Open) → rectangle_of (placed_cell items before row end n) ≡ laid (map rectangle_of before) row end (cell_span_at items n)
 placed_laid items before row end n =
     ap (λ c. record { row = row; column = c; rows = (cell_span_at items n).rows; columns = (cell_span_at items n).columns })
     (first_free-cells before row end (sum_by (λ (c : GridCell). c.columns) before) ∙ ap (free_from (map rectangle_of before) row end) (width_cells 0 before))
@@ -41,7 +41,7 @@ row_link : (items : List PlainItem) (nodes : List Open) (row left end : ℕ) (be
     lay_row row left end (map (cell_span_at items) nodes) (map rectangle_of before) ≡ rectangles (with_row items row left end nodes before)
 row_link items [] row left end before = refl
 row_link items (n ∷ nodes) row left end before =
-    let one = placed items before row end n in
+    let one = placed_cell items before row end n in
     let B = map rectangle_of before in
     let rest = row_link items nodes row left (one.column + one.columns) (before ++ one ∷ []) in
     ap (λ r. if bent left B r then None else lay_row row left (r.column + r.columns) (map (cell_span_at items) nodes) (B ++ r ∷ [])) (sym (placed_laid items before row end n))
@@ -50,8 +50,8 @@ row_link items (n ∷ nodes) row left end before =
     ∙ ap (λ b. if nat_lt left one.rows || b then None else rectangles (with_row items row left (one.column + one.columns) nodes (before ++ one ∷ []))) (sym (meet_cells one before))
     ∙ out (is_crooked left before one)
   where
-    out : (b : Bool) → (if b then None else rectangles (with_row items row left ((placed items before row end n).column + (placed items before row end n).columns) nodes (before ++ placed items before row end n ∷ [])))
-        ≡ rectangles (if b then Err (Crooked n.from) else with_row items row left ((placed items before row end n).column + (placed items before row end n).columns) nodes (before ++ placed items before row end n ∷ []))
+    out : (b : Bool) → (if b then None else rectangles (with_row items row left ((placed_cell items before row end n).column + (placed_cell items before row end n).columns) nodes (before ++ placed_cell items before row end n ∷ [])))
+        ≡ rectangles (if b then Err (Crooked n.from) else with_row items row left ((placed_cell items before row end n).column + (placed_cell items before row end n).columns) nodes (before ++ placed_cell items before row end n ∷ []))
     out true = refl
     out false = refl
 

@@ -6,7 +6,7 @@ use Rattle.ve_base.specs.declared.marks.Mark.{Mark}
 use Rattle.model_items.specs.declared.plain_item.PlainItem.{PlainItem}
 use Rattle.model_items.specs.declared.plain_item.PlainItem.TheVariants.{Char, Opening, Closing}
 use Rattle.model_items.specs.Same.{marks_same}
-use Rattle.model_items.specs.Law.{State, step, followed, after, Lawful}
+use Rattle.model_items.specs.Law.{State, step, outcome_then, after, Lawful}
 use Rattle.model_items.proofs.LawLemmas.{Ok-same}
 use Rattle.ve_kinds.specs.Table.{is_element}
 use Rattle.model_change.specs.Attributes.{is_reserved}
@@ -35,7 +35,7 @@ remark_neutral f items n (Some item) h = by (marks_same (item_marks (remarked f 
   where
     leads : (s v : State) → after s (take 1 (drop n items)) ≡ Ok v → after s (remarked f item ∷ []) ≡ Ok v
     leads s v p =
-        ap (λ r. followed 1 r (λ next. after next [])) (step_remarked f s item)
+        ap (λ r. outcome_then 1 r (λ next. after next [])) (step_remarked f s item)
         ∙ ap (after s) (ap (take 1) (sym (from_place items n item h))) ∙ p
 
     by : (same : Bool) → EachNeutral items (if same then [] else Change n 1 (remarked f item ∷ []) ∷ [])

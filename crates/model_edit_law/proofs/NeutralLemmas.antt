@@ -1,9 +1,10 @@
--- Edits that set attributes, or put items in the place of others that lead the same way, leave a lawful list lawful.
+-- Edits that set attributes, or put items in the place of others that lead the same way, leave a
+-- lawful list lawful.
 use Rattle.std.proofs.Common.{◌≡◌, ℕ, suc, ◌+◌, ◌-◌, List, [], ◌∷◌, ◌++◌, length, take, drop, Ok, refl, sym, ap, ◌∙◌, subst, arith, zero-add}
 use Rattle.std.proofs.lemmas.List.{take-append-drop}
 use Rattle.model_items.specs.declared.plain_item.PlainItem.{PlainItem}
 use Rattle.model_items.specs.declared.plain_item.PlainItem.TheVariants.{Char, Opening, Closing}
-use Rattle.model_items.specs.Law.{State, start, finish, step, followed, after, Lawful}
+use Rattle.model_items.specs.Law.{State, start, finish, step, outcome_then, after, Lawful}
 use Rattle.model_items.proofs.LawLemmas.{after_parts, after_whole, after_from_Lawful, Lawful_from_after}
 use Rattle.model_change.specs.Attributes.{AttrChange, item_changed}
 use Rattle.model_change.specs.Transaction.{on_first, edited}
@@ -27,7 +28,7 @@ same_step c s (Closing kind pre) = refl
 
 same_after : (c : AttrChange) (s : State) (items : List PlainItem) → after s (on_first (item_changed c) items) ≡ after s items
 same_after c s [] = refl
-same_after c s (x ∷ items) = ap (λ r. followed 1 r (λ next. after next items)) (same_step c s x)
+same_after c s (x ∷ items) = ap (λ r. outcome_then 1 r (λ next. after next items)) (same_step c s x)
 
 after_neutral : (edits : List Edit) (at : ℕ) (items : List PlainItem) (s u : State) → Neutral at items edits → after s items ≡ Ok u → after s (substituted_from at items edits) ≡ Ok u
 after_neutral [] at items s u n h = h
@@ -45,7 +46,7 @@ after_neutral (Set place name to ∷ edits) at items s u n h =
     after_whole (take (place - at) items) (substituted_from place new edits) s p.0 u p.1
     (after_neutral edits place new p.0 u n (same_after (setting name to rest) p.0 rest ∙ p.2))
 
--- the same, of places of the whole list
+-- the same, of positions of the whole list
 abbrev pub EachNeutral : List PlainItem → List Edit → Type 0
 EachNeutral whole [] = Unit {0}
 EachNeutral whole (Change place count inserted ∷ edits) =

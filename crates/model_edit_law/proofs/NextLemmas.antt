@@ -11,7 +11,7 @@ use Rattle.ve_kinds.proofs.LawLemmas.{leaves_are_empty}
 use Rattle.model_items.specs.declared.plain_item.PlainItem.{PlainItem}
 use Rattle.model_items.specs.declared.plain_item.PlainItem.TheVariants.{Char, Opening, Closing}
 use Rattle.model_items.specs.declared.law_fault.LawFault.{LawFault}
-use Rattle.model_items.specs.Law.{State, start, finish, top, may_open, step, followed, after, Lawful}
+use Rattle.model_items.specs.Law.{State, start, finish, top, may_open, step, outcome_then, after, Lawful}
 use Rattle.model_items.specs.Tree.{Open, opens_with, opens_after}
 use Rattle.model_items.proofs.LawLemmas.{if_ok, Ok-same, opened_before, closed_before, joined-ok, after_parts, after_whole, after_from_Lawful}
 use Rattle.model_edit.specs.declared.selection.By.{By}
@@ -129,7 +129,7 @@ next_state : (items : List PlainItem) (n : ℕ) (x : PlainItem) → slice_get it
 next_state items n x h a =
     let here = from_place items n x h in
     let p = joined-ok 1 (step a.state x) (λ next. after next (drop (suc n) items)) finish (ap (after a.state) (sym here) ∙ a.rest) in
-    let one : after a.state (x ∷ []) ≡ Ok p.0 = ap (λ r. followed 1 r (λ next. Ok next)) p.1 in
+    let one : after a.state (x ∷ []) ≡ Ok p.0 = ap (λ r. outcome_then 1 r (λ next. Ok next)) p.1 in
     let one_past : suc n ≡ n + 1 = omega arith in
     let prefix : take (suc n) items ≡ take n items ++ x ∷ [] =
     ap (λ k. take k items) one_past ∙ take-add n 1 items ∙ ap (λ v. take n items ++ take 1 v) here in

@@ -13,7 +13,7 @@ use Rattle.ve_kinds.specs.Table.{kind_same, may_hold, held_by, is_content_branch
 use Rattle.model_items.proofs.SameLemmas.{Means-kind_same}
 use Rattle.model_items.specs.declared.law_fault.LawFault.{LawFault}
 use Rattle.model_items.specs.declared.law_fault.LawFault.TheVariants.{Unlawful}
-use Rattle.model_items.specs.Law.{State, top, is_empty, is_over, may_open, opened, step, followed, outcome_moved, after, Lawful}
+use Rattle.model_items.specs.Law.{State, top, is_empty, is_over, may_open, state_opened, step, outcome_then, outcome_moved, after, Lawful}
 use Rattle.model_items.proofs.LawLemmas.{if_ok, Ok-same, after_whole, piece_fits}
 use Rattle.model_edit_law.proofs.BracketLemmas.{state_of, or_false, HoldsSame, HoldsSame-itself, Closes, NodeParts, slice_get-split}
 
@@ -87,7 +87,7 @@ content_not_first Pre h = refl
 content_not_first _ h = cc
 
 -- where an opening of k was allowed, what it led to
-pub opened_state : (s u : State) (k : Kind) → kind_same k InternalList ≡ false → opened s k ≡ Ok u →
+pub opened_state : (s u : State) (k : Kind) → kind_same k InternalList ≡ false → state_opened s k ≡ Ok u →
     (may_open s k ≡ true) × (nat_lt (length s.stack) 100 ≡ true) × (u ≡ state_of (k ∷ s.stack) s.seen)
 opened_state s u k other h =
     let p = if_ok (may_open s k) _ _ u h in
@@ -107,8 +107,8 @@ pub whole_node : (s : State) (k k' : Kind) (x : PlainItem) (pre' : List ℕ) (it
 whole_node s k k' x pre' items c same h =
     let inner = c.kept k' s.stack s.seen same (omega arith) in
     let closed : after (state_of (k' ∷ s.stack) s.seen) (Closing k' pre' ∷ []) ≡ Ok s =
-    ap (λ b. followed 1 (if b then Ok (state_of s.stack s.seen) else Err (Unlawful 0)) (λ next. Ok next)) (Means-kind_same.itself k') in
-    ap (λ v. followed 1 v (λ next. after next (c.inside ++ Closing k' pre' ∷ []))) h
+    ap (λ b. outcome_then 1 (if b then Ok (state_of s.stack s.seen) else Err (Unlawful 0)) (λ next. Ok next)) (Means-kind_same.itself k') in
+    ap (λ v. outcome_then 1 v (λ next. after next (c.inside ++ Closing k' pre' ∷ []))) h
     ∙ ap (λ v. outcome_moved 1 v) (after_whole c.inside (Closing k' pre' ∷ []) (state_of (k' ∷ s.stack) s.seen) (state_of (k' ∷ s.stack) s.seen) s inner closed)
 
 -- A node with another opening and closing.
@@ -124,8 +124,8 @@ other_node_lawful items at k k' head head' marks marks' pre pre' pre'' origin or
     let o = opened_state s n.allowed.0 k other n.allowed.1 in
     let may' = may_open_other s k k' other other' (held (top s.stack)) o.0 in
     let few = o.1 in
-    let opens : opened s k ≡ Ok (state_of (k ∷ s.stack) s.seen) = n.allowed.1 ∙ ap Ok o.2 in
-    let opens' : opened s k' ≡ Ok (state_of (k' ∷ s.stack) s.seen) =
+    let opens : state_opened s k ≡ Ok (state_of (k ∷ s.stack) s.seen) = n.allowed.1 ∙ ap Ok o.2 in
+    let opens' : state_opened s k' ≡ Ok (state_of (k' ∷ s.stack) s.seen) =
     rw (may', few) (ap (λ v. Ok (state_of (k' ∷ s.stack) v)) (ap (λ b. s.seen || b) other' ∙ or_false s.seen)) in
     let old = x ∷ (c.inside ++ Closing k c.pre ∷ []) in
     let new = x' ∷ (c.inside ++ Closing k' pre'' ∷ []) in

@@ -10,7 +10,7 @@ use Rattle.model_edit.specs.Edits.{Edit, Change, Set, transaction_of, InOrder, M
 use Rattle.model_edit_law.proofs.RestorableLemmas.{restorable-transaction_of}
 use Rattle.model_edit_law.proofs.EditLemmas.{is_reduced-transaction_of, apply-transaction_of}
 
--- changes alone, at rising places up to `end`
+-- changes alone, at rising positions up to `end`
 abbrev pub Rising : (at end : ℕ) → List Edit → Type 0
 Rising at end [] = at ≤ end
 Rising at end (Change place count inserted ∷ edits) = (at ≤ place) × Rising (place + count) end edits
@@ -54,7 +54,7 @@ Rising-append at middle end [] ys h g = Rising-within middle at end end ys h (om
 Rising-append at middle end (Change place count inserted ∷ xs) ys h g = (h.0, Rising-append (place + count) middle end xs ys h.1 g)
 Rising-append at middle end (Set place name to ∷ xs) ys h g = absurd h
 
--- at each place of a range
+-- at each position of a range
 pub Rising-each : (f : ℕ → List Edit) → ((n : ℕ) → Rising n (suc n) (f n)) → (from count : ℕ) → Rising from (from + count) (flat_map f (range_with_len from count))
 Rising-each f h from zero = omega arith
 Rising-each f h from (suc count) =

@@ -13,7 +13,7 @@ use Rattle.ve_kinds.specs.Table.{kind_same, may_hold, is_leaf}
 use Rattle.model_items.proofs.SameLemmas.{Means-kind_same}
 use Rattle.model_items.specs.declared.law_fault.LawFault.{LawFault}
 use Rattle.model_items.specs.declared.law_fault.LawFault.TheVariants.{Unlawful}
-use Rattle.model_items.specs.Law.{State, start, finish, top, opened, step, followed, outcome_moved, after, Lawful}
+use Rattle.model_items.specs.Law.{State, start, finish, top, state_opened, step, outcome_then, outcome_moved, after, Lawful}
 use Rattle.model_items.proofs.LawLemmas.{Ok-same, joined-ok, after_whole, after_parts, after_from_Lawful, opened_before, piece_fits}
 use Rattle.model_items.specs.Tree.{Open, length_to_close}
 use Rattle.model_change.specs.Transaction.{Transaction, edited}
@@ -37,7 +37,7 @@ only = filter is_character_or_leaf
 close_step : (k : Kind) (pre : List ℕ) (outer : List Kind) (seen : Bool) (items : List PlainItem) (r : State) → after (state_of outer seen) items ≡ Ok r →
     after (state_of (k ∷ outer) seen) (Closing k pre ∷ items) ≡ Ok r
 close_step k pre outer seen items r h =
-    ap (λ b. followed 1 (if b then Ok (state_of outer seen) else Err (Unlawful 0)) (λ next. after next items)) (Means-kind_same.itself k) ∙ ap (outcome_moved 1) h
+    ap (λ b. outcome_then 1 (if b then Ok (state_of outer seen) else Err (Unlawful 0)) (λ next. after next items)) (Means-kind_same.itself k) ∙ ap (outcome_moved 1) h
 
 module _ (items : List PlainItem) (at : ℕ) (lawful : Lawful items) (head : Head) (marks : List Mark) (pre : List ℕ) (origin : Option ℕ) (generated : Bool)
     (item : slice_get items at ≡ Some (Opening Li head marks pre origin generated)) (n : NodeParts items at Li)
@@ -210,7 +210,7 @@ module _ (items : List PlainItem) (at : ℕ) (lawful : Lawful items) (head : Hea
     parts = refl;
     edit = after_edit false other ∙ ap (λ v. Change (at + suc (length inside)) 1 v) copied;
     old_way = close_step Li n.closed.pre u.stack u.seen [] u refl;
-    new_way = ap (λ r. followed 1 r (λ next. Ok next)) (opened_fits k (Li ∷ g) u.seen facts.1 fitting) ∙ ap Ok (sym same_state);
+    new_way = ap (λ r. outcome_then 1 r (λ next. Ok next)) (opened_fits k (Li ∷ g) u.seen facts.1 fitting) ∙ ap Ok (sym same_state);
     no_text = (refl, ap (λ b. cond b (copy_of list_opening ∷ []) []) facts.2);
   }
 
@@ -289,16 +289,16 @@ module _ (items : List PlainItem) (at : ℕ) (lawful : Lawful items) (head : Hea
         let regroup : (prefix middle_ after_ : List PlainItem) → prefix ++ ((x ∷ inside) ++ (middle_ ++ after_)) ≡ (prefix ++ ((x ∷ inside) ++ middle_)) ++ after_ =
         λ prefix middle_ after_. ap (λ v. prefix ++ v) (sym (append_assoc (x ∷ inside) middle_ after_)) ∙ sym (append_assoc prefix ((x ∷ inside) ++ middle_) after_) in
         let o = opened_state u n.allowed.0 Li refl n.allowed.1 in
-        let opens_old : opened u Li ≡ Ok (state_of (Li ∷ u.stack) u.seen) = n.allowed.1 ∙ ap Ok o.2 in
+        let opens_old : state_opened u Li ≡ Ok (state_of (Li ∷ u.stack) u.seen) = n.allowed.1 ∙ ap Ok o.2 in
         let in_old : after u ((x ∷ inside) ++ b.gone) ≡ Ok b.state =
-        ap (λ r. followed 1 r (λ next. after next (inside ++ b.gone))) opens_old
+        ap (λ r. outcome_then 1 r (λ next. after next (inside ++ b.gone))) opens_old
         ∙ ap (outcome_moved 1)
         (after_whole inside b.gone (state_of (Li ∷ u.stack) u.seen) (state_of (Li ∷ u.stack) u.seen) b.state
         (n.closed.kept Li u.stack u.seen (HoldsSame-itself Li) (omega arith)) b.old_way) in
         let deeper : length u.stack ≡ suc (suc (length g)) = ap length stacks in
-        let opens_new : opened (state_of g u.seen) Li ≡ Ok (state_of (Li ∷ g) u.seen) = opened_fits Li g u.seen refl fits_li in
+        let opens_new : state_opened (state_of g u.seen) Li ≡ Ok (state_of (Li ∷ g) u.seen) = opened_fits Li g u.seen refl fits_li in
         let in_new : after (state_of g u.seen) ((x ∷ inside) ++ b.new) ≡ Ok b.state =
-        ap (λ r. followed 1 r (λ next. after next (inside ++ b.new))) opens_new
+        ap (λ r. outcome_then 1 r (λ next. after next (inside ++ b.new))) opens_new
         ∙ ap (outcome_moved 1)
         (after_whole inside b.new (state_of (Li ∷ g) u.seen) (state_of (Li ∷ g) u.seen) b.state
         (n.closed.kept Li g u.seen (HoldsSame-itself Li) (omega arith)) b.new_way) in

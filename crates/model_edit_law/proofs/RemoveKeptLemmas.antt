@@ -9,7 +9,7 @@ use Rattle.model_items.specs.declared.plain_item.PlainItem.{PlainItem}
 use Rattle.model_items.specs.declared.plain_item.PlainItem.TheVariants.{Char, Opening, Closing}
 use Rattle.ve_kinds.specs.Table.{kind_same, may_hold, is_content_branch}
 use Rattle.model_items.specs.declared.law_fault.LawFault.{LawFault}
-use Rattle.model_items.specs.Law.{State, finish, top, step, followed, outcome_moved, after}
+use Rattle.model_items.specs.Law.{State, finish, top, step, outcome_then, outcome_moved, after}
 use Rattle.model_items.proofs.LawLemmas.{if_ok, Ok-same, joined-ok, after_parts, opened_before, closed_before}
 use Rattle.model_items.specs.Tree.{Open, opens_after, opens_with, length_to_close}
 use Rattle.model_edit.specs.Brackets.{is_internal, is_internal_bracket}
@@ -70,7 +70,7 @@ all_close-Closing : (m : ℕ) (kind : Kind) (pre : List ℕ) (items : List Plain
 all_close-Closing zero kind pre items h = refl
 all_close-Closing (suc d) kind pre items h = h
 
--- What stays leads where the items lead, with the nodes that go left out of the stack.
+-- The items that stay lead where the items lead, with the nodes that go left out of the stack.
 pub stays_lead : (items : List PlainItem) (at : ℕ) (inner outer : List Kind) (seen : Bool) (t : State) → all_close (length inner) items ≡ true →
     list_any is_internal_bracket items ≡ false → after (state_of (inner ++ outer) seen) items ≡ Ok t →
     after (state_of outer seen) (map item_of (stays (length inner) at items)) ≡ Ok t
@@ -102,14 +102,14 @@ stays_lead (Opening kind head marks pre origin generated ∷ items) at [] outer 
     elim (cases_Bool (closes_in 0 items)) [
       | inl yes_ ↦ subst P (sym yes_) (stays_lead items (at + 1) (kind ∷ []) outer seen t yes_ i.1 later)
       | inr no_ ↦ subst P (sym no_)
-          (ap (λ r. followed 1 r (λ next. after next (map item_of (stays 0 (at + 1) items)))) (p.1 ∙ ap Ok o.2)
+          (ap (λ r. outcome_then 1 r (λ next. after next (map item_of (stays 0 (at + 1) items)))) (p.1 ∙ ap Ok o.2)
           ∙ ap (outcome_moved 1) (stays_lead items (at + 1) [] (kind ∷ outer) seen t refl i.1 later))
     ]
 stays_lead (Closing kind pre ∷ items) at [] outer seen t c n h =
     let s = state_of outer seen in
     let p = joined-ok 1 (step s (Closing kind pre)) (λ next. after next items) t h in
     let i = or_parts (is_internal kind) (list_any is_internal_bracket items) n in
-    ap (λ r. followed 1 r (λ next. after next (map item_of (stays 0 (at + 1) items)))) p.1
+    ap (λ r. outcome_then 1 r (λ next. after next (map item_of (stays 0 (at + 1) items)))) p.1
     ∙ ap (outcome_moved 1) (stays_lead items (at + 1) [] (p.0).stack (p.0).seen t refl i.1 p.2)
 stays_lead (Closing kind pre ∷ items) at (k ∷ inner) outer seen t c n h =
     let s = state_of (k ∷ (inner ++ outer)) seen in
@@ -251,7 +251,7 @@ last_internal (Closing kind pre) [] s f n h =
     let z : (if false then false else false) ≡ true = ap (λ v. if v then false else false) (sym other) ∙ m.1 in
     cc
 
--- the items at places that pass
+-- the items at positions that pass
 abbrev pub picked : (ℕ → Bool) → ℕ → List PlainItem → List PlainItem
 picked u at [] = []
 picked u at (x ∷ items) = cond (u at) (x ∷ picked u (at + 1) items) (picked u (at + 1) items)
@@ -341,7 +341,7 @@ module _ (whole : List PlainItem) (y : PlainItem) (rest : List PlainItem) (from 
     opens = opens_after-snoc done x [] 0 at (a.here ∙ sym (zero-add (length done))) ∙ ap (opens_with x at) a.opens ∙ o;
     range = r;
     others = others;
-    kinds = ap (map (λ (n : Open). n.kind)) (sym o) ∙ kinds_after (x ∷ []) at (inner ++ outer) s p (ap (λ v. followed 1 v (λ next. Ok next)) g) a.kinds;
+    kinds = ap (map (λ (n : Open). n.kind)) (sym o) ∙ kinds_after (x ∷ []) at (inner ++ outer) s p (ap (λ v. outcome_then 1 v (λ next. Ok next)) g) a.kinds;
     leads = later;
   }
 

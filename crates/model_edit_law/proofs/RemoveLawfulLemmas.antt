@@ -13,7 +13,7 @@ use Rattle.ve_kinds.specs.Table.{kind_same, is_content_branch}
 use Rattle.model_items.proofs.SameLemmas.{Means-kind_same}
 use Rattle.model_items.specs.declared.law_fault.LawFault.{LawFault}
 use Rattle.model_items.specs.declared.law_fault.LawFault.TheVariants.{Unlawful}
-use Rattle.model_items.specs.Law.{State, start, finish, step, followed, after, Lawful}
+use Rattle.model_items.specs.Law.{State, start, finish, step, outcome_then, after, Lawful}
 use Rattle.model_items.proofs.LawLemmas.{Ok-same, joined-ok, after_parts, after_whole, after_from_Lawful, piece_fits, closed_before}
 use Rattle.model_items.specs.Tree.{Open, opens_after, length_to_close}
 use Rattle.model_change.specs.Transaction.{Transaction, edited}
@@ -29,7 +29,7 @@ use Rattle.model_edit.specs.Remove.{is_bad_removal, Join, join_by, join_at, remo
 use Rattle.model_edit_law.proofs.RemoveLemmas.{if_ok_else}
 use Rattle.model_edit_law.proofs.RemoveKeptLemmas.{Stay, place_of, item_of, stays, stays_lead, through_none, first_stay, last_internal, picked, Both, Outer, walk}
 
--- edits from a later place on leave the first item
+-- edits from a later position on leave the first item
 skip_one : (edits : List Edit) (at end : ℕ) (x : PlainItem) (items : List PlainItem) → Rising (at + 1) end edits →
     substituted_from at (x ∷ items) edits ≡ x ∷ substituted_from (at + 1) items edits
 skip_one [] at end x items h = refl
@@ -64,7 +64,7 @@ picked_stays u (x ∷ items) rest at =
           ap (λ n. take n (x ∷ L) ++ ([] ++ substituted_from (at + 1) (drop 1 (drop n (x ∷ L))) (map (λ n. Change n 1 []) E))) z ∙ later)
     ]
 
--- nodes that opened before a place
+-- nodes that opened before a position
 abbrev Before : ℕ → List Open → Type 0
 Before at [] = Unit {0}
 Before at (n ∷ nodes) = (n.from < at) × Before at nodes
@@ -240,7 +240,8 @@ joining (Some (Closing k pre)) (Some (Closing l pre')) closing j h = cc
 some_item : {x y : PlainItem} → ◌≡◌ {A = Option PlainItem} (Some x) (Some y) → x ≡ y
 some_item h = cc
 
--- the two states round a range of which a closing and an opening stay, and where the second branch ends
+-- the two states round a range of which a closing and an opening stay, and where the second branch
+-- ends
 record Meeting (items : List PlainItem) (from to : ℕ) (p : Parts items from to) (j : Join) : Type 0 where
   pub base : List Kind
   pub before : p.before ≡ state_of (j.first ∷ base) (p.before).seen
@@ -347,7 +348,7 @@ joined_changed items from to p j lawful m =
     let b = state_of (j.second ∷ m.base) seen in
     let u = state_of m.base seen in
     let closes_with : (k : Kind) (pre : List ℕ) → after (state_of (k ∷ m.base) seen) (Closing k pre ∷ []) ≡ Ok u =
-    λ k pre. ap (λ b. followed 1 (if b then Ok u else Err (Unlawful 0)) (λ next. Ok next)) (Means-kind_same.itself k) in
+    λ k pre. ap (λ b. outcome_then 1 (if b then Ok u else Err (Unlawful 0)) (λ next. Ok next)) (Means-kind_same.itself k) in
     let old_inside : after p.later c.inside ≡ Ok b = ap (λ v. after v c.inside) m.later ∙ c.kept j.second m.base seen (HoldsSame-itself j.second) (omega arith) in
     let new_inside : after p.before c.inside ≡ Ok a = ap (λ v. after v c.inside) m.before ∙ c.kept j.first m.base seen (HoldsSame-content j.second j.first m.content' m.content) (omega arith) in
     let old_end : after p.later (c.inside ++ old ∷ []) ≡ Ok u = after_whole c.inside (old ∷ []) p.later b u old_inside (closes_with j.second c.pre) in

@@ -1,4 +1,4 @@
--- What edits make of a worked list: `<p>ab</p><h2>cd</h2>`.
+-- The results of edits on a worked list: `<p>ab</p><h2>cd</h2>`.
 use Rattle.std.proofs.Common.{◌≡◌, List, [], ◌∷◌, ◌++◌, None, refl}
 use Rattle.std.specs.Prelude.{codes}
 use Rattle.ve_kinds.specs.declared.kind.Kind.TheVariants.{P, H2}

@@ -1,4 +1,4 @@
--- What each edit makes of the list.
+-- The result of each edit of a list.
 use Rattle.std.specs.Prelude.{filter, filter_map, flat_map, slice_get, slice_range}
 use Rattle.std.specs.List.{cons_option, range_with_len, enumerate_from}
 use Rattle.std.proofs.Common.{◌≡◌, inl, inr, ℕ, zero, suc, ◌+◌, ◌-◌, ◌<◌, ◌≤◌, Bool, true, false, cond, not, ◌&&◌, if◌then◌else◌, nat_le, List, [], ◌∷◌, ◌++◌, length, map, take, drop, Option, Some, None, Ok, refl, sym, ap, ◌∙◌, subst, arith}
@@ -128,7 +128,7 @@ insertion_puts items at pieces t h =
         let new = reopened (take j (openings_at items at)) placed in
         record { levels = j; out = e; list = ap (λ v. edited v items) (sym (Ok-same {E = BuildCause} _ t h)) ∙ put items at new within }
 
--- text is content at every place
+-- text is content at every position
 text_is_content : (marks : List Mark) (text : List ℕ) → is_content_pieces (text_pieces marks text) ≡ true
 text_is_content marks [] = refl
 text_is_content marks (c ∷ text) = text_is_content marks text
@@ -174,7 +174,7 @@ take_more (suc a) b (suc n) [] e = none b
     none (suc b) = refl
 take_more (suc a) b (suc n) (x ∷ xs) e = ap (λ v. x ∷ v) (take_more a b n xs (omega arith))
 
--- a walk over the places of a range, of which the list is known
+-- a walk over the positions of a range, of which the list is known
 some_at : (whole : List PlainItem) (at : ℕ) (x : PlainItem) (rest : List PlainItem) → drop at whole ≡ x ∷ rest → slice_get whole at ≡ Some x
 some_at [] zero x rest h = cc
 some_at [] (suc at) x rest h = cc

@@ -232,7 +232,7 @@ module _ (items : List PlainItem) (at row : ℕ) (g : Grid) (lawful : Lawful ite
       ∙ sym (sections_round items without p n row some lawful kinds ends (kids_of (Tr ∷ [])) sections 0 row (suc at) (partner items at) (omega arith) many
       (children_of_stand items kinds Table at lawful s.table) all)
 
-  -- the table still opens at its place
+  -- the table still opens at its position
   pub opens_still : passes (is_opening_of Table) (slice_get without at) ≡ true
   opens_still =
       let a = within.0 in

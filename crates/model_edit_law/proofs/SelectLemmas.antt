@@ -66,7 +66,7 @@ offsets_keep_order t low high = record {
 
 -- neighbours
 
--- at a place past the offset no more items come before it
+-- at a position past the offset no more items come before it
 none_left : (offset at : ℕ) (ops : Transaction) → offset ≤ at → items_before Left offset at ops ≡ 0
 none_left offset at [] h = refl
 none_left offset at (Retain count ∷ ops) h = let rest = none_left offset (at + count) ops (omega arith) in omega arith
@@ -85,7 +85,7 @@ none_right offset at (Replace removed inserted ∷ ops) h =
     ap (λ b. (if b then length inserted else 0) + items_before Right offset (at + length removed) ops) here ∙ omega arith
 none_right offset at (Attribute change ∷ ops) h = none_right offset at ops h
 
--- a place that comes of a choice
+-- a position that comes of a choice
 place_by : (b : Bool) (at to : ℕ) (o : Option ℕ) (n : ℕ) → (if b then Some at else option_map (λ p. n + p) o) ≡ Some to →
     ((b ≡ true) × (at ≡ to)) ⊎ ((b ≡ false) × ((p : ℕ) × (o ≡ Some p) × (n + p ≡ to)))
 place_by true at to o n h = let e : at ≡ to = cc in inl (refl, e)
@@ -98,7 +98,7 @@ place_after true to o n h = cc
 place_after false to None n h = cc
 place_after false to (Some p) n h = let e : n + p ≡ to = cc in (refl, (p, refl, e))
 
--- the operations begin at old place `start`
+-- the operations begin at old position `start`
 to_its_right : (ops : Transaction) (start at to : ℕ) → new_place ops at ≡ Some to → items_before Right (start + at) start ops ≡ to
 to_its_right [] start at to h = cc
 to_its_right (Retain count ∷ ops) start at to h =

@@ -1,4 +1,5 @@
--- The transactions of marking and unmarking, of converting and of setting an attribute are in normal form, and apply.
+-- The transactions of marking and unmarking, of converting and of setting an attribute are in
+-- normal form, and apply.
 use Rattle.std.specs.Prelude.{flat_map, slice_get}
 use Rattle.std.proofs.Common.{◌≡◌, ℕ, zero, suc, ◌+◌, ◌-◌, ◌<◌, ◌≤◌, Bool, true, false, not, ◌&&◌, if◌then◌else◌, nat_lt, nat_le, List, [], ◌∷◌, ◌++◌, length, take, drop, Option, Some, None, Result, Ok, Err, refl, sym, ap, ◌∙◌, subst, arith}
 use Rattle.std.proofs.lemmas.Bool.{and_parts, and_from, or_parts, leb-false, ltb-false}

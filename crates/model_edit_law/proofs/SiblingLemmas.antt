@@ -1,4 +1,5 @@
--- A list without one node: in each other node stand the same nodes but for that one, and those after it are moved.
+-- A list without one node: in each other node stand the same nodes but for that one, and those
+-- after it are moved.
 use Rattle.std.specs.Prelude.{filter, filter_map}
 use Rattle.std.specs.List.{cons_option}
 use Rattle.std.proofs.Common.{◌≡◌, ◌⊎◌, inl, inr, ℕ, zero, suc, ◌+◌, ◌-◌, ◌<◌, ◌≤◌, Bool, true, false, cond, if◌then◌else◌, nat_lt, List, [], ◌∷◌, ◌++◌, length, map, drop, Option, Some, None, refl, sym, ap, ◌∙◌, subst, arith, length-append, length-drop}
@@ -44,7 +45,7 @@ children_same xs ys at e =
     ∙ ap (nodes_in 0 (suc at)) (drop_shapes (suc at) xs ∙ ap (drop (suc at)) e ∙ sym (drop_shapes (suc at) ys))
     ∙ sym (siblings-shapes 0 (suc at) (drop (suc at) ys))
 
--- a place where `n` items from the place p on are taken out, and a node there
+-- a position where `n` items from the position p on are taken out, and a node there
 abbrev pub place_without : (p n at : ℕ) → ℕ
 place_without p n at = if nat_lt at p then at else at - n
 

@@ -12,7 +12,7 @@ use Rattle.model_change.specs.Attributes.{value_of, attrs_changed, position_kept
 use Rattle.model_edit.specs.declared.grid_cell.GridCell.{GridCell}
 use Rattle.model_edit.specs.Causes.{TableCause}
 use Rattle.ve_base.specs.Limits.{max_row_span, max_column_span}
-use Rattle.model_edit.specs.Grid.{TableRow, row_cells, decimal_number, span_by, span_in, cell_span, placed, is_crooked, with_row, with_rows}
+use Rattle.model_edit.specs.Grid.{TableRow, row_cells, decimal_number, span_by, span_in, cell_span, placed_cell, is_crooked, with_row, with_rows}
 use Rattle.model_edit_law.specs.Spans.{CellSpan, cell_span_at, span_after}
 use Rattle.model_edit_law.proofs.SpanLemmas.{span_written}
 use Rattle.model_edit_law.proofs.TablePlaceLemmas.{if_ok_else}
@@ -50,7 +50,7 @@ row_placed : (items : List PlainItem) (row left end : ℕ) (nodes : List Open) (
     ((c : GridCell) → Among c before → Among c cells) × AllPlaced items cells row nodes
 row_placed items row left end [] before cells h = let e : before ≡ cells = cc in ((λ c a. subst (Among c) e a), tt)
 row_placed items row left end (n ∷ nodes) before cells h =
-    let one = placed items before row end n in
+    let one = placed_cell items before row end n in
     let p = if_ok_else (is_crooked left before one) _ _ cells h in
     let r = row_placed items row left (one.column + one.columns) nodes (before ++ one ∷ []) cells p.1 in (
       (λ c a. r.0 c (Among-left c before (one ∷ []) a)),

@@ -87,7 +87,7 @@ may_here items kind at name free cell o =
     ap (may_set name) (drop_at items at (Opening kind o.head o.marks o.pre o.origin o.generated) o.here)
     ∙ and_from (is_element kind) (not (is_reserved name)) (cell_is_element kind cell) (ap not free)
 
--- each stands before a place
+-- each stands before a position
 abbrev Ups : ℕ → List GridCell → Type 0
 Ups place [] = Unit {0}
 Ups place (c ∷ cells) = (suc c.at ≤ place) × Ups place cells
@@ -155,7 +155,7 @@ place_after items kinds low high (one ∷ next ∷ rows) zero (suc k) r c h less
 place_after items kinds low high (one ∷ next ∷ rows) (suc i) (suc k) r c h less =
     place_after items kinds (end_of_node items one.at) high (next ∷ rows) i k r c.2 h (omega arith)
 
--- cells of rows above a place
+-- cells of rows above a position
 spanning_up : (items : List PlainItem) (rows : List TableRow) (row place : ℕ) (cells : List GridCell) → Homes items rows cells →
     ((i : ℕ) (r : TableRow) → slice_get rows i ≡ Some r → i < row → suc (partner items r.at) ≤ place) → Ups place (filter (spans_row row) cells)
 spanning_up items rows row place [] h g = tt
@@ -302,7 +302,7 @@ col_out_fine items at column t lawful h =
     (fine_each items edits (InOrder-within (suc at) 0 (partner items at) (length items) edits (omega arith) (omega arith) (col_out_order items cells (suc at) (partner items at) chain))
     (col_out_may items cells (suc at) (partner items at) chain))
 
--- cells that all lie between two places
+-- cells that all lie between two positions
 abbrev pub Between : List PlainItem → (low high : ℕ) → List GridCell → Type 0
 Between items low high [] = Unit {0}
 Between items low high (c ∷ cells) = (low ≤ c.at) × (end_of_node items c.at ≤ high) × Between items low high cells
@@ -366,7 +366,7 @@ none_spans items rows index column (cell ∷ cells) h n =
     and_false true false e h = cc
     and_false false b e h = refl
 
--- the new cell's place is in the row
+-- the new cell's position is in the row
 pub place_between : (items : List PlainItem) (row : TableRow) (column low : ℕ) (cells : List GridCell) → Chain cell_at items cell_kinds low (partner items row.at) cells →
     (low ≤ cell_place items row column cells) × (cell_place items row column cells ≤ partner items row.at)
 place_between items row column low [] c = (c, omega arith)

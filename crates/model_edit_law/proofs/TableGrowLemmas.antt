@@ -4,7 +4,7 @@ use Rattle.std.specs.List.{list_any, range_with_len, enumerate_from}
 use Rattle.std.proofs.lemmas.Bool.{and_parts, and_from, or_parts}
 use Rattle.ve_kinds.specs.declared.kind.Kind.TheVariants.{Th, Tr, Td, P, InternalList}
 use Rattle.ve_kinds.specs.Table.{may_hold, is_among, kind_same}
-use Rattle.model_items.specs.Law.{top, opened, State, start, finish, may_open, step, followed, after, verdict, verdict_at, Lawful}
+use Rattle.model_items.specs.Law.{top, state_opened, State, start, finish, may_open, step, outcome_then, after, verdict, verdict_at, Lawful}
 use Rattle.model_edit_law.proofs.BracketLemmas.{HoldsSame-itself, state_of, Leads, leads_cons, leads_append, opened_leads, node_parts}
 use Rattle.model_edit_law.proofs.EditLemmas.{take-whole, edited-transaction_from, order_ends}
 use Rattle.model_edit.specs.Grid.{covers_row, TableRow, Grid, grid, table_rows, covers_column}
@@ -49,7 +49,7 @@ skip_first (Set place name to ∷ edits) at end x items h =
     let e : place - at ≡ suc (place - suc at) = omega arith in
     ap (λ n. take n (x ∷ items) ++ substituted_from place (on_first (item_changed (setting name to (drop n (x ∷ items)))) (drop n (x ∷ items))) edits) e
 
--- what is put in at a place leads on from the state there
+-- what is put in at a position leads on from the state there
 abbrev EachLed : List PlainItem → List Edit → Type 0
 EachLed whole [] = Unit {0}
 EachLed whole (Change place count inserted ∷ edits) =
@@ -99,7 +99,7 @@ led whole (Set place name to ∷ edits) n end s o w m r h =
     let past : after start (take (suc place) whole) ≡ Ok q.0 =
     ap (after start) (take_split place 1 (suc place) whole z) ∙ after_whole (take place whole) (take 1 (drop place whole)) start p.0 q.0 there (ap (after p.0) one ∙ q.1) in
     let c = setting name to rest in
-    let changed : after p.0 (item_changed c x.0 ∷ []) ≡ Ok q.0 = ap (λ v. followed 1 v (λ next. Ok next)) (same_step c p.0 x.0) ∙ q.1 in
+    let changed : after p.0 (item_changed c x.0 ∷ []) ≡ Ok q.0 = ap (λ v. outcome_then 1 v (λ next. Ok next)) (same_step c p.0 x.0) ∙ q.1 in
     let later = led whole edits (suc place) end q.0 o.1 w m past q.2 in
     let tail : substituted_from place (on_first (item_changed c) rest) edits ≡ item_changed c x.0 ∷ substituted_from (suc place) (drop (suc place) whole) edits =
     ap (λ v. substituted_from place (on_first (item_changed c) v) edits) e1 ∙ skip_first edits place end (item_changed c x.0) (drop (suc place) whole) o.1 in
@@ -233,7 +233,7 @@ row_end_may items at lawful o s h =
     take_split at (suc (length c.inside)) (partner items at) items (omega arith)
     ∙ ap (λ v. take at items ++ v) (ap (take (suc (length c.inside))) (drop_at items at x o.here) ∙ ap (λ v. x ∷ take (length c.inside) v) c.whole ∙ ap (λ v. x ∷ v) (take-whole c.inside _)) in
     let inside : after p.before (x ∷ c.inside) ≡ Ok a =
-    ap (λ r. followed 1 r (λ next. after next c.inside)) (p.allowed.1 ∙ ap Ok st.2) ∙ ap (λ r. Rattle.model_items.specs.Law.outcome_moved 1 r) (c.kept Tr (p.before).stack (p.before).seen (HoldsSame-itself Tr) (omega arith)) in
+    ap (λ r. outcome_then 1 r (λ next. after next c.inside)) (p.allowed.1 ∙ ap Ok st.2) ∙ ap (λ r. Rattle.model_items.specs.Law.outcome_moved 1 r) (c.kept Tr (p.before).stack (p.before).seen (HoldsSame-itself Tr) (omega arith)) in
     let e : a ≡ s = Ok-same {E = LawFault} a s (sym (after_whole (take at items) (x ∷ c.inside) start p.before a p.reached inside) ∙ ap (after start) (sym cut) ∙ h) in
     subst (λ (v : State). may_open v Td ≡ true) e refl
 

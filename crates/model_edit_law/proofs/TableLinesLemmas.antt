@@ -20,12 +20,13 @@ section_length : (nodes : List Open) → length (section_rows nodes) ≡ length 
 section_length [] = refl
 section_length (o ∷ nodes) = ap suc (section_length nodes)
 
--- `new` is a list without the row of number `gone`, which are `n` items from the place p on.
+-- `new` is a list without the row of number `gone`, which are `n` items from the position p on.
 module _ (items new : List PlainItem) (p n gone : ℕ) where
   abbrev fm : List Open → List Open
   fm nodes = filter_map (node_without p n) nodes
 
-  -- a row that stays, of number i, has its cells still, and above the one that goes their spans are less where they reached it
+  -- a row that stays, of number i, has its cells still, and above the one that goes their spans are
+  -- less where they reached it
   pub record Kept (i : ℕ) (r : TableRow) : Type 0 where
     pub outside : Outside p n r.at
     pub above : i < gone → map (cell_span_at new) (row_cells new (place_without p n r.at)) ≡ map (span_after gone i) (map (cell_span_at items) (row_cells items r.at))

@@ -19,9 +19,9 @@ use Rattle.model_edit_law.proofs.BracketLemmas.{node_parts, partner-opening, sli
 use Rattle.model_edit.specs.declared.grid_cell.GridCell.{GridCell}
 use Rattle.model_edit.specs.Causes.{TableCause, NotTable}
 use Rattle.ve_base.specs.Limits.{max_row_span}
-use Rattle.model_edit.specs.Grid.{children_of, TableRow, section_rows, table_rows, row_cells, placed, is_crooked, number_after, decimal_number, span_by, span_in, cell_span, with_row, with_rows, Grid, grid_with, grid}
+use Rattle.model_edit.specs.Grid.{children_of, TableRow, section_rows, table_rows, row_cells, placed_cell, is_crooked, number_after, decimal_number, span_by, span_in, cell_span, with_row, with_rows, Grid, grid_with, grid}
 
--- a node of the kind begins at the place
+-- a node of the kind begins at the position
 pub record Opens (items : List PlainItem) (kind : Kind) (at : ℕ) : Type 0 where
   pub head : Head
   pub marks : List Mark
@@ -39,7 +39,7 @@ opens_there items kind head marks pre origin generated at lawful h =
     let far = p.its_partner in
     record { head = head; marks = marks; pre = pre; origin = origin; generated = generated; here = h; ahead = omega arith; within = p.within }
 
--- nodes side by side, from one place to another
+-- nodes side by side, from one position to another
 abbrev pub Kids : List PlainItem → (low high : ℕ) → List Open → Type 0
 Kids items low high [] = low ≤ high
 Kids items low high (n ∷ nodes) = (low ≤ n.from) × Opens items n.kind n.from × Kids items (end_of_node items n.from) high nodes
@@ -275,7 +275,7 @@ row_cells_stand items rows index left end low middle high row [] before cells na
     let e : before ≡ cells = cc in
     subst (Cells items rows low high) e (record { chain = Chain-within cell_at items cell_kinds low low middle high before (omega arith) c b.chain; homes = b.homes })
 row_cells_stand items rows index left end low middle high row (n ∷ nodes) before cells named inside inside' c b h =
-    let one = placed items before index end n in
+    let one = placed_cell items before index end n in
     let p = if_ok_else (is_crooked left before one) _ _ cells h in
     let next = end_of_node items n.from in
     let a = c.0 in

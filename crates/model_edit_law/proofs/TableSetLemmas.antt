@@ -65,7 +65,7 @@ Among c [] = ⊥
 Among c (x ∷ cells) = (x ≡ c) ⊎ Among c cells
 
 module _ (name : List ℕ) (f : GridCell → Option (List ℕ)) where
-  -- what stands at a place after the cells' attributes are set
+  -- what stands at a position after the cells' attributes are set
   abbrev pub set_at : ℕ → List GridCell → Option PlainItem → Option PlainItem
   set_at q [] o = o
   set_at q (c ∷ cells) o = set_at q cells (if c.at == q then set_in name (f c) o else o)

@@ -11,7 +11,7 @@ use Rattle.model_items.specs.declared.plain_item.PlainItem.{PlainItem}
 use Rattle.model_items.specs.declared.plain_item.PlainItem.TheVariants.{Char, Opening, Closing}
 use Rattle.ve_kinds.specs.Table.{kind_same, may_hold, is_content_branch}
 use Rattle.model_items.specs.declared.law_fault.LawFault.TheVariants.{Unlawful, TooDeep}
-use Rattle.model_items.specs.Law.{State, start, finish, top, is_empty, is_over, may_open, step, followed, outcome_moved, after, verdict, Lawful}
+use Rattle.model_items.specs.Law.{State, start, finish, top, is_empty, is_over, may_open, step, outcome_then, outcome_moved, after, verdict, Lawful}
 use Rattle.model_items.proofs.LawLemmas.{if_ok, Ok-same, joined-ok, after_whole, after_parts, after_from_Lawful, piece_fits, piece_fails}
 use Rattle.model_change.specs.Transaction.{Transaction, edited}
 use Rattle.model_edit.specs.Causes.{BuildCause}
@@ -90,7 +90,7 @@ item_follows s x t h = elim (cases_Bool (is_over s)) [ inr other ↦ other | inl
 chars_lead : (marks : List Mark) (text : List ℕ) (s : State) → is_content_branch (top s.stack) ≡ true → after s (text_pieces marks text) ≡ Ok s
 chars_lead marks [] s h = refl
 chars_lead marks (c ∷ text) s h =
-    ap (λ b. followed 1 (if b then Ok s else Err (Unlawful 0)) (λ next. after next (text_pieces marks text))) h ∙ ap (outcome_moved 1) (chars_lead marks text s h)
+    ap (λ b. outcome_then 1 (if b then Ok s else Err (Unlawful 0)) (λ next. after next (text_pieces marks text))) h ∙ ap (outcome_moved 1) (chars_lead marks text s h)
 
 paragraph_leads : (marks : List Mark) (text : List ℕ) (s : State) → may_hold (top s.stack) P ≡ true → is_over s ≡ false →
     Leads (after s (opening_of P [] ∷ text_pieces marks text ++ closing_of P ∷ [])) s

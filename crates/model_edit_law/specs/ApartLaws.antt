@@ -19,7 +19,7 @@ use Rattle.model_edit.specs.Lists.{indent, outdent}
 use Rattle.model_edit.specs.Tables.{row_in, col_in, row_out, col_out}
 use Rattle.model_edit_law.specs.Fine.{Fine}
 
--- what edits insert, one piece after the other
+-- the pieces that edits insert, one after the other
 abbrev pub inserted_pieces : List Edit → List PlainItem
 inserted_pieces [] = []
 inserted_pieces (Change place count inserted ∷ edits) = inserted ++ inserted_pieces edits
@@ -43,7 +43,8 @@ abbrev pub FineStaysApart : Type 0
 FineStaysApart = (items : List PlainItem) (t : Transaction) → Fine items t → AllNamesApart items → InsertedApart t →
     AllNamesApart (edited t items)
 
--- Insertion and split open copies of the list's openings. What is inserted has names apart where they have, and the pieces.
+-- Insertion and split open copies of the list's openings. What is inserted has names apart where
+-- they have, and the pieces.
 abbrev pub InsertionIsApart : Type 0
 InsertionIsApart = (items : List PlainItem) (at : ℕ) (pieces : List PlainItem) (t : Transaction) → AllNamesApart items →
     AllNamesApart pieces → insertion items at pieces ≡ Ok t → InsertedApart t
@@ -78,7 +79,7 @@ abbrev pub ConvertIsApart : Type 0
 ConvertIsApart = (items : List PlainItem) (at : ℕ) (kind : Kind) (t : Transaction) → AllNamesApart items → convert items at kind ≡ Ok t →
     InsertedApart t
 
--- What sets an attribute inserts nothing.
+-- Setting an attribute inserts nothing.
 abbrev pub AttributeIsApart : Type 0
 AttributeIsApart = (items : List PlainItem) (at : ℕ) (name : List ℕ) (to : Option (List ℕ)) (t : Transaction) →
     attribute items at name to ≡ Ok t → InsertedApart t
@@ -95,7 +96,8 @@ abbrev pub WrapIsApart : Type 0
 WrapIsApart = (items : List PlainItem) (from to : ℕ) (plan : WrapPlan) (t : Transaction) → PlanApart plan →
     wrap items from to plan ≡ Ok t → InsertedApart t
 
--- A list that an item begins by moving deeper has no attributes, and one that is continued after an item moved out is a copy.
+-- A list that an item begins by moving deeper has no attributes, and one that is continued after an
+-- item moved out is a copy.
 abbrev pub IndentIsApart : Type 0
 IndentIsApart = (items : List PlainItem) (at : ℕ) (t : Transaction) → indent items at ≡ Ok t → InsertedApart t
 

@@ -1,4 +1,4 @@
--- What every edit is: a transaction that cannot be written shorter, and that applies to the list.
+-- Every edit is a transaction that cannot be written shorter, and that applies to the list.
 use Rattle.std.specs.Prelude.{◌≡◌, ◌+◌, true, nat_le, List, length}
 use Rattle.ve_base.specs.Limits.{max_total_length}
 use Rattle.model_items.specs.declared.plain_item.PlainItem.{PlainItem}
@@ -13,12 +13,14 @@ pub record Fine (items : List PlainItem) (t : Transaction) : Type 0 where
   pub applies : Applies t items
   pub restorable : IsRestorable t items
 
--- Then it is in normal form exactly where the list's length and all that it inserts add up to at most 2^60.
+-- Then it is in normal form exactly where the list's length and all that it inserts add up to at
+-- most 2^60.
 abbrev pub FineIsNormal : Type 0
 FineIsNormal = (items : List PlainItem) (t : Transaction) → Fine items t →
     is_normal t ≡ nat_le (length items + length (all_inserted t)) max_total_length
 
--- Edits that stand in order, and set what may be set, are such a transaction, which gives the list with the edits made.
+-- Edits that stand in order, and set what may be set, are such a transaction, which gives the list
+-- with the edits made.
 abbrev pub EditsAreFine : Type 0
 EditsAreFine = (items : List PlainItem) (edits : List Edit) → InOrder 0 (length items) edits → MaySet 0 items edits →
     Fine items (transaction_of items edits)

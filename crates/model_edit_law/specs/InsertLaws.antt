@@ -1,4 +1,4 @@
--- What an insertion and a split keep.
+-- Laws of insertions and splits.
 use Rattle.std.specs.Prelude.{◌≡◌, ◌⊎◌, ℕ, Bool, true, false, not, ◌&&◌, List, [], ◌∷◌, Some, None, Ok}
 use Rattle.ve_kinds.specs.declared.kind.Kind.{Kind}
 use Rattle.ve_kinds.specs.declared.kind.Kind.TheVariants.{InternalList}
@@ -28,7 +28,8 @@ abbrev pub innermost : Kind → List Kind → Kind
 innermost parent [] = parent
 innermost parent (k ∷ opened) = k
 
--- Pieces are children of a kind: each item may stand where it does, and each bracket has its partner. How deep they nest is left out.
+-- Pieces are children of a kind: each item may stand where it does, and each bracket has its
+-- partner. How deep they nest is left out.
 abbrev pub are_children : Kind → List Kind → List PlainItem → Bool
 are_children parent [] [] = true
 are_children parent (k ∷ opened) [] = false

@@ -1,4 +1,4 @@
--- What moving a list item in and out keeps.
+-- Laws of moving a list item in and out.
 use Rattle.std.specs.Prelude.{◌≡◌, ◌≢◌, ℕ, suc, ◌-◌, Bool, true, if◌then◌else◌, List, filter, slice_get, Some, None, Ok, ◌⊎◌}
 use Rattle.ve_kinds.specs.declared.kind.Kind.TheVariants.{Li}
 use Rattle.model_items.specs.declared.plain_item.PlainItem.{PlainItem}

@@ -1,4 +1,4 @@
--- Where a caret goes from a place in content.
+-- Where a caret goes from a position in content.
 use Rattle.std.specs.Prelude.{◌≡◌, ◌↔◌, ℕ, ◌-◌, ◌<◌, ◌≤◌, true, List, length, slice_get, Some, None}
 use Rattle.model_items.specs.declared.plain_item.PlainItem.{PlainItem}
 use Rattle.model_items.specs.Law.{Lawful}
@@ -18,7 +18,8 @@ abbrev pub IsEnd : Dir → List PlainItem → ℕ → Type 0
 IsEnd Ahead items at = passes is_closing (slice_get items at) ≡ true
 IsEnd Back items at = passes is_opening (slice_get items (at - 1)) ≡ true
 
--- It goes farther, to an offset of the list at which the same nodes are open: it stays in its content branch.
+-- It goes farther, to an offset of the list at which the same nodes are open: it stays in its
+-- content branch.
 pub record CaretGoes (dir : Dir) (items : List PlainItem) (at to : ℕ) : Type 0 where
   pub farther : IsFarther dir at to
   pub within : to ≤ length items

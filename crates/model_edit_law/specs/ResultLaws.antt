@@ -1,4 +1,4 @@
--- What each edit makes of the list.
+-- The result of each edit of a list.
 use Rattle.std.specs.Prelude.{◌≡◌, ℕ, true, ◌+◌, ◌-◌, if◌then◌else◌, List, [], ◌∷◌, ◌++◌, map, take, drop, filter, filter_map, flat_map, slice_get, slice_range, Option, Some, None, Ok}
 use Rattle.std.specs.List.{enumerate_from}
 use Rattle.ve_kinds.specs.declared.kind.Kind.{Kind}
@@ -24,17 +24,19 @@ use Rattle.model_edit.specs.declared.grid_cell.GridCell.{GridCell}
 use Rattle.model_edit.specs.Grid.{Grid, grid, table_rows, covers_column}
 use Rattle.model_edit.specs.Tables.{row_in, row_in_edits, row_out, row_removed, set_rows, spans_row, col_in, column_edits, col_out, cell_removed}
 
--- `count` items from a place on replaced by others
+-- `count` items from a position on replaced by others
 abbrev pub replaced_at : (at count : ℕ) → (new items : List PlainItem) → List PlainItem
 replaced_at at count new items = take at items ++ (new ++ drop (at + count) items)
 
--- Typing in a content branch puts just the text at the place, with the given marks, and changes nothing else.
+-- Typing in a content branch puts just the text at the position, with the given marks, and changes
+-- nothing else.
 abbrev pub TypingPuts : Type 0
 TypingPuts = (items : List PlainItem) (at : ℕ) (marks : List Mark) (text : List ℕ) (t : Transaction) → is_content items at ≡ true →
     insertion items at (text_pieces marks text) ≡ Ok t → edited t items ≡ replaced_at at 0 (text_pieces marks text) items
 
--- An insertion puts the pieces at the place, in a paragraph where they are content outside of content branches. The open nodes that may not
--- hold them are closed before them, and opened again after them.
+-- An insertion puts the pieces at the position, in a paragraph where they are content outside of
+-- content branches. The open nodes that may not hold them are closed before them, and opened again
+-- after them.
 pub record IsPut (items : List PlainItem) (at : ℕ) (placed new : List PlainItem) : Type 0 where
   pub levels : ℕ
   pub out : levels_up placed (stack_at items at) ≡ Some levels
@@ -44,7 +46,7 @@ abbrev pub InsertionPuts : Type 0
 InsertionPuts = (items : List PlainItem) (at : ℕ) (pieces : List PlainItem) (t : Transaction) → insertion items at pieces ≡ Ok t →
     IsPut items at (in_paragraph (kind_at items at) pieces) (edited t items)
 
--- A split closes the innermost open nodes at the place, and opens them again.
+-- A split closes the innermost open nodes at the position, and opens them again.
 abbrev pub SplitParts : Type 0
 SplitParts = (items : List PlainItem) (at depth : ℕ) (t : Transaction) → split items at depth ≡ Ok t →
     edited t items ≡ replaced_at at 0 (reopened (take depth (openings_at items at)) []) items
@@ -62,8 +64,8 @@ abbrev pub without_range : List PlainItem → (from to : ℕ) → Option Join �
 without_range items from to None = replaced_at from (to - from) (unmatched_items items from to) items
 without_range items from to (Some join) = replaced_at from (to - from) [] (ended_alike join items)
 
--- A removal takes the range but for its unmatched brackets. Where these join two branches of content, it takes the whole range, and the
--- branches are one of the first one's kind.
+-- A removal takes the range but for its unmatched brackets. Where these join two branches of
+-- content, it takes the whole range, and the branches are one of the first one's kind.
 abbrev pub RemovalTakes : Type 0
 RemovalTakes = (items : List PlainItem) (from to : ℕ) (t : Transaction) → Lawful items → removal items from to ≡ Ok t →
     edited t items ≡ without_range items from to (join_at items (unmatched_places items from to))
@@ -85,13 +87,14 @@ abbrev pub ConvertConverts : Type 0
 ConvertConverts = (items : List PlainItem) (at : ℕ) (kind : Kind) (t : Transaction) → Lawful items → convert items at kind ≡ Ok t →
     edited t items ≡ replaced_at at 1 (converted kind (slice_get items at)) (replaced_at (partner items at) 1 (closing_of kind ∷ []) items)
 
--- Of the opening at a place one attribute is set, and nothing else changes.
+-- Of the opening at a position one attribute is set, and nothing else changes.
 abbrev pub AttributeSets : Type 0
 AttributeSets = (items : List PlainItem) (at : ℕ) (name : List ℕ) (to : Option (List ℕ)) (t : Transaction) →
     attribute items at name to ≡ Ok t →
     edited t items ≡ replaced_at at 1 (map (item_changed (setting name to (drop at items))) (take 1 (drop at items))) items
 
--- All others are the list with their edits made: of brackets that are wrapped round nodes, of list items, and of tables.
+-- All others are the list with their edits made: of brackets that are wrapped round nodes, of list
+-- items, and of tables.
 abbrev pub WrapWraps : Type 0
 WrapWraps = (items : List PlainItem) (from to : ℕ) (plan : WrapPlan) (t : Transaction) → Lawful items → wrap items from to plan ≡ Ok t →
     edited t items ≡ substituted items (wrap_edits items from to plan)

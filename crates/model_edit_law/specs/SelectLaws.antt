@@ -24,13 +24,14 @@ pub record KeptInOrder (t : Transaction) (low high : ℕ) : Type 0 where
 abbrev pub OffsetsKeepOrder : Type 0
 OffsetsKeepOrder = (t : Transaction) (low high : ℕ) → KeptInOrder t low high
 
--- Beside a retained item an offset stays beside it: just before it one that keeps to the right, just after it one that keeps to the left.
+-- Beside a retained item an offset stays beside it: just before it one that keeps to the right,
+-- just after it one that keeps to the left.
 abbrev pub OffsetsKeepNeighbours : Type 0
 OffsetsKeepNeighbours = (t : Transaction) (at to : ℕ) → new_place t at ≡ Some to →
     (translate t at Right ≡ to) × (translate t (suc at) Left ≡ suc to)
 
--- Before the active range an offset stays, and after it it moves by the difference of the lengths. At an end of the range it does so
--- on the outer side.
+-- Before the active range an offset stays, and after it it moves by the difference of the lengths.
+-- At an end of the range it does so on the outer side.
 pub record StaysOutside (t : Transaction) (offset : ℕ) : Type 0 where
   pub before : offset < start_of t → (bias : Bias) → translate t offset bias ≡ offset
   pub past : end_of t < offset → offset ≤ old_length t → (bias : Bias) → translate t offset bias + old_length t ≡ offset + new_length t
@@ -40,7 +41,7 @@ pub record StaysOutside (t : Transaction) (offset : ℕ) : Type 0 where
 abbrev pub OffsetsOutsideStay : Type 0
 OffsetsOutsideStay = (t : Transaction) (offset : ℕ) → StaysOutside t offset
 
--- the item at a place stands between the two ends
+-- the item at a position stands between the two ends
 abbrev pub selects : Selection → ℕ → Bool
 selects s at = nat_le (min s.anchor s.focus) at && nat_lt at (max s.anchor s.focus)
 

@@ -1,4 +1,4 @@
--- What marking, converting and setting an attribute keep.
+-- Laws of marking, converting and setting an attribute.
 use Rattle.std.specs.Prelude.{◌≡◌, ℕ, List, Option, Ok}
 use Rattle.ve_kinds.specs.declared.kind.Kind.{Kind}
 use Rattle.ve_base.specs.declared.marks.Mark.{Mark}
@@ -11,7 +11,8 @@ use Rattle.model_edit.specs.declared.wrap_plan.WrapPlan.{WrapPlan}
 use Rattle.model_edit.specs.Convert.{convert, attribute}
 use Rattle.model_edit.specs.Wrap.{wrap}
 
--- The transactions are reduced, apply, and can put back what they remove. Those that look for a bracket's partner ask for a lawful list.
+-- The transactions are reduced, apply, and can put back what they remove. Those that look for a
+-- bracket's partner ask for a lawful list.
 abbrev pub MarkingIsFine : Type 0
 MarkingIsFine = (items : List PlainItem) (from to : ℕ) (m : Mark) (t : Transaction) → marking items from to m ≡ Ok t → Fine items t
 

@@ -8,13 +8,13 @@ use Rattle.ve_base.specs.Limits.{max_row_span, max_column_span}
 use Rattle.model_edit.specs.Grid.{TableRow, table_rows, row_cells, cell_span}
 use Rattle.model_edit.specs.Layout.{Rectangle, has_row, has_column, without_column}
 
-abbrev pub covered : List Rectangle → ℕ → ℕ → Bool
-covered all row column = list_any (λ (r : Rectangle). has_row r row && has_column r column) all
+abbrev pub covers_cell : List Rectangle → ℕ → ℕ → Bool
+covers_cell all row column = list_any (λ (r : Rectangle). has_row r row && has_column r column) all
 
 -- the least free column, by a walk
 abbrev pub free_from : List Rectangle → (row column fuel : ℕ) → ℕ
 free_from all row column zero = column
-free_from all row column (suc fuel) = if covered all row column then free_from all row (suc column) fuel else column
+free_from all row column (suc fuel) = if covers_cell all row column then free_from all row (suc column) fuel else column
 
 abbrev pub width : List Rectangle → ℕ
 width cells = sum_by (λ (c : Rectangle). c.columns) cells

@@ -1,4 +1,4 @@
--- What the calls on tables keep.
+-- Laws of the calls on tables.
 use Rattle.std.specs.Prelude.{◌≡◌, ◌⊎◌, ℕ, ◌<◌, List, [], length, filter_map, Some, None, Result, Ok, Err}
 use Rattle.model_items.specs.declared.plain_item.PlainItem.{PlainItem}
 use Rattle.model_items.specs.declared.law_fault.LawFault.TheVariants.{TooDeep}
@@ -33,7 +33,8 @@ abbrev pub ColOutStaysLawful : Type 0
 ColOutStaysLawful = (items : List PlainItem) (at column : ℕ) (t : Transaction) → Lawful items → col_out items at column ≡ Ok t →
     Lawful (edited t items)
 
--- The rectangles of a table without a row, in which each cell was one high, are those without the row.
+-- The rectangles of a table without a row, in which each cell was one high, are those without the
+-- row.
 abbrev pub RowOutLays : Type 0
 RowOutLays = (lines : List Line) (gone : ℕ) (all : List Rectangle) → gone < length lines → LowIn gone all →
     lay 0 lines (Some []) ≡ Some all → lay 0 (lines_after gone gone 0 lines) (Some []) ≡ Some (filter_map (without_row gone) all)
@@ -53,7 +54,8 @@ abbrev pub laid_out : Result Grid TableCause → Result Layout TableCause
 laid_out (Err fault) = Err fault
 laid_out (Ok g) = Ok (layout_of g)
 
--- After a row is taken out a table's grid is the old one without the row, rectangle by rectangle in the same order.
+-- After a row is taken out a table's grid is the old one without the row, rectangle by rectangle in
+-- the same order.
 abbrev pub RowOutGrid : Type 0
 RowOutGrid = (items : List PlainItem) (at row : ℕ) (t : Transaction) (g : Grid) → Lawful items → grid items at ≡ Ok g →
     row_out items at row ≡ Ok t → laid_out (grid (edited t items) at) ≡ Ok (row_out_layout (layout_of g) row)

@@ -1,4 +1,5 @@
-// What edits, tables, list items, selections and carets keep. Each function does nothing, and its contract is a law that is proved.
+// Laws of edits, tables, list items, selections and carets. Each function does nothing, and its
+// contract is a law that is proved.
 ghost use Rattle.model_edit_law.specs.ApartLaws.{AttributeIsApart, ColInIsApart, ColOutIsApart, ConvertIsApart, EditsAreApart, EditsInsertPieces, EditsStayApart, FineStaysApart, IndentIsApart, InsertionIsApart, MarkingIsApart, OutdentIsApart, PlainTypingIsApart, RemovalIsApart, RowInIsApart, RowOutIsApart, SplitIsApart, TypingIsApart, UnmarkingIsApart, WrapIsApart};
 ghost use Rattle.model_edit_law.specs.Fine.{EditsAreFine, EditsSubstitute, FineIsNormal};
 ghost use Rattle.model_edit_law.specs.InsertLaws.{FragmentStaysLawful, InsertionIsFine, SplitIsFine, SplitStaysLawful, TypingStaysLawful};
@@ -10,19 +11,20 @@ ghost use Rattle.model_edit_law.specs.SelectLaws.{OffsetsKeepNeighbours, Offsets
 ghost use Rattle.model_edit_law.specs.ShapeLaws.{AttributeIsFine, AttributeStaysLawful, ConvertIsFine, ConvertStaysLawful, MarkingIsFine, MarkingStaysLawful, UnmarkingIsFine, UnmarkingStaysLawful, WrapIsFine};
 ghost use Rattle.model_edit_law.specs.TableLaws.{ColInIsFine, ColInStaysLawful, ColOutGrid, ColOutIsFine, ColOutLays, ColOutStaysLawful, GridLays, RowInIsFine, RowInStaysLawful, RowOutGrid, RowOutIsFine, RowOutLays, RowOutStaysLawful};
 
-/// Edits that stand in order are a transaction that cannot be written shorter, applies, can put back each
-/// attribute that it removes, and gives the list with the edits made. It is in normal form exactly where the
-/// list's length and what it inserts add up to at most 2^60.
+/// Edits that stand in order are a transaction that cannot be written shorter and applies. It can
+/// put back each attribute that it removes, and gives the list with the edits made. It is in normal
+/// form exactly where the list's length and what it inserts add up to at most 2^60.
 pub fn edits_are_one_transaction()
     ensures fine { EditsAreFine }
     ensures gives { EditsSubstitute }
     ensures normal { FineIsNormal }
 {}
 
-/// What each edit makes of a lawful list. Typing in a content branch puts just the text at its place, an
-/// insertion its pieces with the brackets round them, and a split the brackets alone; a removal takes its
-/// range but for the brackets that stay; marks change in their range, and a kind and an attribute at their
-/// places. Wraps, list items, rows and columns are the list with their edits made.
+/// The result of each edit of a lawful list. Typing in a content branch puts just the text at its
+/// position. An insertion puts its pieces there with the brackets round them, and a split the
+/// brackets alone. A removal takes its range but for the brackets that stay. Marks change in their
+/// range, and a kind and an attribute at their positions. Wraps, list items, rows and columns are
+/// the list with their edits made.
 pub fn edits_give()
     ensures typing { TypingPuts }
     ensures insertion { InsertionPuts }
@@ -76,7 +78,8 @@ pub fn removal_stays_lawful()
     ensures { RemovalStaysLawful }
 {}
 
-/// What sets and takes marks, converts a branch, sets an attribute or wraps nodes is a reduced transaction that applies.
+/// Setting and taking marks, converting a branch, setting an attribute and wrapping nodes each give
+/// a reduced transaction that applies.
 pub fn shapes_are_fine()
     ensures marking { MarkingIsFine }
     ensures unmarking { UnmarkingIsFine }
@@ -98,19 +101,22 @@ pub fn convert_stays_lawful()
     ensures { ConvertStaysLawful }
 {}
 
-/// Moving a list item deeper and out are reduced transactions that apply, and can put back what they remove.
+/// Moving a list item deeper and out are reduced transactions that apply, and can put back what
+/// they remove.
 pub fn moves_are_fine()
     ensures indent { IndentIsFine }
     ensures outdent { OutdentIsFine }
 {}
 
-/// An item moved in and out again: the list is as it was, where no whitespace was lost and the item did not join an empty list.
+/// An item moved in and out again: the list is as it was, where no whitespace was lost and the item
+/// did not join an empty list.
 #[tactic(auto, using(crate::proofs::ListLemmas::indent_is_undone))]
 pub fn indent_is_undone()
     ensures { IndentIsUndone }
 {}
 
-/// Moving an item deeper keeps characters and leaves in order, and a lawful list lawful, unless nodes are then nested over 100 deep.
+/// Moving an item deeper keeps characters and leaves in order, and a lawful list lawful, unless
+/// nodes are then nested over 100 deep.
 #[tactic(auto, using(crate::proofs::IndentLemmas::indent_keeps_text, crate::proofs::IndentLemmas::indent_stays_lawful))]
 pub fn indent_keeps()
     ensures text { IndentKeepsText }
@@ -124,7 +130,8 @@ pub fn outdent_keeps()
     ensures lawful { OutdentStaysLawful }
 {}
 
-/// Rows and columns put in and taken out are reduced transactions that apply, and can put back what they remove.
+/// Rows and columns put in and taken out are reduced transactions that apply, and can put back what
+/// they remove.
 pub fn tables_are_fine()
     ensures row_in { RowInIsFine }
     ensures col_in { ColInIsFine }
@@ -151,8 +158,8 @@ pub fn col_in_stays_lawful()
     ensures { ColInStaysLawful }
 {}
 
-/// A grid's rectangles are those that its rows' spans give; without a row they are those without the row, and without a column those without the
-/// column.
+/// A grid's rectangles are those that its rows' spans give; without a row they are those without
+/// the row, and without a column those without the column.
 #[tactic(auto, using(crate::proofs::LayLemmas::row_out_lays, crate::proofs::ColumnLemmas::col_out_lays, crate::proofs::LinkLemmas::grid_lays))]
 pub fn grids_lay()
     ensures grid { GridLays }
@@ -160,17 +167,17 @@ pub fn grids_lay()
     ensures col_out { ColOutLays }
 {}
 
-/// The grid of a table after a row or a column is taken out is the old one without it: each other cell keeps
-/// its place and its spans but for that row or column, in the same order.
+/// The grid of a table after a row or a column is taken out is the old one without it. Each other
+/// cell keeps its position and its spans but for that row or column, in the same order.
 #[tactic(auto, using(crate::proofs::RowOutGridLemmas::row_out_grid, crate::proofs::ColOutGridLemmas::col_out_grid))]
 pub fn outs_leave_the_others()
     ensures row { RowOutGrid }
     ensures column { ColOutGrid }
 {}
 
-/// The one transaction of edits inserts their pieces, one after the other. Where these have names apart, so
-/// has what it inserts; and edits in order leave names of the list apart, as each transaction does that is
-/// fine and inserts names apart.
+/// The one transaction of edits inserts their pieces, one after the other. Where these have names
+/// apart, so has what it inserts. Edits in order leave names of the list apart, as each reduced
+/// transaction does that applies and inserts names apart.
 pub fn edits_stay_apart()
     ensures pieces { EditsInsertPieces }
     ensures inserted { EditsAreApart }
@@ -178,7 +185,8 @@ pub fn edits_stay_apart()
     ensures fine { FineStaysApart }
 {}
 
-/// What an edit inserts has names apart, where the list has, and the pieces or nodes that are given.
+/// The items that an edit inserts have names apart, where the list has, and the pieces or nodes
+/// that are given.
 pub fn inserted_names_are_apart()
     ensures insertion { InsertionIsApart }
     ensures typing { TypingIsApart }
@@ -198,9 +206,9 @@ pub fn inserted_names_are_apart()
     ensures col_out { ColOutIsApart }
 {}
 
-/// After a transaction an offset stands in the new list, offsets keep their order, beside an item that is
-/// retained one stays beside it, and outside the active range each stays or moves by the difference of the
-/// lengths.
+/// After a transaction an offset stands in the new list, and offsets keep their order. An offset
+/// beside an item that is retained stays beside it. Outside the active range each stays or moves by
+/// the difference of the lengths.
 pub fn offsets_lead_on()
     ensures within { OffsetsStayWithin }
     ensures order { OffsetsKeepOrder }
@@ -208,13 +216,15 @@ pub fn offsets_lead_on()
     ensures outside { OffsetsOutsideStay }
 {}
 
-/// What a selection has of retained items it keeps, and no other one joins it; it never turns round.
+/// A selection keeps the retained items that it has, and no other one joins it. It never turns
+/// round.
 pub fn selections_lead_on()
     ensures items { SelectionKeepsItems }
     ensures direction { SelectionKeepsDirection }
 {}
 
-/// A caret in content goes farther, and stays in its content branch; it goes nowhere exactly at an end of the branch.
+/// A caret in content goes farther, and stays in its content branch; it goes nowhere exactly at an
+/// end of the branch.
 pub fn carets_stay_in_content()
     ensures branch { CaretStaysInBranch }
     ensures end { CaretStopsAtEnds }

@@ -1,14 +1,18 @@
-//! What edits of a list keep, for every list. It defines no edit: those are `model_edit`'s. There are
-//! definitions in specs/, of laws and of what they speak of:
+//! Laws of the edits of a list, for every list. It defines no edit: those are `model_edit`'s. There
+//! are definitions in specs/, of laws and of what they speak of:
 //!
-//! - `Fine`: every edit is one transaction that cannot be written shorter, applies, and can put back what it removes;
+//! - `Fine`: every edit is one transaction that cannot be written shorter, applies, and can put
+//!   back what it removes;
 //! - `ResultLaws`: what each edit makes of the list;
 //! - `ApartLaws`: what edits insert has names apart;
-//! - `InsertLaws`, `RemoveLaws`, `ShapeLaws`, `ListLaws`: that each edit leaves a lawful list lawful, and what it keeps of the text;
-//! - `Spans`, `TableLaws`: a table as the spans of its cells, and the grid after a row or a column is put in or taken out;
+//! - `InsertLaws`, `RemoveLaws`, `ShapeLaws`, `ListLaws`: that each edit leaves a lawful list
+//!   lawful, and what it keeps of the text;
+//! - `Spans`, `TableLaws`: a table as the spans of its cells, and the grid after a row or a column
+//!   is put in or taken out;
 //! - `SelectLaws`, `NextLaws`: where offsets, selections and carets go.
 //!
-//! The laws stand in `laws`: each public function there does nothing, and its contract is a law that is proved.
+//! The laws stand in `laws`: each public function there does nothing, and its contract is a law
+//! that is proved.
 #![tactic(auto)]
 
 mod laws;

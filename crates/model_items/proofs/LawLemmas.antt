@@ -1,4 +1,4 @@
--- The law of the piece, and that what follows a place decides the state there.
+-- The law of the piece, and that what follows a position decides the state there.
 use Rattle.std.proofs.Common.{◌≡◌, ℕ, suc, ◌+◌, ◌≤◌, Bool, true, false, not, ◌&&◌, ◌||◌, if◌then◌else◌, nat_lt, List, [], ◌∷◌, ◌++◌, length, Some, None, Result, Ok, Err, refl, sym, ap, ◌∙◌, subst, inl, inr, arith, zero-add, one-add}
 use Rattle.std.proofs.lemmas.Bool.{and_parts, cases_Bool, not-true}
 use Rattle.std.proofs.lemmas.List.{length-append}
@@ -10,17 +10,17 @@ use Rattle.ve_kinds.specs.Table.{kind_same, may_hold, is_content_branch}
 use Rattle.model_items.proofs.SameLemmas.{Means-kind_same}
 use Rattle.model_items.specs.declared.law_fault.LawFault.{LawFault}
 use Rattle.model_items.specs.declared.law_fault.LawFault.TheVariants.{Unlawful, TooDeep}
-use Rattle.model_items.specs.Law.{State, start, finish, top, is_empty, is_over, may_open, opened, closed, step, fault_moved, outcome_moved, followed, after, verdict_at, verdict, Lawful, fault_place, IsFirstOffence, AtItem, AtEnd, VerdictIsFirstOffence, PieceDiffers, PieceFails, PieceFits, StateDecided}
+use Rattle.model_items.specs.Law.{State, start, finish, top, is_empty, is_over, may_open, state_opened, state_closed, step, fault_moved, outcome_moved, outcome_then, after, verdict_at, verdict, Lawful, fault_place, IsFirstOffence, AtItem, AtEnd, VerdictIsFirstOffence, PieceDiffers, PieceFails, PieceFits, StateDecided}
 
 fault_moved-add : (m n : ℕ) (f : LawFault) → fault_moved m (fault_moved n f) ≡ fault_moved (m + n) f
 fault_moved-add m n (Unlawful at) = ap Unlawful (omega arith)
 fault_moved-add m n (TooDeep at) = ap TooDeep (omega arith)
 
 joined-assoc : (m n : ℕ) (r : Result State LawFault) (f g : State → Result State LawFault) →
-    followed m r (λ s. followed n (f s) g) ≡ followed (m + n) (followed m r f) g
+    outcome_then m r (λ s. outcome_then n (f s) g) ≡ outcome_then (m + n) (outcome_then m r f) g
 joined-assoc m n (Err e) f g = refl
 joined-assoc m n (Ok s) f g =
-    elim (f s) as (λ v. outcome_moved m (followed n v g) ≡ followed (m + n) (outcome_moved m v) g)
+    elim (f s) as (λ v. outcome_moved m (outcome_then n v g) ≡ outcome_then (m + n) (outcome_moved m v) g)
     [ Err e ↦ refl | Ok t ↦ elim (g t) as (λ v. outcome_moved m (outcome_moved n v) ≡ outcome_moved (m + n) v) [ Err e ↦ ap Err (fault_moved-add m n e) | Ok u ↦ refl ] ]
 
 fault_moved-zero : (f : LawFault) → fault_moved 0 f ≡ f
@@ -33,18 +33,18 @@ outcome_moved-zero (Err (Unlawful at)) = ap (λ n. Err (Unlawful n)) (zero-add a
 outcome_moved-zero (Err (TooDeep at)) = ap (λ n. Err (TooDeep n)) (zero-add at)
 
 -- a list in two parts
-pub after-append : (s : State) (xs ys : List PlainItem) → after s (xs ++ ys) ≡ followed (length xs) (after s xs) (λ t. after t ys)
+pub after-append : (s : State) (xs ys : List PlainItem) → after s (xs ++ ys) ≡ outcome_then (length xs) (after s xs) (λ t. after t ys)
 after-append s [] ys = sym (outcome_moved-zero (after s ys))
 after-append s (x ∷ xs) ys =
-    ap (followed 1 (step s x)) (λ i next. after-append next xs ys i)
+    ap (outcome_then 1 (step s x)) (λ i next. after-append next xs ys i)
     ∙ joined-assoc 1 (length xs) (step s x) (λ next. after next xs) (λ t. after t ys)
-    ∙ ap (λ n. followed n (after s (x ∷ xs)) (λ t. after t ys)) (one-add (length xs))
+    ∙ ap (λ n. outcome_then n (after s (x ∷ xs)) (λ t. after t ys)) (one-add (length xs))
 
 after-append-ok : (s : State) (xs ys : List PlainItem) (t : State) → after s xs ≡ Ok t → after s (xs ++ ys) ≡ outcome_moved (length xs) (after t ys)
-after-append-ok s xs ys t h = after-append s xs ys ∙ ap (λ r. followed (length xs) r (λ u. after u ys)) h
+after-append-ok s xs ys t h = after-append s xs ys ∙ ap (λ r. outcome_then (length xs) r (λ u. after u ys)) h
 
 after-append-err : (s : State) (xs ys : List PlainItem) (f : LawFault) → after s xs ≡ Err f → after s (xs ++ ys) ≡ Err f
-after-append-err s xs ys f h = after-append s xs ys ∙ ap (λ r. followed (length xs) r (λ u. after u ys)) h
+after-append-err s xs ys f h = after-append s xs ys ∙ ap (λ r. outcome_then (length xs) r (λ u. after u ys)) h
 
 -- what a choice that ended well tells
 pub if_ok : {A E : Type 0} (b : Bool) (r : Result A E) (e : E) (u : A) → (if b then r else Err e) ≡ Ok u → (b ≡ true) × (r ≡ Ok u)
@@ -82,7 +82,7 @@ pub Lawful_from_after : (items : List PlainItem) → after start items ≡ Ok fi
 Lawful_from_after items h = ap (verdict_at (length items)) h
 
 -- what an opening that was allowed tells of the state before it
-pub opened_before : (s u : State) (k : Kind) → opened s k ≡ Ok u →
+pub opened_before : (s u : State) (k : Kind) → state_opened s k ≡ Ok u →
     (k ∷ s.stack ≡ u.stack) × (s.seen ≡ (if kind_same k InternalList then false else u.seen))
 opened_before s u k h =
     let p = if_ok (may_open s k) _ _ u h in
@@ -96,7 +96,7 @@ opened_before s u k h =
     seen_before false true new empty over allowed e = e
     seen_before false false new empty over allowed e = e
 
-pub closed_before : (stack : List Kind) (seen : Bool) (k : Kind) (u : State) → closed stack seen k ≡ Ok u → (stack ≡ k ∷ u.stack) × (seen ≡ u.seen)
+pub closed_before : (stack : List Kind) (seen : Bool) (k : Kind) (u : State) → state_closed stack seen k ≡ Ok u → (stack ≡ k ∷ u.stack) × (seen ≡ u.seen)
 closed_before [] seen k u h = cc
 closed_before (inner ∷ outer) seen k u h =
     let p = if_ok (kind_same inner k) _ _ u h in
@@ -120,7 +120,7 @@ step-injective (Closing kind pre) s t u p q =
     state_same s t (a.0 ∙ sym b.0) (a.1 ∙ sym b.1)
 
 -- what comes first went well, and so did the rest
-pub joined-ok : (n : ℕ) (r : Result State LawFault) (f : State → Result State LawFault) (u : State) → followed n r f ≡ Ok u →
+pub joined-ok : (n : ℕ) (r : Result State LawFault) (f : State → Result State LawFault) (u : State) → outcome_then n r f ≡ Ok u →
     (t : State) × (r ≡ Ok t) × (f t ≡ Ok u)
 joined-ok n (Err e) f u h = cc
 joined-ok n (Ok t) f u h = (t, refl, moved_ok (f t) h)
@@ -129,7 +129,7 @@ joined-ok n (Ok t) f u h = (t, refl, moved_ok (f t) h)
     moved_ok (Ok v) h = h
     moved_ok (Err e) h = cc
 
--- what follows a place decides the state there
+-- what follows a position decides the state there
 pub after-injective : StateDecided
 after-injective [] s t u p q = Ok-same {E = LawFault} s u p ∙ sym (Ok-same {E = LawFault} t u q)
 after-injective (x ∷ items) s t u p q =
@@ -179,7 +179,7 @@ place_of-fault_moved : (n : ℕ) (f : LawFault) → fault_place (fault_moved n f
 place_of-fault_moved n (Unlawful at) = refl
 place_of-fault_moved n (TooDeep at) = refl
 
--- an offence of one item has place 0
+-- an offence of one item has position 0
 abbrev AtOnce : Result State LawFault → Type 0
 AtOnce r = (f : LawFault) → r ≡ Err f → fault_place f ≡ 0
 
@@ -193,7 +193,7 @@ if_at_once : (b : Bool) (r q : Result State LawFault) → AtOnce r → AtOnce q 
 if_at_once true r q p p' = p
 if_at_once false r q p p' = p'
 
-closed_at_once : (stack : List Kind) (seen : Bool) (k : Kind) → AtOnce (closed stack seen k)
+closed_at_once : (stack : List Kind) (seen : Bool) (k : Kind) → AtOnce (state_closed stack seen k)
 closed_at_once [] seen k = err_at_once (Unlawful 0) refl
 closed_at_once (inner ∷ outer) seen k = if_at_once (kind_same inner k) _ _ (ok_at_once _) (err_at_once (Unlawful 0) refl)
 
@@ -227,7 +227,7 @@ first_bad (x ∷ xs) s fault h = by_step (first_bad xs) (step s x) refl h
     again before f g e = ap (fault_moved 1) e ∙ fault_moved-add 1 (length before) f ∙ ap (λ n. fault_moved n f) (one-add (length before))
 
     by_step : ((t : State) (f : LawFault) → after t xs ≡ Err f → FirstBad xs t f) → (r : Result State LawFault) → step s x ≡ r →
-        followed 1 r (λ next. after next xs) ≡ Err fault → FirstBad (x ∷ xs) s fault
+        outcome_then 1 r (λ next. after next xs) ≡ Err fault → FirstBad (x ∷ xs) s fault
     by_step rest (Err f) e h =
         let same : f ≡ fault = cc in
         record { before = []; item = x; suffix = xs; there = s; offence = f; parts = refl; went = refl; bad = e; moved = sym same ∙ sym (fault_moved-zero f) }
@@ -241,7 +241,7 @@ first_bad (x ∷ xs) s fault h = by_step (first_bad xs) (step s x) refl h
           there = r.there;
           offence = r.offence;
           parts = ap (λ l. x ∷ l) r.parts;
-          went = ap (λ o. followed 1 o (λ next. after next r.before)) e ∙ ap (outcome_moved 1) r.went;
+          went = ap (λ o. outcome_then 1 o (λ next. after next r.before)) e ∙ ap (outcome_moved 1) r.went;
           bad = r.bad;
           moved = m.2 ∙ again r.before r.offence m.0 r.moved;
         }

@@ -8,7 +8,7 @@ use Rattle.model_items.specs.declared.plain_item.PlainItem.{PlainItem}
 use Rattle.model_items.specs.declared.plain_item.PlainItem.TheVariants.{Char, Opening, Closing}
 use Rattle.model_items.specs.declared.law_fault.LawFault.{LawFault}
 use Rattle.model_items.specs.declared.law_fault.LawFault.TheVariants.{Unlawful}
-use Rattle.model_items.specs.Law.{State, start, finish, top, may_open, opened, closed, step, outcome_moved, followed, after}
+use Rattle.model_items.specs.Law.{State, start, finish, top, may_open, state_opened, state_closed, step, outcome_moved, outcome_then, after}
 use Rattle.model_items.specs.Tree.{Forest, Empty, Run, Branch, with_char, first_forest, reading, Shape, Letter, Begin, End, shape_of, shapes}
 use Rattle.model_items.specs.LawfulTree.{AllHeld, nesting, is_none, ends_with_internal_list, LawfulHasTree, TreeIsLawful}
 use Rattle.model_items.proofs.SameLemmas.{Means-kind_same}
@@ -16,14 +16,15 @@ use Rattle.model_items.proofs.LawLemmas.{if_ok, Ok-same, closed_before, joined-o
 use Rattle.model_items.proofs.TreeLemmas.{tree_spells}
 
 -- what an opening that was allowed tells: it was allowed, there was room, and it went on top
-opened_parts : (s u : State) (k : Kind) → opened s k ≡ Ok u →
+opened_parts : (s u : State) (k : Kind) → state_opened s k ≡ Ok u →
     (may_open s k ≡ true) × (length s.stack < 100) × (record { stack = k ∷ s.stack; seen = s.seen || kind_same k InternalList } ≡ u)
 opened_parts s u k h =
     let p = if_ok (may_open s k) _ _ u h in
     let q = if_ok (nat_lt (length s.stack) 100) _ _ u p.1 in
     (p.0, ltb-true (length s.stack) 100 q.0, Ok-same {E = LawFault} (record { stack = k ∷ s.stack; seen = s.seen || kind_same k InternalList }) u q.1)
 
--- the forest here and those after each open node stand where they may, and nest no deeper than allowed
+-- the forest here and those after each open node stand where they may, and nest no deeper than
+-- allowed
 abbrev Levels : List Kind → Forest → List Forest → Type 0
 Levels [] here outer = AllHeld Root here × (nesting here ≤ 100)
 Levels (k ∷ ks) here [] = ⊥
@@ -152,12 +153,12 @@ lawful_has_tree items lawful =
 
 abbrev step_by : State → Shape → Result State LawFault
 step_by s Letter = if is_content_branch (top s.stack) then Ok s else Err (Unlawful 0)
-step_by s (Begin kind) = opened s kind
-step_by s (End kind) = closed s.stack s.seen kind
+step_by s (Begin kind) = state_opened s kind
+step_by s (End kind) = state_closed s.stack s.seen kind
 
 abbrev after_by : State → List Shape → Result State LawFault
 after_by s [] = Ok s
-after_by s (x ∷ xs) = followed 1 (step_by s x) (λ next. after_by next xs)
+after_by s (x ∷ xs) = outcome_then 1 (step_by s x) (λ next. after_by next xs)
 
 step-shape : (s : State) (x : PlainItem) → step s x ≡ step_by s (shape_of x)
 step-shape s (Char c marks) = refl
@@ -166,17 +167,17 @@ step-shape s (Closing kind pre) = refl
 
 after-shapes : (items : List PlainItem) (s : State) → after s items ≡ after_by s (map shape_of items)
 after-shapes [] s = refl
-after-shapes (x ∷ items) s = λ i. followed 1 (step-shape s x i) (λ next. after-shapes items next i)
+after-shapes (x ∷ items) s = λ i. outcome_then 1 (step-shape s x i) (λ next. after-shapes items next i)
 
 -- one walk and then another
 after_by-append : (xs ys : List Shape) (s t u : State) → after_by s xs ≡ Ok t → after_by t ys ≡ Ok u → after_by s (xs ++ ys) ≡ Ok u
 after_by-append [] ys s t u p q = subst (λ v. after_by v ys ≡ Ok u) (sym (Ok-same {E = LawFault} s t p)) q
 after_by-append (x ∷ xs) ys s t u p q =
     let r = joined-ok 1 (step_by s x) (λ next. after_by next xs) t p in
-    ap (λ o. followed 1 o (λ next. after_by next (xs ++ ys))) r.1 ∙ ap (outcome_moved 1) (after_by-append xs ys r.0 t u r.2 q)
+    ap (λ o. outcome_then 1 o (λ next. after_by next (xs ++ ys))) r.1 ∙ ap (outcome_moved 1) (after_by-append xs ys r.0 t u r.2 q)
 
 after_by-cons : (x : Shape) (xs : List Shape) (s t u : State) → step_by s x ≡ Ok t → after_by t xs ≡ Ok u → after_by s (x ∷ xs) ≡ Ok u
-after_by-cons x xs s t u p q = ap (λ o. followed 1 o (λ next. after_by next xs)) p ∙ ap (outcome_moved 1) q
+after_by-cons x xs s t u p q = ap (λ o. outcome_then 1 o (λ next. after_by next xs)) p ∙ ap (outcome_moved 1) q
 
 letters_pass : (n : ℕ) (s : State) → is_content_branch (top s.stack) ≡ true → after_by s (replicate n Letter) ≡ Ok s
 letters_pass zero s h = refl
@@ -203,13 +204,13 @@ no_internal_list k j other h =
     ]
 
 opens : (k j : Kind) (ks : List Kind) (seen : Bool) → k ≢ Root → may_hold k j ≡ true → suc (length ks) < 100 →
-    opened (record { stack = k ∷ ks; seen = seen }) j ≡ Ok (record { stack = j ∷ (k ∷ ks); seen = seen })
+    state_opened (record { stack = k ∷ ks; seen = seen }) j ≡ Ok (record { stack = j ∷ (k ∷ ks); seen = seen })
 opens k j ks seen other h room =
     let differ = no_internal_list k j other h in
     let few : nat_lt (suc (length ks)) 100 ≡ true = lt-ltb (suc (length ks)) 100 room in
     rw (h, differ, few) (λ i. Ok (record { stack = j ∷ (k ∷ ks); seen = or-false seen i }))
 
-closes : (k : Kind) (ks : List Kind) (seen : Bool) → closed (k ∷ ks) seen k ≡ Ok (record { stack = ks; seen = seen })
+closes : (k : Kind) (ks : List Kind) (seen : Bool) → state_closed (k ∷ ks) seen k ≡ Ok (record { stack = ks; seen = seen })
 closes k ks seen = rw (Means-kind_same.itself k) refl
 
 -- what stands in a node, written out, leads back to the state
@@ -239,7 +240,7 @@ walk_root (Run count later) held room ends = absurd (let e = held.0 in cc)
 walk_root (Branch kind inside later) held room ends =
     by_kind (walk_root later held.2 (omega arith)) (kind_same kind InternalList) refl ends
   where
-    walked : (seen : Bool) → opened start kind ≡ Ok (record { stack = kind ∷ []; seen = seen }) → after_by (record { stack = []; seen = seen }) (shapes later) ≡ Ok finish →
+    walked : (seen : Bool) → state_opened start kind ≡ Ok (record { stack = kind ∷ []; seen = seen }) → after_by (record { stack = []; seen = seen }) (shapes later) ≡ Ok finish →
         after_by start (shapes (Branch kind inside later)) ≡ Ok finish
     walked seen p q =
         let t : State = record { stack = kind ∷ []; seen = seen } in

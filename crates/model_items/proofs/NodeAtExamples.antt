@@ -1,4 +1,4 @@
--- The places of a small list's nodes, and what makes its tree lawful.
+-- The positions of a small list's nodes, and what makes its tree lawful.
 use Rattle.std.proofs.Common.{◌≡◌, ℕ, true, false, List, [], ◌∷◌, None, refl}
 use Rattle.ve_kinds.specs.declared.kind.Kind.{Kind}
 use Rattle.ve_kinds.specs.declared.kind.Kind.TheVariants.{Root, P, Ul, Li, Div, InternalList}

@@ -140,7 +140,8 @@ total_count (Closing kind pre ∷ items) s h =
     let rest = total_count items p.0 p.2 in
     omega arith
 
--- the search from a place on: in what stands here, and then, where the offset is past the closing of the innermost open node, outside of that
+-- the search from a position on: in what stands here, and then, where the offset is past the
+-- closing of the innermost open node, outside of that
 abbrev locate : List Open → ℕ → Forest → List Forest → ℕ → NodeExtent
 locate [] at here outer o = search (record { kind = Root; from = 0; to = at + item_count here }) at here o
 locate (inner ∷ opens) at here [] o = record { kind = inner.kind; from = inner.from; to = 0 }
@@ -216,7 +217,8 @@ locate_open kind (inner ∷ opens) at inside (g ∷ (h ∷ hs)) o e past =
     end : ℕ
     end = at + (item_count inside + 2 + item_count g + 1)
 
--- at each offset from a place on, the open nodes and the closing that comes give what the search gives
+-- at each offset from a position on, the open nodes and the closing that comes give what the search
+-- gives
 found : (items : List PlainItem) (s : State) (opens : List Open) (at k o : ℕ) → o ≡ at + k → k ≤ length items → after s items ≡ Ok finish → length opens ≡ length s.stack →
     place_with (opens_after opens at (take k items)) o (drop k items) ≡ locate opens at (reading items).here (reading items).outer o
 found items s opens at zero o e room h long =
@@ -306,7 +308,8 @@ places_bounds (Branch kind inside later) at q within =
       ]
     ]
 
--- what was found is the node round the forest, or one of the forest that holds the offset; and each one of the forest that holds it is round what was found
+-- The search found the node round the forest, or one of the forest that holds the offset. Each node
+-- of the forest that holds it is round the one that was found.
 record Searched (d : NodeExtent) (at : ℕ) (f : Forest) (o : ℕ) (p : NodeExtent) : Type 0 where
   node : (p ≡ d) ⊎ (Contains (places_from at f) p × Inside o p)
   within : (q : NodeExtent) → Contains (places_from at f) q → Inside o q → (q.from ≤ p.from) × (p.to ≤ q.to)

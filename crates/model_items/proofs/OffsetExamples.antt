@@ -3,7 +3,7 @@ use Rattle.std.proofs.Common.{◌≡◌, true, List, [], ◌∷◌, ◌++◌, So
 use Rattle.std.specs.Prelude.{codes}
 use Rattle.ve_kinds.specs.declared.kind.Kind.TheVariants.{P, Ul, Li, Br}
 use Rattle.model_items.specs.declared.plain_item.PlainItem.{PlainItem}
-use Rattle.model_items.specs.Offsets.{stack_at, is_content, is_inside_leaf, is_structural_at, partner, unmatched, nearest_content}
+use Rattle.model_items.specs.Offsets.{stack_at, is_content, is_inside_leaf, is_structural_at, partner, unmatched_counts, nearest_content}
 use Rattle.model_items.proofs.ExampleItems.{text, node, internal}
 
 -- `<p>ab</p><ul><li><p>cd</p></li></ul>`
@@ -16,7 +16,7 @@ stack = refl
 partners : (partner crossed 0 ≡ 3) × (partner crossed 11 ≡ 4) × (partner crossed 9 ≡ 6) × (partner crossed 1 ≡ 1)
 partners = (refl, refl, refl, refl)
 
-crossing : unmatched crossed 2 8 ≡ (1, 3)
+crossing : unmatched_counts crossed 2 8 ≡ (1, 3)
 crossing = refl
 
 -- `<p id='x'>a<br/></p><p>b</p>`

@@ -1,4 +1,4 @@
--- Trees and places in small lists, and the number of nodes of a long one.
+-- Trees and positions in small lists, and the number of nodes of a long one.
 use Rattle.std.proofs.Common.{◌≡◌, ℕ, zero, suc, ◌+◌, ◌%◌, false, List, [], ◌∷◌, ◌++◌, length, None, refl}
 use Rattle.ve_kinds.specs.declared.kind.Kind.{Kind}
 use Rattle.ve_kinds.specs.declared.kind.Kind.TheVariants.{Root, P, Ul, Li, Br, InternalList}

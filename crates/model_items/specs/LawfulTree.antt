@@ -1,4 +1,4 @@
--- What a lawful list is, in words of its tree and without a walk along it.
+-- Lawful lists in words of their trees, without a walk along the list.
 use Rattle.std.specs.Prelude.{◌≡◌, ℕ, suc, ◌≤◌, max, Bool, true, false, if◌then◌else◌, List, map}
 use Rattle.ve_base.specs.Limits.{max_open_kinds}
 use Rattle.ve_kinds.specs.declared.kind.Kind.{Kind}
@@ -39,6 +39,6 @@ pub record IsLawfulTree (f : Forest) : Type 0 where
 abbrev pub LawfulHasTree : Type 0
 LawfulHasTree = (items : List PlainItem) → Lawful items → (shapes (tree_of items) ≡ map shape_of items) × IsLawfulTree (tree_of items)
 
--- What a lawful tree writes out is a lawful list.
+-- A list that a lawful tree writes out is lawful.
 abbrev pub TreeIsLawful : Type 0
 TreeIsLawful = (items : List PlainItem) (f : Forest) → shapes f ≡ map shape_of items → IsLawfulTree f → Lawful items

@@ -1,12 +1,13 @@
--- The node round an offset, found in the tree, in words of the tree's nodes, and of the law's state.
+-- The node round an offset, found in the tree, in words of the tree's nodes, and of the law's
+-- state.
 use Rattle.std.specs.Prelude.{◌≡◌, ℕ, suc, ◌+◌, ◌<◌, ◌≤◌, ◌⊎◌, ◌&&◌, nat_lt, if◌then◌else◌, List, [], ◌∷◌, ◌++◌, length, map, take, Contains, Ok}
 use Rattle.ve_kinds.specs.declared.kind.Kind.TheVariants.{Root}
 use Rattle.model_items.specs.declared.plain_item.PlainItem.{PlainItem}
 use Rattle.model_items.specs.Law.{State, start, top, after, Lawful}
 use Rattle.model_items.specs.Tree.{Forest, Empty, Run, Branch, item_count, tree_of, Open, opens_after, NodeExtent, node_at, class_in, class_at}
 
--- The search in a forest whose first item stands at a place, and which stands in the node `around`: into the node that holds the
--- offset, or past it.
+-- The search in a forest whose first item stands at a position, and which stands in the node
+-- `around`: into the node that holds the offset, or past it.
 abbrev pub search : NodeExtent → ℕ → Forest → ℕ → NodeExtent
 search around at Empty o = around
 search around at (Run count later) o = search around (at + count) later o
@@ -15,7 +16,8 @@ search around at (Branch kind inside later) o =
     then search (record { kind = kind; from = at; to = at + (item_count inside + 2) }) (suc at) inside o
     else search around (at + (item_count inside + 2)) later o
 
--- the places of a forest's nodes, text nodes aside, in the order of their starts; its first item stands at a place
+-- the positions of a forest's nodes, text nodes aside, in the order of their starts; its first item
+-- stands at a position
 abbrev pub places_from : ℕ → Forest → List NodeExtent
 places_from at Empty = []
 places_from at (Run count later) = places_from (at + count) later
@@ -30,7 +32,8 @@ root_place items = record { kind = Root; from = 0; to = length items }
 abbrev pub all_places : List PlainItem → List NodeExtent
 all_places items = root_place items ∷ places_from 0 (tree_of items)
 
--- the node's opening stands before the offset, and its closing at the offset or after it; the root has none, and holds every offset
+-- the node's opening stands before the offset, and its closing at the offset or after it; the root
+-- has none, and holds every offset
 abbrev pub HoldsOffset : List PlainItem → ℕ → NodeExtent → Type 0
 HoldsOffset items at p = (p ≡ root_place items) ⊎ ((p.from < at) × (at < p.to))
 

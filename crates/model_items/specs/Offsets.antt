@@ -1,4 +1,4 @@
--- What an offset of a list is, and which brackets belong together.
+-- Offsets of a list, and which brackets belong together.
 use Rattle.std.specs.Prelude.{◌≡◌, ◌≤◌, ℕ, zero, suc, ◌+◌, ◌-◌, Bool, true, false, not, ◌&&◌, ◌||◌, nat_le, nat_lt, if◌then◌else◌, List, [], ◌∷◌, length, map, take, drop, filter, count_by, slice_get, slice_range, Option, Some, None}
 use Rattle.std.specs.List.{range_with_len, list_any}
 use Rattle.ve_kinds.specs.declared.kind.Kind.{Kind}
@@ -16,7 +16,7 @@ abbrev pub is_closing : PlainItem → Bool
 is_closing (Closing kind pre) = true
 is_closing _ = false
 
--- of the item at a place, if there is one
+-- of the item at a position, if there is one
 abbrev pub passes : (PlainItem → Bool) → Option PlainItem → Bool
 passes test None = false
 passes test (Some item) = test item
@@ -58,7 +58,8 @@ abbrev pub first_from : List Open → ℕ
 first_from [] = 0
 first_from (node ∷ outer) = node.from
 
--- the place of the other bracket of the node that the item opens or closes; a character is its own
+-- the position of the other bracket of the node that the item opens or closes; a character is its
+-- own
 abbrev pub partner_of : Option PlainItem → List PlainItem → ℕ → ℕ
 partner_of (Some (Opening kind head marks pre origin generated)) items at = at + length_to_close 0 (drop (suc at) items)
 partner_of (Some (Closing kind pre)) items at = first_from (opens_at items at)
@@ -68,12 +69,12 @@ partner_of None items at = at
 abbrev pub partner : List PlainItem → ℕ → ℕ
 partner items at = partner_of (slice_get items at) items at
 
--- just past the node that opens at a place
+-- just past the node that opens at a position
 abbrev pub end_of_node : List PlainItem → ℕ → ℕ
 end_of_node items at = suc (partner items at)
 
--- the nodes side by side from the first item on, whose place is `at`, as far as the node goes that they stand in; `depth` nodes are
--- open already
+-- the nodes side by side from the first item on, whose position is `at`, as far as the node goes
+-- that they stand in; `depth` nodes are open already
 abbrev pub siblings : (depth at : ℕ) → List PlainItem → List Open
 siblings depth at [] = []
 siblings depth at (Char c marks ∷ items) = siblings depth (suc at) items
@@ -83,7 +84,7 @@ siblings (suc depth) at (Opening kind head marks pre origin generated ∷ items)
 siblings zero at (Closing kind pre ∷ items) = []
 siblings (suc depth) at (Closing kind pre ∷ items) = siblings depth (suc at) items
 
--- the nodes just inside the one that opens at a place
+-- the nodes just inside the one that opens at a position
 abbrev pub children : List PlainItem → ℕ → List Open
 children items at = siblings 0 (suc at) (drop (suc at) items)
 
@@ -91,7 +92,7 @@ children items at = siblings 0 (suc at) (drop (suc at) items)
 abbrev pub is_unmatched : List PlainItem → ℕ → ℕ → ℕ → Bool
 is_unmatched items from to at = let other = partner items at in not (nat_le from other && nat_lt other to)
 
--- the places of a range
+-- the positions of a range
 abbrev pub places_in : ℕ → ℕ → List ℕ
 places_in from to = range_with_len from (to - from)
 
@@ -99,8 +100,8 @@ abbrev pub unmatched_places : List PlainItem → ℕ → ℕ → List ℕ
 unmatched_places items from to = filter (is_unmatched items from to) (places_in from to)
 
 -- how many closings and openings of a range are unmatched
-abbrev pub unmatched : List PlainItem → ℕ → ℕ → ℕ × ℕ
-unmatched items from to =
+abbrev pub unmatched_counts : List PlainItem → ℕ → ℕ → ℕ × ℕ
+unmatched_counts items from to =
     let all = unmatched_places items from to in (
       count_by (λ at. passes is_closing (slice_get items at)) all,
       count_by (λ at. passes is_opening (slice_get items at)) all,
@@ -133,7 +134,8 @@ content_offsets items = filter (is_content items) (places_in 0 (suc (length item
 abbrev pub nearest_content : List PlainItem → ℕ → Option ℕ
 nearest_content items at = nearest at (content_offsets items)
 
--- It is a content offset of the list, no other lies nearer, and of two at one distance it is the lower.
+-- It is a content offset of the list, no other lies nearer, and of two at one distance it is the
+-- lower.
 pub record IsNearestContent (items : List PlainItem) (at place : ℕ) : Type 0 where
   pub within : place ≤ length items
   pub content : is_content items place ≡ true
@@ -143,7 +145,8 @@ pub record IsNearestContent (items : List PlainItem) (at place : ℕ) : Type 0 w
 abbrev pub HasNoContent : List PlainItem → Type 0
 HasNoContent items = (other : ℕ) → other ≤ length items → is_content items other ≡ false
 
--- The nearest content offset is that one, and there is none only where the list has no content offset.
+-- The nearest content offset is that one, and there is none only where the list has no content
+-- offset.
 abbrev pub NearestIsFound : Type 0
 NearestIsFound = (items : List PlainItem) (at place : ℕ) → nearest_content items at ≡ Some place → IsNearestContent items at place
 

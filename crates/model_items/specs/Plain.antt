@@ -16,7 +16,8 @@ abbrev pub value_at : List Value → Option ValueId → Option Value
 value_at values None = None
 value_at values (Some id) = slice_get values id.0
 
--- what a value gives as a head, as marks or as whitespace: nothing cited, or a value of another sort, gives the empty one
+-- a value read as a head, as marks or as whitespace; nothing cited, or a value of another sort,
+-- gives the empty one
 abbrev pub head_in : Option Value → Head
 head_in (Some (value.Head head)) = head
 head_in _ = empty_head
@@ -52,18 +53,20 @@ abbrev pub CitesWhite : List Value → Option ValueId → Type 0
 CitesWhite values None = Unit {0}
 CitesWhite values (Some id) = (text : List ℕ) × (slice_get values id.0 ≡ Some (value.White text)) × (text ≢ [])
 
--- an item's head cites only heads, its marks only marks and its whitespace only whitespace, and nothing that is empty
+-- an item's head cites only heads, its marks only marks and its whitespace only whitespace, and
+-- nothing that is empty
 abbrev pub CitesWell : List Value → Item → Type 0
 CitesWell values (item.Char ch marks) = CitesMarks values marks
 CitesWell values (item.Opening kind generated head marks pre origin) =
     CitesHead values head × CitesMarks values marks × CitesWhite values pre
 CitesWell values (item.Closing kind pre) = CitesWhite values pre
 
--- no value stands at two places
+-- no value stands at two positions
 abbrev pub AreDistinct : List Value → Type 0
 AreDistinct values = (i j : ℕ) (v : Value) → slice_get values i ≡ Some v → slice_get values j ≡ Some v → i ≡ j
 
--- Over distinct values, two items that cite well are one item where they are equal by value: so places may be compared in place of values.
+-- Over distinct values, two items that cite well are one item where they are equal by value: so
+-- positions may be compared in place of values.
 abbrev pub PlainTellsApart : Type 0
 PlainTellsApart = (values : List Value) (x y : Item) → AreDistinct values → CitesWell values x → CitesWell values y →
     plain values x ≡ plain values y → x ≡ y

@@ -1,4 +1,5 @@
--- Tests of equality for items and what they are made of. Each means equality: it is true exactly of equals.
+-- Tests of equality for items and what they are made of. Each means equality: it is true exactly of
+-- equals.
 use Rattle.std.specs.Prelude.{◌≡◌, ℕ, Bool, true, false, ◌&&◌, ◌==◌, List, [], ◌∷◌, Option, Some, None}
 use Rattle.ve_kinds.specs.Table.{kind_same}
 use Rattle.ve_base.specs.declared.attrs.Attr.{Attr}
@@ -17,7 +18,7 @@ bool_same true b = b
 bool_same false true = false
 bool_same false false = true
 
--- of one length, and alike place by place
+-- of one length, and alike position by position
 abbrev pub list_same : {A : Type 0} → (A → A → Bool) → List A → List A → Bool
 list_same same [] [] = true
 list_same same (x ∷ xs) (y ∷ ys) = same x y && list_same same xs ys

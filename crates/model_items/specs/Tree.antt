@@ -26,8 +26,8 @@ with_char (Run count later) = Run (suc count) later
 with_char Empty = Run 1 Empty
 with_char (Branch kind inside later) = Run 1 (Branch kind inside later)
 
--- What the items from a place to the list's end spell: the siblings that they begin with, and then, from the inside out, those that
--- follow each node which they close.
+-- The reading of the items from a position to the list's end. First come the siblings that they
+-- begin with; then, from the inside out, those that follow each node which they close.
 pub record Reading : Type 0 where
   pub here : Forest
   pub outer : List Forest
@@ -66,7 +66,7 @@ item_count Empty = 0
 item_count (Run count later) = count + item_count later
 item_count (Branch kind inside later) = item_count inside + 2 + item_count later
 
--- an open node: its kind and the place of its opening
+-- an open node: its kind and the position of its opening
 pub record Open : Type 0 where
   pub kind : Kind
   pub from : ℕ
@@ -76,7 +76,7 @@ opens_with (Char c marks) at opens = opens
 opens_with (Opening kind head marks pre origin generated) at opens = record { kind = kind; from = at } ∷ opens
 opens_with (Closing kind pre) at opens = drop 1 opens
 
--- the nodes that are open after the items, innermost first; the first item's place is `at`
+-- the nodes that are open after the items, innermost first; the first item's position is `at`
 abbrev pub opens_after : List Open → ℕ → List PlainItem → List Open
 opens_after opens at [] = opens
 opens_after opens at (item ∷ items) = opens_after (opens_with item at opens) (suc at) items
@@ -89,7 +89,7 @@ length_to_close depth (Opening kind head marks pre origin generated ∷ items) =
 length_to_close zero (Closing kind pre ∷ items) = 1
 length_to_close (suc depth) (Closing kind pre ∷ items) = suc (length_to_close depth items)
 
--- a node's kind and the places where it begins and ends
+-- a node's kind and the positions where it begins and ends
 pub record NodeExtent : Type 0 where
   pub kind : Kind
   pub from : ℕ
@@ -99,7 +99,8 @@ abbrev pub place_with : List Open → ℕ → List PlainItem → NodeExtent
 place_with [] at rest = record { kind = Root; from = 0; to = at + length rest }
 place_with (inner ∷ outer) at rest = record { kind = inner.kind; from = inner.from; to = at + length_to_close 0 rest }
 
--- the innermost node round an offset, text nodes aside: its opening stands before the offset, its closing at the offset or after it
+-- the innermost node round an offset, text nodes aside: its opening stands before the offset, its
+-- closing at the offset or after it
 abbrev pub node_at : List PlainItem → ℕ → NodeExtent
 node_at items at = place_with (opens_after [] 0 (take at items)) at (drop at items)
 
@@ -110,7 +111,7 @@ class_in k = if is_content_branch k then Content else (if is_leaf k then Inside 
 abbrev pub class_at : List PlainItem → ℕ → OffsetClass
 class_at items at = class_in (node_at items at).kind
 
--- what an item is to the tree
+-- the shape of an item: all that the tree reads of it
 pub data Shape : Type 0 where
   Letter : Shape
   Begin : (kind : Kind) → Shape

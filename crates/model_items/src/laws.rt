@@ -1,4 +1,5 @@
-// What lists of items, their trees and their offsets keep. Each function does nothing, and its contract is a law that is proved.
+// Laws of lists of items, their trees and their offsets. Each function does nothing, and its
+// contract is a law that is proved.
 ghost use Rattle.model_items.specs.Same.{Means, item_same, value_same};
 ghost use Rattle.model_items.specs.Plain.{PlainTellsApart};
 ghost use Rattle.model_items.specs.Law.{VerdictIsFirstOffence, LawReadsNoValues, VerdictReadsNoValues, PieceFails, PieceFits, PieceDiffers, StateDecided};
@@ -7,14 +8,16 @@ ghost use Rattle.model_items.specs.LawfulTree.{LawfulHasTree, TreeIsLawful};
 ghost use Rattle.model_items.specs.Offsets.{NearestIsFound, NearestIsOnly, NoneIsFound, NoneIsOnly};
 ghost use Rattle.model_items.specs.NodeAt.{NodeAtIsFound, TreeHasAllItems, NodeAtIsInnermost, OpenIsStack, ClassIsOfTop};
 
-/// The tests of equality that the definitions compute with are true exactly of equal values and equal items.
+/// The tests of equality that the definitions compute with are true exactly of equal values and
+/// equal items.
 #[tactic(auto, using(crate::proofs::SameLemmas::values_are_tested, crate::proofs::SameLemmas::items_are_tested))]
 pub fn equality_is_tested()
     ensures values { Means value_same }
     ensures items { Means item_same }
 {}
 
-/// Two items that cite one list of distinct values, each value of its sort and not empty, are equal where what they cite is.
+/// Two items that cite one list of distinct values, each value of its sort and not empty, are equal
+/// where what they cite is.
 #[tactic(auto, using(crate::proofs::PlainLemmas::plain_tells_apart))]
 pub fn plain_tells_apart()
     ensures { PlainTellsApart }
@@ -25,15 +28,17 @@ pub fn verdict_is_first()
     ensures { VerdictIsFirstOffence }
 {}
 
-/// Whether a list is lawful, and which tree it spells, does not depend on the values that its items cite.
+/// Whether a list is lawful, and which tree it writes out, does not depend on the values that its
+/// items cite.
 pub fn values_are_not_read()
     ensures law { LawReadsNoValues }
     ensures verdict { VerdictReadsNoValues }
     ensures tree { TreeReadsNoValues }
 {}
 
-/// What a changed piece of a lawful list tells of the whole: where the piece fails from the state before it, the list fails there; where it ends
-/// in the state in which the old piece ends, the list stays lawful; else the first offence lies after the piece.
+/// A changed piece of a lawful list tells of the whole. Where the piece fails from the state before
+/// it, the list fails there. Where it ends in the state in which the old piece ends, the list stays
+/// lawful. Else the first offence lies after the piece.
 #[tactic(auto, using(crate::proofs::LawLemmas::piece_fails, crate::proofs::LawLemmas::piece_fits, crate::proofs::LawLemmas::piece_differs))]
 pub fn piece_decides()
     ensures fails { PieceFails }
@@ -41,7 +46,8 @@ pub fn piece_decides()
     ensures differs { PieceDiffers }
 {}
 
-/// What follows a place decides the state there: the closings name the open kinds, and whether the internal list still comes names the flag.
+/// The items after a position decide the state there. The closings name the open kinds, and whether
+/// the internal list still comes names the flag.
 #[tactic(auto, using(crate::proofs::LawLemmas::state_decided))]
 pub fn state_is_decided()
     ensures { StateDecided }
@@ -55,16 +61,17 @@ pub fn tree_spells()
     ensures only { TreeIsOnly }
 {}
 
-/// A list is lawful exactly where a tree writes it out in which each node stands in one that may hold it, characters stand in content branches
-/// alone, at most 100 nodes stand one inside the other, and the root's last child, and no other, is the internal list.
+/// A list is lawful exactly where a lawful tree writes it out. In such a tree each node stands in
+/// one that may hold it, and characters stand in content branches alone. At most 100 nodes stand
+/// one inside the other. The root's last child, and no other, is the internal list.
 pub fn lawful_lists_are_trees()
     ensures tree { LawfulHasTree }
     ensures list { TreeIsLawful }
 {}
 
-/// The node at an offset of a lawful list is found by searching its tree, which has all items, and is the innermost of the tree's nodes that
-/// hold the offset. The open nodes there are the law's state,
-/// and the offset's class goes by the top of its stack.
+/// The node at an offset of a lawful list is found by searching its tree, which has all items. It
+/// is the innermost of the tree's nodes that hold the offset. The open nodes there are the law's
+/// state, and the offset's class goes by the top of its stack.
 pub fn node_at_is_innermost()
     ensures found { NodeAtIsFound }
     ensures all { TreeHasAllItems }
@@ -73,8 +80,8 @@ pub fn node_at_is_innermost()
     ensures class { ClassIsOfTop }
 {}
 
-/// The content offset nearest to an offset is one, no other lies nearer, and of two at one distance it is the
-/// lower; there is none exactly where a list has no content offset.
+/// The content offset nearest to an offset is one, and no other lies nearer. Of two at one distance
+/// it is the lower. There is none exactly where a list has no content offset.
 pub fn nearest_content_is_nearest()
     ensures found { NearestIsFound }
     ensures only { NearestIsOnly }

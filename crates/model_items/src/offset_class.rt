@@ -1,4 +1,4 @@
-// What may stand at an offset.
+// The class of an offset: characters, nodes or nothing may stand there.
 
 /// The class of an offset, by the innermost node round it.
 #[derive(Clone, Copy, Debug, PartialEq, Eq)]

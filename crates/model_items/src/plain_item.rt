@@ -2,7 +2,8 @@
 use ve_base::{Head, Marks, Text};
 use ve_kinds::Kind;
 
-/// An item by value: what an `Item` means over the list of values that it cites. An empty head is no head.
+/// An item by value: what an `Item` means over the list of values that it cites. An empty head is
+/// no head.
 #[derive(Drop)]
 pub enum PlainItem {
     /// One Unicode scalar value, with the marks on it, outermost first.

@@ -1,4 +1,5 @@
--- The parts of two forests, one after the other, where no group of the one joins a group of the other.
+-- The parts of two forests, one after the other, where no group of the one joins a group of the
+-- other.
 use Rattle.std.proofs.Common.{◌≡◌, ℕ, Bool, true, false, not, ◌&&◌, ◌||◌, if◌then◌else◌, List, ◌++◌, Option, None, refl, sym, ap, ◌∙◌}
 use Rattle.model_spelling.specs.Grammar.{start_text, end_text}
 use Rattle.model_spelling.specs.Forest.{Forest, Nothing, Text, Remark, Void, RawElement, Element, starts_with_text}

@@ -31,7 +31,8 @@ named name = with_attrs (record { name = codes "id"; value = name } ∷ [])
 abbrev p_ : List ℕ → ℕ → PlainItem
 p_ name k = Opening P (named name) [] [] (Some k) false
 
--- ---- a paragraph that is kept, with an odd quote and an odd spelling of its text, and a changed one in which a leaf is kept
+-- ---- a paragraph that is kept, with an odd quote and an odd spelling of its text, and a changed
+-- one in which a leaf is kept
 
 abbrev page : List ℕ
 page = codes "<p id='x'>a&quot;</p><p id='y'>b<br/></p>"
@@ -70,7 +71,8 @@ run_is_read_again : read_again run_page (run_items new) ≡ Some (map without_or
 unfolding page_on_literals
 run_is_read_again = refl
 
--- ---- leaves that are kept whole: a comment, a group, and comments in a paragraph that is kept and in one that is changed
+-- ---- leaves that are kept whole: a comment, a group, and comments in a paragraph that is kept and
+-- in one that is changed
 
 abbrev wiki : List ℕ
 wiki = codes "<!--c--><div about='#t' typeof='mw:Transclusion'>T</div><p>a<!--d--></p><p>b<!--e--></p>"
@@ -129,7 +131,8 @@ is_readable = (
   ),
 )
 
--- ---- what it asks for is needed: two groups of one `about` that come to stand side by side are read as one
+-- ---- what it asks for is needed: two groups of one `about` that come to stand side by side are
+-- read as one
 
 abbrev box : List ℕ
 box = codes "<div about='#x'></div>"
@@ -152,7 +155,8 @@ boxes_are_not_apart : shares_about (or_nothing (forest_of box)) (or_nothing (for
 unfolding page_on_literals
 boxes_are_not_apart = refl
 
--- ---- a second owner of a key is no reference; where the first one goes, it is, though its paragraph is kept
+-- ---- a second owner of a key is no reference; where the first one goes, it is, though its
+-- paragraph is kept
 
 abbrev owner : List ℕ
 owner = codes "<sup typeof='mw:Extension/ref' data-mw='{\"name\":\"ref\",\"attrs\":{\"name\":\"n\"},\"body\":{\"html\":\"\"}}'></sup>"

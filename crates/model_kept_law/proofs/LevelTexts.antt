@@ -1,4 +1,5 @@
--- The text of levels whose marks are changed, as the writer's content is; and of levels that keep their leaves as they stood.
+-- The text of levels whose marks are changed, as the writer's content is; and of levels that keep
+-- their leaves as they stood.
 use Rattle.std.proofs.Common.{◌≡◌, ℕ, zero, suc, ◌+◌, ◌≤◌, Bool, false, List, [], ◌∷◌, ◌++◌, length, take, drop, reverse, map, refl, sym, ap, ◌∙◌, append_assoc, arith}
 use Rattle.std.proofs.lemmas.List.{append-nil, reverse-append}
 use Rattle.std.proofs.lemmas.List.Concat.{flat_map-append}

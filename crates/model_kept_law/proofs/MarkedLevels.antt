@@ -1,4 +1,5 @@
--- Levels of content whose marks are changed: what they read as, and what holds of all their forests.
+-- Levels of content whose marks are changed: what they read as, and what holds of all their
+-- forests.
 use Rattle.std.proofs.Common.{◌≡◌, ℕ, zero, suc, ◌+◌, ◌≤◌, true, false, List, [], ◌∷◌, ◌++◌, length, take, take_all, drop, map, refl, sym, ap, ◌∙◌, subst, append_assoc, arith}
 use Rattle.std.proofs.lemmas.Str.{chars-encodes}
 use Rattle.std.specs.Prelude.{chars, encode_utf8_all}

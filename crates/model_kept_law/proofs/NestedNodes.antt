@@ -13,10 +13,10 @@ use Rattle.model_items.specs.declared.plain_item.PlainItem.{PlainItem}
 use Rattle.model_items.specs.declared.plain_item.PlainItem.TheVariants.{Char, Opening, Closing}
 use Rattle.model_items.specs.declared.law_fault.LawFault.{LawFault}
 use Rattle.model_items.specs.declared.law_fault.LawFault.TheVariants.{Unlawful, TooDeep}
-use Rattle.model_items.specs.Law.{State, start, top, is_empty, is_over, may_open, opened, closed, step, outcome_moved, followed, after, verdict_at, Lawful}
+use Rattle.model_items.specs.Law.{State, start, top, is_empty, is_over, may_open, state_opened, state_closed, step, outcome_moved, outcome_then, after, verdict_at, Lawful}
 use Rattle.model_page.specs.References.{Body}
 use Rattle.model_page_write.specs.Nodes.{Carried, Start, Nodes, Empty, Letter, Node, node_list_items, start_item, carried_from, carried_items, body_carried}
-use Rattle.model_page_law.proofs.NodesLemmas.{followed as and_then}
+use Rattle.model_page_law.proofs.NodesLemmas.{outcome_then as and_then}
 
 -- each node may stand in its parent, and none is the internal list
 abbrev pub Nested : Kind → Nodes → Type 0
@@ -63,7 +63,7 @@ if_ok : (c : Bool) (r : Result State LawFault) (f : LawFault) (t : State) → (i
 if_ok true r f t e = (refl, e)
 if_ok false r f t e = cc
 
-prefix_closing : (kind : Kind) (pre : List ℕ) (stack : List Kind) (seen : Bool) (t : State) (cs : List Carried) → closed stack seen kind ≡ Ok t → Parsed t.stack t.seen cs → Parsed stack seen (closing_of kind pre ∷ cs)
+prefix_closing : (kind : Kind) (pre : List ℕ) (stack : List Kind) (seen : Bool) (t : State) (cs : List Carried) → state_closed stack seen kind ≡ Ok t → Parsed t.stack t.seen cs → Parsed stack seen (closing_of kind pre ∷ cs)
 prefix_closing kind pre [] seen t cs e p = cc
 prefix_closing kind pre (inner ∷ outer) seen t cs e p =
     let i = if_ok (kind_same inner kind) (Ok (record { stack = outer; seen = seen })) (Unlawful 0) t e in
@@ -118,7 +118,7 @@ prefix_list s [] false cs l o p =
       within = subst (λ x. Nested x p.0) k p.4;
     }
 
-prefix_opening : (s : Start) (stack : List Kind) (seen : Bool) (t : State) (cs : List Carried) → opened (record { stack = stack; seen = seen }) s.kind ≡ Ok t →
+prefix_opening : (s : Start) (stack : List Kind) (seen : Bool) (t : State) (cs : List Carried) → state_opened (record { stack = stack; seen = seen }) s.kind ≡ Ok t →
     Parsed t.stack t.seen cs → Parsed stack seen (start_item s ∷ cs)
 prefix_opening s stack seen t cs e p =
     let old : State = record { stack = stack; seen = seen } in
@@ -160,7 +160,7 @@ moved_ok : (r : Result State LawFault) (u : State) → outcome_moved 1 r ≡ Ok 
 moved_ok (Ok s) u e = e
 moved_ok (Err f) u e = cc
 
-joined_ok : (r : Result State LawFault) (rest : State → Result State LawFault) (u : State) → followed 1 r rest ≡ Ok u → (t : State) × (r ≡ Ok t) × (rest t ≡ Ok u)
+joined_ok : (r : Result State LawFault) (rest : State → Result State LawFault) (u : State) → outcome_then 1 r rest ≡ Ok u → (t : State) × (r ≡ Ok t) × (rest t ≡ Ok u)
 joined_ok (Ok t) rest u e = (t, refl, moved_ok (rest t) u e)
 joined_ok (Err f) rest u e = cc
 

@@ -67,7 +67,7 @@ Rows-count page spans (Node s inside pre later) r =
 
 -- ---- the node of an origin
 
--- the spans stand from this place on
+-- the spans stand from this position on
 record At (all : List SourceSpan) (k : ℕ) (spans : List SourceSpan) : Type 0 where
   done : List SourceSpan
   more : List SourceSpan

@@ -1,4 +1,4 @@
--- What the source of a node is, where the node holds nothing that is kept whole: a void element, an element, or a run.
+-- The source of a node that holds nothing that is kept whole: a void element, an element, or a run.
 use Rattle.std.proofs.Common.{◌≡◌, ℕ, Bool, true, false, List, [], ◌++◌}
 use Rattle.model_spelling.specs.Grammar.{Attr as Spelled, start_text, end_text}
 use Rattle.model_spelling.specs.Forest.{Forest, spelling}

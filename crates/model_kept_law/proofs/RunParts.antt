@@ -1,4 +1,5 @@
--- A run without leaves that are kept whole is the content that a forest makes, wherever that stands.
+-- A run without leaves that are kept whole is the content that a forest makes, wherever that
+-- stands.
 use Rattle.std.proofs.Common.{◌≡◌, ℕ, Bool, true, false, if◌then◌else◌, List, [], ◌∷◌, ◌++◌, map, Option, Some, None, refl, sym, ap, ◌∙◌, subst, inl, inr}
 use Rattle.std.specs.Prelude.{chars}
 use Rattle.model_spelling.specs.Grammar.{Attr as Spelled, Comment, token_text, start_text, end_text}

@@ -1,4 +1,5 @@
--- At every depth the span of a node is its source, and its source is known where it holds nothing that is kept whole.
+-- At every depth the span of a node is its source, and its source is known where it holds nothing
+-- that is kept whole.
 use Rattle.std.proofs.Common.{◌≡◌, ℕ, ◌+◌, ◌-◌, Bool, true, false, if◌then◌else◌, List, [], ◌∷◌, ◌++◌, length, map, Option, Some, None, refl, sym, ap, ◌∙◌, subst, append_assoc, append-nil, length-append, arith, ◌⊎◌, inl, inr}
 use Rattle.std.proofs.lemmas.List.{take_at, drop_at}
 use Rattle.std.specs.Prelude.{chars, encode_utf8_all, take}
@@ -37,7 +38,7 @@ use Rattle.model_kept_law.proofs.WholeParts.{MayStand, NoWhole, note_alien, leaf
 use Rattle.model_kept_law.proofs.OwnSource.{OwnLeaf, OwnBlock, OwnRun}
 use Rattle.model_kept_law.proofs.RunParts.{run_of}
 
--- ---- a text stands at a place of the page
+-- ---- a text stands at a position of the page
 
 pub record In (page : List ℕ) (at : ℕ) (text : List ℕ) : Type 0 where
   pub prefix : List ℕ
@@ -152,7 +153,7 @@ pub record SourcedMade (page : Ground) (around : Around) (m : Made) : Type 0 whe
   pub run : Sourced page m.run
   pub later : Later page around m.later
 
--- a run of this source from the place on may be closed
+-- a run of this source from the position on may be closed
 abbrev Closable : Ground → Progress → List ℕ → Made → Type 0
 Closable page w part m = is_white part ≡ false → (slice page.bytes w.at (w.at + length part) ≡ part) × (NoWhole m.run.items → OwnRun m.run.items part)
 

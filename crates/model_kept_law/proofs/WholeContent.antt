@@ -1,4 +1,5 @@
--- Content in which leaves are kept, by their tags or whole, is read as that content, in a paragraph that has its tags.
+-- Content in which leaves are kept, by their tags or whole, is read as that content, in a paragraph
+-- that has its tags.
 use Rattle.std.proofs.Common.{◌≡◌, ℕ, Bool, true, false, not, ◌&&◌, ◌||◌, ◌==◌, List, [], ◌∷◌, ◌++◌, length, take, map, refl, sym, ap, ◌∙◌, subst, append_assoc, arith}
 use Rattle.std.proofs.lemmas.List.{append-nil}
 use Rattle.std.proofs.lemmas.Bool.{and_parts}

@@ -1,4 +1,5 @@
--- Blocks that are written are read as these blocks, whether they are kept or written afresh: one block before others.
+-- Blocks that are written are read as these blocks, whether they are kept or written afresh: one
+-- block before others.
 use Rattle.std.proofs.Common.{◌≡◌, ℕ, Bool, true, false, not, ◌&&◌, ◌==◌, if◌then◌else◌, List, [], ◌∷◌, ◌++◌, map, None, refl, sym, ap, ◌∙◌, subst, append_assoc, append-nil, arith}
 use Rattle.std.proofs.lemmas.Bool.{and_parts, and_from}
 use Rattle.std.proofs.lemmas.Grind.{common_steps}

@@ -1,5 +1,6 @@
--- Lists that read back though leaves are kept whole in them: what stands in a kept block is as it was first read, whatever it is; a leaf among blocks
--- reads back by itself; and all else is of the form.
+-- Lists that read back though leaves are kept whole in them. The nodes in a kept block are as they
+-- were first read, whatever they are. A leaf among blocks reads back by itself, and all else is of
+-- the form.
 use Rattle.std.specs.Prelude.{◌≡◌, true, false, Bool, ◌||◌, ◌&&◌, not, List, [], ◌∷◌, ℕ, Some, None, is_some, option_map, unwrap_or, encode_utf8_all, ◌⊎◌}
 use Rattle.model_spelling.specs.Forest.{Forest, Nothing, Text, Remark, Void, RawElement, Element}
 use Rattle.model_spelling.specs.Parsed.{forest_of}
@@ -64,7 +65,8 @@ is_apart f Empty = true
 is_apart f (Letter c marks later) = not (is_white_char c) || is_apart f later
 is_apart f (Node s inside pre later) = not (is_leaf s.kind && shares_about f (leaf_forest s))
 
--- A leaf that is written as its source: one part without references, which by itself reads as that leaf in that parent. It doesn't join what follows.
+-- A leaf that is written as its source: one part without references, which by itself reads as that
+-- leaf in that parent. It doesn't join what follows.
 pub record IsWholeLeaf (w : Writer) (parent : Kind) (s : Start) (inside : Nodes) (pre : List ℕ) (later : Nodes) : Type 0 where
   pub leaf : is_whole_leaf s.kind ≡ true
   pub tags : s.generated ≡ false
@@ -87,8 +89,8 @@ holds_whole (Node s inside pre later) = is_whole_leaf s.kind || holds_whole late
 
 -- ---- lists
 
--- each node is a kept block, a leaf that is kept whole, or of the form, and so is each that stands in one of the form; a paragraph that may be bare
--- holds no leaf that is kept whole
+-- Each node is a kept block, a leaf that is kept whole, or of the form, and so is each that stands
+-- in one of the form. A paragraph that may be bare holds no leaf that is kept whole.
 abbrev pub AreReadable : Writer → Kind → Nodes → Type 0
 AreReadable w parent Empty = Unit {0}
 AreReadable w parent (Letter c marks later) = IsFormed (Char c marks) × AreReadable w parent later

@@ -1,19 +1,24 @@
-//! Pages that are written with nodes kept in them, read again. It defines no writing and no reading: those are
-//! `model_page_write`'s and `model_page`'s.
+//! Pages that are written with nodes kept in them, read again. It defines no writing and no
+//! reading: those are `model_page_write`'s and `model_page`'s.
 //!
 //! Each law is a definition in specs/ and a clause of the function in `laws`. In reading order:
 //!
-//! - `Readable`: which lists it speaks of where leaves are kept whole: what stands in a kept block may be anything, such a leaf elsewhere reads as
-//!   itself, and all else is of the form that reads back (`Formed` of `model_page_law`);
-//! - `KeptBack` (`kept_page_is_read_back`): whichever nodes are kept by their bytes, the page that a list gives opens as the list, where it opens; that it
-//!   does where a forest spells its body is `model_page_law`'s.
+//! - `Readable`: the lists that it speaks of, where leaves are kept whole. Anything may stand in a
+//!   kept block, and such a leaf elsewhere reads as itself. All else is of the form that reads back
+//!   (`Formed` of `model_page_law`);
+//! - `KeptBack` (`kept_page_is_read_back`): whichever nodes are kept by their bytes, the page that
+//!   a list gives opens as the list, where it opens. That it does where a forest spells its body is
+//!   `model_page_law`'s.
 //!
-//! It says nothing of pages with references, nor of leaves that are kept whole in paragraphs that may be bare.
+//! It says nothing of pages with references, nor of leaves that are kept whole in paragraphs that
+//! may be bare.
 //!
-//! The proof goes in three steps, each a few files in proofs/. At every depth the span of a node is its source (`SourceRows`). Where nothing in it is
-//! kept whole, or nothing is a reference, that source makes the same items wherever it stands (`ApartParts`, `WholeParts`, `RunParts`). So a
-//! writer's text is spelled by a forest that is read as the list, with an original element, run or leaf in place of the canonical one
-//! (`OwnContent`, `WholeContent`, `WrittenBlocks`, `KeptBlocks`, `StandingBlocks`).
+//! The proof goes in three steps, each a few files in proofs/. At every depth the span of a node is
+//! its source (`SourceRows`). Where nothing in it is kept whole, or nothing is a reference, that
+//! source makes the same items wherever it stands (`ApartParts`, `WholeParts`, `RunParts`). So a
+//! writer's text is spelled by a forest that is read as the list. An original element, run or leaf
+//! stands in it in place of the canonical one (`OwnContent`, `WholeContent`, `WrittenBlocks`,
+//! `KeptBlocks`, `StandingBlocks`).
 #![tactic(auto)]
 
 mod laws;

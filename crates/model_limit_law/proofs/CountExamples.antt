@@ -1,4 +1,4 @@
--- What is counted of a page, by computation.
+-- Counts of a page, by computation.
 use Rattle.std.specs.Prelude.{◌≡◌, ℕ, List, [], ◌∷◌, ◌++◌, Option, Some, codes, refl, option_map}
 use Rattle.std.specs.List.{repeat}
 use Rattle.ve_kinds.specs.declared.kind.Kind.TheVariants.{Root}

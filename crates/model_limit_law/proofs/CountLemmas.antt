@@ -1,4 +1,4 @@
--- Each marked item of what is converted has as many marks as places.
+-- Each marked item of what is converted has as many marks as positions.
 use Rattle.std.specs.Prelude.{chars, nat_lt}
 use Rattle.std.proofs.Common.{◌≡◌, ℕ, ◌+◌, Bool, true, false, cond, ◌&&◌, if◌then◌else◌, List, [], ◌∷◌, ◌++◌, length, map, Option, Some, None, refl, sym, ap, ◌∙◌, subst, append_assoc}
 use Rattle.std.proofs.lemmas.List.{append-nil, map-append}

@@ -1,4 +1,4 @@
--- The first item over a limit, and the first place, by computation.
+-- The first item over a limit, and the first position, by computation.
 use Rattle.std.specs.Prelude.{◌≡◌, ℕ, List, [], ◌++◌, Option, Some, None, codes, refl, option_and_then}
 use Rattle.std.specs.List.{repeat}
 use Rattle.ve_base.specs.declared.head.Key.TheVariants.{Auto}

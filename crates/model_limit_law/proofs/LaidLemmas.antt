@@ -49,7 +49,7 @@ deep_within d (Opening kind head marks pre origin generated ∷ items) low high 
     by true e rest = rest e
     by false e rest = let same = some_same span.from n e in (omega (arith, same, w.0.0), omega (arith, same, w.0.1))
 
--- ---- what is made from a place on
+-- ---- what is made from a position on
 
 pub record Laid (low high : ℕ) (m : Made) : Type 0 where
   pub run : Within low (low + length m.source) m.run.spans

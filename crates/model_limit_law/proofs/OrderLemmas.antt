@@ -146,7 +146,7 @@ deep_after d white (Opening kind head marks pre origin generated ∷ items) [] =
 deep_after d white (Opening kind head marks pre origin generated ∷ items) (span ∷ spans) = refl
 deep_after d white (Closing kind pre ∷ items) spans = refl
 
--- ---- which limit, where the first places over them are these
+-- ---- which limit, where the first positions over them are these
 
 -- that whichever of the two begins first is what the first item is over
 abbrev pub Same : ℕ → Piece → Option ℕ → Type 0
@@ -169,7 +169,7 @@ UpTo high o = (n : ℕ) → o ≡ Some n → n ≤ high
 abbrev pub Below : ℕ → Option ℕ → Type 0
 Below high o = (n : ℕ) → o ≡ Some n → n < high
 
--- what is before a place, and what is after it
+-- what is before a position, and what is after it
 parted : (mid : ℕ) (a m b n : Option ℕ) → UpTo mid a → Below mid m → From mid b → From mid n → one_limit (option_or a b) (option_or m n) ≡ option_or (one_limit a m) (one_limit b n)
 parted mid (Some x) (Some y) b n ua um fb fn = by (nat_lt y x)
   where

@@ -1,4 +1,4 @@
--- The limit on marks is the place of the 65th mark of the first item that has one.
+-- The limit on marks is the position of the 65th mark of the first item that has one.
 use Rattle.std.specs.Option.{option_or}
 use Rattle.std.specs.Prelude.{chars, nat_lt, slice_get}
 use Rattle.std.proofs.Common.{◌≡◌, ◌≤◌, ℕ, zero, suc, ◌+◌, Bool, true, false, ◌&&◌, if◌then◌else◌, List, [], ◌∷◌, ◌++◌, length, map, Option, Some, None, refl, sym, ap, ◌∙◌, arith}
@@ -23,7 +23,7 @@ use Rattle.model_page_law.proofs.MarkedLemmas.{FitsContent, FitsContent-kind, Te
 use Rattle.model_limit_law.specs.Counted.{mark_places}
 use Rattle.model_limit_law.proofs.FirstLemmas.{first_marked, past_none}
 
--- ---- lists of places
+-- ---- lists of positions
 
 or_assoc : (a b c : Option ℕ) → option_or (option_or a b) c ≡ option_or a (option_or b c)
 or_assoc None b c = refl
@@ -150,7 +150,7 @@ limit_by around name attrs children later at inside end fit = elim fit [
   | _ ↦ marked_at around later end
 ]
 
--- that what stands in an element is the first place of it
+-- that what stands in an element is the first position of it
 abbrev Agrees : Parts → Type 0
 Agrees parts = (outer : List ℕ) (around : Around) (at : ℕ) → Even outer around → length outer ≤ max_marks → marked_at around parts at ≡ first_marked (mark_places outer around parts at)
 

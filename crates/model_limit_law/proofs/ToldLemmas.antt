@@ -107,7 +107,7 @@ first_is (Parent name attrs children later) c t marks many d w =
     by (Leaf kind) f inner = single_first d marks attrs (element_source name attrs children) (made_of (Content marks) later) w children (Leaf kind) f many
     by (Whole kind) f inner = single_first d marks attrs (element_source name attrs children) (made_of (Content marks) later) w children (Whole kind) f many
 
--- ---- what is made, with the place over the limit on marks
+-- ---- what is made, with the position over the limit on marks
 
 -- a run in a flow parent stands in a paragraph
 abbrev run_depth : Around → ℕ → ℕ
@@ -120,7 +120,8 @@ Quiet (Content marks) m run later = later ≡ None
 Quiet (Flow kind) m run later = is_white m.source ≡ true → run ≡ None
 Quiet (Structural kind) m run later = run ≡ None
 
--- The place over the limit is in the run or in what comes later, and each tells what its first item is over.
+-- The position over the limit is in the run or in what comes later, and each tells what its first
+-- item is over.
 record Told (around : Around) (d low : ℕ) (m : Made) (marked : Option ℕ) : Type 0 where
   run_marks : Option ℕ
   later_marks : Option ℕ

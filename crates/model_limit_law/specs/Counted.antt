@@ -1,4 +1,5 @@
--- What the limits on nesting and marks count: the kinds that are open at each opening of a list, and the marks of each item.
+-- Counts that the limits on nesting and marks speak of: the kinds that are open at each opening of
+-- a list, and the marks of each item.
 use Rattle.std.specs.Prelude.{◌≡◌, ℕ, suc, ◌+◌, ◌-◌, false, nat_lt, List, [], ◌∷◌, ◌++◌, length, map, filter}
 use Rattle.ve_kinds.specs.declared.kind.Kind.{Kind}
 use Rattle.model_items.specs.declared.plain_item.PlainItem.{PlainItem}
@@ -14,7 +15,8 @@ use Rattle.model_page.specs.Convert.{marked_around, element_source, in_flow}
 
 -- ---- nesting
 
--- Of each opening, in order: how many kinds are open, itself among them, and the byte where its source begins. So many kinds are open before.
+-- Of each opening, in order: how many kinds are open, itself among them, and the byte where its
+-- source begins. So many kinds are open before.
 abbrev pub openings : ℕ → List PlainItem → List SourceSpan → List (ℕ × ℕ)
 openings depth [] spans = []
 openings depth (Char c marks ∷ items) spans = openings depth items spans
@@ -32,8 +34,8 @@ open_counts depth (Opening kind head marks pre origin generated ∷ items) = suc
 
 -- ---- marks
 
--- Of each character and leaf, in order: the bytes where the elements begin that mark it. The parts begin at the byte `at`, inside of marks
--- whose elements begin at the bytes `outer`.
+-- Of each character and leaf, in order: the bytes where the elements begin that mark it. The parts
+-- begin at the byte `at`, inside of marks whose elements begin at the bytes `outer`.
 abbrev pub mark_places : List ℕ → Around → Parts → ℕ → List (List ℕ)
 mark_places outer around Ended at = []
 mark_places outer around (Words text later) at = map (λ c. outer) (characters text) ++ mark_places outer around later (at + length text)
@@ -49,7 +51,7 @@ mark_places outer around (Parent name attrs children later) at =
       | _ ↦ outer ∷ mark_places outer around later end
     ]
 
--- how many places there are for each item that is marked
+-- how many positions there are for each item that is marked
 abbrev pub place_counts : List (List ℕ) → List ℕ
 place_counts places = filter (nat_lt 0) (map length places)
 
@@ -64,7 +66,7 @@ abbrev pub OpeningsAreCounted : Type 0
 OpeningsAreCounted = (depth : ℕ) (kind : Kind) (parts : Parts) (w : Progress) → let made = in_flow kind parts w in
     map (λ (o : ℕ × ℕ). o.0) (openings depth made.later.items made.later.spans) ≡ open_counts depth made.later.items
 
--- and each item that is marked has as many places as marks.
+-- and each item that is marked has as many positions as marks.
 abbrev pub MarksHavePlaces : Type 0
 MarksHavePlaces = (kind : Kind) (parts : Parts) (w : Progress) →
     mark_counts (in_flow kind parts w).later.items ≡ place_counts (mark_places [] (Flow kind) parts w.at)

@@ -1,4 +1,5 @@
--- The first thing of a page that is over the limits on nesting and marks, in the order of the page's bytes.
+-- The first thing of a page that is over the limits on nesting and marks, in the order of the
+-- page's bytes.
 use Rattle.std.specs.Prelude.{◌≡◌, ◌<◌, ◌≤◌, ◌⊎◌, ◌↔◌, ℕ, true, List, [], ◌∷◌, ◌++◌, length, Some, Err, slice_get, encode_utf8_all, IsUtf8}
 use Rattle.std.specs.List.{AllByRecursion}
 use Rattle.ve_base.specs.Limits.{max_open_elements, max_open_kinds, max_marks, max_page}
@@ -26,7 +27,8 @@ pub record FirstDeep (opens : List (ℕ × ℕ)) (at : ℕ) : Type 0 where
   pub over : max_open_kinds < kinds
   pub none_before : AllByRecursion (λ o. o.0 ≤ max_open_kinds) before
 
--- some item has more than 64 marks, and at this byte the element begins that gives the first such its 65th
+-- some item has more than 64 marks, and at this byte the element begins that gives the first such
+-- its 65th
 pub record FirstMarked (places : List (List ℕ)) (at : ℕ) : Type 0 where
   pub before : List (List ℕ)
   pub marks : List ℕ
@@ -66,7 +68,8 @@ FirstInPage at forest l =
 abbrev pub FirstInOpened : Opened → Limit → Type 0
 FirstInOpened o l = FirstInPage o.body.from (or_nothing (forest_of (slice o.page o.body.from o.body.to))) l
 
--- A page that is refused for its nesting or its marks is refused at the first thing over these limits,
+-- A page that is refused for its nesting or its marks is refused at the first thing over these
+-- limits,
 abbrev pub RefusedIsFirst : Type 0
 RefusedIsFirst = (page : List ℕ) (l : Limit) → IsUtf8 page → read_page page ≡ Err (OverLimit l) →
     (o : Opened) × (opened_page page ≡ Some o) × FirstInOpened o l
@@ -81,6 +84,7 @@ abbrev pub FragmentsAtFirst : Type 0
 FragmentsAtFirst = (stack : List Kind) (f : Forest) (at : ℕ) → is_forest max_open_elements f ≡ true → IsUtf8 (spelling f) →
     (fragment_limit stack f ≡ Some at) ↔ FirstMarked (mark_places [] (around_in (context_of (parts_of f) stack)) (parts_of f) 0) at
 
--- The line that opens a page is answered so, and in no other case: `too_deep` and `too_many_marks` are told of the limits alone.
+-- The line that opens a page is answered so, and in no other case: `too_deep` and `too_many_marks`
+-- are told of the limits alone.
 abbrev pub OpeningTellsLimits : Type 0
 OpeningTellsLimits = (text : List ℕ) (l : Limit) → (open_page text ≡ Err (limit_refusal l)) ↔ (read_page (encode_utf8_all text) ≡ Err (OverLimit l))

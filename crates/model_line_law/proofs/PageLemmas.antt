@@ -1,4 +1,5 @@
--- The page that lines open is UTF-8: its text is a string of a line. So what is said of pages that are UTF-8 holds of each.
+-- The page that lines open is UTF-8: its text is a string of a line. So what is said of pages that
+-- are UTF-8 holds of each.
 use Rattle.std.proofs.Common.{◌≡◌, ℕ, Bool, true, false, if◌then◌else◌, List, [], ◌∷◌, Option, Some, None, Result, Ok, Err, bytes_eq, refl, sym, subst, IsUtf8, Ordering}
 use Rattle.std.specs.Prelude.{codes, map, length, nat_lt, encode_utf8_all, option_and_then, IfSome, IfOk}
 use Rattle.std.specs.Str.{all_scalars}
@@ -24,7 +25,7 @@ use Rattle.model_world.specs.declared.field.Field.TheVariants as field
 use Rattle.model_world.specs.Names.{field_name}
 use Rattle.model_world.specs.Values.{line_json, source_in, meant_by, word_in, number_in, number_between}
 use Rattle.model_world.specs.Members as members
-use Rattle.model_world.specs.Members.{Reader, needed, defaulted}
+use Rattle.model_world.specs.Members.{Reader, required_member, optional_member}
 use Rattle.model_world.specs.Changes.{reader_in}
 use Rattle.model_world.specs.Commands.{requests, ask_read, open_read, commands, or_bad_command, read_by, command_in, command_or_refusal, command}
 use Rattle.model_world.specs.Refusals.{refused_as, open_refusal}
@@ -81,7 +82,7 @@ opening_by (Some json) sites u = by (source_in json) (source_chars json u)
 
 open_chars : (ms : Members) → AllInMembers IsUtf8 ms → IfOk (open_read ms) OpensChars
 open_chars ms u =
-    opening_by (get_member (field_name field.Page) ms) (defaulted field.Sites 1 (number_between 1 max_sites) ms) (found_utf8 (field_name field.Page) ms u)
+    opening_by (get_member (field_name field.Page) ms) (optional_member field.Sites 1 (number_between 1 max_sites) ms) (found_utf8 (field_name field.Page) ms u)
 
 abbrev asking : List (List ℕ × Reader Request) → List (List ℕ × Reader Command)
 asking rows = map (λ (row : List ℕ × Reader Request). (row.0, ask_read row.1)) rows
@@ -105,7 +106,7 @@ asks_chars : (rows : List (List ℕ × Reader Request)) (word : List ℕ) (ms : 
 asks_chars [] word ms = tt
 asks_chars (row ∷ rows) word ms =
     row_by (bytes_eq row.0 word) (ask_read row.1) (meant_by (asking rows) word) ms
-    (asked_by (row.1 ms) (defaulted field.Site 0 number_in ms)) (asks_chars rows word ms)
+    (asked_by (row.1 ms) (optional_member field.Site 0 number_in ms)) (asks_chars rows word ms)
 
 meant_chars : (word : List ℕ) (ms : Members) → AllInMembers IsUtf8 ms → IfSome (meant_by commands word) (ReadsChars ms)
 meant_chars word ms u = row_by (bytes_eq (codes "open") word) open_read (meant_by (asking requests) word) ms (open_chars ms u) (asks_chars requests word ms)

@@ -1,4 +1,5 @@
--- What a string of JSON stands for is UTF-8 where the text is: it is cut at ASCII bytes, and its escapes spell characters.
+-- A string of JSON stands for UTF-8 where the text is UTF-8: it is cut at ASCII bytes, and its
+-- escapes spell characters.
 use Rattle.std.proofs.Common.{◌≡◌, ℕ, ◌+◌, ◌<◌, Bool, true, false, cond, ◌&&◌, List, [], ◌∷◌, ◌++◌, length, get_or, Option, Some, None, refl, sym, ap, ◌∙◌, subst, append_assoc, arith, add-zero, eqb-true, IsUtf8}
 use Rattle.std.specs.Prelude.{◌==◌, nat_lt, option_and_then, IfSome}
 use Rattle.std.specs.Char.{IsScalar, digit_value, is_digit, encode_utf8}
@@ -70,7 +71,8 @@ pair_is_scalar h l high low = grind (arith, nat_tests)
 abbrev pub Keeps : List ℕ → Option (List ℕ) → Type 0
 Keeps p o = IfSome o (λ s. IsUtf8 (p ++ s))
 
--- whatever p was read before, perhaps the first bytes of a character that goes on: p with what is left is UTF-8, and so is p with the string
+-- whatever p was read before, perhaps the first bytes of a character that goes on: p with what is
+-- left is UTF-8, and so is p with the string
 abbrev KeepsAfter : List ℕ → Within → Type 0
 KeepsAfter xs w = (p : List ℕ) → IsUtf8 (p ++ xs) → Keeps p (content w xs)
 

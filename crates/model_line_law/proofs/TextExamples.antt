@@ -1,4 +1,4 @@
--- What the strings of a value are, and lines that are read, or are not.
+-- The strings of a value, and lines that are read, or are not.
 use Rattle.std.specs.Prelude.{◌≡◌, ℕ, List, [], ◌∷◌, codes, Some, None, Ok, encode_utf8_all, refl}
 use Rattle.std.specs.Str.{is_utf8, chars}
 use Rattle.serde_json.specs.Data.{Data, null, number, string, array, object, unsigned, no_items, item, no_members, member}

@@ -1,4 +1,5 @@
--- Where the tokens of a value are UTF-8, so is each string in it, and so it stays as its members are put in order.
+-- Where the tokens of a value are UTF-8, so is each string in it, and so it stays as its members
+-- are put in order.
 use Rattle.std.proofs.Common.{ℕ, List, [], ◌∷◌, ◌++◌, Option, Some, None, Ordering, IsUtf8}
 use Rattle.std.specs.Prelude.{option_map, option_and_then, IfSome}
 use Rattle.std.specs.Ordering.{nat_cmp, match_ordering}

@@ -1,4 +1,5 @@
-// What lines lead to. Each function does nothing, and its contract is a law that is proved.
+// Laws of the worlds that lines lead to. Each function does nothing, and its contract is a law that
+// is proved.
 ghost use Rattle.model_line_law.specs.Pages.{ItemsStandAfterLines, OpenedIsUtf8, UneditedPageIsWrittenBack};
 ghost use Rattle.model_line_law.specs.Texts.{StringsAreUtf8};
 
@@ -12,8 +13,8 @@ pub fn opened_pages_are_utf8()
     ensures { OpenedIsUtf8 }
 {}
 
-/// So, with no premise on the page: each item of each site's list may stand, and a site that has the page's items
-/// writes the page as it was opened, byte for byte.
+/// With no premise on the page, each item of each site's list may stand. A site that has the page's
+/// items writes the page as it was opened, byte for byte.
 pub fn pages_of_lines_stand()
     ensures items { ItemsStandAfterLines }
     ensures written { UneditedPageIsWrittenBack }

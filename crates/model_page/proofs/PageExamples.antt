@@ -1,5 +1,5 @@
--- Pages and their items, by computation: marks, untouched neighbours, bare runs, a group, references, a whole document, and a page in
--- MediaWiki's markup.
+-- Pages and their items, by computation: marks, untouched neighbours, bare runs, a group,
+-- references, a whole document, and a page in MediaWiki's markup.
 use Rattle.std.specs.Prelude.{◌≡◌, ℕ, Bool, true, false, List, [], ◌∷◌, ◌++◌, map, Option, Some, None, codes, refl, option_map}
 use Rattle.ve_kinds.specs.declared.kind.Kind.{Kind}
 use Rattle.ve_kinds.specs.declared.kind.Kind.TheVariants.{P, Ul, Li, Br, Section, TransBlock, TransInline, AlienBlock, Ref, InternalList, InternalItem}

@@ -1,4 +1,5 @@
--- What conversion makes of the corners, by computation: whitespace, comments, misfits, marks, references, fragments, and texts of `data-mw`.
+-- Corner cases of conversion, by computation: whitespace, comments, misfits, marks, references,
+-- fragments, and texts of `data-mw`.
 use Rattle.std.specs.Prelude.{is_some, map, ◌≡◌, ℕ, true, false, List, [], ◌∷◌, ◌++◌, Option, Some, None, codes, refl, option_map}
 use Rattle.ve_kinds.specs.declared.kind.Kind.{Kind}
 use Rattle.ve_kinds.specs.declared.kind.Kind.TheVariants.{P, H2, Ul, Li, AlienBlock, AlienInline, InternalList}
@@ -33,7 +34,7 @@ comments : items_in (codes "a <!--x--> b<b><!--y--></b>") ≡ Some (
 unfolding page_on_literals
 comments = refl
 
--- what stands in the wrong place is kept whole; an annotation without a child is a leaf
+-- what stands in the wrong position is kept whole; an annotation without a child is a leaf
 misfits : items_in (codes "<p>a<div>b</div><b></b></p><ul>x</ul><li>y</li><ul><li></li><p></p></ul>") ≡ Some (
     open_ P 0 ∷ Char 97 [] ∷ whole_ AlienInline 1 [] (codes "<div>b</div>") ++ whole_ AlienInline 2 [] (codes "<b></b>") ++ close_ P
     ∷ whole_ AlienBlock 3 [] (codes "<ul>x</ul>") ++ whole_ AlienBlock 4 [] (codes "<li>y</li>")
@@ -47,7 +48,8 @@ marks : items_in (codes "<p><b><i id=\"x\">&lt;</i>" ++ 195 ∷ 169 ∷ codes "<
 unfolding page_on_literals
 marks = refl
 
--- ---- references: two owners without a name, an owner whose name is taken, and a reference in a body
+-- ---- references: two owners without a name, an owner whose name is taken, and a reference in a
+-- body
 
 abbrev ref : List ℕ → List ℕ → List ℕ
 ref mw inner = codes "<sup typeof=\"mw:Extension/ref\" data-mw='" ++ mw ++ codes "'>" ++ inner ++ codes "</sup>"

@@ -31,7 +31,8 @@ element_source name attrs children = start_text name attrs false ++ source_of ch
 abbrev pub inside_of : Progress → List ℕ → List Spelled → Progress
 inside_of place name attrs = past place (start_text name attrs false) []
 
--- what a branch holds, and the whitespace before its closing: content is a run without a paragraph
+-- the items inside a branch, and the whitespace before its closing: content is a run without a
+-- paragraph
 abbrev pub inside_piece : Around → Progress → Made → Made
 inside_piece (Content marks) place made = record made { later = made.run }
 inside_piece (Flow kind) place made = run_closed place made
@@ -79,7 +80,7 @@ element_made around name attrs source children later place (Whole kind) = leaf_m
 
 -- ---- all parts
 
--- what the parts that stand around so become, where they begin there
+-- the conversion of the parts that stand around so, where they begin there
 abbrev pub made_of : Around → Parts → Progress → Made
 made_of around Ended place = record { run = no_piece; source = []; later = no_piece; pre = []; owners = [] }
 made_of around (Words text later) place = words_before around text (made_of around later (past place text []))
@@ -93,6 +94,6 @@ made_of around (Parent name attrs children later) place =
     let source = element_source name attrs children in
     element_made around name attrs source (λ a. made_of a children) (made_of around later) place (fit_of around name children)
 
--- what all that stands in a flow parent becomes
+-- the conversion of all that stands in a flow parent
 abbrev pub in_flow : Kind → Parts → Progress → Made
 in_flow kind parts place = run_closed place (made_of (Flow kind) parts place)

@@ -1,4 +1,5 @@
--- What the JSON text of a `data-mw` says of a reference, and how it is written with another body.
+-- The JSON text of a `data-mw`: what it says of a reference, and how it is written with another
+-- body.
 use Rattle.std.specs.Prelude.{ℕ, ◌||◌, List, [], ◌∷◌, Option, Some, None, is_some, if◌then◌else◌, codes, bytes_eq}
 use Rattle.serde_json.specs.Data.{Data, string, object, Members, no_members, member, put}
 use Rattle.serde_json.specs.Read.{read}
@@ -52,7 +53,7 @@ html_or_none (Some _) = None
 abbrev pub if_owner_or_named : RefRead → Option RefRead
 if_owner_or_named r = if is_some r.html || is_some r.name then Some r else None
 
--- what an editable `data-mw` says; none where it is not editable
+-- the reading of an editable `data-mw`; none where it is not editable
 abbrev pub reference_of : List ℕ → Option RefRead
 reference_of mw = do
   value ← read mw

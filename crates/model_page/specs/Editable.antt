@@ -1,4 +1,5 @@
--- Lists whose references can be written and can carry a body: each has its key and an editable `data-mw`, and each internal item has its key.
+-- Lists whose references can be written and can carry a body: each has its key and an editable
+-- `data-mw`, and each internal item has its key.
 use Rattle.std.specs.Prelude.{ℕ, Bool, true, ◌&&◌, List, [], ◌∷◌, Option, Some, None, is_some, if◌then◌else◌, codes, bytes_eq, encode_utf8_all, option_and_then}
 use Rattle.std.specs.List.{list_all}
 use Rattle.ve_base.specs.declared.attrs.Attr.{Attr}

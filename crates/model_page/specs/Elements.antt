@@ -1,4 +1,5 @@
--- What the attributes of an element say: whether it is held, and what made it. Values are compared decoded.
+-- The attributes of an element: whether it is kept whole (it has an `about`, or a `typeof` of
+-- `mw:`), and what made it. Values are compared decoded.
 use Rattle.std.specs.Prelude.{ℕ, Bool, ◌||◌, ◌==◌, List, [], ◌∷◌, Option, Some, None, is_some, if◌then◌else◌, codes, bytes_eq}
 use Rattle.std.specs.List.{list_any, list_all}
 use Rattle.model_spelling.specs.Grammar.{Attr, begins_with}

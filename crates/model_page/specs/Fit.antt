@@ -1,4 +1,5 @@
--- What becomes of each part of a page, by the parent that it stands in. A group is no reference here: that is decided before.
+-- The fit of each text, comment, element or group of a page, by the parent that it stands in. A
+-- group is no reference here: that is decided before.
 use Rattle.std.specs.Prelude.{ℕ, Bool, true, false, not, ◌&&◌, ◌||◌, List, Option, Some, None, if◌then◌else◌}
 use Rattle.model_spelling.specs.Grammar.{Attr}
 use Rattle.model_spelling.specs.Forest.{Forest, Nothing, Text, Remark, Void, RawElement, Element}
@@ -17,14 +18,15 @@ pub data Around : Type 0 where
   Structural : Kind → Around
   Content : List Mark → Around
 
--- What an element becomes: a mark on what is in it, a leaf br or img, a branch, or a leaf that keeps its source.
+-- The fit of an element: a mark on what is in it, a leaf br or img, a branch, or a leaf that keeps
+-- its source.
 pub data Fit : Type 0 where
   Annotation : Fit
   Leaf : Kind → Fit
   Branch : Kind → Fit
   Whole : Kind → Fit
 
--- what stands inside a branch of a kind
+-- the surroundings inside a branch of a kind
 abbrev pub around_in : Kind → Around
 around_in k = if is_content_branch k then Content List.[] else (if is_flow k then Flow k else Structural k)
 
@@ -55,7 +57,7 @@ fit_in_block parent children (Some kind) =
     if may_hold parent kind && is_convertible kind children then Branch kind else Whole AlienBlock
 fit_in_block parent children None = Whole AlienBlock
 
--- what an element that is not held becomes
+-- the fit of an element that is not kept whole
 abbrev pub fit_of : Around → List ℕ → Parts → Fit
 fit_of (Content marks) name children = fit_in_content name children (kind_of_tag name)
 fit_of (Flow parent) name children =
@@ -84,16 +86,17 @@ is_generated nodes = some_element (λ name attrs. has_type is_generator attrs) n
 abbrev pub has_inline_tags : Forest → Bool
 has_inline_tags nodes = not (some_element (λ name attrs. not (is_inline_tag name)) nodes)
 
--- a leaf in content is inline, one in a structural parent is not, and one in a flow parent where its tags are
+-- a leaf in content is inline, one in a structural parent is not, and one in a flow parent where
+-- its tags are
 abbrev pub is_inline_at : Around → Bool → Bool
 is_inline_at (Content marks) inline = true
 is_inline_at (Flow parent) inline = inline
 is_inline_at (Structural parent) inline = false
 
--- what a group becomes, where it is no reference
+-- the kind of a group that is no reference
 abbrev pub group_kind : Around → Forest → Kind
 group_kind around nodes = whole_kind (is_generated nodes) (is_inline_at around (has_inline_tags nodes))
 
--- what a comment becomes, and whatever else is kept whole
+-- the kind of a comment, and of whatever else is kept whole
 abbrev pub note_kind : Around → Kind
 note_kind around = whole_kind false (is_inline_at around false)

@@ -1,5 +1,5 @@
--- The items of a fragment that is inserted: its forest becomes children of the innermost open kind that it fits. No item has an origin, none
--- is generated, and no reference is editable.
+-- The items of a fragment that is inserted: its forest becomes children of the innermost open kind
+-- that it fits. No item has an origin, none is generated, and no reference is editable.
 use Rattle.std.specs.Prelude.{ℕ, Bool, true, false, not, ◌&&◌, ◌||◌, if◌then◌else◌, List, [], ◌∷◌, ◌++◌, map, chars, Some, None}
 use Rattle.model_spelling.specs.Forest.{Forest}
 use Rattle.ve_kinds.specs.declared.kind.Kind.{Kind}
@@ -54,13 +54,14 @@ item_unmade (Opening kind head marks pre origin generated) = Opening kind head m
 item_unmade (Closing kind pre) = Closing kind pre
 item_unmade (Char c marks) = Char c marks
 
--- what the parts become as children of k
+-- the conversion of the parts as children of k
 abbrev pub pieces_in : Kind → Parts → Made
 pieces_in k parts =
     let w : Progress = record { at = 0; owners = []; editable = false } in
     inside_piece (around_in k) w (made_of (around_in k) parts w)
 
--- the items of a fragment where these kinds are open, innermost first; whitespace alone is a paragraph where blocks may stand
+-- the items of a fragment where these kinds are open, innermost first; whitespace alone is a
+-- paragraph where blocks may stand
 abbrev pub fragment_items : List Kind → Forest → List PlainItem
 fragment_items stack forest =
     let parts = parts_of forest in

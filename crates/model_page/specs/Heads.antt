@@ -1,4 +1,4 @@
--- What an opening or a mark takes from the tag that it is read from. Items have scalars where the page has bytes.
+-- Heads and marks read from tags. Items have scalars where the page has bytes.
 use Rattle.std.specs.Prelude.{ℕ, false, List, [], map, None, chars}
 use Rattle.model_spelling.specs.Grammar.{Attr as Spelled}
 use Rattle.model_spelling.specs.Written.{decoded}

@@ -1,4 +1,5 @@
--- The first place of a page where an item would be inside of more than `max_open_kinds` kinds or of more than `max_marks` marks.
+-- The first position of a page where an item would be inside of more than `max_open_kinds` kinds or
+-- of more than `max_marks` marks.
 use Rattle.std.specs.Prelude.{ℕ, suc, ◌+◌, ◌-◌, false, if◌then◌else◌, nat_lt, List, [], ◌∷◌, length, Option, Some, None, option_map}
 use Rattle.model_spelling.specs.Grammar.{Comment, token_text, start_text}
 use Rattle.model_spelling.specs.Forest.{Forest, spelling}
@@ -16,7 +17,7 @@ use Rattle.model_page.specs.PageItems.{body_made, or_nothing, page_made}
 use Rattle.model_page.specs.Fragment.{context_of}
 use Rattle.ve_base.specs.Limits.{max_open_kinds, max_marks}
 
--- what is over the limit, and the byte of the page where it starts
+-- a limit that is passed, and the byte of the page where that starts
 pub data Limit : Type 0 where
   TooDeep : ℕ → Limit
   TooManyMarks : ℕ → Limit
@@ -31,7 +32,8 @@ earlier None other = other
 earlier (Some a) None = Some a
 earlier (Some a) (Some b) = if nat_lt (limit_at b) (limit_at a) then Some b else Some a
 
--- the byte of the first opening inside of `max_open_kinds` kinds, where so many are open before, and these are the spans of the openings
+-- the byte of the first opening inside of `max_open_kinds` kinds, where so many are open before,
+-- and these are the spans of the openings
 abbrev pub deep_at : ℕ → List PlainItem → List SourceSpan → Option ℕ
 deep_at depth [] spans = None
 deep_at depth (Char c marks ∷ items) spans = deep_at depth items spans
@@ -87,7 +89,7 @@ page_limit at forest =
     let made = page_made at forest in
     option_or (limit_of 0 (Flow Root) (parts_of forest) at made) (first_body_limit made.owners)
 
--- The byte of the first annotation of a fragment inside of `max_marks` marks, where these kinds are open, innermost first. How deep a fragment is says
--- the law, once it is inserted.
+-- The byte of the first annotation of a fragment inside of `max_marks` marks, where these kinds are
+-- open, innermost first. How deep a fragment is says the law, once it is inserted.
 abbrev pub fragment_limit : List Kind → Forest → Option ℕ
 fragment_limit stack forest = let parts = parts_of forest in marked_at (around_in (context_of parts stack)) parts 0

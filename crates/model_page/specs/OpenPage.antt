@@ -1,5 +1,6 @@
--- A page that is opened, or why it is not. The causes come in this order: the page's length; the first fault of its spelling; the first place
--- over the limits on nesting and marks; the number of items; the number of values.
+-- A page that is opened, or why it is not. The causes come in this order. The first is the page's
+-- length, and the second the first fault of its spelling. Next is the first position over the
+-- limits on nesting and marks; then come the numbers of items and of values.
 use Rattle.std.specs.Prelude.{ℕ, nat_lt, true, false, if◌then◌else◌, List, [], length, Option, Some, None, Result, Ok, Err}
 use Rattle.ve_base.specs.declared.value.Value.{Value}
 use Rattle.model_spelling.specs.declared.scan_fault.ScanFault.{ScanFault}
@@ -22,7 +23,7 @@ pub data OpenFault : Type 0 where
 abbrev pub values_of : Opened → List Value
 values_of o = fill [] (cited o.items)
 
--- the first place of an opened page that is over the limits on nesting and marks
+-- the first position of an opened page that is over the limits on nesting and marks
 abbrev pub limit_in : Opened → Option Limit
 limit_in o = page_limit o.body.from (or_nothing (forest_of (slice o.page o.body.from o.body.to)))
 

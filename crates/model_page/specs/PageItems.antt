@@ -1,4 +1,5 @@
--- The items of a page: those of its body with their origins, and then the internal list with the reference bodies.
+-- The items of a page: those of its body with their origins, and then the internal list with the
+-- reference bodies.
 use Rattle.std.specs.Prelude.{ℕ, suc, true, false, List, [], ◌∷◌, ◌++◌, Option, Some, None, take, drop, ◌-◌, Result, Ok, Err, flat_map}
 use Rattle.model_spelling.specs.declared.scan_fault.ScanFault.{ScanFault}
 use Rattle.model_spelling.specs.Forest.{Forest, Nothing}
@@ -45,7 +46,7 @@ internal_item o =
 abbrev pub internal_list : List ℕ → List Owner → List PlainItem
 internal_list pre owners = Opening InternalList empty_head [] pre None false ∷ flat_map internal_item owners ++ Closing InternalList [] ∷ []
 
--- what the body of a page is converted to; its first byte is `at`
+-- the conversion of a page's body; its first byte is `at`
 abbrev pub page_made : ℕ → Forest → Made
 page_made at forest = in_flow Root (parts_of forest) (record { at = at; owners = []; editable = true })
 
@@ -53,11 +54,12 @@ page_made at forest = in_flow Root (parts_of forest) (record { at = at; owners =
 abbrev pub items_of_page : Made → List PlainItem
 items_of_page m = with_origins 0 m.later.items ++ internal_list m.pre m.owners
 
--- the bytes between two places
+-- the bytes between two positions
 abbrev pub slice : List ℕ → ℕ → ℕ → List ℕ
 slice bytes from to = take (to - from) (drop from bytes)
 
--- a page as it is first read: its bytes, the bytes of its body, its items, and the spans of the origins
+-- a page as it is first read: its bytes, the bytes of its body, its items, and the spans of the
+-- origins
 pub record Opened : Type 0 where
   pub page : List ℕ
   pub body : SourceSpan

@@ -1,13 +1,14 @@
--- A forest with the groups of its held elements formed: that comes before anything else.
--- A group is the most sibling elements that share one `about`, with whitespace alone between them. A held element without `about` is a group
--- by itself.
+-- A forest with the groups of its held elements formed: that comes before anything else. A group is
+-- the most sibling elements that share one `about`, with whitespace alone between them. A held
+-- element without `about` is a group by itself.
 use Rattle.std.specs.Prelude.{ℕ, Bool, false, ◌&&◌, List, [], ◌++◌, Option, Some, None, if◌then◌else◌, bytes_eq}
 use Rattle.model_spelling.specs.Grammar.{Attr, Comment, token_text, start_text, end_text}
 use Rattle.model_spelling.specs.Forest.{Forest, Nothing, Text, Remark, Void, RawElement, Element, spelling}
 use Rattle.model_page.specs.Elements.{is_white, about_of, is_held}
 
--- Siblings in order. A group has its nodes, from its first element to its last. What is not held is a text, a comment, an element that has no
--- children, with its source, or an element with its children.
+-- Siblings in order. A group has its nodes, from its first element to its last. What is not held is
+-- a text, a comment, an element that has no children, with its source, or an element with its
+-- children.
 pub data Parts : Type 0 where
   Ended : Parts
   Words : List ℕ → Parts → Parts

@@ -1,4 +1,5 @@
--- Items with the places of their sources, as they are put together from the end of a page to its beginning.
+-- Items with the positions of their sources, as they are put together from the end of a page to its
+-- beginning.
 use Rattle.std.specs.Prelude.{ℕ, ◌+◌, Bool, true, false, List, [], ◌∷◌, ◌++◌, length, map, None, if◌then◌else◌, chars}
 use Rattle.ve_base.specs.declared.marks.Mark.{Mark}
 use Rattle.ve_base.specs.declared.head.RefKey.{RefKey}
@@ -29,8 +30,8 @@ pub record Owner : Type 0 where
   pub key : RefKey
   pub html : List ℕ
 
--- What sibling parts become: the items of the run that they begin with, and its source; the items after it; the whitespace after these; and
--- the owners among them.
+-- The conversion of siblings: the items of the run that they begin with, and its source; the items
+-- after it; the whitespace after these; and the owners among them.
 pub record Made : Type 0 where
   pub run : Piece
   pub source : List ℕ
@@ -108,7 +109,8 @@ paragraph_before span made = record made {
   later = joined_pieces (node P empty_head [] true span made.run []) made.later;
 }
 
--- the run of this source is over: there was none, it was whitespace alone, or it becomes a paragraph
+-- the run of this source is over: there was none, it was whitespace alone, or it becomes a
+-- paragraph
 abbrev pub run_ended : List ℕ → Progress → Made → Made
 run_ended [] place made = run_dropped made
 run_ended (b ∷ bs) place made =
@@ -116,7 +118,7 @@ run_ended (b ∷ bs) place made =
     then with_white (chars (b ∷ bs)) (run_dropped made)
     else paragraph_before (source_span place (b ∷ bs)) made
 
--- a run that begins at the place is over
+-- a run that begins at the position is over
 abbrev pub run_closed : Progress → Made → Made
 run_closed place made = run_ended made.source place made
 
@@ -128,7 +130,7 @@ in_run piece source owners made = record made {
   owners = owners ++ made.owners;
 }
 
--- a block before; the place is the one after it
+-- a block before; the position is the one after it
 abbrev pub before_run : Progress → Piece → List Owner → Made → Made
 before_run place piece owners made =
     let closed = run_closed place made in

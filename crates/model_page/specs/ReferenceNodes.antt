@@ -1,6 +1,7 @@
--- Which groups are references, and what their heads say.
--- A reference is one element `sup` or `span` of the type `mw:Extension/ref` and not `mw:Transclusion`, outside of structural parents,
--- reference bodies and fragments, with an editable `data-mw`. It owns its body or uses one by name, and a named body has one owner: the first.
+-- Which groups are references, and what their heads say. A reference is one element `sup` or `span`
+-- of the type `mw:Extension/ref` and not `mw:Transclusion`, outside of structural parents,
+-- reference bodies and fragments, with an editable `data-mw`. It owns its body or uses one by name,
+-- and a named body has one owner: the first.
 use Rattle.std.specs.Prelude.{ℕ, Bool, true, false, not, ◌&&◌, List, [], ◌∷◌, length, filter, Option, Some, None, is_some, if◌then◌else◌, codes, chars}
 use Rattle.std.specs.List.{list_any}
 use Rattle.model_spelling.specs.Grammar.{Attr as Spelled}
@@ -40,7 +41,7 @@ is_owned owners key = list_any (λ owner. ref_key_same owner.key key) owners
 
 -- ---- references
 
--- what the `data-mw` says, unless it would own a body that has an owner
+-- the reading of the `data-mw`, unless it would own a body that has an owner
 abbrev pub unless_owned : List Owner → RefRead → Option RefRead
 unless_owned owners reading = if is_some reading.html && is_owned owners (key_of owners reading) then None else Some reading
 

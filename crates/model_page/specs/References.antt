@@ -1,4 +1,5 @@
--- The references of a list of items: which one carries the body of its key, and how they are numbered.
+-- The references of a list of items: which one carries the body of its key, and how they are
+-- numbered.
 use Rattle.std.specs.Prelude.{ℕ, zero, suc, ◌==◌, Bool, false, not, ◌&&◌, ◌||◌, if◌then◌else◌, List, [], ◌∷◌, ◌++◌, map, filter, Option, Some, None}
 use Rattle.std.specs.List.{list_any}
 use Rattle.std.specs.Option.{option_or}
@@ -10,7 +11,8 @@ use Rattle.ve_kinds.specs.Table.{kind_same}
 use Rattle.model_items.specs.Same.{text_same, ref_key_same, option_same}
 use Rattle.model_page.specs.declared.ref_table.RefRow.{RefRow}
 
--- a reference: its place, its key, whether it is an owner, and whether it stands in the internal list
+-- a reference: its position, its key, whether it is an owner, and whether it stands in the internal
+-- list
 pub record RefAt : Type 0 where
   pub at : ℕ
   pub key : RefKey
@@ -21,7 +23,7 @@ abbrev pub ref_at : ℕ → Bool → Bool → Option RefKey → List RefAt
 ref_at at inside owner None = []
 ref_at at inside owner (Some key) = record { at = at; key = key; owner = owner; inside = inside } ∷ []
 
--- the references in order; the first item's place is `at`, and the internal list comes last
+-- the references in order; the first item's position is `at`, and the internal list comes last
 abbrev pub refs_from : ℕ → Bool → List PlainItem → List RefAt
 refs_from at inside [] = []
 refs_from at inside (Char c marks ∷ items) = refs_from (suc at) inside items
@@ -40,20 +42,21 @@ abbrev pub first_of_refs : List RefAt → Option ℕ
 first_of_refs [] = None
 first_of_refs (r ∷ refs) = Some r.at
 
--- the place of the first owner of the key, else of its first reference
+-- the position of the first owner of the key, else of its first reference
 abbrev pub carrier_of : RefKey → List RefAt → Option ℕ
 carrier_of key refs = option_or (first_of_refs (filter (λ r. has_key key r && r.owner) refs)) (first_of_refs (filter (has_key key) refs))
 
 abbrev pub is_carrier : List RefAt → RefAt → Bool
 is_carrier refs r = option_same (λ m n. m == n) (carrier_of r.key refs) (Some r.at)
 
--- a body: the place of the internal item, what stands inside it, and the whitespace before its closing
+-- a body: the position of the internal item, what stands inside it, and the whitespace before its
+-- closing
 pub record Body : Type 0 where
   pub at : ℕ
   pub items : List PlainItem
   pub pre : List ℕ
 
--- what stands before the closing of the node that is open, where so many more are open in it
+-- the items before the closing of the node that is open, where so many more are open in it
 abbrev pub inside_from : ℕ → List PlainItem → List PlainItem × List ℕ
 inside_from depth [] = ([], [])
 inside_from zero (Closing kind pre ∷ items) = ([], pre)
@@ -62,7 +65,7 @@ inside_from depth (Char c marks ∷ items) = let r = inside_from depth items in 
 inside_from depth (Opening kind head marks pre origin generated ∷ items) =
     let r = inside_from (suc depth) items in (Opening kind head marks pre origin generated ∷ r.0, r.1)
 
--- the body of the internal item at this place, after whose opening these items stand
+-- the body of the internal item at this position, after whose opening these items stand
 abbrev pub body_after : ℕ → List PlainItem → Body
 body_after at items = let r = inside_from 0 items in record { at = at; items = r.0; pre = r.1 }
 
@@ -91,7 +94,7 @@ abbrev pub keys_after : List RefKey → List RefAt → List RefKey
 keys_after keys [] = keys
 keys_after keys (r ∷ refs) = keys_after (with_key r.key keys) refs
 
--- the place of the key among those of its group, from 1
+-- the position of the key among those of its group, from 1
 abbrev pub number_in_group : RefKey → List RefKey → ℕ
 number_in_group key [] = 0
 number_in_group key (k ∷ keys) =

@@ -1,16 +1,17 @@
-//! What a page's text means as items: which parts of it become which items, where their sources stand, and
-//! which elements are references. There are definitions in specs/, and the table of references that they
-//! speak of:
+//! A page's text as items: which of its nodes and texts become which items, where their sources
+//! stand, and which elements are references. There are definitions in specs/, and the table of
+//! references that they speak of:
 //!
-//! - `Tags`, `Elements`, `Parts`: what tags and attributes say, and the forest of a page with its groups formed;
-//! - `DataMw`, `References`, `Editable`: what a `data-mw` says of a reference, which reference of a list
-//!   carries which body, and lists whose references can be written;
+//! - `Tags`, `Elements`, `Parts`: what tags and attributes say, and the forest of a page with its
+//!   groups formed;
+//! - `DataMw`, `References`, `Editable`: what a `data-mw` says of a reference, which reference of a
+//!   list carries which body, and lists whose references can be written;
 //! - `Fit`, `Heads`, `Pieces`, `ReferenceNodes`, `Convert`: what each part becomes;
-//! - `PageItems`, `Fragment`, `Limits`, `OpenPage`: the items of a page and of an inserted fragment, what is
-//!   over the limits, and why a page does not open.
+//! - `PageItems`, `Fragment`, `Limits`, `OpenPage`: the items of a page and of an inserted
+//!   fragment, what is over the limits, and why a page does not open.
 //!
-//! How items are written is `model_page_write`'s, and the laws of both are `model_page_law`'s: a page that is
-//! opened and written is itself, and what was written fresh is read back.
+//! How items are written is `model_page_write`'s. The laws of both are `model_page_law`'s: a page
+//! that is opened and written is itself, and fresh text is read back.
 #![tactic(auto)]
 
 mod ref_table;

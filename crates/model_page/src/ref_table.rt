@@ -2,16 +2,18 @@
 use std::alloc::Global;
 use ve_base::{ListOf, Memory, RefKey, TryCopy};
 
-/// A reference of a list of items. Places count the items before them.
+/// A reference of a list of items. Positions count the items before them.
 #[derive(Drop)]
 pub struct RefRow {
     /// Where its opening stands.
     pub at: usize,
     /// Which body it names.
     pub key: RefKey,
-    /// The place of its key, from 1, among the keys of its group in the order of their first references.
+    /// The position of its key, from 1, among the keys of its group in the order of their first
+    /// references.
     pub number: u32,
-    /// Whether the page that is written has the body at this reference: it is the first owner of the key, or else the first reference.
+    /// Whether the page that is written has the body at this reference: it is the first owner of
+    /// the key, or else the first reference.
     pub carrier: bool,
     /// Where the body's internal item opens, where there is one.
     pub body_at: Option<usize>,

@@ -212,7 +212,7 @@ Ready-leaf_before w kind head source owners m h r =
 
 -- ---- parts of a flow parent
 
--- What is a part of a run has content where it is not white, and reads as a part of a run again.
+-- Each part of a run has content where it is not white, and reads as a part of a run again.
 abbrev pub Inlined : Parts → Type 0
 Inlined Ended = Unit {0}
 Inlined (Words text later) = (is_white text ≡ false → has_content (letters [] (characters text)) ≡ true) × Inlined later

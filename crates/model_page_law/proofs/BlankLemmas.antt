@@ -1,4 +1,5 @@
--- Content that has something isn't written as whitespace, leaves no whitespace, and no forest without held elements has owners.
+-- Content that has something isn't written as whitespace, leaves no whitespace, and no forest
+-- without held elements has owners.
 use Rattle.std.proofs.Common.{◌≡◌, ℕ, Bool, true, false, not, ◌||◌, ◌==◌, if◌then◌else◌, List, [], ◌∷◌, ◌++◌, map, refl, sym, ap, ◌∙◌, subst, arith, inl, inr}
 use Rattle.std.proofs.lemmas.Bool.{and_parts, cases_Bool}
 use Rattle.std.proofs.lemmas.Grind.{common_steps}

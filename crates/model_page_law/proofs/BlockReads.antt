@@ -26,7 +26,8 @@ use Rattle.model_page_law.proofs.TileLemmas.{white-IsAscii, run_ended-source}
 use Rattle.model_page_law.proofs.ContentLemmas.{Reads}
 use Rattle.model_page_law.proofs.BlockText.{followed_by, white_before, block_element}
 
--- where so placed, the forest makes no run before, these items (but for what is generated), and this whitespace after them
+-- where so placed, the forest makes no run before, these items (but for what is generated), and
+-- this whitespace after them
 pub record AtBlock (around : Around) (f : Forest) (items : List PlainItem) (pre : List ℕ) : Type 0 where
   pub source : (w : Progress) → (made_of around (parts_of f) w).source ≡ []
   pub run : (w : Progress) → (made_of around (parts_of f) w).run.items ≡ []

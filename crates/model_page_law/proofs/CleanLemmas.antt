@@ -1,4 +1,4 @@
--- What is written makes texts and elements alone, each of which may be spelled and none of which is held.
+-- Writing makes texts and elements alone. Each of them may be spelled, and none is kept whole.
 use Rattle.std.proofs.Common.{◌≡◌, ℕ, zero, suc, Bool, true, false, not, ◌&&◌, ◌||◌, ◌==◌, if◌then◌else◌, List, [], ◌∷◌, ◌++◌, drop, map, Some, None, refl, sym, ap, ◌∙◌, inl, inr}
 use Rattle.std.proofs.lemmas.List.{append-nil}
 use Rattle.std.proofs.lemmas.Bool.{and_parts, and_from, cases_Bool}
@@ -20,7 +20,7 @@ use Rattle.model_page.specs.Tags.{tag_of, is_inline_tag}
 use Rattle.model_page_write.specs.Nodes.{Start, Nodes, Empty, Letter, Node}
 use Rattle.model_page_write.specs.Written.{is_empty, letter, common_count, Writer}
 use Rattle.model_spelling.specs.Grammar.{start_text}
-use Rattle.model_page_law.specs.Formed.{said, AreNamed, ArePlain, IsPlainMark, ArePlainMarks, IsHead}
+use Rattle.model_page_law.specs.Formed.{value_of_first, AreNamed, ArePlain, IsPlainMark, ArePlainMarks, IsHead}
 use Rattle.model_page_law.proofs.FormedNodes.{IsLeaf, IsContent}
 use Rattle.model_page_law.proofs.NeatForests.{without, NeatAttrs, NeatTag, Neat}
 use Rattle.model_page_law.proofs.EscapeLemmas.{decoded-escaped, decoded-nil, pick_true, pick_false, ScalarAttrs, attrs_back, letters_back, annotation-fits}
@@ -109,7 +109,7 @@ attrs-ScalarAttrs (a ∷ attrs) n = (n.0, n.1, attrs-ScalarAttrs attrs n.3)
 decoded_value : (bs : List ℕ) → decoded (escaped true bs) ≡ bs
 decoded_value bs = ap decoded (sym (append-nil (escaped true bs))) ∙ decoded-escaped true bs [] ∙ ap (λ s. bs ++ s) decoded-nil ∙ append-nil bs
 
-value_of-said : (name : List ℕ) (attrs : List Attr) → value_named name (canon_attrs (map attr_bytes attrs)) ≡ said name attrs
+value_of-said : (name : List ℕ) (attrs : List Attr) → value_named name (canon_attrs (map attr_bytes attrs)) ≡ value_of_first name attrs
 value_of-said name [] = refl
 value_of-said name (a ∷ attrs) = (λ i. if bytes_eq (encode_utf8_all a.name) name then Some (decoded_value (encode_utf8_all a.value) i) else value_of-said name attrs i)
 

@@ -1,4 +1,5 @@
--- Content that is written is read as that content: the forest that the writer's tags make, level by level.
+-- Content that is written is read as that content: the forest that the writer's tags make, level by
+-- level.
 use Rattle.std.proofs.Common.{◌≡◌, ℕ, zero, suc, ◌+◌, ◌≤◌, Bool, true, false, if◌then◌else◌, List, [], ◌∷◌, ◌++◌, length, length-append, take, take_all, drop, map, None, refl, sym, ap, ◌∙◌, subst, append_assoc, arith}
 use Rattle.std.proofs.lemmas.List.{append-nil}
 use Rattle.std.specs.Prelude.{encode_utf8_all}

@@ -13,7 +13,7 @@ use Rattle.model_page.specs.Tags.{tag_of}
 use Rattle.model_page_law.proofs.ContentLemmas.{Levels, with_text, mark_element, wrapped, opens, closes, changes, leaf_element, content_levels, Common-count, length-closes, drop-next}
 use Rattle.model_page_law.proofs.FormedNodes.{MarksMean}
 
--- the end of the mark at this place, outermost first
+-- the end of the mark at this position, outermost first
 abbrev pub end_at : ℕ → List Mark → List ℕ
 end_at k ms = flat_map mark_end (take 1 (drop k ms))
 

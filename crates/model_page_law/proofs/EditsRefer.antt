@@ -36,7 +36,7 @@ refers-parts (x ∷ xs) ys h =
     let q = refers-parts xs ys p.1 in
     (and_from (item_refers x) (all_refer xs) p.0 q.0, q.1)
 
--- cut at a place
+-- cut at a position
 refers-cut : (n : ℕ) (items : List PlainItem) → all_refer items ≡ true → (all_refer (take n items) ≡ true) × (all_refer (drop n items) ≡ true)
 refers-cut n items h = refers-parts (take n items) (drop n items) (ap all_refer (take-append-drop n items) ∙ h)
 

@@ -1,4 +1,4 @@
--- What is written of nodes one after the other: whether they have content, and stay in a run.
+-- The text of nodes one after the other: whether they have content, and stay in a run.
 use Rattle.std.proofs.Common.{◌≡◌, ℕ, Bool, true, false, not, ◌||◌, List, [], ◌∷◌, ◌++◌, map, refl, sym, ap, ◌∙◌, inl, inr}
 use Rattle.std.proofs.lemmas.Bool.{and_parts, and_from, cases_Bool}
 use Rattle.ve_base.specs.declared.marks.Mark.{Mark}

@@ -14,7 +14,7 @@ use Rattle.ve_kinds.specs.Table.{kind_same}
 use Rattle.ve_kinds.specs.Table.{may_hold, is_among, is_content_branch, is_leaf, inline_leaves, block_leaves}
 use Rattle.model_items.specs.declared.law_fault.LawFault.{LawFault}
 use Rattle.model_items.specs.declared.law_fault.LawFault.TheVariants.{Unlawful, TooDeep}
-use Rattle.model_items.specs.Law.{State, start, top, is_empty, is_over, may_open, opened, closed, step, outcome_moved, followed, after, verdict_at, Lawful}
+use Rattle.model_items.specs.Law.{State, start, top, is_empty, is_over, may_open, state_opened, state_closed, step, outcome_moved, outcome_then, after, verdict_at, Lawful}
 use Rattle.model_page.specs.Elements.{is_white}
 use Rattle.model_page.specs.References.{Body}
 use Rattle.ve_base.specs.Empty.{empty_head}
@@ -100,7 +100,7 @@ Held-empty k pre f = record {
     third false false true e = refl
     third false false false e = cc
 
-prefix_closing : (kind : Kind) (pre : List ℕ) (stack : List Kind) (seen : Bool) (t : State) (cs : List Carried) → closed stack seen kind ≡ Ok t → IsFormedClosing kind pre → Parsed t.stack t.seen cs →
+prefix_closing : (kind : Kind) (pre : List ℕ) (stack : List Kind) (seen : Bool) (t : State) (cs : List Carried) → state_closed stack seen kind ≡ Ok t → IsFormedClosing kind pre → Parsed t.stack t.seen cs →
     Parsed stack seen (closing_of kind pre ∷ cs)
 prefix_closing kind pre [] seen t cs e f p = cc
 prefix_closing kind pre (inner ∷ outer) seen t cs e f p =
@@ -243,7 +243,7 @@ prefix_list s [] false cs l o f p =
       record { kind = k; head = head; marks = f.branch (ap is_leaf k); before = f.white },
     )
 
-prefix_opening : (s : Start) (stack : List Kind) (seen : Bool) (t : State) (cs : List Carried) → opened (record { stack = stack; seen = seen }) s.kind ≡ Ok t → IsFormedOpening s.kind s.head s.marks s.pre →
+prefix_opening : (s : Start) (stack : List Kind) (seen : Bool) (t : State) (cs : List Carried) → state_opened (record { stack = stack; seen = seen }) s.kind ≡ Ok t → IsFormedOpening s.kind s.head s.marks s.pre →
     Parsed t.stack t.seen cs → Parsed stack seen (start_item s ∷ cs)
 prefix_opening s stack seen t cs e f p =
     let old : State = record { stack = stack; seen = seen } in
@@ -285,7 +285,7 @@ moved_ok : (r : Result State LawFault) (u : State) → outcome_moved 1 r ≡ Ok 
 moved_ok (Ok s) u e = e
 moved_ok (Err f) u e = cc
 
-joined_ok : (r : Result State LawFault) (rest : State → Result State LawFault) (u : State) → followed 1 r rest ≡ Ok u → (t : State) × (r ≡ Ok t) × (rest t ≡ Ok u)
+joined_ok : (r : Result State LawFault) (rest : State → Result State LawFault) (u : State) → outcome_then 1 r rest ≡ Ok u → (t : State) × (r ≡ Ok t) × (rest t ≡ Ok u)
 joined_ok (Ok t) rest u e = (t, refl, moved_ok (rest t) u e)
 joined_ok (Err f) rest u e = cc
 

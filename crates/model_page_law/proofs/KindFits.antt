@@ -1,4 +1,4 @@
--- What becomes of each part may stand where it is put: what the fit of an element and the kind of a leaf promise.
+-- Each converted node may stand where it is put, by the fit of an element and the kind of a leaf.
 use Rattle.std.proofs.Common.{◌≡◌, ℕ, Bool, true, false, ◌&&◌, if◌then◌else◌, List, [], ◌∷◌, Option, Some, None, refl, sym, ap, ◌∙◌}
 use Rattle.std.specs.Prelude.{bytes_eq}
 use Rattle.std.proofs.lemmas.Bool.{and_parts}
@@ -243,7 +243,8 @@ not_leaf AlienInline parent e h i = cc
 
 -- ---- the parents that conversion comes to
 
--- a parent of blocks, which may hold leaves that are kept whole and, where it is a flow parent, paragraphs
+-- a parent of blocks, which may hold leaves that are kept whole and, where it is a flow parent,
+-- paragraphs
 abbrev pub Sane : Around → Type 0
 Sane (Content marks) = Unit {0}
 Sane (Flow k) = (is_content_branch k ≡ false) × (may_hold k P ≡ true) × (may_hold k TransBlock ≡ true) × (may_hold k AlienBlock ≡ true)

@@ -112,7 +112,7 @@ unwrapped o x d e = ap (λ p. unwrap_or p d) e
 
 -- ---- the page is written
 
--- What stands from a node on: the first list, the spans, and the bytes of the page, each in two parts, the second of which begins there.
+-- The list, the spans and the bytes of the page, each in two parts; the second begins at the node.
 pub record Standing (o : Opened) (items : List Carried) (k at : ℕ) (spans : List SourceSpan) (source : List ℕ) : Type 0 where
   pub before : List Carried
   pub first : carried_items o.items ≡ before ++ items
@@ -239,7 +239,8 @@ items-nodes m n e =
 abbrev pub nodes_made : (at : ℕ) (f : Forest) → Nodes
 nodes_made at f = (Closed-in_flow Root (parts_of f) (record { at = at; owners = []; editable = true })).nodes
 
--- A page is its head, its body and its tail. Where each generated paragraph is bare, its items are written as the page.
+-- A page is its head, its body and its tail. Where each generated paragraph is bare, its items are
+-- written as the page.
 pub write-opened : (head tail : List ℕ) (f : Forest) (to : ℕ) → length head + length (spelling f) ≡ to →
     Bared false (page_made (length head) f).pre (nodes_made (length head) f) →
     let page : List ℕ = head ++ (spelling f ++ tail) in

@@ -11,7 +11,7 @@ use Rattle.ve_base.specs.declared.marks.Mark.{Mark}
 use Rattle.ve_base.specs.Empty.{empty_head}
 use Rattle.model_items.specs.declared.plain_item.PlainItem.{PlainItem}
 use Rattle.model_items.specs.declared.plain_item.PlainItem.TheVariants.{Char, Opening, Closing}
-use Rattle.model_items.specs.Law.{State, start, finish, top, is_empty, is_over, may_open, opened, closed, step, outcome_moved, followed, after}
+use Rattle.model_items.specs.Law.{State, start, finish, top, is_empty, is_over, may_open, state_opened, state_closed, step, outcome_moved, outcome_then, after}
 use Rattle.model_items.proofs.LawLemmas.{after_whole, Lawful_from_after}
 use Rattle.model_items.proofs.SameLemmas.{Means-kind_same}
 use Rattle.std.specs.Option.{option_or}
@@ -30,7 +30,7 @@ use Rattle.model_page_law.proofs.NestLemmas.{innermost, Closes, Nests, Holds, Me
 -- ---- one item, and then the rest
 
 first_step : (s t u : State) (item : PlainItem) (items : List PlainItem) → step s item ≡ Ok t → after t items ≡ Ok u → after s (item ∷ items) ≡ Ok u
-first_step s t u item items e h = ap (λ r. followed 1 r (λ next. after next items)) e ∙ ap (outcome_moved 1) h
+first_step s t u item items e h = ap (λ r. outcome_then 1 r (λ next. after next items)) e ∙ ap (outcome_moved 1) h
 
 abbrev state : List Kind → Bool → State
 state stack seen = record { stack = stack; seen = seen }
@@ -84,7 +84,7 @@ or_false true = refl
 or_false false = refl
 
 opened_ok : (stack : List Kind) (seen : Bool) (k : Kind) → may_hold (top stack) k ≡ true → kind_same k InternalList ≡ false → (is_empty stack && seen) ≡ false → nat_lt (length stack) 100 ≡ true →
-    opened (state stack seen) k ≡ Ok (state (k ∷ stack) seen)
+    state_opened (state stack seen) k ≡ Ok (state (k ∷ stack) seen)
 opened_ok stack seen k may other over deep =
     let rule : (if kind_same k InternalList then is_empty stack && not seen else not (is_over (state stack seen))) ≡ true =
     pick_false (kind_same k InternalList) (is_empty stack && not seen) (not (is_over (state stack seen))) other ∙ ap not over in
@@ -98,7 +98,7 @@ Char_ok stack seen c marks e = pick_true (is_content_branch (top stack)) _ _ e
 kind_itself : (k : Kind) → kind_same k k ≡ true
 kind_itself k = Means-kind_same.itself k
 
-closed_ok : (k kind : Kind) (stack : List Kind) (seen : Bool) → k ≡ kind → closed (k ∷ stack) seen kind ≡ Ok (state stack seen)
+closed_ok : (k kind : Kind) (stack : List Kind) (seen : Bool) → k ≡ kind → state_closed (k ∷ stack) seen kind ≡ Ok (state stack seen)
 closed_ok k kind stack seen e = pick_true (kind_same k kind) _ _ (ap (kind_same k) (sym e) ∙ kind_itself k)
 
 abbrev Runs : List Kind → Bool → List PlainItem → List Kind → Type 0
@@ -138,10 +138,10 @@ runs parent base seen e o (Closing kind pre ∷ items) spans s t h c d =
 
 after-with_origins : (items : List PlainItem) (k : ℕ) (s : State) → after s (with_origins k items) ≡ after s items
 after-with_origins [] k s = refl
-after-with_origins (Char c marks ∷ items) k s = (λ i. followed 1 (step s (Char c marks)) (λ next. after-with_origins items k next i))
-after-with_origins (Closing kind pre ∷ items) k s = (λ i. followed 1 (step s (Closing kind pre)) (λ next. after-with_origins items k next i))
+after-with_origins (Char c marks ∷ items) k s = (λ i. outcome_then 1 (step s (Char c marks)) (λ next. after-with_origins items k next i))
+after-with_origins (Closing kind pre ∷ items) k s = (λ i. outcome_then 1 (step s (Closing kind pre)) (λ next. after-with_origins items k next i))
 after-with_origins (Opening kind head marks pre origin generated ∷ items) k s =
-    (λ i. followed 1 (step s (Opening kind head marks pre origin generated)) (λ next. after-with_origins items (suc k) next i))
+    (λ i. outcome_then 1 (step s (Opening kind head marks pre origin generated)) (λ next. after-with_origins items (suc k) next i))
 
 -- what stands in a flow parent nests there, with a span for each opening
 pub flow_holds : (kind : Kind) → Sane (Flow kind) → (parts : Parts) (w : Progress) → Holds kind (in_flow kind parts w).later.items

@@ -1,4 +1,4 @@
--- What an opened page holds as references has keys and editable texts.
+-- References of an opened page have keys and editable texts.
 use Rattle.std.proofs.Common.{◌≡◌, ℕ, Bool, true, false, ◌&&◌, if◌then◌else◌, List, [], ◌∷◌, ◌++◌, map, Option, Some, None, refl}
 use Rattle.std.specs.Prelude.{chars, is_some}
 use Rattle.std.proofs.lemmas.Bool.{and_parts, and_from}
@@ -216,7 +216,7 @@ GroupsRefer editable (Group nodes later) = GroupRefers editable nodes × GroupsR
 GroupsRefer editable (Single name attrs source later) = GroupsRefer editable later
 GroupsRefer editable (Parent name attrs children later) = GroupsRefer editable children × GroupsRefer editable later
 
--- what a place leads to is editable alike
+-- what a position leads to is editable alike
 abbrev pub From : Bool → (Progress → Made) → Type 0
 From editable f = (p : Progress) → p.editable ≡ editable → Refers (f p)
 

@@ -1,4 +1,5 @@
--- What is made inside of marks: it has content where there is a part, and stays in a run.
+-- The items that are made inside of marks: they have content where there is a part, and stay in a
+-- run.
 use Rattle.std.proofs.Common.{◌≡◌, ℕ, Bool, true, false, not, ◌&&◌, ◌||◌, if◌then◌else◌, List, [], ◌∷◌, ◌++◌, Option, Some, None, refl, sym, ap, ◌∙◌}
 use Rattle.std.proofs.lemmas.Bool.{and_parts, and_from}
 use Rattle.std.specs.Prelude.{chars}

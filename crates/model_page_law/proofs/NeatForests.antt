@@ -1,4 +1,5 @@
--- Forests in which each part is delimited, without the grammar's bounds: what the writer makes is one, whatever the list.
+-- Forests in which each part is delimited, without the grammar's bounds: what the writer makes is
+-- one, whatever the list.
 use Rattle.std.specs.Prelude.{◌≡◌, ℕ, ◌==◌, Bool, true, false, not, ◌&&◌, List, [], ◌∷◌, ◌++◌}
 use Rattle.model_spelling.specs.Grammar.{Attr as Spelled, begins_with, is_attr_name, is_tag_name, end_text, comment_close}
 use Rattle.ve_kinds.specs.Tags.{is_void, is_raw}
@@ -19,7 +20,7 @@ pub record NeatTag (void : Bool) (name : List ℕ) (attrs : List Spelled) : Type
   pub raw_is : is_raw name ≡ false
   pub attrs_are : NeatAttrs attrs
 
--- the first place of close after the text is its end
+-- the first position of close after the text is its end
 abbrev pub ends_at : List ℕ → List ℕ → Bool
 ends_at close [] = true
 ends_at close (b ∷ bs) = not (begins_with close (b ∷ bs ++ close)) && ends_at close bs
@@ -31,7 +32,8 @@ pub record NeatRaw (name : List ℕ) (attrs : List Spelled) (text : List ℕ) : 
   pub attrs_are : NeatAttrs attrs
   pub ends : ends_at (end_text name) text ≡ true
 
--- A forest in which each part is delimited. Its texts may hold any other characters, and there is no bound on its levels and attributes.
+-- A forest in which each part is delimited. Its texts may hold any other characters, and there is
+-- no bound on its levels and attributes.
 abbrev pub Neat : Forest → Type 0
 Neat Nothing = Unit {0}
 Neat (Text text rest) = (is_empty text ≡ false) × (without 60 text ≡ true) × (starts_with_text rest ≡ false) × Neat rest

@@ -1,4 +1,4 @@
--- What conversion makes of a parent's parts nests under that parent, the depth aside.
+-- Converted children of a parent nest under that parent, the depth aside.
 use Rattle.std.proofs.Common.{◌≡◌, ℕ, Bool, true, false, if◌then◌else◌, List, [], ◌∷◌, ◌++◌, map, Option, Some, None, refl, sym, ap, ◌∙◌, subst}
 use Rattle.std.specs.Prelude.{chars}
 use Rattle.model_spelling.specs.Grammar.{Attr as Spelled, Comment, token_text}
@@ -33,7 +33,8 @@ abbrev pub Closes : List Kind → Kind → (List Kind → Type 0) → Type 0
 Closes [] kind rest = ⊥
 Closes (k ∷ outer) kind rest = (k ≡ kind) × rest outer
 
--- where these kinds are open inside of the parent, the items lead to those; no opening has an origin
+-- where these kinds are open inside of the parent, the items lead to those; no opening has an
+-- origin
 abbrev pub Nests : Kind → List Kind → List PlainItem → List Kind → Type 0
 Nests parent open_kinds [] after_them = open_kinds ≡ after_them
 Nests parent open_kinds (Char c marks ∷ items) after_them = (is_content_branch (innermost parent open_kinds) ≡ true) × Nests parent open_kinds items after_them

@@ -1,6 +1,7 @@
 -- Which pages are read, and that they are lawful.
 use Rattle.std.proofs.Common.{◌≡◌, ℕ, ◌≤◌, Bool, true, false, if◌then◌else◌, List, length, Option, Some, None, Result, Ok, Err, refl, sym, ap, ◌∙◌, subst, arith}
 use Rattle.std.specs.Prelude.{nat_lt, unwrap_or}
+use Rattle.ve_base.specs.Limits.{max_items, max_page, max_values}
 use Rattle.model_spelling.specs.declared.scan_fault.ScanFault.{ScanFault}
 use Rattle.model_spelling.specs.Forest.{Forest, Spells}
 use Rattle.model_spelling.specs.Faults.{ForestFault, Scan, fault_of}
@@ -47,11 +48,11 @@ small_by o p false true e = absurd (no_read StoreFull p e)
 small_by o p false false e = (refl, refl, same_read o p e)
 
 within_by : (o p : Opened) (limit : Option Limit) → limit_in o ≡ limit → (elim limit [ Some l ↦ refused (OverLimit l) | None ↦ if_small o ]) ≡ read p →
-    (limit_in o ≡ None) × (length o.items ≤ 4194304) × (length (values_of o) ≤ 1048576) × (o ≡ p)
+    (limit_in o ≡ None) × (length o.items ≤ max_items) × (length (values_of o) ≤ max_values) × (o ≡ p)
 within_by o p (Some l) h e = absurd (no_read (OverLimit l) p e)
 within_by o p None h e =
-    let s = small_by o p (nat_lt 4194304 (length o.items)) (nat_lt 1048576 (length (values_of o))) e in
-    (h, below 4194304 (length o.items) s.0, below 1048576 (length (values_of o)) s.1, s.2)
+    let s = small_by o p (nat_lt max_items (length o.items)) (nat_lt max_values (length (values_of o))) e in
+    (h, below max_items (length o.items) s.0, below max_values (length (values_of o)) s.1, s.2)
 
 -- ---- the body
 
@@ -79,7 +80,7 @@ spanned_opens : (page : List ℕ) (from to : ℕ) (f : Forest) → forest_of (sl
 spanned_opens page from to f e =
     ap (opened_forest page (record { from = from; to = to })) e ∙ ap (λ x. Some (spanned page from to (or_nothing x))) (sym e)
 
-body_within : (page : List ℕ) (from to : ℕ) (p : Opened) (fault : Option ForestFault) → fault_of (slice page from to) ≡ fault → body_at page ≡ Ok (from, to) → length page ≤ 4194304 →
+body_within : (page : List ℕ) (from to : ℕ) (p : Opened) (fault : Option ForestFault) → fault_of (slice page from to) ≡ fault → body_at page ≡ Ok (from, to) → length page ≤ max_page →
     body_read page from to fault ≡ read p → IsWithin page p
 body_within page from to p (Some f) h b le e = absurd (no_read (BadPage (fault_in_page from f)) p e)
 body_within page from to p None h b le e =
@@ -91,11 +92,11 @@ body_within page from to p None h b le e =
       opens = opens ∙ ap (λ x. Some x) w.3;
       bytes = le;
       limit = ap limit_in (sym w.3) ∙ w.0;
-      items = subst (λ x. length x.items ≤ 4194304) w.3 w.1;
-      values = subst (λ x. length (values_of x) ≤ 1048576) w.3 w.2;
+      items = subst (λ x. length x.items ≤ max_items) w.3 w.1;
+      values = subst (λ x. length (values_of x) ≤ max_values) w.3 w.2;
     }
 
-within_body : (page : List ℕ) (p : Opened) (body : Result (ℕ × ℕ) ScanFault) → body_at page ≡ body → length page ≤ 4194304 → read_body page body ≡ read p → IsWithin page p
+within_body : (page : List ℕ) (p : Opened) (body : Result (ℕ × ℕ) ScanFault) → body_at page ≡ body → length page ≤ max_page → read_body page body ≡ read p → IsWithin page p
 within_body page p (Err f) b le e = absurd (no_read (BadPage (Scan f)) p e)
 within_body page p (Ok body) b le e = body_within page body.0 body.1 p (fault_of (slice page body.0 body.1)) refl b le e
 
@@ -105,12 +106,12 @@ page_read page long = elim long [
   | false ↦ read_body page (body_at page)
 ]
 
-within_page : (page : List ℕ) (p : Opened) (long : Bool) → nat_lt 4194304 (length page) ≡ long → page_read page long ≡ read p → IsWithin page p
+within_page : (page : List ℕ) (p : Opened) (long : Bool) → nat_lt max_page (length page) ≡ long → page_read page long ≡ read p → IsWithin page p
 within_page page p true h e = absurd (no_read (PageTooLong (length page)) p e)
-within_page page p false h e = within_body page p (body_at page) refl (below 4194304 (length page) h) e
+within_page page p false h e = within_body page p (body_at page) refl (below max_page (length page) h) e
 
 pub read_is_within : ReadIsWithin
-read_is_within page p e = within_page page p (nat_lt 4194304 (length page)) refl e
+read_is_within page p e = within_page page p (nat_lt max_page (length page)) refl e
 
 -- ---- lawful
 
@@ -137,10 +138,10 @@ limited o limit = elim limit [ Some l ↦ Err (OverLimit l) | None ↦ if_small 
 abbrev small : Opened → Bool → Bool → Read
 small o many full = if many then refused (TooManyItems (length o.items)) else (if full then refused StoreFull else read o)
 
-within_read : (o : Opened) → limit_in o ≡ None → length o.items ≤ 4194304 → length (values_of o) ≤ 1048576 → if_within o ≡ read o
+within_read : (o : Opened) → limit_in o ≡ None → length o.items ≤ max_items → length (values_of o) ≤ max_values → if_within o ≡ read o
 within_read o l items values =
     ap (limited o) l
-    ∙ (λ i. small o (at_most 4194304 (length o.items) items i) (at_most 1048576 (length (values_of o)) values i))
+    ∙ (λ i. small o (at_most max_items (length o.items) items i) (at_most max_values (length (values_of o)) values i))
 
 read_forest : (page : List ℕ) (from to : ℕ) (o : Opened) (r : Option Forest) → forest_of (slice page from to) ≡ r → opened_forest page (record { from = from; to = to }) r ≡ Some o → IsWithin page o →
     body_read page from to (fault_of (slice page from to)) ≡ read o
@@ -158,7 +159,7 @@ read_within page o (Err f) h w = cc
 read_within page o (Ok body) h w = read_forest page body.0 body.1 o (forest_of (slice page body.0 body.1)) refl h w
 
 pub within_is_read : WithinIsRead
-within_is_read page o w = ap (page_read page) (at_most 4194304 (length page) w.bytes) ∙ read_within page o (body_at page) w.opens w
+within_is_read page o w = ap (page_read page) (at_most max_page (length page) w.bytes) ∙ read_within page o (body_at page) w.opens w
 
 -- ---- the fault of a page that is refused for its spelling
 
@@ -177,7 +178,7 @@ small_has_none o false false = refl
 
 limited_has_none : (o : Opened) (limit : Option Limit) → fault_in (limited o limit) ≡ None
 limited_has_none o (Some l) = refl
-limited_has_none o None = small_has_none o (nat_lt 4194304 (length o.items)) (nat_lt 1048576 (length (values_of o)))
+limited_has_none o None = small_has_none o (nat_lt max_items (length o.items)) (nat_lt max_values (length (values_of o)))
 
 body_fault : (page : List ℕ) (from to : ℕ) (fault : Option ForestFault) → fault_in (body_read page from to fault) ≡ fault_in_page_if_any from fault
 body_fault page from to (Some f) = refl
@@ -196,4 +197,4 @@ bad_by page fault false e = sym (read_fault page (body_at page)) ∙ ap fault_in
 
 pub bad_page_has_fault : BadPageHasFault
 unfolding page_fault
-bad_page_has_fault page fault e = bad_by page fault (nat_lt 4194304 (length page)) e
+bad_page_has_fault page fault e = bad_by page fault (nat_lt max_page (length page)) e

@@ -43,7 +43,7 @@ with_origins-nodes k n = ap (with_origins k) (sym (append-nil (plain n))) ∙ wi
 abbrev pub with_body : Option Body → Start → Start
 with_body body s = record { kind = s.kind; head = s.head; marks = s.marks; pre = s.pre; origin = s.origin; generated = s.generated; body = body }
 
--- the nodes with what they carry; the first item's place is `at`
+-- the nodes with what they carry; the first item's position is `at`
 abbrev pub bearing : (ℕ → Option Body) → ℕ → Nodes → Nodes
 bearing bodies at Empty = Empty
 bearing bodies at (Letter c marks later) = Letter c marks (bearing bodies (suc at) later)

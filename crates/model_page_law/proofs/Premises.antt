@@ -1,4 +1,4 @@
--- What the proofs take of the spelling's laws, and of a page that is UTF-8.
+-- Laws of the spelling, and of a page that is UTF-8, that the proofs take.
 use Rattle.std.specs.Prelude.{◌≡◌, ℕ, ◌≤◌, true, Some, IsUtf8}
 use Rattle.model_spelling.specs.Forest.{Forest, spelling, is_forest}
 use Rattle.model_spelling.specs.Written.{decoded}

@@ -1,4 +1,4 @@
--- What stands at the range of an origin is what the writer compares a node of it with.
+-- The writer compares a node with the items at the range of its origin.
 use Rattle.std.proofs.Common.{◌≡◌, ℕ, zero, suc, ◌+◌, ◌-◌, ◌<◌, List, [], ◌∷◌, ◌++◌, length, take, drop, Option, Some, None, refl, sym, ap, ◌∙◌, arith}
 use Rattle.std.proofs.Math.Seq.{drop-append_seam}
 use Rattle.model_items.specs.declared.plain_item.PlainItem.{PlainItem}

@@ -1,4 +1,4 @@
--- What a reference is written as.
+-- The written form of a reference.
 use Rattle.std.proofs.Common.{◌≡◌, ℕ, Bool, true, false, if◌then◌else◌, List, [], ◌∷◌, ◌++◌, map, Option, Some, None, option_map, option_and_then, bytes_eq, refl, sym, ap, ◌∙◌, append-nil}
 use Rattle.std.specs.Prelude.{codes, encode_utf8_all}
 use Rattle.std.proofs.lemmas.Slice.Eq.{bytes_eq-Decides}
@@ -10,7 +10,7 @@ use Rattle.model_page.specs.Elements.{value_named}
 use Rattle.model_page.specs.DataMw.{reference_of, composed_mw}
 use Rattle.model_page.specs.Editable.{data_mw}
 use Rattle.model_page_write.specs.Written.{with_mw}
-use Rattle.model_page_law.specs.Formed.{said}
+use Rattle.model_page_law.specs.Formed.{value_of_first}
 use Rattle.model_page_law.specs.WrittenReference.{ReferenceIsWritten, ReferenceHasBody}
 use Rattle.model_page_law.proofs.EscapeLemmas.{decoded-escaped, decoded-nil}
 use Rattle.model_page_law.proofs.ComposedLemmas.{differ, composed_owns}
@@ -35,18 +35,18 @@ mw-back html (a ∷ attrs) = by (bytes_eq (encode_utf8_all a.name) (codes "data-
         ∙ ap (λ v. Some v) (value-back (composed_mw (encode_utf8_all a.value) html))
     by false e rec = ap (λ c. if c then Some (decoded (escaped true (encode_utf8_all a.value))) else value_named (codes "data-mw") (written_attrs html attrs)) e ∙ rec
 
-other-back : (html : Option (List ℕ)) (q : List ℕ) → (q ≡ codes "data-mw" → ⊥) → (attrs : List Attr) → value_named q (written_attrs html attrs) ≡ said q attrs
+other-back : (html : Option (List ℕ)) (q : List ℕ) → (q ≡ codes "data-mw" → ⊥) → (attrs : List Attr) → value_named q (written_attrs html attrs) ≡ value_of_first q attrs
 other-back html q other [] = refl
 other-back html q other (a ∷ attrs) = by (bytes_eq (encode_utf8_all a.name) (codes "data-mw")) refl (other-back html q other attrs)
   where
-    by : (c : Bool) → bytes_eq (encode_utf8_all a.name) (codes "data-mw") ≡ c → value_named q (written_attrs html attrs) ≡ said q attrs →
+    by : (c : Bool) → bytes_eq (encode_utf8_all a.name) (codes "data-mw") ≡ c → value_named q (written_attrs html attrs) ≡ value_of_first q attrs →
         value_named q (canon_attr (if c then (encode_utf8_all a.name, composed_mw (encode_utf8_all a.value) html) else attr_bytes a) ∷ written_attrs html attrs)
-        ≡ (if bytes_eq (encode_utf8_all a.name) q then Some (encode_utf8_all a.value) else said q attrs)
+        ≡ (if bytes_eq (encode_utf8_all a.name) q then Some (encode_utf8_all a.value) else value_of_first q attrs)
     by true e rec =
         let apart = differ (encode_utf8_all a.name) q (bytes_eq (encode_utf8_all a.name) q) refl (λ same. other (sym same ∙ (bytes_eq-Decides (encode_utf8_all a.name) (codes "data-mw")).0 e)) in
         ap (λ c. if c then Some (decoded (escaped true (composed_mw (encode_utf8_all a.value) html))) else value_named q (written_attrs html attrs)) apart
         ∙ rec
-        ∙ ap (λ c. if c then Some (encode_utf8_all a.value) else said q attrs) (sym apart)
+        ∙ ap (λ c. if c then Some (encode_utf8_all a.value) else value_of_first q attrs) (sym apart)
     by false e rec = (λ i. if bytes_eq (encode_utf8_all a.name) q then Some (value-back (encode_utf8_all a.value) i) else rec i)
 
 pub reference_is_written : ReferenceIsWritten

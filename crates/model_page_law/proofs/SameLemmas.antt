@@ -1,4 +1,5 @@
--- Each test of equality that writing makes holds of a value and itself, and that of marks means equality.
+-- Each test of equality that writing makes holds of a value and itself, and that of marks means
+-- equality.
 use Rattle.std.proofs.Common.{◌≡◌, Bool, true, ◌&&◌, [], ◌∷◌, Some, None, refl}
 use Rattle.std.proofs.lemmas.Bool.{and_from}
 use Rattle.ve_kinds.specs.Table.{kind_same}

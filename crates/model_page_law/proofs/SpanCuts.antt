@@ -1,4 +1,5 @@
--- A page that is UTF-8 is cut between characters around each part of its body; so the spans of its origins are parts of it.
+-- A page that is UTF-8 is cut between characters around each part of its body; so the spans of its
+-- origins are parts of it.
 use Rattle.std.proofs.Common.{◌≡◌, ℕ, zero, suc, ◌+◌, ◌-◌, ◌<◌, ◌≤◌, Bool, true, false, if◌then◌else◌, ◌&&◌, List, [], ◌∷◌, ◌++◌, length, take, drop, Option, Some, None, Result, Ok, Err, refl, sym, ap, ◌∙◌, subst, append_assoc, arith, length-append, length-take-le, length-drop, IsUtf8, IsCharBoundary}
 use Rattle.std.specs.Prelude.{unwrap_or, All}
 use Rattle.std.proofs.lemmas.Str.{IsUtf8-append, IsUtf8-nil, IsUtf8-drop, IsUtf8-between, IsCharBoundary-at_seam, IsCharBoundary-from_take}
@@ -112,7 +113,7 @@ inside prefix start children end rest suffix = simp append_assoc
 cut-before : (page prefix part more : List ℕ) → page ≡ (prefix ++ part) ++ more → IsUtf8 more → IsCharBoundary page (length prefix + length part)
 cut-before page prefix part more e u = subst (IsCharBoundary page) (length-append prefix part) (IsCharBoundary-at_seam page (prefix ++ part) more e u)
 
--- what stands after a place of the page, where this follows it
+-- what stands after a position of the page, where this follows it
 abbrev CutFrom : List ℕ → List ℕ → Parts → Type 0
 CutFrom page suffix parts = (prefix : List ℕ) → page ≡ prefix ++ (source_of parts ++ suffix) → AreCut (IsCharBoundary page) (length prefix) parts
 

@@ -1,4 +1,4 @@
--- The spans and the places of a small page, by computation.
+-- The spans and the positions of a small page, by computation.
 use Rattle.std.proofs.Common.{◌≡◌, ℕ, ◌≤◌, List, [], ◌∷◌, ◌++◌, Some, refl, arith, IsCharBoundary}
 use Rattle.std.specs.Prelude.{codes, take, drop}
 use Rattle.ve_kinds.specs.declared.kind.Kind.TheVariants.{P}
@@ -38,7 +38,7 @@ run = record {
 within_letter : IsCharBoundary page 4 → ⊥
 within_letter h = let late : 192 ≤ 169 = h.1 (omega arith) (omega arith) in omega (arith, late)
 
--- the bare run's paragraph stands from place 3 to 6
+-- the bare run's paragraph stands from position 3 to 6
 run_stands : NodeAt items 1 3 6
 run_stands = record {
   before = open_ P 0 ∷ Char 233 [] ∷ close_ P ∷ [];

@@ -22,7 +22,7 @@ use Rattle.model_page_law.proofs.TileLemmas.{run_ended-source}
 
 -- ---- spans between cuts
 
--- what cuts a text: a test of its places
+-- what cuts a text: a test of its positions
 abbrev pub Cuts : Type 1
 Cuts = ℕ → Type 0
 
@@ -46,7 +46,8 @@ both : (B : Cuts) (low high : ℕ) (xs ys : List SourceSpan) → AreBetween B lo
 both B low high [] ys h g = g
 both B low high (x ∷ xs) ys h g = (h.0, both B low high xs ys h.1 g)
 
--- The cuts of parts that begin at a place: after each part, and after each start tag. What becomes a leaf isn't empty.
+-- The cuts of parts that begin at a position: after each part, and after each start tag. What
+-- becomes a leaf isn't empty.
 abbrev pub AreCut : Cuts → ℕ → Parts → Type 0
 AreCut B at Ended = Unit {0}
 AreCut B at (Words text later) = B (at + length text) × AreCut B (at + length text) later
@@ -57,7 +58,8 @@ AreCut B at (Parent name attrs children later) =
     B (at + length (start_text name attrs false)) × AreCut B (at + length (start_text name attrs false)) children
     × B (at + length (element_source name attrs children)) × AreCut B (at + length (element_source name attrs children)) later
 
--- What was made from a cut on: all spans lie between the cut and the bound, and the run's source ends at a cut.
+-- The items that were made from a cut on: all spans lie between the cut and the bound, and the
+-- run's source ends at a cut.
 pub record Ranged (B : Cuts) (low high : ℕ) (m : Made) : Type 0 where
   pub begins : B low
   pub run : AreBetween B low high m.run.spans

@@ -1,5 +1,5 @@
--- The nodes that conversion makes in a flow parent lie in the source one after the other, each after the whitespace before it, and their spans
--- say where.
+-- The nodes that conversion makes in a flow parent lie in the source one after the other, each
+-- after the whitespace before it, and their spans say where.
 use Rattle.std.proofs.Common.{◌≡◌, ℕ, zero, suc, ◌+◌, ◌<◌, Bool, true, false, if◌then◌else◌, List, [], ◌∷◌, ◌++◌, length, Option, Some, None, refl, sym, ap, ◌∙◌, subst, append_assoc, length-append, arith}
 use Rattle.std.proofs.lemmas.Bool.{and_parts}
 use Rattle.std.proofs.lemmas.Str.{encodes-append, encodes-IsAscii, chars-IsAscii}
@@ -42,7 +42,8 @@ white-kept t h = ap encode_utf8_all (chars-IsAscii t (white-IsAscii t h)) ∙ en
 abbrev pub white_of : Start → List ℕ
 white_of s = encode_utf8_all s.pre
 
--- The source is the nodes' white texts and sources in turn, and begins at the byte `at`; the spans are those of their openings.
+-- The source is the nodes' white texts and sources in turn, and begins at the byte `at`; the spans
+-- are those of their openings.
 abbrev pub Tiles : ℕ → List SourceSpan → List ℕ → Nodes → Type 0
 Tiles at spans source Empty = (source ≡ []) × (spans ≡ [])
 Tiles at spans source (Letter c marks later) = ⊥
@@ -84,7 +85,8 @@ same_spans : (spans : List SourceSpan) (a b c d : ℕ) (later : List SourceSpan)
     spans ≡ record { from = a; to = c } ∷ later → spans ≡ record { from = b; to = d } ∷ later
 same_spans spans a b c d later e f h = h ∙ (λ i. record { from = e i; to = f i } ∷ later)
 
--- What is made where the run is over: no run is open, and the rest is nodes, whose source with the whitespace after them is all.
+-- The items that are made where the run is over. No run is open, and the rest is nodes, whose
+-- source with the whitespace after them is all.
 pub record Closed (at : ℕ) (source : List ℕ) (m : Made) : Type 0 where
   pub nodes : Nodes
   pub items : m.later.items ≡ plain nodes
@@ -229,7 +231,7 @@ Tiled-chosen : (at : ℕ) (source : List ℕ) (c : Bool) (a b : Made) → Tiled 
 Tiled-chosen at source true a b f g = f
 Tiled-chosen at source false a b f g = g
 
--- later parts: what they make is nodes and tiles, from any place at that byte
+-- later parts: what they make is nodes and tiles, from any position at that byte
 pub record Following (at : ℕ) (source : List ℕ) (later : Progress → Made) : Type 0 where
   pub fine : (p : Progress) → Fine (later p)
   pub tiled : (p : Progress) → p.at ≡ at → Tiled at source (later p)

@@ -10,7 +10,8 @@ use Rattle.model_page.specs.DataMw.{RefRead, reference_of, if_owner_or_named, me
 
 -- ---- as a value
 
--- What is composed from an object whose numbers are all integers of 64 bits is read as that object with the body put into it, or taken out.
+-- An object whose numbers are all integers of 64 bits is composed with a body, or without one. The
+-- text is read as that object with the body put into it, or taken out.
 abbrev pub ComposedIsRead : Type 0
 ComposedIsRead = (mw : List ℕ) (html : Option (List ℕ)) (ms : Members) → read mw ≡ Some (object ms) → members_have_float ms ≡ false →
     read (composed_mw mw html) ≡ Some (object (with_body html ms))
@@ -40,7 +41,8 @@ ComposedTwice =
 
 -- ---- as a reference
 
--- With a body whose text a forest spells it is editable, of the same group and name, and has that body.
+-- With a body whose text a forest spells it is editable, of the same group and name, and has that
+-- body.
 abbrev pub ComposedOwns : Type 0
 ComposedOwns = (mw html : List ℕ) (r : RefRead) (f : Forest) → reference_of mw ≡ Some r → Spells html f →
     reference_of (composed_mw mw (Some html)) ≡ Some (record { group = r.group; name = r.name; html = Some html })
@@ -56,7 +58,8 @@ abbrev pub ComposedIsBarred : Type 0
 ComposedIsBarred =
     (mw html : List ℕ) (r : RefRead) → reference_of mw ≡ Some r → forest_of html ≡ None → reference_of (composed_mw mw (Some html)) ≡ None
 
--- Without a body it uses one by its name, where it has a name, and is not editable where it has none.
+-- Without a body it uses one by its name, where it has a name, and is not editable where it has
+-- none.
 abbrev pub ComposedReuses : Type 0
 ComposedReuses =
     (mw : List ℕ) (r : RefRead) → reference_of mw ≡ Some r →

@@ -1,6 +1,7 @@
--- Lists of the form that reading back speaks of: what has a spelling of its own, and nothing that is kept whole.
--- br and img are the only leaves, the internal list is empty, marks and whitespace stand only where they are written, and no element would be
--- read as one that is held.
+-- Lists of the form that reading back speaks of. Each item has a spelling of its own, and nothing
+-- is kept whole. br and img are the only leaves, and the internal list is empty. Marks and
+-- whitespace stand only where they are written, and no element would be read as one that is kept
+-- whole.
 use Rattle.std.specs.Prelude.{◌≡◌, ℕ, Bool, true, false, ◌||◌, List, [], ◌∷◌, Option, Some, None, is_some, if◌then◌else◌, codes, bytes_eq, encode_utf8_all}
 use Rattle.std.specs.List.{list_any}
 use Rattle.std.specs.Str.{all_scalars}
@@ -20,13 +21,13 @@ use Rattle.model_page.specs.Elements.{is_white, words_in}
 -- ---- attributes, marks and heads
 
 -- the value of the first attribute of this name
-abbrev pub said : List ℕ → List Attr → Option (List ℕ)
-said name [] = None
-said name (a ∷ attrs) = if bytes_eq (encode_utf8_all a.name) name then Some (encode_utf8_all a.value) else said name attrs
+abbrev pub value_of_first : List ℕ → List Attr → Option (List ℕ)
+value_of_first name [] = None
+value_of_first name (a ∷ attrs) = if bytes_eq (encode_utf8_all a.name) name then Some (encode_utf8_all a.value) else value_of_first name attrs
 
 -- there is an `about`, or a word of `typeof` that begins `mw:`
 abbrev pub says_held : List Attr → Bool
-says_held attrs = is_some (said (codes "about") attrs) || list_any (begins_with (codes "mw:")) (words_in (said (codes "typeof") attrs))
+says_held attrs = is_some (value_of_first (codes "about") attrs) || list_any (begins_with (codes "mw:")) (words_in (value_of_first (codes "typeof") attrs))
 
 -- names and values are characters, and each name may be spelled
 abbrev pub AreNamed : List Attr → Type 0
@@ -54,7 +55,8 @@ pub record IsHead (h : Head) : Type 0 where
 
 -- ---- items
 
--- An opening of a leaf br or img, with characters' marks, or of a branch without marks; there is no internal item.
+-- An opening of a leaf br or img, with characters' marks, or of a branch without marks; there is no
+-- internal item.
 pub record IsFormedOpening (kind : Kind) (h : Head) (marks : List Mark) (pre : List ℕ) : Type 0 where
   pub head : IsHead h
   pub white : is_white pre ≡ true

@@ -1,4 +1,4 @@
--- What a page opens as is lawful, and why one does not open.
+-- Opened pages are lawful; and why a page does not open.
 use Rattle.std.specs.Prelude.{◌≡◌, ℕ, ◌≤◌, List, length, Some, None, Ok, Err}
 use Rattle.model_spelling.specs.Forest.{Forest}
 use Rattle.model_spelling.specs.Faults.{ForestFault}
@@ -21,7 +21,7 @@ pub record IsWithin (page : List ℕ) (o : Opened) : Type 0 where
   pub items : length o.items ≤ max_items
   pub values : length (values_of o) ≤ max_values
 
--- What is read as a page opens within the limits,
+-- A page that is read opens within the limits,
 abbrev pub ReadIsWithin : Type 0
 ReadIsWithin = (page : List ℕ) (o : Opened) → read_page page ≡ Ok o → IsWithin page o
 

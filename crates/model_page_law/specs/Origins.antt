@@ -20,6 +20,7 @@ abbrev pub counted_from : ℕ → ℕ → List ℕ
 counted_from k zero = []
 counted_from k (suc count) = k ∷ counted_from (suc k) count
 
--- In an opened page each origin stands once, in order, and the page has a span for each. Reference bodies have none.
+-- In an opened page each origin stands once, in order, and the page has a span for each. Reference
+-- bodies have none.
 abbrev pub OriginsNumberSpans : Type 0
 OriginsNumberSpans = (page : List ℕ) (o : Opened) → opened_page page ≡ Some o → origins_of o.items ≡ counted_from 0 (length o.spans)

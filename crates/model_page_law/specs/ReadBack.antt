@@ -15,7 +15,8 @@ without_origin (Opening kind head marks pre origin generated) = Opening kind hea
 without_origin (Closing kind pre) = Closing kind pre
 without_origin (Char c marks) = Char c marks
 
--- Where a forest spells the fresh text of a lawful list of the form, its items are those of the list.
+-- Where a forest spells the fresh text of a lawful list of the form, its items are those of the
+-- list.
 abbrev pub FreshIsReadBack : Type 0
 FreshIsReadBack = (items : List PlainItem) → Lawful items → AreFormed items →
     (f : Forest) (at : ℕ) → is_forest max_open_elements f ≡ true → spelling f ≡ fresh items →

@@ -1,4 +1,4 @@
--- What an opened page holds as references can be written and can carry a body, and edits keep that.
+-- References of an opened page can be written and can carry a body, and edits keep that.
 use Rattle.std.specs.Prelude.{◌≡◌, ℕ, ◌<◌, Bool, true, List, length, Some, Ok, IsUtf8}
 use Rattle.std.specs.List.{list_all}
 use Rattle.model_spelling.specs.Forest.{Forest, spelling, is_forest}
@@ -16,7 +16,8 @@ use Rattle.ve_base.specs.Limits.{max_open_elements}
 
 -- ---- what is read
 
--- Each reference of an opened page has its key and an editable `data-mw`, and each internal item has its key.
+-- Each reference of an opened page has its key and an editable `data-mw`, and each internal item
+-- has its key.
 abbrev pub OpenedRefers : Type 0
 OpenedRefers = (page : List ℕ) (o : Opened) → IsUtf8 page → opened_page page ≡ Some o → all_refer o.items ≡ true
 
@@ -35,13 +36,14 @@ FragmentsRefer = (stack : List Kind) (f : Forest) → all_refer (fragment_items 
 abbrev pub inserts_referring : Transaction → Bool
 inserts_referring t = all_refer (all_inserted t)
 
--- It keeps this of the list, whatever attributes it sets: it may set those of element kinds alone, and a reference is none of them.
+-- It keeps this of the list, whatever attributes it sets: it may set those of element kinds alone,
+-- and a reference is none of them.
 abbrev pub EditsRefer : Type 0
 EditsRefer =
     (t : Transaction) (items : List PlainItem) → Applies t items → inserts_referring t ≡ true → all_refer items ≡ true →
     all_refer (edited t items) ≡ true
 
--- What undoes it inserts what it removed, which refers where the list does.
+-- Undoing inserts what was removed, which refers where the list does.
 abbrev pub InversesRefer : Type 0
 InversesRefer = (t : Transaction) (items : List PlainItem) → Applies t items → all_refer items ≡ true → inserts_referring (inverse t) ≡ true
 
@@ -70,7 +72,7 @@ JoinListsRefer = (committed mine : List Transaction) (joined : List Transaction 
     all_insert_referring committed ≡ true → all_insert_referring mine ≡ true →
     (all_insert_referring joined.0 ≡ true) × (all_insert_referring joined.1 ≡ true)
 
--- What takes an entry of a history back inserts what the entry removed, and nothing else.
+-- Taking an entry of a history back inserts what the entry removed, and nothing else.
 abbrev pub RevokesRefer : Type 0
 RevokesRefer = (entries : List (List Transaction)) (i : ℕ) (back : List Transaction) (base : List PlainItem) → i < length entries →
     AllRun (flattened entries) base → all_insert_referring (flattened entries) ≡ true → all_refer base ≡ true → revoke entries i ≡ Ok back →

@@ -1,4 +1,5 @@
--- A page with another body between its prefix and its suffix, as a page is that was edited and written.
+-- A page with another body between its prefix and its suffix, as a page is that was edited and
+-- written.
 use Rattle.std.specs.Prelude.{◌≡◌, ℕ, ◌+◌, true, false, List, [], ◌++◌, length, take, drop, map, Some}
 use Rattle.model_spelling.specs.Forest.{Forest, spelling, is_forest}
 use Rattle.model_items.specs.declared.plain_item.PlainItem.{PlainItem}
@@ -35,7 +36,8 @@ WrittenOpens = (page : List ℕ) (o : Opened) (items : List PlainItem) (f : Fore
     is_forest max_open_elements f ≡ true → spelling f ≡ blocks (page_writer o) false [] (carried_nodes (carried_items items)) →
     opened_page (write o items) ≡ Some (opened_again o f)
 
--- A lawful list of the form of which no node is kept: the page that it gives, prefix and suffix and all, is read back as the list, up to origins and the flag generated.
+-- A lawful list of the form of which no node is kept. The page that it gives, prefix and suffix and
+-- all, is read back as the list, up to origins and the flag generated.
 abbrev pub WrittenIsReadBack : Type 0
 WrittenIsReadBack = (page : List ℕ) (o : Opened) (items : List PlainItem) (f : Forest) → opened_page page ≡ Some o →
     Lawful items → AreFormed items → KeepsNoneOf (page_writer o) (carried_nodes (carried_items items)) →

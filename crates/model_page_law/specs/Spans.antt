@@ -36,7 +36,8 @@ SpansAreParts = (page : List ℕ) (o : Opened) → IsUtf8 page → opened_page p
 
 -- ---- in the list
 
--- The node of the origin k in a list: it begins with its opening, at the place `from`, and ends with the closing of that opening, before the place `to`.
+-- The node of the origin k in a list: it begins with its opening, at the position `from`, and ends
+-- with the closing of that opening, before the position `to`.
 pub record NodeAt (items : List PlainItem) (k from to : ℕ) : Type 0 where
   pub before : List PlainItem
   pub kind : Kind
@@ -52,13 +53,14 @@ pub record NodeAt (items : List PlainItem) (k from to : ℕ) : Type 0 where
   pub from_is : from ≡ length before
   pub to_is : to ≡ from + length inside + 2
 
--- The node of each origin stands in the list of the opened page, at a range of its places.
+-- The node of each origin stands in the list of the opened page, at a range of its positions.
 abbrev pub OriginsStand : Type 0
 OriginsStand =
     (page : List ℕ) (o : Opened) → opened_page page ≡ Some o → (k : ℕ) → k < length o.spans →
     (from : ℕ) × (to : ℕ) × (to ≤ length o.items) × NodeAt o.items k from to
 
--- So what a node of the origin k is compared with, where it may be kept, are the items at that range, with what they carry.
+-- So what a node of the origin k is compared with, where it may be kept, are the items at that
+-- range, with what they carry.
 abbrev pub RangesAreCompared : Type 0
 RangesAreCompared = (page : List ℕ) (o : Opened) → opened_page page ≡ Some o → (k from to : ℕ) → NodeAt o.items k from to →
     node_with k (carried_items o.items) ≡ take (to - from) (drop from (carried_items o.items))

@@ -17,7 +17,8 @@ FaultlessOpens = (page : List ℕ) → page_fault page ≡ None → (o : Opened)
 abbrev pub OpenedIsFaultless : Type 0
 OpenedIsFaultless = (page : List ℕ) (o : Opened) → opened_page page ≡ Some o → page_fault page ≡ None
 
--- A page whose body a forest spells opens with what that forest is converted to. At most one forest spells it.
+-- A page whose body a forest spells opens with what that forest is converted to. At most one forest
+-- spells it.
 abbrev pub OpensAsItsForest : Type 0
 OpensAsItsForest = (page : List ℕ) (from to : ℕ) (f : Forest) → body_at page ≡ Ok (from, to) → Spells (slice page from to) f →
     opened_page page ≡ Some (page_opened page (record { from = from; to = to }) (page_made from f))

@@ -18,8 +18,8 @@ pub fn page_opens()
     ensures forest { OpensAsItsForest }
 {}
 
-/// A page is read exactly where it opens within all limits, and then as a lawful list. One that is refused
-/// for its spelling is refused with its first fault.
+/// A page is read exactly where it opens within all limits, and then as a lawful list. One that is
+/// refused for its spelling is refused with its first fault.
 #[tactic(auto, using(crate::proofs::OpenPageLemmas::read_is_within, crate::proofs::OpenPageLemmas::read_is_lawful, crate::proofs::OpenPageLemmas::within_is_read, crate::proofs::OpenPageLemmas::bad_page_has_fault, crate::proofs::LawfulLemmas::limited_is_lawful))]
 pub fn page_is_read()
     ensures within { ReadIsWithin }
@@ -35,29 +35,31 @@ pub fn origins_number_spans()
     ensures { OriginsNumberSpans }
 {}
 
-/// The body of an opened page is a range of its whole characters, and so is the span of each origin: a part of the body that is not empty.
+/// The body of an opened page is a range of its whole characters, and so is the span of each
+/// origin: a part of the body that is not empty.
 pub fn spans_are_parts()
     ensures body { BodyIsCut }
     ensures spans { SpansAreParts }
 {}
 
-/// The node of each origin stands in the list of the opened page, from its opening to the closing of that;
-/// and what stands there is what a node of that origin is compared with, where it may be kept.
+/// The node of each origin stands in the list of the opened page, from its opening to the closing
+/// of that. A node of that origin is compared with the items there, where it may be kept.
 pub fn origins_stand()
     ensures stands { OriginsStand }
     ensures compared { RangesAreCompared }
 {}
 
-/// Each reference of an opened page has its key and an editable `data-mw`, and each internal item has its key.
+/// Each reference of an opened page has its key and an editable `data-mw`, and each internal item
+/// has its key.
 #[tactic(auto, using(crate::proofs::PageRefers::opened_refers, crate::proofs::PageRefers::spelled_refers))]
 pub fn references_are_editable()
     ensures opened { OpenedRefers }
     ensures spelled { SpelledRefers }
 {}
 
-/// Edits keep this: a transaction that inserts only such items keeps it of every list, whatever attributes it
-/// sets, and where it is undone, joined with others or taken back under later ones, only such items are
-/// inserted. Fragments are such items.
+/// Edits keep this. A transaction that inserts only such items keeps it of every list, whatever
+/// attributes it sets. Where it is undone, joined with others or taken back under later ones, only
+/// such items are inserted. Fragments are such items.
 pub fn edits_keep_references()
     ensures edited { EditsRefer }
     ensures undone { InversesRefer }
@@ -69,8 +71,8 @@ pub fn edits_keep_references()
     ensures fragments { FragmentsRefer }
 {}
 
-/// A `data-mw` that is composed with another body is read as what it was with that body; so it is editable,
-/// of the same group and name, and has that body, where a forest spells the body's text.
+/// A `data-mw` that is composed with another body is read as it was, with that body. So it is
+/// editable, of the same group and name, and has that body, where a forest spells the body's text.
 pub fn composed_reads_back()
     ensures value { ComposedIsRead }
     ensures members { ComposedKeepsMembers }
@@ -82,8 +84,9 @@ pub fn composed_reads_back()
     ensures reuses { ComposedReuses }
 {}
 
-/// A reference is written as an element of its tag and its source, with the attributes of its head but for the composed `data-mw`. So the
-/// element is editable, of the same group and name, and has the body that the reference carries, where a forest spells that body's text.
+/// A reference is written as an element of its tag and its source, with the attributes of its head
+/// but for the composed `data-mw`. So the element is editable, of the same group and name, and has
+/// the body that the reference carries, where a forest spells that body's text.
 pub fn reference_is_written()
     ensures written { ReferenceIsWritten }
     ensures body { ReferenceHasBody }
@@ -96,7 +99,8 @@ pub fn page_is_written_back()
     ensures spelled { SpelledIsWrittenBack }
 {}
 
-/// A lawful list that was written fresh is read back, up to origins and the flag generated, where it has nothing that is kept whole.
+/// A lawful list that was written fresh is read back, up to origins and the flag generated, where
+/// it has nothing that is kept whole.
 #[tactic(auto, using(crate::proofs::FormLemmas::fresh_is_read_back, crate::proofs::FreshOpens::fresh_opens_as_itself))]
 pub fn fresh_is_read_back()
     ensures forest { FreshIsReadBack }
@@ -109,9 +113,9 @@ pub fn writes_fresh()
     ensures { WritesFresh }
 {}
 
-/// A page with another body that a forest spells opens with that body: its prefix and its suffix are found
-/// again. So does the page that is written of any list; and where the list is of the form above, and no node
-/// of it is kept, the whole page is read back as the list.
+/// A page with another body that a forest spells opens with that body: its prefix and its suffix
+/// are found again. So does the page that is written of any list. Where the list is of the form
+/// above, and no node of it is kept, the whole page is read back as the list.
 pub fn written_page_opens()
     ensures replaced { BodyIsReplaced }
     ensures opens { WrittenOpens }

@@ -1,5 +1,6 @@
--- Lists with leaves that are kept whole aren't always read back: leaves of one `about` that come to stand side by side are read as one group.
--- No byte is lost, and from then on the page is read as it is written.
+-- Lists with leaves that are kept whole aren't always read back: leaves of one `about` that come to
+-- stand side by side are read as one group. No byte is lost, and from then on the page is read as
+-- it is written.
 use Rattle.std.specs.Prelude.{◌≡◌, ℕ, List, [], ◌∷◌, ◌++◌, length, Option, Some, codes, refl, option_map, option_and_then}
 use Rattle.ve_kinds.specs.declared.kind.Kind.TheVariants.{P, AlienBlock, AlienInline}
 use Rattle.model_items.specs.declared.plain_item.PlainItem.{PlainItem}
@@ -17,7 +18,8 @@ written_at page items = option_map (λ o. write o items) (opened_page page)
 abbrev one_x : List ℕ
 one_x = codes "<i about=\"#x\"></i>"
 
--- ---- two of them, each in an element b of its own: a character typed elsewhere joins the two elements b
+-- ---- two of them, each in an element b of its own: a character typed elsewhere joins the two
+-- elements b
 
 abbrev apart_page : List ℕ
 apart_page = codes "<p><b>" ++ one_x ++ codes "</b><b>" ++ one_x ++ codes "</b></p>"
@@ -59,7 +61,8 @@ levels_read : items_in (block_x ++ one_x) ≡ Some (whole_ AlienBlock 0 [] (bloc
 unfolding page_on_literals
 levels_read = refl
 
--- ---- U+0000 in the body of a reference: a forest spells the page, and none the body, so that the owner is no reference any more
+-- ---- U+0000 in the body of a reference: a forest spells the page, and none the body, so that the
+-- owner is no reference any more
 
 abbrev references_after : List PlainItem → Option ℕ
 references_after items = option_and_then (λ text. option_map (λ found. length (refs_of found)) (items_in text)) (written_at reuse_page items)

@@ -1,4 +1,5 @@
--- The tree of a list of items, with all that its items say and the bodies that its references carry.
+-- The tree of a list of items, with all that its items say and the bodies that its references
+-- carry.
 use Rattle.std.specs.Prelude.{ℕ, suc, ◌==◌, Bool, List, [], ◌∷◌, ◌++◌, map, drop, find, Option, None, option_and_then}
 use Rattle.ve_kinds.specs.declared.kind.Kind.{Kind}
 use Rattle.ve_base.specs.declared.marks.Mark.{Mark}
@@ -12,7 +13,7 @@ pub record Carried : Type 0 where
   pub item : PlainItem
   pub body : Option Body
 
--- the body that the item at this place carries
+-- the body that the item at this position carries
 abbrev pub body_carried : List PlainItem → ℕ → Option Body
 body_carried items at = option_and_then (carried_by items) (find (λ r. r.at == at) (refs_of items))
 
@@ -31,7 +32,7 @@ carried_items items = carried_from (body_carried items) 0 items
 abbrev pub carrying_nothing : List PlainItem → List Carried
 carrying_nothing items = map (λ item. record { item = item; body = None }) items
 
--- what the opening of a node says, and the body that it carries
+-- the opening of a node, and the body that it carries
 pub record Start : Type 0 where
   pub kind : Kind
   pub head : Head
@@ -41,7 +42,8 @@ pub record Start : Type 0 where
   pub generated : Bool
   pub body : Option Body
 
--- Sibling nodes in order: a character, or a node with what is in it and the whitespace before its closing.
+-- Sibling nodes in order: a character, or a node with what is in it and the whitespace before its
+-- closing.
 pub data Nodes : Type 0 where
   Empty : Nodes
   Letter : ℕ → List Mark → Nodes → Nodes
@@ -52,7 +54,8 @@ pub record Outer : Type 0 where
   pub pre : List ℕ
   pub later : Nodes
 
--- What the items of a list's end spell: the siblings that they begin with, and then, from the inside out, what follows each node which they close.
+-- The nodes of a list's end: the siblings that its items begin with, and then, from the inside out,
+-- what follows each node which they close.
 pub record NodesEnding : Type 0 where
   pub here : Nodes
   pub outer : List Outer

@@ -1,4 +1,5 @@
--- The page that a list of items gives, after the page that was first read: fresh text, and the bytes of what is kept.
+-- The page that a list of items gives, after the page that was first read: fresh text, and the
+-- bytes of what is kept.
 use Rattle.std.specs.Prelude.{ℕ, zero, suc, ◌==◌, Bool, false, ◌&&◌, if◌then◌else◌, List, [], ◌∷◌, ◌++◌, take, drop, Option, Some, None, slice_get, encode_utf8_all}
 use Rattle.model_items.specs.declared.plain_item.PlainItem.{PlainItem}
 use Rattle.model_items.specs.declared.plain_item.PlainItem.TheVariants.{Char, Opening, Closing}
@@ -86,7 +87,8 @@ page_writer o =
     let first = carried_items o.items in
     record { original = λ start items. original_at o first start.origin items; html = html_of }
 
--- the prefix before the body, the items and the suffix after the body: a node with an origin has its original bytes where it is kept
+-- the prefix before the body, the items and the suffix after the body: a node with an origin has
+-- its original bytes where it is kept
 abbrev pub write : Opened → List PlainItem → List ℕ
 write o items =
     take o.body.from o.page ++ blocks (page_writer o) false [] (carried_nodes (carried_items items)) ++ drop o.body.to o.page

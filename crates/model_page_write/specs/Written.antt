@@ -1,5 +1,6 @@
--- How nodes are written: the marks of content, which paragraphs have no tags, and the text of each node.
--- Writing goes by a `Writer`, which knows the original bytes of nodes that are kept and the texts of bodies.
+-- How nodes are written: the marks of content, which paragraphs have no tags, and the text of each
+-- node. Writing goes by a `Writer`, which knows the original bytes of nodes that are kept and the
+-- texts of bodies.
 use Rattle.std.specs.Prelude.{ℕ, suc, Bool, true, false, not, ◌&&◌, ◌||◌, if◌then◌else◌, List, [], ◌∷◌, ◌++◌, drop, reverse, map, flat_map, Option, None, codes, bytes_eq, encode_utf8_all, option_map, unwrap_or}
 use Rattle.model_spelling.specs.Grammar.{end_text}
 use Rattle.model_spelling.specs.Forest.{Forest, Nothing, Text, Remark, Void, RawElement, Element}
@@ -68,7 +69,8 @@ abbrev pub stays_inline : Start → Bool
 stays_inline s =
     not (kind_same s.kind TransInline || kind_same s.kind AlienInline) || not (is_empty s.marks) || reads_inline s.head.raw
 
--- some node is a leaf, or a character that is not whitespace or has marks: the tags of marks are no whitespace
+-- some node is a leaf, or a character that is not whitespace or has marks: the tags of marks are no
+-- whitespace
 abbrev pub has_content : Nodes → Bool
 has_content Empty = false
 has_content (Letter c marks later) = not (is_white_char c) || not (is_empty marks) || has_content later
@@ -85,9 +87,9 @@ white_after Empty closing = closing
 white_after (Letter c marks later) closing = []
 white_after (Node start inside pre later) closing = start.pre
 
--- A node is written without its tags where it would be read as that paragraph again: it is generated and has no attributes, there is no
--- whitespace on either side, it holds something, its leaves stay in the run, and the sibling before it has its tags; `before` says whether that one
--- is bare.
+-- A node is written without its tags where it would be read as that paragraph again. It is
+-- generated and has no attributes, and no whitespace on either side. It holds something, its leaves
+-- stay in the run, and the sibling before it has its tags; `before` says whether that one is bare.
 abbrev pub is_bare : Bool → Start → Nodes → List ℕ → Bool
 is_bare before start inside after =
     kind_same start.kind P && start.generated && is_empty start.head.attrs && is_empty start.pre
@@ -96,7 +98,8 @@ is_bare before start inside after =
 
 -- ---- nodes
 
--- What writing takes from around: the original bytes of a node that is as it was first read, and the text of a body.
+-- The surroundings that writing reads: the original bytes of a node that is as it was first read,
+-- and the text of a body.
 pub record Writer : Type 0 where
   pub original : Start → List Carried → Option (List ℕ)
   pub html : Body → List ℕ
@@ -120,7 +123,8 @@ abbrev pub element_text : Start → List ℕ → List ℕ → List ℕ
 element_text s inside pre =
     start_tag (encode_utf8_all (tag_of s.kind)) s.head.attrs ++ inside ++ encode_utf8_all pre ++ end_tag (tag_of s.kind)
 
--- the text of a block, without the whitespace before it, where `inside` is the text of what is in it
+-- the text of a block, without the whitespace before it, where `inside` is the text of what is in
+-- it
 abbrev pub fresh_text : Writer → Bool → Start → List ℕ → List ℕ → List ℕ
 fresh_text w bare s inside pre =
     if kind_same s.kind InternalList then []
@@ -142,7 +146,8 @@ abbrev mutual
       ++ unwrap_or (w.original s (node_items s inside pre)) (leaf_text w s s.kind)
       ++ content w s.marks later
 
-  -- the nodes of a flow or structural parent: whether the sibling before them is bare, and the whitespace before the parent's closing
+  -- the nodes of a flow or structural parent: whether the sibling before them is bare, and the
+  -- whitespace before the parent's closing
   pub blocks : Writer → Bool → List ℕ → Nodes → List ℕ
   blocks w before closing Empty = []
   blocks w before closing (Letter c marks later) = letter c ++ blocks w false closing later

@@ -1,7 +1,8 @@
-//! How the items of a page are written: fresh, or with the bytes that a node was read from where nothing of
-//! it changed. There are definitions alone, in specs/:
+//! Items written as a page: fresh, or with the bytes that a node was read from where nothing of it
+//! changed. There are definitions alone, in specs/:
 //!
-//! - `Nodes`: the tree of a list, with all that its items say and the bodies that its references carry;
+//! - `Nodes`: the tree of a list, with all that its items say and the bodies that its references
+//!   carry;
 //! - `Written`: marks, bare paragraphs, and the text of each node;
 //! - `PageText`: fresh text, which nodes are kept, and the page.
 //!

@@ -1,9 +1,10 @@
--- What the lines of a script are, and how what is written for them goes on from one line to the next.
+-- The lines of a script, and how the output goes on from one line to the next.
 use Rattle.std.specs.Prelude.{◌≡◌, ◌↔◌, ℕ, ◌+◌, ◌++◌, List, length}
 use Rattle.model_script.specs.Lines.{lines_of, with_newlines, last_line, AreLines, IsCut}
 use Rattle.model_script.specs.Output.{Meaning, replies, state_after, cost_of, written, output}
 
--- The lines of a script are its whole lines, and then what follows the last newline, where that isn't empty.
+-- The lines of a script are its whole lines, and then what follows the last newline, where that
+-- isn't empty.
 abbrev pub ScriptIsItsLines : Type 0
 ScriptIsItsLines = (script : List ℕ) (lines : List (List ℕ))
     → (lines ≡ lines_of script)
@@ -26,7 +27,8 @@ abbrev pub CostFollowsOn : (W R : Type 0) → Type 0
 CostFollowsOn W R = (m : Meaning W R) (world : W) (lines more : List (List ℕ))
     → cost_of m world (lines ++ more) ≡ cost_of m world lines + cost_of m (state_after m world lines) more
 
--- What is written for a script that begins with whole lines is what is written for these, and then what is written for the rest.
+-- The output for a script that begins with whole lines is the output for these, and then that for
+-- the rest.
 abbrev pub OutputFollowsOn : (W R : Type 0) → Type 0
 OutputFollowsOn W R = (spelled : R → List ℕ) (m : Meaning W R) (world : W) (lines : List (List ℕ)) (rest : List ℕ) → AreLines lines
     → output spelled m world (with_newlines lines ++ rest)

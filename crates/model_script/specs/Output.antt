@@ -1,10 +1,10 @@
--- What a machine answers to a script.
+-- The output of a machine for a script.
 use Rattle.std.specs.Prelude.{ℕ, ◌+◌, List, [], ◌∷◌, map}
 use Rattle.model_script.specs.Lines.{lines_of, with_newlines}
 
--- What a machine means, for a state of it and a line: W is its states, and R its replies.
+-- The meaning of a machine, for a state of it and a line: W is its states, and R its replies.
 pub record Meaning (W R : Type 0) : Type 0 where
-  -- what it replies
+  -- its reply to a line
   pub reply : W → List ℕ → R
   -- its state after the line
   pub next : W → List ℕ → W
@@ -26,10 +26,10 @@ abbrev pub cost_of : {W R : Type 0} → Meaning W R → W → List (List ℕ) �
 cost_of m world [] = 0
 cost_of m world (line ∷ lines) = m.cost world line + cost_of m (m.next world line) lines
 
--- what is written for them: each reply, as it is spelled, with a newline
+-- the output for them: the text of each reply, with a newline
 abbrev pub written : {W R : Type 0} → (R → List ℕ) → Meaning W R → W → List (List ℕ) → List ℕ
 written spelled m world lines = with_newlines (map spelled (replies m world lines))
 
--- what is written for a script
+-- the output for a script
 abbrev pub output : {W R : Type 0} → (R → List ℕ) → Meaning W R → W → List ℕ → List ℕ
 output spelled m world script = written spelled m world (lines_of script)

@@ -45,7 +45,7 @@ abbrev pub passes : ℕ → Transaction
 passes zero = []
 passes (suc n) = Retain (suc n) ∷ []
 
--- items put in at a place, or taken out from it on, in a list of so many items
+-- items put in at a position, or taken out from it on, in a list of so many items
 abbrev pub inserts : ℕ → List PlainItem → ℕ → Transaction
 inserts at items long = passes at ++ Replace [] items ∷ passes (long - at)
 

@@ -12,7 +12,8 @@ fine = refl
 too_short : edit_cause (inserts 1 (chars_ (codes "x")) 4) (opened (codes "a")) ≡ Some (BadLength 5 4)
 too_short = refl
 
--- the list is asked before the law: the character is not there, and outside a paragraph none may stand
+-- the list is asked before the law: the character is not there, and outside a paragraph none may
+-- stand
 not_there : edit_cause (Retain 1 ∷ Replace (chars_ (codes "b")) [] ∷ Retain 1 ∷ Replace [] (chars_ (codes "x")) ∷ Retain 2 ∷ []) (opened (codes "a")) ≡ Some (Mismatch 1)
 not_there = refl
 

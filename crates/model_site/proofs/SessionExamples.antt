@@ -33,7 +33,7 @@ serves w k = served_at k w (slice_get w.members k)
 abbrev takes : Session → ℕ → Option Taken
 takes w k = taken_at k w (slice_get w.members k)
 
--- at one place: what is committed first stands first
+-- at one position: what is committed first stands first
 abbrev both_insert : Session
 both_insert = run (started (opened []) 2)
     (Perform 0 (inserts 1 (chars_ (codes "A")) 4 ∷ []) ∷ Perform 1 (inserts 1 (chars_ (codes "B")) 4 ∷ []) ∷ Send 0 ∷ Send 1 ∷ [])
@@ -53,7 +53,8 @@ order_of_acks = refl
 one_list : lists (run both_insert (Serve 0 ∷ Serve 1 ∷ Take 0 ∷ Take 0 ∷ Take 1 ∷ Take 1 ∷ [])) ≡ page (codes "AB") ∷ page (codes "AB") ∷ []
 one_list = refl
 
--- Of <p>abcd</p> site 0 removes b and c. Site 1 inserts X after them, Y between them, and Z, sends these, and inserts W.
+-- Of <p>abcd</p> site 0 removes b and c. Site 1 inserts X after them, Y between them, and Z, sends
+-- these, and inserts W.
 abbrev in_conflict : Session
 in_conflict = run (started (opened (codes "abcd")) 2)
     (Perform 0 (removes 2 (chars_ (codes "bc")) 8 ∷ [])

@@ -1,5 +1,5 @@
--- Why a transaction is not performed, and why a site does not undo, redo or send. Want of memory is none of these: no definition
--- answers it.
+-- Why a transaction is not performed, and why a site does not undo, redo or send. Want of memory is
+-- none of these: no definition answers it.
 use Rattle.std.specs.Prelude.{ℕ}
 use Rattle.model_site.specs.declared.edit_fault.EditFault.{EditFault}
 use Rattle.model_site.specs.declared.edit_fault.EditFault.TheVariants as edit

@@ -22,7 +22,8 @@ parcels entries = map (λ (e : Entry). e.txs) entries
 abbrev pub entry_of : List Transaction → Replica → Entry
 entry_of ts r = record { txs = all_filled ts r.items; store_before = length r.store; store_after = length (all_performed ts r).store }
 
--- The store after an entry was taken back; `was` is its length before that. The values that the entry added go, if they are the last of it.
+-- The store after an entry was taken back; `was` is its length before that. The values that the
+-- entry added go, if they are the last of it.
 abbrev pub cut_back : Entry → (was : ℕ) → List Value → List Value
 cut_back e was store = if (was == e.store_after) && nat_lt e.store_before e.store_after then take e.store_before store else store
 

@@ -1,4 +1,5 @@
--- What may happen in a session, one event of one site or of the server after the other. What is refused changes nothing.
+-- Events of a session, of one site or of the server, one after the other. A refused event changes
+-- nothing.
 use Rattle.std.specs.Prelude.{ℕ, List, [], ◌∷◌, ◌++◌, slice_get, Option, Some, None, Result, Ok, Err}
 use Rattle.model_change.specs.Transaction.{Transaction}
 use Rattle.model_edit.specs.declared.selection.Selection.{Selection}

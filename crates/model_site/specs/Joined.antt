@@ -1,5 +1,5 @@
--- Entries joined over committed transactions, one after the other, up to the first conflict. So the server accepts a submission, and
--- so a site keeps its pending entries under a foreign one.
+-- Entries joined over committed transactions, one after the other, up to the first conflict. So the
+-- server accepts a submission, and so a site keeps its pending entries under a foreign one.
 use Rattle.std.specs.Prelude.{List, [], ◌∷◌, Option, Some, None, Result, Ok, Err}
 use Rattle.model_change.specs.Transaction.{Transaction}
 use Rattle.model_change.specs.Join.{RangeConflict, join_list}
@@ -12,7 +12,8 @@ pub record Joined : Type 0 where
   pub committed : List Transaction
   pub clash : Option RangeConflict
 
--- the first entry, and the rest over what the committed ones then are; in conflict, it and the rest are not joined
+-- the first entry, and the rest over what the committed ones then are; in conflict, it and the rest
+-- are not joined
 abbrev pub joined_first : List Transaction → Result (List Transaction × List Transaction) RangeConflict → (List Transaction → Joined) →
     Joined
 joined_first committed (Err clash) rest = record { kept = []; committed = committed; clash = Some clash }

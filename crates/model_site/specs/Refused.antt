@@ -26,7 +26,8 @@ items_cause count = if nat_lt max_items count then Some (TooManyItems count) els
 abbrev pub store_cause : ℕ → Option EditCause
 store_cause count = if nat_lt max_values count then Some StoreFull else None
 
--- The first cause: it does not apply; the new list is not lawful; it has too many items; the store has too many values.
+-- The first cause: it does not apply; the new list is not lawful; it has too many items; the store
+-- has too many values.
 abbrev pub edit_cause : Transaction → Replica → Option EditCause
 edit_cause t r =
     let new = performed t r in

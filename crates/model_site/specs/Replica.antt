@@ -1,4 +1,5 @@
--- A site's own copy of the page under edit, and what performing a transaction and taking one back makes of it.
+-- A site's own copy of the page under edit, and what performing a transaction and taking one back
+-- makes of it.
 use Rattle.std.specs.Prelude.{List, [], ◌∷◌}
 use Rattle.ve_base.specs.declared.value.Value.{Value}
 use Rattle.model_items.specs.declared.plain_item.PlainItem.{PlainItem}
@@ -24,11 +25,13 @@ abbrev pub changed_by : Transaction → List Value → Replica → Replica
 changed_by t values r = let items = edited t r.items in
     record { items = items; store = fill r.store values; selection = moved_selection t items r.selection }
 
--- a transaction performed: the store is filled with what its inserted items cite, and then with the heads that it changes
+-- a transaction performed: the store is filled with what its inserted items cite, and then with the
+-- heads that it changes
 abbrev pub performed : Transaction → Replica → Replica
 performed t r = changed_by t (brought t r.items) r
 
--- a transaction of a reversal performed: what it inserts stood in the list before, so only heads that it changes can be new values
+-- a transaction of a reversal performed: what it inserts stood in the list before, so only heads
+-- that it changes can be new values
 abbrev pub put_back : Transaction → Replica → Replica
 put_back t r = changed_by t (changed_heads t r.items) r
 

@@ -1,4 +1,5 @@
--- A page under edit by several sites: their queues, the committed entries, and the turns of server and sites.
+-- A page under edit by several sites: their queues, the committed entries, and the turns of server
+-- and sites.
 use Rattle.std.specs.Prelude.{ℕ, zero, suc, ◌-◌, ◌==◌, if◌then◌else◌, List, [], ◌∷◌, ◌++◌, length, drop, replicate, Option, Some, None}
 use Rattle.model_change.specs.Join as join
 use Rattle.model_change.specs.Replay.{flattened}
@@ -12,7 +13,7 @@ use Rattle.model_site.specs.Site.{Site, starting, pending, Submission}
 use Rattle.model_site.specs.Joined.{Joined, join_entries}
 use Rattle.model_site.specs.Take.{take_foreign, take_ack}
 
--- what the server sends to a site: entries of another site, or how many of its own were accepted
+-- messages of the server to a site: entries of another site, or how many of its own were accepted
 pub data SiteFeed : Type 0 where
   Foreign : (entries : List Parcel) → SiteFeed
   Ack : (accepted : ℕ) → SiteFeed
@@ -52,8 +53,8 @@ abbrev pub foreign_feed : List Parcel → List SiteFeed
 foreign_feed [] = []
 foreign_feed (p ∷ ps) = Foreign (p ∷ ps) ∷ []
 
--- what the site at k gets when these entries of the sender are accepted: the sender their number, each other site the entries, if
--- there is one
+-- the messages to the site at k when these entries of the sender are accepted: the sender gets
+-- their number, each other site the entries, if there is one
 abbrev pub feed_for : (sender k : ℕ) → List Parcel → List SiteFeed
 feed_for sender k entries = if k == sender then Ack (length entries) ∷ [] else foreign_feed entries
 

@@ -13,10 +13,11 @@ pub record Site : Type 0 where
   pub replica : Replica
   -- how many committed entries its list has
   pub seen : ℕ
-  -- its own entries that it sent and has no answer for, and those that it has not sent, oldest first
+  -- its own entries that it sent and has no answer for, and those that it has not sent, oldest
+  -- first
   pub sent : List Entry
   pub unsent : List Entry
-  -- what was undone, the last first
+  -- the undone entries, the last first
   pub undone : List Parcel
   -- how many entries it sent since the page was opened
   pub shared : ℕ
@@ -34,7 +35,8 @@ pending site = site.sent ++ site.unsent
 abbrev pub with_selection : Selection → Site → Site
 with_selection selection site = record site { replica = record site.replica { selection = selection } }
 
--- transactions performed as one new entry: a change, a batch, typing, or what takes another entry back
+-- transactions performed as one new entry: a change, a batch, typing, or what takes another entry
+-- back
 abbrev pub with_entry : List Transaction → Site → Site
 with_entry ts site = record site {
   replica = all_performed ts site.replica;
@@ -50,13 +52,13 @@ abbrev pub edit : Transaction → Site → Result Site EditCause
 edit t site = edit_unless (edit_cause t site.replica) t site
 
 -- entries but for the last, and the last
-abbrev pub parted : Entry → List Entry → List Entry × Entry
-parted e [] = ([], e)
-parted e (f ∷ es) = let r = parted f es in (e ∷ r.0, r.1)
+abbrev pub init_and_last : Entry → List Entry → List Entry × Entry
+init_and_last e [] = ([], e)
+init_and_last e (f ∷ es) = let r = init_and_last f es in (e ∷ r.0, r.1)
 
 abbrev pub undo_last : List Entry → Site → Result Site UndoCause
 undo_last [] site = Err (if site.shared == 0 then NothingToUndo else AlreadyShared site.shared)
-undo_last (e ∷ es) site = let p = parted e es in
+undo_last (e ∷ es) site = let p = init_and_last e es in
     Ok (record site { replica = reverted p.1 site.replica; unsent = p.0; undone = p.1.txs ∷ site.undone })
 
 -- the last unsent entry is taken back
@@ -67,11 +69,11 @@ abbrev pub redo_first : List Parcel → Site → Result Site RedoCause
 redo_first [] site = Err NothingToRedo
 redo_first (ts ∷ undone) site = Ok (record (with_entry ts site) { undone = undone })
 
--- what was undone last is performed again, as a new entry
+-- the last undone entry is performed again, as a new entry
 abbrev pub redo : Site → Result Site RedoCause
 redo site = redo_first site.undone site
 
--- what a site sends: its entries, made on the list with so many committed ones
+-- a submission of a site: its entries, made on the list with so many committed ones
 pub record Submission : Type 0 where
   pub base : ℕ
   pub entries : List Parcel
@@ -88,12 +90,13 @@ send_unless None (e ∷ es) site = Ok (
 abbrev pub send : Site → Result (Site × Submission) SendCause
 send site = send_unless site.in_flight site.unsent site
 
--- the entries whose replay is the site's list: the committed ones that it has seen, and then its pending ones
+-- the entries whose replay is the site's list: the committed ones that it has seen, and then its
+-- pending ones
 abbrev pub entries_of : (committed : List Parcel) → Site → List Parcel
 entries_of committed site = take site.seen committed ++ parcels (pending site)
 
--- Entry i of these taken back under all later ones, as a new entry; or the first conflict. Only a committed one may be named, so i is
--- below `seen`.
+-- Entry i of these taken back under all later ones, as a new entry; or the first conflict. Only a
+-- committed one may be named, so i is below `seen`.
 abbrev pub revoke_by : Result (List Transaction) RangeConflict → Site → Result Site RangeConflict
 revoke_by (Err clash) site = Err clash
 revoke_by (Ok back) site = Ok (with_entry back site)

@@ -1,20 +1,22 @@
--- What a site takes: foreign entries, joined over its pending ones, and the answer to what it sent.
+-- Taking from a queue: foreign entries, joined over the site's pending ones, and the answer to what
+-- it sent.
 use Rattle.std.specs.Prelude.{ℕ, suc, ◌+◌, List, [], ◌∷◌, length, map, take, drop, None}
 use Rattle.model_site.specs.Replica.{all_performed}
 use Rattle.model_site.specs.Entries.{Parcel, Entry, parcels, all_reverted}
 use Rattle.model_site.specs.Site.{Site, pending}
 use Rattle.model_site.specs.Joined.{Joined, join_entries}
 
--- as entries, with one length of the store before and after, so that taking them back cuts nothing off
-abbrev pub noted : ℕ → List Parcel → List Entry
-noted stored = map (λ (p : Parcel). record { txs = p; store_before = stored; store_after = stored })
+-- as entries, with one length of the store before and after, so that taking them back cuts nothing
+-- off
+abbrev pub parcel_entries : ℕ → List Parcel → List Entry
+parcel_entries stored = map (λ (p : Parcel). record { txs = p; store_before = stored; store_after = stored })
 
--- The pending entries that are not kept are taken back, the last first; the foreign entry is performed over those kept; and these are
--- joined over it.
+-- The pending entries that are not kept are taken back, the last first; the foreign entry is
+-- performed over those kept; and these are joined over it.
 abbrev pub with_joined : Joined → Site → Site
 with_joined j site =
     let replica = all_performed j.committed (all_reverted (drop (length j.kept) (pending site)) site.replica) in
-    let kept = noted (length replica.store) j.kept in
+    let kept = parcel_entries (length replica.store) j.kept in
     record site {
       replica = replica;
       seen = suc site.seen;

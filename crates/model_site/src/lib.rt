@@ -1,9 +1,11 @@
-//! Sites that edit one page apart, and the server that orders what they send: what each event makes of a
-//! site, of the committed entries and of the queues between them. It knows no page text and no script. There
-//! are definitions in specs/, and the types that they answer:
+//! Sites that edit one page apart, and the server that orders their entries. Each event has its
+//! result for a site, the committed entries and the queues between them. It knows no page text and
+//! no script. There are definitions in specs/, and the types that they answer:
 //!
-//! - `Replica`: a site's list with its store and selection, and what performing a transaction and taking one back makes of them;
-//! - `Causes`, `Refused`: why a transaction is not performed, and why a site does not undo, redo or send;
+//! - `Replica`: a site's list with its store and selection, and what performing a transaction and
+//!   taking one back makes of them;
+//! - `Causes`, `Refused`: why a transaction is not performed, and why a site does not undo, redo or
+//!   send;
 //! - `Entries`: transactions that are one change, and how the store goes back with them;
 //! - `Site`: edits, undo, redo, sending, and taking a known entry back;
 //! - `Joined`: entries joined one after the other over committed ones, up to the first conflict;

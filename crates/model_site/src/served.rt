@@ -1,7 +1,7 @@
-// What the server answers to a submission.
+// The server's answers to a submission.
 
-/// Two active ranges that conflict, each from its first place to the place after its last, in the list that both transactions apply to as they
-/// are joined so far.
+/// Two active ranges that conflict, each from its first position to the position after its last, in
+/// the list that both transactions apply to as they are joined so far.
 #[derive(Clone, Copy, Debug, PartialEq, Eq)]
 pub struct Clash {
     /// The committed transaction's.
@@ -10,7 +10,7 @@ pub struct Clash {
     pub submitted: (usize, usize),
 }
 
-/// What became of a submission.
+/// The outcome of a submission.
 #[derive(Clone, Copy, Debug, PartialEq, Eq)]
 pub struct Served {
     /// How many entries were accepted: those before the first conflict, or all.

@@ -1,6 +1,6 @@
-// What a site took from its queue.
+// A message that a site took from its queue.
 
-/// What a site took.
+/// The message that a site took.
 #[derive(Clone, Copy, Debug, PartialEq, Eq)]
 pub enum Taken {
     /// Entries of other sites; so many of the site's pending entries were dropped for them.

@@ -1,4 +1,5 @@
--- What is kept of entries under committed transactions in two parts is what the second part keeps of what the first keeps.
+-- Entries kept under committed transactions in two parts are those that the second part keeps of
+-- those that the first keeps.
 use Rattle.std.proofs.Common.{◌≡◌, false, true, Bool, List, [], ◌∷◌, ◌++◌, Option, Some, None, Result, Ok, Err, option_map, option_and_then, if◌then◌else◌, refl, sym, ap, ◌∙◌}
 use Rattle.model_change.specs.Transaction.{Transaction}
 use Rattle.model_change.specs.Join.{RangeConflict, conflict, join, range_conflict, row_with, list_with, join_row, after_row, join_list}
@@ -12,7 +13,8 @@ Row = List Transaction × Transaction
 abbrev Lists : Type 0
 Lists = List Transaction × List Transaction
 
--- ---- joins without the conflict that ends them: of two that can't be joined, which one conflicts first depends on the order of rows and columns
+-- ---- joins without the conflict that ends them: of two that can't be joined, which one conflicts
+-- first depends on the order of rows and columns
 
 abbrev or_none : {A : Type 0} → Result A RangeConflict → Option A
 or_none (Ok x) = Some x

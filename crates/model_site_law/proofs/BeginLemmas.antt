@@ -13,8 +13,8 @@ use Rattle.model_site.specs.Events.{Event, Perform, Redo, Revoke, Select, Send, 
 use Rattle.model_site.specs.Joined.{join_entries}
 use Rattle.model_site.specs.Replica.{Replica, all_performed, all_put_back, performed, put_back}
 use Rattle.model_site.specs.Session.{Ack, SiteFeed, Foreign, Member, Session, all_fed, joining, put_member, serve_first, started, take_first}
-use Rattle.model_site.specs.Site.{Site, Submission, entries_of, parted, pending, redo_first, revoke_by, send_unless, undo_last, with_entry, with_selection}
-use Rattle.model_site.specs.Take.{noted, take_ack, take_entry, take_foreign}
+use Rattle.model_site.specs.Site.{Site, Submission, entries_of, init_and_last, pending, redo_first, revoke_by, send_unless, undo_last, with_entry, with_selection}
+use Rattle.model_site.specs.Take.{parcel_entries, take_ack, take_entry, take_foreign}
 use Rattle.model_site_law.specs.Protocol.{Every}
 use Rattle.model_site_law.specs.StoreLaws.{BeginsWith, StoreBegins}
 use Rattle.model_site_law.proofs.SessionLemmas.{every_get, every_put}
@@ -87,10 +87,10 @@ module _ (first : List Value) where
       (subst (All Since) (append_assoc s.sent s.unsent (e ∷ []))
       (All-append Since (pending s) (e ∷ []) b.since (All-cons Since e [] low (All-nil Since))))
 
-  noted_since : (n : ℕ) (ps : List Parcel) → length first ≤ n → All Since (noted n ps)
+  noted_since : (n : ℕ) (ps : List Parcel) → length first ≤ n → All Since (parcel_entries n ps)
   noted_since n [] low = All-nil Since
   noted_since n (p ∷ ps) low =
-      All-cons Since (record { txs = p; store_before = n; store_after = n }) (noted n ps) low (noted_since n ps low)
+      All-cons Since (record { txs = p; store_before = n; store_after = n }) (parcel_entries n ps) low (noted_since n ps low)
 
   take_entry_begins : (foreign : Parcel) (s : Site) → BeginsWith first s → BeginsWith first (take_entry foreign s)
   take_entry_begins foreign s b =
@@ -98,7 +98,7 @@ module _ (first : List Value) where
       let dropped = drop (length j.kept) (pending s) in
       let back = all_reverted dropped s.replica in
       let new = all_performed j.committed back in
-      let kept = noted (length new.store) j.kept in
+      let kept = parcel_entries (length new.store) j.kept in
       let g : Grown first new.store =
       grown_twice first back.store new.store
       (all_reverted_begin dropped s.replica (All-drop Since (length j.kept) (pending s) b.since) (as_grown s b))
@@ -120,9 +120,9 @@ module _ (first : List Value) where
 
   -- the last of the unsent entries is taken back
   last_begins : (x : Entry) (es : List Entry) (s : Site) → x ∷ es ≡ s.unsent → BeginsWith first s →
-      let p = parted x es in BeginsWith first (record s { replica = reverted p.1 s.replica; unsent = p.0; undone = p.1.txs ∷ s.undone })
+      let p = init_and_last x es in BeginsWith first (record s { replica = reverted p.1 s.replica; unsent = p.0; undone = p.1.txs ∷ s.undone })
   last_begins x es s unsent b =
-      let p = parted x es in
+      let p = init_and_last x es in
       let parts : pending s ≡ (s.sent ++ p.0) ++ p.1 ∷ [] =
       ap (λ us. s.sent ++ us) (sym (parted_is x es ∙ unsent)) ∙ sym (append_assoc s.sent p.0 (p.1 ∷ [])) in
       let all = subst (All Since) parts b.since in
@@ -164,7 +164,7 @@ module _ (first : List Value) where
     undo_begins : (m : Member) → Begins m → (es : List Entry) → es ≡ m.site.unsent → After (with_site_of k m (undo_last es m.site) w)
     undo_begins m b [] e = all
     undo_begins m b (x ∷ es) e =
-        let p = parted x es in
+        let p = init_and_last x es in
         let site = record m.site { replica = reverted p.1 m.site.replica; unsent = p.0; undone = p.1.txs ∷ m.site.undone } in
         put (record m { site = site }) (last_begins x es m.site e b)
 

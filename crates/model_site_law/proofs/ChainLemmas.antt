@@ -11,7 +11,7 @@ use Rattle.model_change.specs.Store.{cited}
 use Rattle.model_change.specs.Transaction.{Transaction, all_removed}
 use Rattle.model_site.specs.Entries.{Entry, Parcel, all_reverted, parcels, reverted}
 use Rattle.model_site.specs.Replica.{Replica, all_filled, all_performed, all_put_back, performed}
-use Rattle.model_site.specs.Take.{noted}
+use Rattle.model_site.specs.Take.{parcel_entries}
 use Rattle.model_site_law.specs.Chain.{Chain, needed_values}
 use Rattle.model_site_law.specs.Sound.{AllIn, AllMayRun, Sound}
 use Rattle.model_site_law.proofs.NeedLemmas.{AllNeeded, removed-filled}
@@ -184,7 +184,7 @@ all_reverted_kept es (f ∷ fs) s items sound runs list c held =
 
 -- ---- entries with one number
 
-pub chain_noted : (S : List Value) (least : ℕ) (items : List PlainItem) (ps : List Parcel) → least ≤ length S → AllNeeded S ps → Chain S least items (noted (length S) ps)
+pub chain_noted : (S : List Value) (least : ℕ) (items : List PlainItem) (ps : List Parcel) → least ≤ length S → AllNeeded S ps → Chain S least items (parcel_entries (length S) ps)
 chain_noted S least items [] h n = h
 chain_noted S least items (p ∷ ps) h n =
     (h, omega arith, (λ r. absurd (omega arith)), subst (λ r. AllIn r (needed_values p)) (sym (take-length S)) n.0, chain_noted S (length S) (replay p items) ps (omega arith) n.1)

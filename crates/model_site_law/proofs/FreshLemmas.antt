@@ -17,7 +17,7 @@ use Rattle.model_change.proofs.InverseNormal.{inverse_is_reduced}
 use Rattle.model_change.proofs.ReversalLaw.{reversal_undoes}
 use Rattle.model_site.specs.Entries.{Entry, reverted}
 use Rattle.model_site.specs.Replica.{Replica, all_filled, all_performed, all_put_back, performed}
-use Rattle.model_site_law.specs.Chain.{stored}
+use Rattle.model_site_law.specs.Chain.{store_after_all}
 use Rattle.model_site_law.specs.Sound.{AllIn, AllMayRun, Sound}
 use Rattle.model_site_law.proofs.ChainLemmas.{length_grown}
 use Rattle.model_site_law.proofs.PerformLemmas.{performed_held, put_back_grows, taken_back}
@@ -26,19 +26,19 @@ use Rattle.model_site_law.proofs.StoreLemmas.{Grown, fill_full, fill_grows, grow
 
 -- ---- the store that transactions make
 
-pub store_performed : (ts : List Transaction) (s : Replica) → (all_performed ts s).store ≡ stored ts s.items s.store
+pub store_performed : (ts : List Transaction) (s : Replica) → (all_performed ts s).store ≡ store_after_all ts s.items s.store
 store_performed [] s = refl
 store_performed (t ∷ ts) s = store_performed ts (performed t s)
 
-pub stored-append : (ts us : List Transaction) (items : List PlainItem) (S : List Value) → stored (ts ++ us) items S ≡ stored us (replay ts items) (stored ts items S)
+pub stored-append : (ts us : List Transaction) (items : List PlainItem) (S : List Value) → store_after_all (ts ++ us) items S ≡ store_after_all us (replay ts items) (store_after_all ts items S)
 stored-append [] us items S = refl
 stored-append (t ∷ ts) us items S = stored-append ts us _ _
 
-stored_grows : (ts : List Transaction) (items : List PlainItem) (S : List Value) → Grown S (stored ts items S)
+stored_grows : (ts : List Transaction) (items : List PlainItem) (S : List Value) → Grown S (store_after_all ts items S)
 stored_grows [] items S = grown_itself S
 stored_grows (t ∷ ts) items S =
     let next = fill S (brought t items) in
-    grown_twice S next (stored ts (edited t items) next) (fill_grows S (brought t items)) (stored_grows ts (edited t items) next)
+    grown_twice S next (store_after_all ts (edited t items) next) (fill_grows S (brought t items)) (stored_grows ts (edited t items) next)
 
 -- filling positions changes nothing of it
 pub inserted-filled : (t : Transaction) (items : List PlainItem) → all_inserted (filled t items) ≡ all_inserted t
@@ -58,13 +58,13 @@ heads-filled changed (Replace gone new ∷ ops) items = ap (λ r. head_if change
 heads-filled changed (Attribute change ∷ ops) items =
     ap (heads_from true (filled ops (on_first (item_changed change) items))) (first_same change items) ∙ heads-filled true ops (on_first (item_changed change) items)
 
-pub stored-filled : (ts : List Transaction) (items : List PlainItem) (S : List Value) → AllMayRun ts items → stored (all_filled ts items) items S ≡ stored ts items S
+pub stored-filled : (ts : List Transaction) (items : List PlainItem) (S : List Value) → AllMayRun ts items → store_after_all (all_filled ts items) items S ≡ store_after_all ts items S
 stored-filled [] items S may = refl
 stored-filled (t ∷ ts) items S may =
     let values : cited (all_inserted (filled t items)) ++ changed_heads (filled t items) items ≡ cited (all_inserted t) ++ changed_heads t items =
     ap (λ r. cited r ++ changed_heads (filled t items) items) (inserted-filled t items) ∙ ap (λ r. cited (all_inserted t) ++ r) (heads-filled false t items) in
-    ap (λ vs. stored (all_filled ts (edited t items)) (edited (filled t items) items) (fill S vs)) values
-    ∙ ap (λ l. stored (all_filled ts (edited t items)) l (fill S (brought t items))) (filling_is_neutral t items may.0.applies).same
+    ap (λ vs. store_after_all (all_filled ts (edited t items)) (edited (filled t items) items) (fill S vs)) values
+    ∙ ap (λ l. store_after_all (all_filled ts (edited t items)) l (fill S (brought t items))) (filling_is_neutral t items may.0.applies).same
     ∙ stored-filled ts (edited t items) _ may.1
 
 -- ---- changed heads are cited by the new list
@@ -121,7 +121,7 @@ same_from_length S T g h = g.same ∙ ap (λ r. S ++ r) (none g.more (let e = ap
     none (x ∷ R) h = absurd (omega arith)
 
 unchanged : (ts : List Transaction) (items : List PlainItem) (s : Replica) → Sound items → AllRun ts items → s.items ≡ replay ts items →
-    AllIn s.store (cited items) → stored ts items s.store ≡ s.store → (all_put_back (reversal ts) s).store ≡ s.store
+    AllIn s.store (cited items) → store_after_all ts items s.store ≡ s.store → (all_put_back (reversal ts) s).store ≡ s.store
 unchanged [] items s sound runs list held same = refl
 unchanged (t ∷ ts) items s sound runs list held same =
     let S = s.store in
@@ -130,11 +130,11 @@ unchanged (t ∷ ts) items s sound runs list held same =
     let next = fill S (brought t items) in
     let up = stored_grows ts new next in
     let first : next ≡ S = same_from_length S next (fill_grows S (brought t items))
-    (let a = length_grown next (stored ts new next) up in let b = ap length same in omega arith) in
+    (let a = length_grown next (store_after_all ts new next) up in let b = ap length same in omega arith) in
     let new_sound : Sound new = record { lawful = run.lawful; apart = names_stay_apart t items run.applies run.apart sound.apart } in
     let new_held : AllIn S (cited new) =
     subst (λ T. AllIn T (cited new)) first (performed_held t (record { items = items; store = S; selection = s.selection }) held) in
-    let rest = unchanged ts new s new_sound runs.1 list new_held (ap (stored ts new) (sym first) ∙ same) in
+    let rest = unchanged ts new s new_sound runs.1 list new_held (ap (store_after_all ts new) (sym first) ∙ same) in
     let back : (all_put_back (reversal ts) s).items ≡ new = items_put_back (reversal ts) s ∙ ap (replay (reversal ts)) list ∙ (reversal_undoes ts new new_sound.lawful new_sound.apart runs.1).back in
     let undone = inverse_undoes t items run.reduced sound.apart run.applies run.restorable in
     let heads = heads_held S (inverse t) new (inverse_is_reduced t run.reduced) (subst (λ l. AllIn S (cited l)) (sym undone.undone) held) in
@@ -142,7 +142,7 @@ unchanged (t ∷ ts) items s sound runs list held same =
 
 -- an entry whose numbers are those of the store goes, with all that it added
 pub undone_store : (e : Entry) (items : List PlainItem) (S : List Value) (s : Replica) → Sound items → AllRun e.txs items → AllIn S (cited items) →
-    s.items ≡ replay e.txs items → s.store ≡ stored e.txs items S → e.store_before ≡ length S → e.store_after ≡ length (stored e.txs items S) →
+    s.items ≡ replay e.txs items → s.store ≡ store_after_all e.txs items S → e.store_before ≡ length S → e.store_after ≡ length (store_after_all e.txs items S) →
     (reverted e s).store ≡ S
 undone_store e items S s sound runs held list store before after = by_test ((length s.store == e.store_after) && nat_lt e.store_before e.store_after) refl
   where
@@ -157,7 +157,7 @@ undone_store e items S s sound runs held list store before after = by_test ((len
         let full : length s.store ≡ e.store_after = ap length store ∙ sym after in
         let low = not_lower (eq-eqb (length s.store) e.store_after full) h in
         let same : s.store ≡ S = same_from_length S s.store g (omega arith) in
-        unchanged e.txs items s sound runs list (subst (λ T. AllIn T (cited items)) (sym same) held) (ap (stored e.txs items) same ∙ sym store) ∙ same
+        unchanged e.txs items s sound runs list (subst (λ T. AllIn T (cited items)) (sym same) held) (ap (store_after_all e.txs items) same ∙ sym store) ∙ same
       where
         not_lower : (length s.store == e.store_after) ≡ true → ((length s.store == e.store_after) && nat_lt e.store_before e.store_after) ≡ false → e.store_after ≤ e.store_before
         not_lower a b = by_lower (nat_lt e.store_before e.store_after) refl (ap (λ r. r && nat_lt e.store_before e.store_after) (sym a) ∙ b)

@@ -1,4 +1,5 @@
--- Over every list of events: a site that has taken nothing and has nothing pending has its first list and store.
+-- Over every list of events: a site that has taken nothing and has nothing pending has its first
+-- list and store.
 use Rattle.std.proofs.Common.{◌≡◌, ℕ, zero, suc, ◌+◌, ◌≤◌, List, [], ◌∷◌, ◌++◌, length, take, replicate, slice_get, Option, Some, None, Result, Ok, Err, ◌<◌, refl, sym, ap, ◌∙◌, subst, arith}
 use Rattle.std.proofs.lemmas.List.{append_assoc, append-nil}
 use Rattle.ve_base.specs.declared.value.Value.{Value}
@@ -11,10 +12,10 @@ use Rattle.model_site.specs.Entries.{Entry, Parcel, entry_of, parcels, reverted}
 use Rattle.model_site.specs.Events.{Event, Perform, Redo, Revoke, Select, Send, Serve, Take, Undo, after_turn, at_member, happens, run, with_sent, with_site, with_site_of}
 use Rattle.model_site.specs.Replica.{Replica, all_filled, all_performed}
 use Rattle.model_site.specs.Session.{Ack, SiteFeed, Foreign, Member, Session, all_fed, joining, put_member, serve_first, serve_next, started, take_first, take_next}
-use Rattle.model_site.specs.Site.{Site, Submission, entries_of, parted, pending, redo, redo_first, revoke_by, revoke_entry, send, send_unless, undo, undo_last, with_entry, with_selection}
+use Rattle.model_site.specs.Site.{Site, Submission, entries_of, init_and_last, pending, redo, redo_first, revoke_by, revoke_entry, send, send_unless, undo, undo_last, with_entry, with_selection}
 use Rattle.model_site.specs.Take.{take_ack, take_entry, take_foreign}
 use Rattle.model_site.specs.Causes.{RedoCause, SendCause, UndoCause}
-use Rattle.model_site_law.specs.Chain.{Fresh, Numbered, stored}
+use Rattle.model_site_law.specs.Chain.{Fresh, Numbered, store_after_all}
 use Rattle.model_site_law.specs.Holds.{ground}
 use Rattle.model_site_law.specs.Laws.{UndoneAtOnce, UndoneIsFirst}
 use Rattle.model_site_law.specs.MayHappen.{AllMayHappen, MayHappen}
@@ -32,34 +33,34 @@ use Rattle.model_site_law.proofs.SiteLemmas.{parted_is, pending_more}
 -- ---- numbers
 
 numbered_more : (items : List PlainItem) (S : List Value) (es : List Entry) (e : Entry) → Numbered items S es →
-    e.store_before ≡ length (stored (flattened (parcels es)) items S) →
-    e.store_after ≡ length (stored e.txs (replay (flattened (parcels es)) items) (stored (flattened (parcels es)) items S)) → Numbered items S (es ++ e ∷ [])
+    e.store_before ≡ length (store_after_all (flattened (parcels es)) items S) →
+    e.store_after ≡ length (store_after_all e.txs (replay (flattened (parcels es)) items) (store_after_all (flattened (parcels es)) items S)) → Numbered items S (es ++ e ∷ [])
 numbered_more items S [] e n b a = (b, a, tt)
 numbered_more items S (x ∷ es) e n b a =
     let s = stored-append x.txs (flattened (parcels es)) items S in
     let r = replay-append x.txs (flattened (parcels es)) items in (
       n.0,
       n.1,
-      numbered_more (replay x.txs items) (stored x.txs items S) es e n.2 (b ∙ ap length s)
-          (a ∙ ap (λ l. length (stored e.txs l (stored (flattened (parcels (x ∷ es))) items S))) r ∙ ap (λ T. length (stored e.txs (replay (flattened (parcels es)) (replay x.txs items)) T)) s),
+      numbered_more (replay x.txs items) (store_after_all x.txs items S) es e n.2 (b ∙ ap length s)
+          (a ∙ ap (λ l. length (store_after_all e.txs l (store_after_all (flattened (parcels (x ∷ es))) items S))) r ∙ ap (λ T. length (store_after_all e.txs (replay (flattened (parcels es)) (replay x.txs items)) T)) s),
     )
 
 record NumberedLast (items : List PlainItem) (S : List Value) (es : List Entry) (e : Entry) : Type 0 where
   prefix : Numbered items S es
-  before : e.store_before ≡ length (stored (flattened (parcels es)) items S)
-  after : e.store_after ≡ length (stored e.txs (replay (flattened (parcels es)) items) (stored (flattened (parcels es)) items S))
+  before : e.store_before ≡ length (store_after_all (flattened (parcels es)) items S)
+  after : e.store_after ≡ length (store_after_all e.txs (replay (flattened (parcels es)) items) (store_after_all (flattened (parcels es)) items S))
 
 numbered_last : (items : List PlainItem) (S : List Value) (es : List Entry) (e : Entry) → Numbered items S (es ++ e ∷ []) → NumberedLast items S es e
 numbered_last items S [] e n = record { prefix = tt; before = n.0; after = n.1 }
 numbered_last items S (x ∷ es) e n =
-    let l = numbered_last (replay x.txs items) (stored x.txs items S) es e n.2 in
+    let l = numbered_last (replay x.txs items) (store_after_all x.txs items S) es e n.2 in
     let s = stored-append x.txs (flattened (parcels es)) items S in
     let r = replay-append x.txs (flattened (parcels es)) items in
     record {
       prefix = (n.0, n.1, l.prefix);
       before = l.before ∙ ap length (sym s);
-      after = l.after ∙ ap (λ T. length (stored e.txs (replay (flattened (parcels es)) (replay x.txs items)) T)) (sym s)
-          ∙ ap (λ l. length (stored e.txs l (stored (flattened (parcels (x ∷ es))) items S))) (sym r);
+      after = l.after ∙ ap (λ T. length (store_after_all e.txs (replay (flattened (parcels es)) (replay x.txs items)) T)) (sym s)
+          ∙ ap (λ l. length (store_after_all e.txs l (store_after_all (flattened (parcels (x ∷ es))) items S))) (sym r);
     }
 
 -- ---- one site
@@ -74,11 +75,11 @@ module _ (base : Replica) where
       let now = s.replica.items in
       let e = entry_of ts s.replica in
       let old = flattened (parcels (pending s)) in
-      let made : (all_performed ts s.replica).store ≡ stored e.txs (replay old base.items) (stored old base.items base.store) =
+      let made : (all_performed ts s.replica).store ≡ store_after_all e.txs (replay old base.items) (store_after_all old base.items base.store) =
       store_performed ts s.replica ∙ sym (stored-filled ts now s.replica.store may)
-      ∙ ap (λ l. stored (all_filled ts now) l s.replica.store) list ∙ ap (stored (all_filled ts now) (replay old base.items)) f.store in
+      ∙ ap (λ l. store_after_all (all_filled ts now) l s.replica.store) list ∙ ap (store_after_all (all_filled ts now) (replay old base.items)) f.store in
       record {
-        store = made ∙ sym (stored-append old e.txs base.items base.store) ∙ ap (λ us. stored us base.items base.store) (sym (pending_more s.sent s.unsent e));
+        store = made ∙ sym (stored-append old e.txs base.items base.store) ∙ ap (λ us. store_after_all us base.items base.store) (sym (pending_more s.sent s.unsent e));
         numbers = subst (Numbered base.items base.store) (append_assoc s.sent s.unsent (e ∷ []))
             (numbered_more base.items base.store (pending s) e f.numbers (ap length f.store) (ap length made));
       }
@@ -90,7 +91,7 @@ module _ (base : Replica) where
       let split : flattened (parcels (pending s)) ≡ old ++ e.txs = ap (λ us. flattened (parcels (s.sent ++ us))) (sym part) ∙ pending_more s.sent unsent e in
       let parts = AllRun-parts old e.txs base.items (subst (λ us. AllRun us base.items) split runs) in
       let floor = replay old base.items in
-      let first = stored old base.items base.store in
+      let first = store_after_all old base.items base.store in
       let n = numbered_last base.items base.store (s.sent ++ unsent) e
       (subst (Numbered base.items base.store) (ap (λ us. s.sent ++ us) (sym part) ∙ sym (append_assoc s.sent unsent (e ∷ []))) f.numbers) in
       let all = all_performed_held old base held in
@@ -98,15 +99,15 @@ module _ (base : Replica) where
       subst (λ l. AllIn first (cited l)) (items_performed old base) (subst (λ T. AllIn T (cited (all_performed old base).items)) (store_performed old base) all) in
       let back = undone_store e floor first s.replica (sound_after old base.items sound parts.0) parts.1 floor_held
       (list ∙ ap (λ us. replay us base.items) split ∙ replay-append old e.txs base.items)
-      (f.store ∙ ap (λ us. stored us base.items base.store) split ∙ stored-append old e.txs base.items base.store) n.before n.after in
+      (f.store ∙ ap (λ us. store_after_all us base.items base.store) split ∙ stored-append old e.txs base.items base.store) n.before n.after in
       record {
-        store = ap (λ (t : Replica). t.store) stand ∙ back ∙ ap (λ es. stored (flattened (parcels es)) base.items base.store) (sym left);
+        store = ap (λ (t : Replica). t.store) stand ∙ back ∙ ap (λ es. store_after_all (flattened (parcels es)) base.items base.store) (sym left);
         numbers = subst (Numbered base.items base.store) (sym left) n.prefix;
       }
 
   same_fresh : (s next : Site) → next.replica.store ≡ s.replica.store → pending next ≡ pending s → Fresh base s → Fresh base next
   same_fresh s next store left f = record {
-    store = store ∙ f.store ∙ ap (λ es. stored (flattened (parcels es)) base.items base.store) (sym left);
+    store = store ∙ f.store ∙ ap (λ es. store_after_all (flattened (parcels es)) base.items base.store) (sym left);
     numbers = subst (Numbered base.items base.store) (sym left) f.numbers;
   }
 
@@ -164,7 +165,7 @@ module _ (w : Session) (h : SessionHolds w) (opens : AllIn w.base.store (cited w
       by_last : (es : List Entry) → es ≡ m.site.unsent → undo_last es m.site ≡ Ok next → Fresh w.base next
       by_last [] e done = cc
       by_last (x ∷ es) e done =
-          let q = parted x es in
+          let q = init_and_last x es in
           let new : Site = record m.site { replica = reverted q.1 m.site.replica; unsent = q.0; undone = q.1.txs ∷ m.site.undone } in
           let same : new ≡ next = cc in
           let low : m.site.seen ≡ 0 = ap (λ (t : Site). t.seen) same ∙ z in
@@ -303,7 +304,7 @@ undone_is_first base sites events k m opens may e low none = (
   list_is_replay base sites events k m opens may e
       ∙ ap (λ es. replay (flattened (take m.site.seen (run (started base sites) events).committed ++ parcels es)) base.items) none
       ∙ ap (λ n. replay (flattened (take n (run (started base sites) events).committed ++ [])) base.items) low,
-  (end_fresh base sites events k m opens.sound opens.stored may e low).store ∙ ap (λ es. stored (flattened (parcels es)) base.items base.store) none,
+  (end_fresh base sites events k m opens.sound opens.stored may e low).store ∙ ap (λ es. store_after_all (flattened (parcels es)) base.items base.store) none,
 )
 
 -- ---- undone at once
@@ -312,7 +313,7 @@ undo_last-more : (s : Site) (es : List Entry) (e : Entry) → undo_last (es ++ e
 undo_last-more s [] e = refl
 undo_last-more s (x ∷ es) e = ap (λ (p : List Entry × Entry). Ok (record s { replica = reverted p.1 s.replica; unsent = p.0; undone = p.1.txs ∷ s.undone })) (parted-more x es)
   where
-    parted-more : (y : Entry) (es : List Entry) → parted y (es ++ e ∷ []) ≡ (y ∷ es, e)
+    parted-more : (y : Entry) (es : List Entry) → init_and_last y (es ++ e ∷ []) ≡ (y ∷ es, e)
     parted-more y [] = refl
     parted-more y (z ∷ es) = ap (λ (p : List Entry × Entry). (y ∷ p.0, p.1)) (parted-more z es)
 
@@ -323,7 +324,7 @@ undone_entry_leaves ts r sound held may =
     let new = all_performed ts r in
     let runs = AllRun-filled ts r.items may in
     let list : new.items ≡ replay e.txs r.items = items_performed ts r ∙ sym (replay-filled ts r.items may) in
-    let store : new.store ≡ stored e.txs r.items r.store = store_performed ts r ∙ sym (stored-filled ts r.items r.store may) in (
+    let store : new.store ≡ store_after_all e.txs r.items r.store = store_performed ts r ∙ sym (stored-filled ts r.items r.store may) in (
       items_reverted e new r.items sound runs list,
       undone_store e r.items r.store new sound runs held list store refl (ap length store),
     )

@@ -1,4 +1,5 @@
--- What holds of each item that is opened or inserted holds of each item of every list: transactions that are undone, joined and taken back insert nothing else.
+-- A property of each item that is opened or inserted holds of each item of every list. Transactions
+-- that are undone, joined and taken back insert nothing else.
 use Rattle.std.specs.List.{AllByRecursion}
 use Rattle.std.proofs.Common.{◌≡◌, ℕ, zero, suc, ◌<◌, ◌==◌, Bool, true, false, if◌then◌else◌, List, [], ◌∷◌, ◌++◌, length, map, take, drop, replicate, slice_get, Option, Some, None, Result, Ok, Err, refl, sym, ap, ◌∙◌, subst, arith}
 use Rattle.std.proofs.lemmas.List.{append_assoc, append-nil, take-append-drop}
@@ -17,8 +18,8 @@ use Rattle.model_site.specs.Events.{Event, Perform, Redo, Revoke, Select, Send, 
 use Rattle.model_site.specs.Joined.{join_entries, joined_first}
 use Rattle.model_site.specs.Replica.{Replica, all_filled}
 use Rattle.model_site.specs.Session.{Ack, Foreign, Member, Session, SiteFeed, accepted_of, all_fed, feed_for, foreign_feed, joining, put_member, serve_first, started, take_first}
-use Rattle.model_site.specs.Site.{Site, Submission, entries_of, parted, pending, redo, redo_first, revoke_by, send, undo, undo_last, with_entry, with_selection}
-use Rattle.model_site.specs.Take.{noted, take_ack, take_entry, take_foreign}
+use Rattle.model_site.specs.Site.{Site, Submission, entries_of, init_and_last, pending, redo, redo_first, revoke_by, send, undo, undo_last, with_entry, with_selection}
+use Rattle.model_site.specs.Take.{parcel_entries, take_ack, take_entry, take_foreign}
 use Rattle.model_site_law.specs.ItemLaws.{AllInsert, AllPass, Inserts, ItemsKeep, SettingKeeps}
 use Rattle.model_site_law.specs.MayHappen.{AllMayHappen, MayHappen}
 use Rattle.model_site_law.specs.Protocol.{Every, MemberHolds, SessionHolds}
@@ -202,7 +203,7 @@ module _ (test : PlainItem → Bool) (keeps : SettingKeeps test) where
       by_last : (es : List Entry) → es ≡ s.unsent → undo_last es s ≡ Ok next → Sites next
       by_last [] e done = cc
       by_last (x ∷ es) e done =
-          let p = parted x es in
+          let p = init_and_last x es in
           let same : record s { replica = reverted p.1 s.replica; unsent = p.0; undone = p.1.txs ∷ s.undone } ≡ next = cc in
           let whole : parcels s.unsent ≡ parcels p.0 ++ p.1.txs ∷ [] = ap parcels (sym (parted_is x es ∙ e)) ∙ parcels-append p.0 (p.1 ∷ []) in
           let parts = all-parts (AllInsert test) (parcels p.0) (p.1.txs ∷ []) (subst Entries whole h.unsent) in
@@ -223,7 +224,7 @@ module _ (test : PlainItem → Bool) (keeps : SettingKeeps test) where
   take_entry_inserts foreign s i h =
       let new = take_entry foreign s in
       let kept = (join_entries foreign (parcels (pending s))).kept in
-      let all = noted (length new.replica.store) kept in
+      let all = parcel_entries (length new.replica.store) kept in
       let inserts : Entries (parcels all) = subst Entries (sym (parcels-noted (length new.replica.store) kept)) (kept_insert foreign (parcels (pending s)) i (pending_insert s h)) in
       let cut = all-cut (AllInsert test) (length s.sent) (parcels all) inserts in
       record {

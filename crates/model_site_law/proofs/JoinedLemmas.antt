@@ -1,4 +1,5 @@
--- A foreign entry over pending ones: what stays runs after it, it runs after what stays, and one list comes of both.
+-- A foreign entry over pending ones: what stays runs after it, it runs after what stays, and one
+-- list comes of both.
 use Rattle.std.proofs.Common.{◌≡◌, List, [], ◌∷◌, ◌++◌, length, take, Result, Ok, Err, refl, sym, ap, ◌∙◌, subst}
 use Rattle.model_items.specs.declared.plain_item.PlainItem.{PlainItem}
 use Rattle.model_change.specs.Join.{RangeConflict, join_list}

@@ -1,4 +1,5 @@
--- Of every site, whatever happened: its store's values are distinct, and its selection stands in its list.
+-- Of every site, whatever happened: its store's values are distinct, and its selection stands in
+-- its list.
 use Rattle.std.proofs.Common.{◌≡◌, ℕ, zero, suc, List, [], ◌∷◌, take, slice_get, Some, refl, arith}
 use Rattle.ve_base.specs.declared.value.Value.{Value}
 use Rattle.model_items.specs.Plain.{AreDistinct}

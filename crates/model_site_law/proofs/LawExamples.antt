@@ -12,7 +12,7 @@ use Rattle.model_site.specs.Replica.{Replica}
 use Rattle.model_site.specs.Session.{Foreign, Ack}
 use Rattle.model_site.specs.Site.{Site, starting, with_entry}
 use Rattle.model_site.specs.Events.{Perform, Undo, Redo}
-use Rattle.model_site_law.specs.Chain.{needed_values, stored}
+use Rattle.model_site_law.specs.Chain.{needed_values, store_after_all}
 use Rattle.model_site_law.specs.Protocol.{InStep, kept_under}
 use Rattle.model_site_law.specs.ItemLaws.{Inserts}
 use Rattle.model_site_law.specs.Laws.{turns}
@@ -35,7 +35,7 @@ insertion before suffix = Retain before ∷ Replace [] (Char 88 italic ∷ []) �
 to_come_back : needed_values (removal ∷ insertion 1 3 ∷ []) ≡ value.Marks bold ∷ []
 to_come_back = refl
 
-in_the_end : stored (removal ∷ insertion 1 3 ∷ []) [] (value.Marks bold ∷ []) ≡ value.Marks bold ∷ value.Marks italic ∷ []
+in_the_end : store_after_all (removal ∷ insertion 1 3 ∷ []) [] (value.Marks bold ∷ []) ≡ value.Marks bold ∷ value.Marks italic ∷ []
 in_the_end = refl
 
 one_of_two : kept_under ((removal ∷ []) ∷ []) ((insertion 1 5 ∷ []) ∷ (insertion 3 4 ∷ []) ∷ []) ≡ (insertion 1 3 ∷ []) ∷ []
@@ -52,7 +52,8 @@ abbrev is_char : PlainItem → Bool
 is_char (Char c marks) = true
 is_char _ = false
 
--- what is performed is asked for its inserted items alone: the removal passes any test, and of what is undone nothing is asked
+-- what is performed is asked for its inserted items alone: the removal passes any test, and of what
+-- is undone nothing is asked
 one_letter : Inserts is_char (Perform 0 (removal ∷ insertion 1 3 ∷ [])) × Inserts (λ item. false) (Perform 0 (removal ∷ [])) × Inserts (λ item. false) (Undo 0)
 one_letter = ((tt, ((refl, tt), tt)), (tt, tt), tt)
 

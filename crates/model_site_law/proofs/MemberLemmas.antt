@@ -1,4 +1,4 @@
--- What always holds of a site with its queues is kept by what the site does.
+-- The invariant of a site with its queues is kept by what the site does.
 use Rattle.std.proofs.Common.{◌≡◌, ℕ, suc, ◌+◌, List, [], ◌∷◌, ◌++◌, length, take, Option, Some, None, Ok, refl, sym, ap, ◌∙◌, subst}
 use Rattle.std.proofs.lemmas.List.{append_assoc, append-nil, length-append}
 use Rattle.model_items.specs.declared.plain_item.PlainItem.{PlainItem}
@@ -9,7 +9,7 @@ use Rattle.model_site.specs.Joined.{join_entries}
 use Rattle.model_site.specs.Replica.{Replica}
 use Rattle.model_site.specs.Session.{Ack, SiteFeed, Foreign, Member}
 use Rattle.model_site.specs.Site.{Site, Submission, pending, send, send_unless}
-use Rattle.model_site.specs.Take.{noted, take_ack, take_entry, take_foreign}
+use Rattle.model_site.specs.Take.{parcel_entries, take_ack, take_entry, take_foreign}
 use Rattle.model_site_law.specs.Chain.{Chain}
 use Rattle.model_site_law.specs.Holds.{Holds, ground}
 use Rattle.model_site_law.specs.Protocol.{Answered, AtRest, InStep, MemberHolds, NoAck, OneAck, Submitted, Turn}
@@ -81,7 +81,7 @@ sent_after : (p : Parcel) (s : Site) → parcels (take_entry p s).sent ≡ (join
 sent_after p s =
     let j = join_entries p (parcels (pending s)) in
     let n = length (take_entry p s).replica.store in
-    parcels-take (length s.sent) (noted n j.kept) ∙ ap (take (length s.sent)) (parcels-noted n j.kept)
+    parcels-take (length s.sent) (parcel_entries n j.kept) ∙ ap (take (length s.sent)) (parcels-noted n j.kept)
     ∙ ap (λ r. take (length s.sent) (join_entries p r).kept) (parcels-append s.sent s.unsent)
     ∙ ap (λ r. take r (join_entries p (parcels s.sent ++ parcels s.unsent)).kept) (sym (length-parcels s.sent))
     ∙ first_part p (parcels s.sent) (parcels s.unsent)

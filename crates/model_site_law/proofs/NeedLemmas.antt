@@ -1,4 +1,4 @@
--- What joined transactions remove is what they removed before.
+-- Joined transactions remove the items that they removed before.
 use Rattle.std.proofs.Common.{◌≡◌, ℕ, zero, suc, Bool, true, false, not, List, [], ◌∷◌, ◌++◌, length, take, nat_le, Result, Ok, Err, if◌then◌else◌, refl, sym, ap, ◌∙◌, subst}
 use Rattle.std.proofs.lemmas.List.{append_assoc, append-nil}
 use Rattle.ve_base.specs.declared.value.Value.{Value}

@@ -8,9 +8,9 @@ use Rattle.model_site.specs.Entries.{Entry, Parcel, entry_of, parcels, reverted}
 use Rattle.model_site.specs.Events.{Event, Redo, Undo, at_member, happens, run, with_site_of}
 use Rattle.model_site.specs.Replica.{Replica, all_filled}
 use Rattle.model_site.specs.Session.{Member, Session, put_member, started}
-use Rattle.model_site.specs.Site.{Site, parted, pending, redo, redo_first, undo, undo_last, with_entry}
+use Rattle.model_site.specs.Site.{Site, init_and_last, pending, redo, redo_first, undo, undo_last, with_entry}
 use Rattle.model_site.specs.Causes.{RedoCause, UndoCause}
-use Rattle.model_site_law.specs.Chain.{Fresh, stored}
+use Rattle.model_site_law.specs.Chain.{Fresh, store_after_all}
 use Rattle.model_site_law.specs.Laws.{RedoneIsAsBefore, turns}
 use Rattle.model_site_law.specs.MayHappen.{MayHappen}
 use Rattle.model_site_law.specs.Protocol.{Every, MemberHolds, SessionHolds}
@@ -30,7 +30,7 @@ whole s = flattened (parcels (pending s)) ++ flattened s.undone
 -- both make one list and one store, and neither site has seen anything
 record Alike (base : Replica) (s t : Site) : Type 0 where
   items : replay (whole t) base.items ≡ replay (whole s) base.items
-  store : stored (whole t) base.items base.store ≡ stored (whole s) base.items base.store
+  store : store_after_all (whole t) base.items base.store ≡ store_after_all (whole s) base.items base.store
   seen : t.seen ≡ s.seen
 
 alike_itself : (base : Replica) (s : Site) → Alike base s s
@@ -45,7 +45,7 @@ undo_alike base s t done = by_last s.unsent refl done
     by_last : (es : List Entry) → es ≡ s.unsent → undo_last es s ≡ Ok t → Alike base s t
     by_last [] e done = cc
     by_last (x ∷ es) e done =
-        let p = parted x es in
+        let p = init_and_last x es in
         let new : Site = record s { replica = reverted p.1 s.replica; unsent = p.0; undone = p.1.txs ∷ s.undone } in
         let same : new ≡ t = cc in
         let old = flattened (parcels (s.sent ++ p.0)) in
@@ -53,7 +53,7 @@ undo_alike base s t done = by_last s.unsent refl done
         sym (append_assoc old p.1.txs (flattened s.undone)) ∙ ap (λ r. r ++ flattened s.undone) (sym (pending_more s.sent p.0 p.1))
         ∙ ap (λ us. flattened (parcels (s.sent ++ us)) ++ flattened s.undone) (parted_is x es ∙ e) in
         let both = ap whole (sym same) ∙ one in
-        record { items = ap (λ us. replay us base.items) both; store = ap (λ us. stored us base.items base.store) both; seen = ap (λ (r : Site). r.seen) (sym same) }
+        record { items = ap (λ us. replay us base.items) both; store = ap (λ us. store_after_all us base.items base.store) both; seen = ap (λ (r : Site). r.seen) (sym same) }
 
 redo_alike : (base : Replica) (s t : Site) → s.replica.items ≡ replay (flattened (parcels (pending s))) base.items → AllRun (flattened s.undone) s.replica.items → redo s ≡ Ok t → Alike base s t
 redo_alike base s t list runs done = by_first s.undone refl done
@@ -66,7 +66,7 @@ redo_alike base s t list runs done = by_first s.undone refl done
         let now = s.replica.items in
         let old = flattened (parcels (pending s)) in
         let floor = replay old base.items in
-        let first = stored old base.items base.store in
+        let first = store_after_all old base.items base.store in
         let rest = flattened us in
         let full = all_filled ts now in
         let parts = AllRun-parts ts rest now (subst (λ r. AllRun (flattened r) now) (sym e) runs) in
@@ -74,16 +74,16 @@ redo_alike base s t list runs done = by_first s.undone refl done
         let new_is : whole new ≡ old ++ (full ++ rest) = ap (λ r. r ++ rest) (pending_more s.sent s.unsent (entry_of ts s.replica)) ∙ append_assoc old full rest in
         let old_is : old ++ (ts ++ rest) ≡ whole s = ap (λ r. old ++ flattened r) e in
         let list_same : replay full floor ≡ replay ts floor = ap (replay full) (sym list) ∙ replay-filled ts now may ∙ ap (replay ts) list in
-        let store_same : stored full floor first ≡ stored ts floor first =
-        ap (λ l. stored full l first) (sym list) ∙ stored-filled ts now first may ∙ ap (λ l. stored ts l first) list in
+        let store_same : store_after_all full floor first ≡ store_after_all ts floor first =
+        ap (λ l. store_after_all full l first) (sym list) ∙ stored-filled ts now first may ∙ ap (λ l. store_after_all ts l first) list in
         let swap_items : replay (full ++ rest) floor ≡ replay (ts ++ rest) floor = replay-append full rest floor ∙ ap (replay rest) list_same ∙ sym (replay-append ts rest floor) in
-        let swap_store : stored (full ++ rest) floor first ≡ stored (ts ++ rest) floor first =
-        stored-append full rest floor first ∙ ap (λ l. stored rest l (stored full floor first)) list_same ∙ ap (stored rest (replay ts floor)) store_same ∙ sym (stored-append ts rest floor first) in
+        let swap_store : store_after_all (full ++ rest) floor first ≡ store_after_all (ts ++ rest) floor first =
+        stored-append full rest floor first ∙ ap (λ l. store_after_all rest l (store_after_all full floor first)) list_same ∙ ap (store_after_all rest (replay ts floor)) store_same ∙ sym (stored-append ts rest floor first) in
         record {
           items = ap (λ (r : Site). replay (whole r) base.items) (sym same) ∙ ap (λ us. replay us base.items) new_is ∙ replay-append old (full ++ rest) base.items
               ∙ swap_items ∙ sym (replay-append old (ts ++ rest) base.items) ∙ ap (λ us. replay us base.items) old_is;
-          store = ap (λ (r : Site). stored (whole r) base.items base.store) (sym same) ∙ ap (λ us. stored us base.items base.store) new_is ∙ stored-append old (full ++ rest) base.items base.store
-              ∙ swap_store ∙ sym (stored-append old (ts ++ rest) base.items base.store) ∙ ap (λ us. stored us base.items base.store) old_is;
+          store = ap (λ (r : Site). store_after_all (whole r) base.items base.store) (sym same) ∙ ap (λ us. store_after_all us base.items base.store) new_is ∙ stored-append old (full ++ rest) base.items base.store
+              ∙ swap_store ∙ sym (stored-append old (ts ++ rest) base.items base.store) ∙ ap (λ us. store_after_all us base.items base.store) old_is;
           seen = ap (λ (r : Site). r.seen) (sym same);
         }
 
@@ -174,6 +174,6 @@ redone_is_as_before base sites events k m n order opens may e z none f none' =
     let alone : (s : Site) → s.undone ≡ [] → whole s ≡ flattened (parcels (pending s)) = λ s u. ap (λ us. flattened (parcels (pending s)) ++ flattened us) u ∙ append-nil (flattened (parcels (pending s))) in (
       subst (λ (x : Member). x.site.replica.items ≡ replay (flattened (parcels (pending x.site))) base.items) is_n end.list
           ∙ ap (λ us. replay us base.items) (sym (alone n.site none')) ∙ alike.items ∙ ap (λ us. replay us base.items) (alone m.site none) ∙ sym list,
-      subst (λ (x : Member). x.site.replica.store ≡ stored (flattened (parcels (pending x.site))) base.items base.store) is_n end.fresh.store
-          ∙ ap (λ us. stored us base.items base.store) (sym (alone n.site none')) ∙ alike.store ∙ ap (λ us. stored us base.items base.store) (alone m.site none) ∙ sym store,
+      subst (λ (x : Member). x.site.replica.store ≡ store_after_all (flattened (parcels (pending x.site))) base.items base.store) is_n end.fresh.store
+          ∙ ap (λ us. store_after_all us base.items base.store) (sym (alone n.site none')) ∙ alike.store ∙ ap (λ us. store_after_all us base.items base.store) (alone m.site none) ∙ sym store,
     )

@@ -8,7 +8,7 @@ use Rattle.model_change.specs.Transaction.{Attribute, InsertedApart, Replace, Re
 use Rattle.model_change.proofs.FilledLemmas.{filling_is_neutral, names_stay_apart}
 use Rattle.model_site.specs.Entries.{Entry, Parcel, parcels}
 use Rattle.model_site.specs.Replica.{all_filled}
-use Rattle.model_site.specs.Take.{noted}
+use Rattle.model_site.specs.Take.{parcel_entries}
 use Rattle.model_site_law.specs.Sound.{AllMayRun, Sound}
 
 pub replay-append : (ts us : List Transaction) (items : List PlainItem) → replay (ts ++ us) items ≡ replay us (replay ts items)
@@ -84,6 +84,6 @@ parcels-take zero es = refl
 parcels-take (suc n) [] = refl
 parcels-take (suc n) (e ∷ es) = ap (λ r. e.txs ∷ r) (parcels-take n es)
 
-pub parcels-noted : (n : ℕ) (ps : List Parcel) → parcels (noted n ps) ≡ ps
+pub parcels-noted : (n : ℕ) (ps : List Parcel) → parcels (parcel_entries n ps) ≡ ps
 parcels-noted n [] = refl
 parcels-noted n (p ∷ ps) = ap (λ r. p ∷ r) (parcels-noted n ps)

@@ -1,4 +1,4 @@
--- What each change of a replica and each cut of its store keeps, is kept by every event.
+-- A property that each change of a replica and each cut of its store keeps, is kept by every event.
 use Rattle.std.proofs.Common.{◌≡◌, ℕ, suc, Bool, true, false, ◌&&◌, ◌==◌, nat_lt, if◌then◌else◌, List, [], ◌∷◌, ◌++◌, length, take, drop, slice_get, Some, Ok, refl, sym, ap, ◌∙◌, subst, append-nil}
 use Rattle.std.proofs.lemmas.List.{take-append-drop}
 use Rattle.ve_base.specs.declared.value.Value.{Value}
@@ -14,7 +14,7 @@ use Rattle.model_site.specs.Events.{Event, Select, happens}
 use Rattle.model_site.specs.Joined.{join_entries}
 use Rattle.model_site.specs.Replica.{Replica, all_performed, all_put_back, changed_by, performed, put_back}
 use Rattle.model_site.specs.Session.{Member, Session, all_fed}
-use Rattle.model_site.specs.Site.{Site, Submission, parted, pending, redo, redo_first, send, undo, undo_last, with_entry, with_selection}
+use Rattle.model_site.specs.Site.{Site, Submission, init_and_last, pending, redo, redo_first, send, undo, undo_last, with_entry, with_selection}
 use Rattle.model_site.specs.Take.{take_entry, take_foreign}
 use Rattle.model_site_law.specs.Holds.{Holds, ground}
 use Rattle.model_site_law.specs.Protocol.{Every}
@@ -117,7 +117,7 @@ module _ (P : Replica → Type 0) (is_kept : IsKept P) where
       by_last : (es : List Entry) → es ≡ s.unsent → undo_last es s ≡ Ok next → P next.replica
       by_last [] e done = cc
       by_last (x ∷ es) e done =
-          let q = parted x es in
+          let q = init_and_last x es in
           let floor = ground base before in
           let old = flattened (parcels (s.sent ++ q.0)) in
           let split : flattened (parcels (pending s)) ≡ old ++ q.1.txs = ap (λ us. flattened (parcels (s.sent ++ us))) (sym (parted_is x es ∙ e)) ∙ pending_more s.sent q.0 q.1 in

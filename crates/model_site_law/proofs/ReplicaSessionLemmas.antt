@@ -1,4 +1,5 @@
--- What each change of a replica and each cut of its store keeps, holds of every site, whatever happened.
+-- A property that each change of a replica and each cut of its store keeps, holds of every site,
+-- whatever happened.
 use Rattle.std.proofs.Common.{◌≡◌, ◌<◌, ℕ, zero, suc, List, [], ◌∷◌, ◌++◌, replicate, slice_get, Option, Some, None, Result, Ok, Err, refl}
 use Rattle.model_change.specs.Join.{RangeConflict}
 use Rattle.model_change.specs.Replay.{revoke}

@@ -9,7 +9,7 @@ use Rattle.ve_kinds.proofs.LawLemmas.{leaves_are_empty}
 use Rattle.model_items.specs.declared.plain_item.PlainItem.{PlainItem}
 use Rattle.model_items.specs.declared.plain_item.PlainItem.TheVariants.{Char, Opening, Closing}
 use Rattle.model_items.specs.declared.law_fault.LawFault.{LawFault}
-use Rattle.model_items.specs.Law.{State, start, finish, top, may_open, step, followed, after, Lawful}
+use Rattle.model_items.specs.Law.{State, start, finish, top, may_open, step, outcome_then, after, Lawful}
 use Rattle.model_items.specs.Tree.{Open, opens_with, opens_after}
 use Rattle.model_items.proofs.LawLemmas.{if_ok, Ok-same, opened_before, closed_before, joined-ok, after_parts, after_whole, after_from_Lawful}
 use Rattle.model_change.specs.Transaction.{Retain, Replace, Attribute, Transaction, new_length, edited}
@@ -152,7 +152,7 @@ past_leaf_stands items at lawful within = by_test (is_inside_leaf items at) refl
         (below_length at items c.first c.rest c.parts, inside_is items (suc at) c.next reached ∙ c.none)
       where
         one_step : (s t : State) (x : PlainItem) → step s x ≡ Ok t → after s (x ∷ []) ≡ Ok t
-        one_step s t x h = ap (λ r. followed 1 r (λ next. after next [])) h
+        one_step s t x h = ap (λ r. outcome_then 1 r (λ next. after next [])) h
 
 pub moved_stands : MovedStands
 moved_stands t items s applies lawful =

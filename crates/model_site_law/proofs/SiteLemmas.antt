@@ -1,4 +1,4 @@
--- What always holds of a site is kept by each thing that it does.
+-- The invariant of a site is kept by each thing that it does.
 use Rattle.std.proofs.Common.{◌≡◌, suc, ◌+◌, List, [], ◌∷◌, ◌++◌, length, take, drop, Result, Ok, Err, ◌≤◌, ◌<◌, ℕ, refl, sym, ap, ◌∙◌, subst, arith}
 use Rattle.std.proofs.lemmas.List.{append_assoc, append-nil, length-append, take-append-drop}
 use Rattle.std.proofs.Math.Seq.{take-append_seam}
@@ -12,8 +12,8 @@ use Rattle.model_change.proofs.ReversalLaw.{revoke_takes_back}
 use Rattle.model_site.specs.Entries.{Entry, Parcel, all_reverted, entry_of, parcels, reverted}
 use Rattle.model_site.specs.Joined.{join_entries}
 use Rattle.model_site.specs.Replica.{all_performed}
-use Rattle.model_site.specs.Site.{Site, entries_of, parted, pending, redo, redo_first, revoke_by, revoke_entry, undo, undo_last, with_entry}
-use Rattle.model_site.specs.Take.{noted, take_entry}
+use Rattle.model_site.specs.Site.{Site, entries_of, init_and_last, pending, redo, redo_first, revoke_by, revoke_entry, undo, undo_last, with_entry}
+use Rattle.model_site.specs.Take.{parcel_entries, take_entry}
 use Rattle.model_site_law.specs.Chain.{Chain, needed_values}
 use Rattle.model_site_law.specs.Holds.{Holds, ground}
 use Rattle.model_site_law.specs.Sound.{AllIn, AllMayRun, Sound}
@@ -65,7 +65,7 @@ edit_holds base before ts s h may =
 
 -- ---- undo and redo
 
-pub parted_is : (e : Entry) (es : List Entry) → (parted e es).0 ++ (parted e es).1 ∷ [] ≡ e ∷ es
+pub parted_is : (e : Entry) (es : List Entry) → (init_and_last e es).0 ++ (init_and_last e es).1 ∷ [] ≡ e ∷ es
 parted_is e [] = refl
 parted_is e (f ∷ es) = ap (λ r. e ∷ r) (parted_is f es)
 
@@ -104,7 +104,7 @@ undo_holds base before s next sound h done = by_last s.unsent refl done
     by_last : (es : List Entry) → es ≡ s.unsent → undo_last es s ≡ Ok next → Holds base before next
     by_last [] e done = cc
     by_last (x ∷ es) e done =
-        let p = parted x es in
+        let p = init_and_last x es in
         let u = undone_entry base before s p.0 p.1 sound (parted_is x es ∙ e) h in
         let new : Site = record s { replica = reverted p.1 s.replica; unsent = p.0; undone = p.1.txs ∷ s.undone } in
         let same : new ≡ next = cc in
@@ -197,7 +197,7 @@ foreign_holds base before foreign s sound h run =
     let floor_on : ground base (before ++ foreign ∷ []) ≡ replay foreign floor =
     ap (λ us. replay us base) (flattened-append before (foreign ∷ []) ∙ ap (λ r. flattened before ++ r) (append-nil foreign)) ∙ replay-append (flattened before) foreign base in
     let kept_is : parcels (pending new) ≡ j.kept =
-    ap parcels (take-append-drop (length s.sent) (noted (length new.replica.store) j.kept)) ∙ parcels-noted (length new.replica.store) j.kept in
+    ap parcels (take-append-drop (length s.sent) (parcel_entries (length new.replica.store) j.kept)) ∙ parcels-noted (length new.replica.store) j.kept in
     let list : new.replica.items ≡ replay (flattened j.kept) (replay foreign floor) =
     items_performed j.committed (all_reverted dropped s.replica) ∙ ap (replay j.committed) back ∙ law.one_list in
     let together = take-append-drop n (pending s) in
@@ -209,7 +209,7 @@ foreign_holds base before foreign s sound h run =
     let needs = over_needed middle.store foreign ps (subst (AllNeeded middle.store) (parcels-take n (pending s)) (chain_needed middle.store 0 floor (take n (pending s)) kept.chain)) in
     let end = (all_performed j.committed middle).store in
     record {
-      chain = subst (Chain end 0 (ground base (before ++ foreign ∷ []))) (sym (take-append-drop (length s.sent) (noted (length end) j.kept)))
+      chain = subst (Chain end 0 (ground base (before ++ foreign ∷ []))) (sym (take-append-drop (length s.sent) (parcel_entries (length end) j.kept)))
           (chain_noted end 0 (ground base (before ++ foreign ∷ [])) j.kept (omega arith) (needed_grown j.kept grown needs));
       held = all_performed_held j.committed middle kept.held;
       seen = length-append before (foreign ∷ []) ∙ (let e : length before + 1 ≡ suc s.seen = (let f = h.seen in omega arith) in e);

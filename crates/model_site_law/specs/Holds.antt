@@ -1,4 +1,4 @@
--- What always holds of one site.
+-- The invariant of one site.
 use Rattle.std.specs.Prelude.{◌≡◌, List, length}
 use Rattle.model_items.specs.declared.plain_item.PlainItem.{PlainItem}
 use Rattle.model_change.specs.Store.{cited}
@@ -12,8 +12,9 @@ use Rattle.model_site_law.specs.Chain.{Chain}
 abbrev pub ground : (base : List PlainItem) → (seen : List Parcel) → List PlainItem
 ground base seen = replay (flattened seen) base
 
--- Of a site that has seen the committed entries `before`: its list is the replay of its pending entries on the ground that these give;
--- each of them can be performed and undone; what it undid can be performed again, the last one first; its store has what its list
+-- The invariant of a site that has seen the committed entries `before`. Its list is the replay of
+-- its pending entries on the confirmed list that these give. Each of them can be performed and
+-- undone. What it undid can be performed again, the last one first. Its store has what its list
 -- cites, and what undo needs.
 pub record Holds (base : List PlainItem) (before : List Parcel) (s : Site) : Type 0 where
   pub seen : length before ≡ s.seen

@@ -1,4 +1,4 @@
--- What each item of every list passes, where those that are opened and those that are inserted pass it.
+-- A test that opened and inserted items pass is passed by each item of every list.
 use Rattle.std.specs.Prelude.{◌≡◌, ℕ, Bool, true, List, slice_get, Some}
 use Rattle.std.specs.List.{AllByRecursion}
 use Rattle.model_items.specs.declared.plain_item.PlainItem.{PlainItem}

@@ -1,4 +1,4 @@
--- What always holds, holds at first and after each event.
+-- The invariant holds at first and after each event.
 use Rattle.std.specs.Prelude.{ℕ}
 use Rattle.model_site.specs.Replica.{Replica}
 use Rattle.model_site.specs.Session.{Session, started}

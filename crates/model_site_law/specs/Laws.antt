@@ -19,9 +19,9 @@ use Rattle.model_site_law.specs.MayHappen.{AllMayHappen}
 abbrev pub FirstReplicaOpens : Type 0
 FirstReplicaOpens = (items : List PlainItem) → Sound items → Opens (opened_with items)
 
--- Which entries are joined over committed transactions, in words of whole lists: the transactions of those kept, joined as one list,
--- are the kept ones; each entry keeps the number of its transactions; and either all are kept, or the list with the next entry has the
--- conflict.
+-- The entries that are joined over committed transactions, in words of whole lists. The
+-- transactions of those kept, joined as one list, are the kept ones. Each entry keeps the number of
+-- its transactions. Either all are kept, or the list with the next entry has the conflict.
 abbrev pub IsNextInConflict : List Transaction → List Parcel → ℕ → Option RangeConflict → Type 0
 IsNextInConflict committed entries n None = n ≡ length entries
 IsNextInConflict committed entries n (Some clash) =
@@ -35,8 +35,8 @@ pub record AreFirst (committed : List Transaction) (entries : List Parcel) (j : 
 abbrev pub JoinedUntilConflict : Type 0
 JoinedUntilConflict = (committed : List Transaction) (entries : List Parcel) → AreFirst committed entries (join_entries committed entries)
 
--- Entries over one foreign entry, as they are joined: those kept run after it, it runs, joined, after those kept, and one list comes
--- of both.
+-- Entries over one foreign entry, as they are joined: those kept run after it, it runs, joined,
+-- after those kept, and one list comes of both.
 pub record AreJoined (foreign : Parcel) (entries : List Parcel) (items : List PlainItem) (j : Joined) : Type 0 where
   pub kept_run : AllRun (flattened j.kept) (replay foreign items)
   pub committed_run : AllRun j.committed (replay (flattened (take (length j.kept) entries)) items)
@@ -47,8 +47,8 @@ abbrev pub EntriesJoin : Type 0
 EntriesJoin = (foreign : Parcel) (entries : List Parcel) (items : List PlainItem) → Sound items → AllRun foreign items →
     AllRun (flattened entries) items → AreJoined foreign entries items (join_entries foreign entries)
 
--- Joined, none of their transactions is longer than the list with all that the foreign entry inserts and the kept ones do. So each is in
--- normal form where that is at most 2^60.
+-- Joined, none of their transactions is longer than the list with all that the foreign entry
+-- inserts and the kept ones do. So each is in normal form where that is at most 2^60.
 abbrev pub EntriesWithin : Type 0
 EntriesWithin = (foreign : Parcel) (entries : List Parcel) (items : List PlainItem) → Sound items → AllRun foreign items →
     AllRun (flattened entries) items →
@@ -56,16 +56,18 @@ EntriesWithin = (foreign : Parcel) (entries : List Parcel) (items : List PlainIt
     let most = length items + (inserted_by foreign + inserted_by (flattened (take (length j.kept) entries))) in
     AllWithin most j.committed × AllWithin most (flattened j.kept)
 
--- what holds of a base, the session and one of its members, whatever happened
+-- a property of a base, the session and one of its members holds, whatever happened
 abbrev pub Always : ((base : Replica) (w : Session) (m : Member) → Type 0) → Type 0
 Always P = (base : Replica) (sites : ℕ) (events : List Event) (k : ℕ) (m : Member) → Opens base → AllMayHappen (started base sites) events →
     slice_get (run (started base sites) events).members k ≡ Some m → P base (run (started base sites) events) m
 
--- A site's list is the replay of the committed entries that it has seen, then of those sent, and then of those unsent.
+-- A site's list is the replay of the committed entries that it has seen, then of those sent, and
+-- then of those unsent.
 abbrev pub ListIsReplay : Type 0
 ListIsReplay = Always (λ base w m. m.site.replica.items ≡ replay (flattened (entries_of w.committed m.site)) base.items)
 
--- Each of these is reduced, applies to what those before it give, leaves a lawful list, and can be undone.
+-- Each of these is reduced, applies to what those before it give, leaves a lawful list, and can be
+-- undone.
 abbrev pub EntriesRun : Type 0
 EntriesRun = Always (λ base w m. AllRun (flattened (entries_of w.committed m.site)) base.items)
 
@@ -85,7 +87,8 @@ SeenIsCommitted = Always (λ base w m. m.site.seen ≤ length w.committed)
 abbrev pub SitesStay : Type 0
 SitesStay = (base : Replica) (sites : ℕ) (events : List Event) → length (run (started base sites) events).members ≡ sites
 
--- The number acknowledged is the number of entries that the site still holds as sent when it takes the answer.
+-- The number acknowledged is the number of entries that the site still holds as sent when it takes
+-- the answer.
 abbrev pub AckCounts : Type 0
 AckCounts = Always (λ base w m. (accepted : ℕ) (later : List SiteFeed) → m.feeds ≡ Ack accepted ∷ later → accepted ≡ length m.site.sent)
 
@@ -109,7 +112,8 @@ StoreIsDistinct = (base : Replica) (sites : ℕ) (events : List Event) (k : ℕ)
     AllMayHappen (started base sites) events →
     slice_get (run (started base sites) events).members k ≡ Some m → AreDistinct m.site.replica.store
 
--- A site's list after it took entry i back: the one that the later entries give without it, joined over its reversal.
+-- A site's list after it took entry i back: the one that the later entries give without it, joined
+-- over its reversal.
 pub record IsWithout (entries : List Parcel) (i : ℕ) (base now : List PlainItem) : Type 0 where
   pub later : List Transaction
   pub back : List Transaction
@@ -121,7 +125,7 @@ abbrev pub RevokeLeavesOut : Type 0
 RevokeLeavesOut = Always (λ base w m. (i : ℕ) (next : Site) → i < length (entries_of w.committed m.site) →
     revoke_entry w.committed i m.site ≡ Ok next → IsWithout (entries_of w.committed m.site) i base.items next.replica.items)
 
--- What is undone at once leaves list and store as they were, whatever happened before.
+-- Undoing at once leaves list and store as they were, whatever happened before.
 abbrev pub UndoneAtOnce : Type 0
 UndoneAtOnce = Always (λ base w m. (ts : List Transaction) (next : Site) → AllMayRun ts m.site.replica.items →
     undo (with_entry ts m.site) ≡ Ok next → (next.replica.items ≡ m.site.replica.items) × (next.replica.store ≡ m.site.replica.store))
@@ -137,8 +141,8 @@ turns k [] = []
 turns k (true ∷ more) = Undo k ∷ turns k more
 turns k (false ∷ more) = Redo k ∷ turns k more
 
--- A site that has taken nothing and has nothing undone undoes and redoes, in any order, until nothing is undone again: its list and
--- its store are as before.
+-- A site that has taken nothing and has nothing undone undoes and redoes, in any order, until
+-- nothing is undone again. Its list and its store are then as before.
 abbrev pub RedoneIsAsBefore : Type 0
 RedoneIsAsBefore = (base : Replica) (sites : ℕ) (events : List Event) (k : ℕ) (m n : Member) (order : List Bool) → Opens base →
     AllMayHappen (started base sites) events →

@@ -11,7 +11,8 @@ use Rattle.model_site_law.specs.Sound.{MayRun, AllMayRun}
 abbrev pub EditMayRun : Type 0
 EditMayRun = (t : Transaction) (r : Replica) → is_reduced t ≡ true → InsertedApart t → edit_cause t r ≡ None → MayRun t r.items
 
--- What is performed may be performed on the site's list, and what is revoked was seen. All else may always happen.
+-- A transaction that is performed may be performed on the site's list, and an entry that is revoked
+-- was seen. All else may always happen.
 abbrev pub MayHappen : Session → Event → Type 0
 MayHappen w (Perform k ts) = (m : Member) → slice_get w.members k ≡ Some m → AllMayRun ts m.site.replica.items
 MayHappen w (Revoke k i) = (m : Member) → slice_get w.members k ≡ Some m → i < m.site.seen

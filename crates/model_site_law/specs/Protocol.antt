@@ -1,4 +1,4 @@
--- What always holds of sites, queues and server together.
+-- The invariant of sites, queues and server together.
 use Rattle.std.specs.Prelude.{◌≡◌, ℕ, List, [], ◌∷◌, ◌++◌, length, Some, None}
 use Rattle.model_items.specs.declared.plain_item.PlainItem.{PlainItem}
 use Rattle.model_change.specs.Replay.{AllRun, flattened}
@@ -9,12 +9,13 @@ use Rattle.model_site.specs.Session.{SiteFeed, Foreign, Ack, Member, Session}
 use Rattle.model_site_law.specs.Sound.{Sound}
 use Rattle.model_site_law.specs.Holds.{Holds, ground}
 
--- what is kept of entries under these committed ones
+-- the entries that are kept under these committed ones
 abbrev pub kept_under : (committed entries : List Parcel) → List Parcel
 kept_under committed entries = (join_entries (flattened committed) entries).kept
 
--- The feeds bring `rest`, the committed entries that the site has not seen, in order. At the answer, what is kept of `sent` under the
--- feeds before it is what was committed of it, and so many are acknowledged.
+-- The feeds bring `rest`, the committed entries that the site has not seen, in order. At the
+-- answer, what is kept of `sent` under the feeds before it is what was committed of it, and so many
+-- are acknowledged.
 abbrev pub InStep : (rest sent : List Parcel) → List SiteFeed → Type 0
 InStep rest sent [] = rest ≡ []
 InStep rest sent (Foreign ps ∷ feeds) = (later : List Parcel) × (rest ≡ ps ++ later) × InStep later (kept_under ps sent) feeds
@@ -30,7 +31,8 @@ OneAck [] = ⊥
 OneAck (Foreign ps ∷ feeds) = OneAck feeds
 OneAck (Ack n ∷ feeds) = NoAck feeds
 
--- a submission that waits: of it the server would accept now what would be kept of `sent` under all that the site has not seen
+-- a submission that waits: of it the server would accept now what would be kept of `sent` under all
+-- that the site has not seen
 pub record Waits (base : List PlainItem) (committed rest sent : List Parcel) (s : Submission) : Type 0 where
   pub old : List Parcel
   pub new : List Parcel
@@ -39,7 +41,8 @@ pub record Waits (base : List PlainItem) (committed rest sent : List Parcel) (s 
   pub runs : AllRun (flattened s.entries) (ground base old)
   pub as_kept : kept_under rest sent ≡ kept_under new s.entries
 
--- a site has nothing on its way; or its submission waits at the server; or the answer to it waits in the feeds
+-- a site has nothing on its way; or its submission waits at the server; or the answer to it waits
+-- in the feeds
 pub data Turn (base : List PlainItem) (committed rest : List Parcel) (m : Member) : Type 0 where
   AtRest : m.site.in_flight ≡ None → m.submissions ≡ [] → parcels m.site.sent ≡ [] → NoAck m.feeds → Turn base committed rest m
   Submitted : (n : ℕ) (s : Submission) → m.site.in_flight ≡ Some n → m.submissions ≡ s ∷ [] → NoAck m.feeds →

@@ -22,7 +22,7 @@ pub record StandsIn (items : List PlainItem) (s : Selection) : Type 0 where
   pub anchor : EndStands items s.anchor
   pub focus : EndStands items s.focus
 
--- what is selected stands in the site's list
+-- the selection stands in the site's list
 abbrev pub SelectsWithin : Session → Event → Type 0
 SelectsWithin w (Select k s) = (m : Member) → slice_get w.members k ≡ Some m → StandsIn m.site.replica.items s
 SelectsWithin w _ = Unit {0}
@@ -35,7 +35,8 @@ AllSelectWithin w (e ∷ es) = SelectsWithin w e × AllSelectWithin (happens w e
 abbrev pub FirstSelectionStands : Type 0
 FirstSelectionStands = (items : List PlainItem) → StandsIn items (opened_with items).selection
 
--- Any selection stands in the new list once it has moved through a transaction that applies and leaves a lawful list.
+-- Any selection stands in the new list once it has moved through a transaction that applies and
+-- leaves a lawful list.
 abbrev pub MovedStands : Type 0
 MovedStands = (t : Transaction) (items : List PlainItem) (s : Selection) → Applies t items → Lawful (edited t items) →
     StandsIn (edited t items) (moved_selection t (edited t items) s)

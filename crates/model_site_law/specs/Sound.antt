@@ -23,7 +23,8 @@ pub record Opens (base : Replica) : Type 0 where
   pub sound : Sound base.items
   pub stored : AllIn base.store (cited base.items)
 
--- a change that may be performed: reduced, it applies, leaves a lawful list, and inserts no opening with two attributes of one name
+-- a change that may be performed: reduced, it applies, leaves a lawful list, and inserts no opening
+-- with two attributes of one name
 pub record MayRun (t : Transaction) (items : List PlainItem) : Type 0 where
   pub reduced : is_reduced t ≡ true
   pub applies : Applies t items

@@ -1,4 +1,5 @@
-// What sites and server keep, whatever happens. Each function does nothing, and its contract is a law that is proved.
+// Laws of sites and server, whatever happens. Each function does nothing, and its contract is a law
+// that is proved.
 ghost use Rattle.model_site_law.specs.Laws.{AckCounts, CommittedRun, EntriesJoin, EntriesRun, EntriesWithin, FirstReplicaOpens, FirstStoreIsDistinct, JoinedUntilConflict, ListIsReplay, ListIsSound, OneList, RedoneIsAsBefore, RevokeLeavesOut, SeenIsCommitted, SitesStay, StoreHolds, StoreIsDistinct, UndoneAtOnce, UndoneIsFirst};
 ghost use Rattle.model_site_law.specs.SelectionLaws.{FirstSelectionStands, MovedStands, SelectionStands};
 ghost use Rattle.model_site_law.specs.MayHappen.{EditMayRun};
@@ -6,21 +7,21 @@ ghost use Rattle.model_site_law.specs.ItemLaws.{ItemsKeep};
 ghost use Rattle.model_site_law.specs.KeptLaws.{EventsKeep, HoldsAtFirst};
 ghost use Rattle.model_site_law.specs.StoreLaws.{StoreBegins};
 
-/// Entries are joined over committed transactions up to the first conflict: the transactions of those kept
-/// join as one list, and with the next entry's they have that conflict. So an entry is refused or dropped
-/// exactly where it or an earlier one conflicts. Those kept run after a foreign entry, it runs, joined, after
-/// those kept, and either way gives one list. "Runs" is said of transactions that are reduced, apply one
-/// after the other, each leave a lawful list, and can be undone. Joined, none is longer than the list with
-/// all that both sides insert.
+/// Entries are joined over committed transactions up to the first conflict. The transactions of
+/// those kept join as one list, and with the next entry's they have that conflict. So an entry is
+/// refused or dropped exactly where it or an earlier one conflicts. Those kept run after a foreign
+/// entry; it runs, joined, after those kept, and either way gives one list. "Runs" is said of
+/// transactions that are reduced, apply one after the other, each leave a lawful list, and can be
+/// undone. Joined, none is longer than the list with all that both sides insert.
 pub fn entries_join()
     ensures first { JoinedUntilConflict }
     ensures agree { EntriesJoin }
     ensures within { EntriesWithin }
 {}
 
-/// A site's list is the replay of the committed entries that it has seen, of those it has sent and of those
-/// unsent, in this order. All of these run from the base, and so do all committed entries, although neither
-/// the server nor a take asks for it. So the list is lawful.
+/// A site's list is the replay of the committed entries that it has seen, of those it has sent and
+/// of those unsent, in this order. All of these run from the base, and so do all committed entries,
+/// although neither the server nor a take asks for it. So the list is lawful.
 pub fn lists_are_replays()
     ensures list { ListIsReplay }
     ensures runs { EntriesRun }
@@ -35,7 +36,8 @@ pub fn counts_stay_within()
     ensures sites { SitesStay }
 {}
 
-/// The number that the server accepts is the number of entries that the site still holds as sent when it takes the answer.
+/// The number that the server accepts is the number of entries that the site still holds as sent
+/// when it takes the answer.
 pub fn acks_count()
     ensures { AckCounts }
 {}
@@ -45,8 +47,8 @@ pub fn sites_meet()
     ensures { OneList }
 {}
 
-/// A site's store has every value that its list cites, also after an undo that follows a take, and has each
-/// once. The store that a list is opened with has them.
+/// A site's store has every value that its list cites, also after an undo that follows a take, and
+/// has each once. The store that a list is opened with has them.
 pub fn stores_hold()
     ensures first { FirstReplicaOpens }
     ensures always { StoreHolds }
@@ -54,47 +56,49 @@ pub fn stores_hold()
     ensures once { StoreIsDistinct }
 {}
 
-/// Every site's store begins with the store that was opened, whatever happened, and each pending entry was made
-/// on a store that has as many values or more: no undo cuts it shorter, and where a value stood first it stays.
+/// Every site's store begins with the store that was opened, whatever happened. Each pending entry
+/// was made on a store that has as many values or more. No undo cuts it shorter, and where a value
+/// stood first it stays.
 pub fn stores_begin()
     ensures { StoreBegins }
 {}
 
-/// A selection that has moved through a transaction stands in the new list, with no end inside a leaf; so a
-/// site's selection always stands in its list.
+/// A selection that has moved through a transaction stands in the new list, with no end inside a
+/// leaf; so a site's selection always stands in its list.
 pub fn selections_stand()
     ensures first { FirstSelectionStands }
     ensures moved { MovedStands }
     ensures always { SelectionStands }
 {}
 
-/// After an entry is taken back the list is the one that the later entries give without it, joined over its reversal.
+/// After an entry is taken back the list is the one that the later entries give without it, joined
+/// over its reversal.
 pub fn revokes_leave_out()
     ensures { RevokeLeavesOut }
 {}
 
-/// What is undone at once leaves list and store as they were, whatever happened before. A site that has taken
-/// nothing and has nothing pending has its first list and its first store. One that has taken nothing and has
-/// nothing undone may undo and redo, in any order; once nothing is undone again, its list and its store are
-/// as before.
+/// Undoing at once leaves list and store as they were, whatever happened before. A site that has
+/// taken nothing and has nothing pending has its first list and its first store. One that has taken
+/// nothing and has nothing undone may undo and redo, in any order. Once nothing is undone again,
+/// its list and its store are as before.
 pub fn undo_gives_back()
     ensures once { UndoneAtOnce }
     ensures undone { UndoneIsFirst }
     ensures redone { RedoneIsAsBefore }
 {}
 
-/// What always holds of sites, queues and server together, in the terms that the code keeps: it holds at
-/// first, and each event that may happen keeps it. A transaction that a site does not refuse may be
-/// performed, if it is reduced and inserts names apart, as all transactions of that type are.
+/// The invariant of sites, queues and server together, in the terms that the code keeps. It holds
+/// at first, and each event that may happen keeps it. A transaction that a site does not refuse may
+/// be performed, if it is reduced and inserts names apart, as all transactions of that type are.
 pub fn events_keep()
     ensures first { HoldsAtFirst }
     ensures then { EventsKeep }
     ensures edits { EditMayRun }
 {}
 
-/// What holds of each item that is opened and of each that is inserted, and is kept where an attribute is
-/// set, holds of each item of every site's list: what is undone, redone, joined and taken back inserts no
-/// other items.
+/// A property that each opened and each inserted item has, and that setting an attribute keeps,
+/// holds of each item of every site's list. What is undone, redone, joined and taken back inserts
+/// no other items.
 pub fn items_keep()
     ensures { ItemsKeep }
 {}

@@ -1,18 +1,22 @@
-//! What always holds of sites and server, over every list of events. It defines no event: those are
+//! Invariants of sites and server, over every list of events. It defines no event: those are
 //! `model_site`'s. There are definitions in specs/:
 //!
 //! - `Sound`: the lists and changes of which the laws speak;
-//! - `MayHappen`: which events they are of. What is performed is to be reduced, to apply, to leave a lawful
-//!   list, and to insert no opening with two attributes of one name; what is taken back is to be seen; all
-//!   else may happen at any time. No limit on items or values is among the premises;
-//! - `Laws`: that each list is a replay, that sites meet, that stores hold what lists cite, what an undo and a revoke give back;
-//! - `Chain`, `Holds`, `Protocol`: what always holds of a store, of a site, and of sites, queues and server together;
+//! - `MayHappen`: the events that they are of. A transaction that is performed is to be reduced, to
+//!   apply, to leave a lawful list, and to insert no opening with two attributes of one name. An
+//!   entry that is taken back is to be seen, and all else may happen at any time. No limit on items
+//!   or values is among the premises;
+//! - `Laws`: that each list is a replay, that sites meet, that stores hold what lists cite, what an
+//!   undo and a revoke give back;
+//! - `Chain`, `Holds`, `Protocol`: what always holds of a store, of a site, and of sites, queues
+//!   and server together;
 //! - `SelectionLaws`: where the ends of selections stand;
 //! - `ItemLaws`: what holds of each item of every list, since it holds of each that is inserted;
 //! - `StoreLaws`: what the store of every site begins with;
 //! - `KeptLaws`: all this holds at first and after each event.
 //!
-//! The laws stand in `laws`: each public function there does nothing, and its contract is a law that is proved.
+//! The laws stand in `laws`: each public function there does nothing, and its contract is a law
+//! that is proved.
 #![tactic(auto)]
 
 mod laws;

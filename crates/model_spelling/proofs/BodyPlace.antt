@@ -23,7 +23,7 @@ some_same a b e = cc
 none_never : (a : ℕ) → None ≡ Some a → ⊥
 none_never a e = cc
 
--- ---- the first place
+-- ---- the first position
 
 pub record FirstFound (test : List ℕ → Bool) (at : ℕ) (text : List ℕ) (n : ℕ) : Type 0 where
   pub k : ℕ
@@ -51,7 +51,7 @@ empty_dropped : (m : ℕ) → drop {A = ℕ} m [] ≡ []
 empty_dropped zero = refl
 empty_dropped (suc m) = refl
 
--- ---- the last place
+-- ---- the last position
 
 pub record LastFound (test : List ℕ → Bool) (at : ℕ) (text : List ℕ) (n : ℕ) : Type 0 where
   pub k : ℕ
@@ -208,7 +208,7 @@ way page from to whole e = body_tag page from to (first_place starts_body 0 page
 
 -- ---- the laws
 
--- the last place from a byte on
+-- the last position from a byte on
 pub last_within : (page : List ℕ) (from to : ℕ) → last_place ends_body from (drop from page) ≡ Some to → (from ≤ to) × (to < length page)
 last_within page from to e =
     let l = last_found ends_body from (drop from page) to nothing_ends e in

@@ -1,4 +1,4 @@
--- What is escaped is decoded again, and is well spelled.
+-- Escaped text is decoded again, and is well spelled.
 use Rattle.std.proofs.Common.{◌≡◌, ℕ, zero, suc, ◌-◌, ◌<◌, ◌≤◌, Bool, true, false, not, ◌&&◌, ◌||◌, if◌then◌else◌, List, [], ◌∷◌, ◌++◌, length, map, Some, refl, sym, ap, ◌∙◌, append_assoc, arith, inl, inr, eqb-true}
 use Rattle.std.specs.Prelude.{◌==◌, codes, nat_eq, nat_le}
 use Rattle.std.proofs.lemmas.List.{append-nil, length-map}

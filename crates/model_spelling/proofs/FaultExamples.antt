@@ -19,7 +19,7 @@ page = codes "<p id=\"x\">a&amp;b</p>"
 abbrev prefix_faults : List ℕ → List (Option ForestFault)
 prefix_faults lengths = map (λ n. fault_of (take n page)) lengths
 
--- a page of 21 bytes, cut at each place
+-- a page of 21 bytes, cut at each position
 prefixes :
     prefix_faults (0 ∷ 1 ∷ 2 ∷ 3 ∷ 4 ∷ 5 ∷ 6 ∷ 7 ∷ 8 ∷ 9 ∷ 10 ∷ 11 ∷ 12 ∷ 13 ∷ 14 ∷ 15 ∷ 16 ∷ 17 ∷ 18 ∷ 19 ∷ 20 ∷ 21 ∷ [])
     ≡ None ∷ repeat 9 (scan 0 UnclosedTag ∷ []) ++ repeat 2 (Some (Unclosed 0) ∷ []) ++ repeat 4 (scan 11 BadReference ∷ []) ++ repeat 2 (Some (Unclosed 0) ∷ []) ++ repeat 3 (scan 17 UnclosedTag ∷ []) ++ None ∷ []
@@ -270,7 +270,8 @@ opened n = repeat n (codes "<b>")
 abbrev closed : ℕ → List ℕ
 closed n = repeat n (codes "</b>")
 
--- within 200 open elements none begins, a void or a raw one neither; a tag that is badly spelled there has its own fault
+-- within 200 open elements none begins, a void or a raw one neither; a tag that is badly spelled
+-- there has its own fault
 depth :
     map fault_of (
     (opened 200 ++ codes "<!--x-->a" ++ closed 200)

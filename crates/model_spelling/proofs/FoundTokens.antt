@@ -1,4 +1,4 @@
--- What is read as a token is spelled so.
+-- A text that is read as a token is spelled so.
 use Rattle.std.proofs.Common.{◌≡◌, ℕ, ◌+◌, ◌-◌, ◌<◌, Bool, true, false, cond, not, ◌&&◌, ◌||◌, List, [], ◌∷◌, ◌++◌, length, drop, take, Some, None, Result, Ok, Err, refl, sym, ap, ◌∙◌, arith, eq-eqb, eqb-true, append_assoc, add-zero, subst, inl, inr}
 use Rattle.std.specs.Prelude.{◌==◌, nat_le}
 use Rattle.std.proofs.lemmas.List.{length-drop, length-append, take_at, take-append-drop}
@@ -375,7 +375,7 @@ text_by at b bs (Ok x) t to n e h =
 none_found : (t : Token) (to : ℕ) → Ok None ≡ found (t, to) → ⊥
 none_found t to e = cc
 
--- What is read between two tokens is spelled so.
+-- The text between two tokens is spelled as it is read.
 pub between_found : (at : ℕ) (text : List ℕ) (t : Token) (to : ℕ) → between_at at text ≡ found (t, to) → IsTokenRead at text t to
 unfolding between_at
 between_found at [] t to e = absurd (none_found t to e)

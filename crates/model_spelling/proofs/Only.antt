@@ -1,4 +1,4 @@
--- What is spelled so is read.
+-- A text is read as it is spelled.
 use Rattle.std.proofs.Common.{◌≡◌, ◌≢◌, ℕ, zero, suc, ◌+◌, ◌-◌, ◌<◌, ◌≤◌, Bool, true, false, cond, not, ◌&&◌, ◌||◌, List, [], ◌∷◌, ◌++◌, length, drop, take, Some, None, Ok, refl, sym, ap, ◌∙◌, arith, eq-eqb, append_assoc, add-zero, inl, inr}
 use Rattle.std.specs.Prelude.{◌==◌, slice_index, nat_le}
 use Rattle.std.proofs.lemmas.List.{drop-drop, length-append, append-nil}

@@ -87,7 +87,7 @@ value_more : (n q : ℕ) (text more : List ℕ) (h : HeadFound n q text) → dro
 value_more n q text more h =
     drop-append-le (n + 2) text more (omega (arith, h.len, ap length h.text_is, length-append h.name (61 ∷ (q ∷ h.rest))))
 
--- some text that has these bytes from this place on
+-- some text that has these bytes from this position on
 abbrev pad : ℕ → List ℕ → List ℕ
 pad zero text = text
 pad (suc n) text = 0 ∷ pad n text

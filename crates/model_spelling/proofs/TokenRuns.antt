@@ -1,4 +1,4 @@
--- What is read is spelled so, and what is spelled so is read.
+-- Runs of characters are read exactly where they are spelled so.
 use Rattle.std.proofs.Common.{◌≡◌, ℕ, suc, ◌+◌, ◌-◌, ◌<◌, ◌≤◌, Bool, true, false, cond, not, ◌&&◌, ◌||◌, eqb, List, [], ◌∷◌, ◌++◌, length, drop, take, Option, Some, None, Result, Ok, Err, refl, sym, ap, ◌∙◌, arith, eq-eqb, append_assoc, add-zero, inl, inr, ◌⊎◌}
 use Rattle.std.specs.Prelude.{◌==◌}
 use Rattle.std.proofs.lemmas.List.{length-append, take-append-le}
@@ -59,7 +59,8 @@ pub reference_more : (text more : List ℕ) → starts_reference text ≡ true �
 unfolding starts_reference
 reference_more text more e = any_more references text more e
 
--- a reference that the text begins with; its bytes after the `&` pass a test that all references pass
+-- a reference that the text begins with; its bytes after the `&` pass a test that all references
+-- pass
 pub any_passes : (q : List ℕ → Bool) (rs : List (List ℕ)) (text : List ℕ) → list_any (λ r. begins_with r text) rs ≡ true → list_all q rs ≡ true → (r : List ℕ) × (begins_with r text ≡ true) × (q r ≡ true)
 any_passes q [] text e h = absurd cc
 any_passes q (r ∷ rs) text e h =
@@ -156,7 +157,7 @@ run_cons stop b n k bs e ns nb amp rest =
 run_none : (stop n : ℕ) (text : List ℕ) → n ≡ 0 → is_run stop (take n text) ≡ true
 run_none stop n text e = rw e refl
 
--- What is read as characters is spelled so.
+-- A text that is read as characters is spelled so.
 pub run_found : (end : Option ScanFault) (stop at to : ℕ) (text : List ℕ) → PartsReferences stop → run_end end stop at text ≡ Ok to → is_run stop (take (to - at) text) ≡ true
 unfolding run_end
 run_found None stop at to [] parts e = let same : at ≡ to = cc in run_none stop (to - at) [] (omega arith)
@@ -181,7 +182,7 @@ amp_more true true more e h = rw (h refl) refl
 amp_more true false more e h = absurd cc
 amp_more false found more e h = refl
 
--- What is spelled so is read, whatever follows it.
+-- Characters are read as they are spelled, whatever follows.
 pub run_only : (end : Option ScanFault) (stop at : ℕ) (xs rest : List ℕ) → is_run stop xs ≡ true → Follows stop end rest → run_end end stop at (xs ++ rest) ≡ Ok (at + length xs)
 unfolding run_end
 run_only end stop at [] [] e f = rw f (ap (λ (k : ℕ). Ok k) (sym (add-zero at)))
@@ -217,7 +218,7 @@ goes_past : (close : List ℕ) (unclosed : ScanFault) (at b : ℕ) (bs : List �
 unfolding verbatim_end
 goes_past close unclosed at b bs n m = rw (n, m) refl
 
--- What is spelled so is read.
+-- Text up to a delimiter is read as it is spelled.
 pub verbatim_only : (close : List ℕ) (unclosed : ScanFault) (at : ℕ) (xs rest : List ℕ) → is_verbatim close xs ≡ true → 0 < length close → verbatim_end close unclosed at (xs ++ (close ++ rest)) ≡ Ok (at + length xs)
 verbatim_only close unclosed at [] rest e some = closes_here close unclosed at (close ++ rest) (begins_from_parts close (close ++ rest) rest refl) (omega (arith, length-append close rest)) ∙ ap (λ (k : ℕ). Ok k) (sym (add-zero at))
 verbatim_only close unclosed at (b ∷ xs) rest e some =
@@ -259,7 +260,7 @@ closed_later close at to b bs n m c =
       closes = rw (two, one) (ap (λ (l : List ℕ). b ∷ l) c.closes);
     }
 
--- What is read is spelled so.
+-- Text up to a delimiter is spelled as it is read.
 pub verbatim_found : (close : List ℕ) (unclosed : ScanFault) (at to : ℕ) (text : List ℕ) → verbatim_end close unclosed at text ≡ Ok to → IsClosed close at to text
 unfolding verbatim_end
 verbatim_found close unclosed at to [] e = absurd cc
@@ -301,7 +302,7 @@ text_found_by at to text k (Ok x) e h =
     let token : Chars (take (x - at) text) ≡ k = ap (λ (p : Token × ℕ). p.0) pair in
     (sym token ∙ ap (λ (m : ℕ). Chars (take (m - at) text)) same, run_found None 60 at to text text_parts (e ∙ ap (λ (m : ℕ). Ok m) same))
 
--- What is read as text is spelled so.
+-- A text token is spelled as it is read.
 pub text_found : (at to : ℕ) (b : ℕ) (bs : List ℕ) (k : Token) → eqb b 60 ≡ false → between_at at (b ∷ bs) ≡ Ok (Some (k, to)) → (k ≡ Chars (take (to - at) (b ∷ bs))) × (is_run 60 (take (to - at) (b ∷ bs)) ≡ true)
 unfolding between_at
 text_found at to b bs k n e =

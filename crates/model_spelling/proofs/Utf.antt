@@ -1,4 +1,4 @@
--- What is decoded, and each node of a text, is UTF-8 where the text is.
+-- Decoding keeps UTF-8, and each node of a UTF-8 text is UTF-8.
 use Rattle.std.proofs.Common.{◌≡◌, ◌≢◌, ℕ, zero, suc, ◌+◌, ◌-◌, ◌<◌, ◌≤◌, Bool, true, false, not, ◌&&◌, List, [], ◌∷◌, ◌++◌, length, get_or, drop, refl, sym, ap, ◌∙◌, subst, append_assoc, arith, inl, inr, ◌⊎◌, IsUtf8, IsCharBoundary, add-zero}
 use Rattle.std.specs.Prelude.{encode_utf8_all}
 use Rattle.std.proofs.Math.Utf8.{encode, scalars, scalar}

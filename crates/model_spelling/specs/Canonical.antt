@@ -62,11 +62,13 @@ is_plain (suc room) (Element name attrs children rest) =
 
 -- ---- laws
 
--- What the canonical writer writes is well spelled, is read back as it was written, and its decoded values are those that were written.
+-- The canonical writer's text is well spelled, is read back as it was written, and its decoded
+-- values are those that were written.
 abbrev pub WritesRight : Type 0
 WritesRight = (room : ℕ) (d : Forest) → room ≤ max_open_elements → is_plain room d ≡ true →
     (is_forest room (written d) ≡ true) × (forest_of (spelling (written d)) ≡ Some (written d)) × (decoded_forest (written d) ≡ d)
 
--- Each forest that is spelled can be written, so its canonical spelling is read back with the same decoded values.
+-- Each forest that is spelled can be written, so its canonical spelling is read back with the same
+-- decoded values.
 abbrev pub CanWrite : Type 0
 CanWrite = (room : ℕ) (f : Forest) → is_forest room f ≡ true → is_plain room (decoded_forest f) ≡ true

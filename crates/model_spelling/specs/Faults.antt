@@ -6,7 +6,9 @@ use Rattle.ve_kinds.specs.Tags.{is_void}
 use Rattle.model_spelling.specs.Tokens.{Placed, tokens_of}
 use Rattle.ve_base.specs.Limits.{max_open_elements}
 
--- A fault of a token, an end tag that isn't the innermost open element's, an element that is open at the end, an end tag where nothing is open or of a void name, or an element within as many open ones as there may be. Each has the byte of its `<`.
+-- Faults of a forest, each with the byte of its `<`. They are a fault of a token, an end tag that
+-- isn't the innermost open element's, and an element that is open at the end. Others are an end tag
+-- where nothing is open or of a void name, and an element within as many open ones as there may be.
 pub data ForestFault : Type 0 where
   Scan : ScanFault → ForestFault
   Mismatched : ℕ → ForestFault

@@ -4,7 +4,9 @@ use Rattle.model_spelling.specs.Grammar.{Attr, Chars, Comment, token_text, start
 use Rattle.ve_kinds.specs.Tags.{is_void, is_raw}
 use Rattle.ve_base.specs.Limits.{max_open_elements}
 
--- A forest is empty, or a first node and the forest of its siblings after it. A node is a text, a comment (`Remark`), a void element with its attributes and its `/`, a raw element with its text, or an element with its children. Texts and values are as they are spelled.
+-- A forest is empty, or a first node and the forest of its siblings after it. A node is a text, a
+-- comment (`Remark`), a void element with its attributes and its `/`, a raw element with its text,
+-- or an element with its children. Texts and values stand as they are in the page.
 pub data Forest : Type 0 where
   Nothing : Forest
   Text : List ℕ → Forest → Forest
@@ -39,7 +41,8 @@ starts_with_text (Void name attrs slash rest) = false
 starts_with_text (RawElement name attrs text rest) = false
 starts_with_text (Element name attrs children rest) = false
 
--- What may be spelled where room more elements may be open, one inside the other. Void and raw elements count like others. No two texts are neighbours.
+-- Forests that have a spelling where room more elements may be open, one inside the other. Void and
+-- raw elements count like others. No two texts are neighbours.
 abbrev pub is_forest : ℕ → Forest → Bool
 is_forest room Nothing = true
 is_forest room (Text text rest) = is_text text && not (starts_with_text rest) && is_forest room rest
@@ -53,7 +56,7 @@ is_forest zero (Element name attrs children rest) = false
 is_forest (suc room) (Element name attrs children rest) =
     not (is_void name) && not (is_raw name) && is_start name attrs false && is_forest room children && is_forest (suc room) rest
 
--- The forest spells the text. At most `max_open_elements` are open at any place.
+-- The forest spells the text. At most `max_open_elements` are open at any position.
 pub record Spells (text : List ℕ) (f : Forest) : Type 0 where
   pub allowed : IsTrue (is_forest max_open_elements f)
   pub text_is : text ≡ spelling f

@@ -1,9 +1,10 @@
--- The nodes of a forest in the order of their starts, with their places.
+-- The nodes of a forest in the order of their starts, with their positions.
 use Rattle.std.specs.Prelude.{ℕ, ◌+◌, false, List, [], ◌∷◌, ◌++◌, length}
 use Rattle.model_spelling.specs.Grammar.{Token, Start, Chars, Raw, Comment, token_text, start_text, end_text}
 use Rattle.model_spelling.specs.Forest.{Forest, Nothing, Text, Remark, Void, RawElement, Element, spelling}
 
--- A node's first token; the bytes of the whole node, from the first to the one after the last; those of its content; and the number past its subtree.
+-- A node's first token; the bytes of the whole node, from the first to the one after the last;
+-- those of its content; and the number past its subtree.
 pub record ForestNode : Type 0 where
   pub token : Token
   pub from : ℕ

@@ -1,5 +1,8 @@
--- What a text is made of, and how each part is spelled. A text is a list of bytes: every delimiter is ASCII.
--- The spelling is that of WHATWG HTML, "Serializing HTML fragments", with these spellings beside it, which are this project's own: a value in single quotes; raw `<`, `>` and U+00A0 in values, and raw `>` and U+00A0 in texts; `&quot;` and `&apos;` in texts, and `&apos;` in values; `/>` on a void element. Names have their case.
+-- The tokens of a text, and how each is spelled. A text is a list of bytes: every delimiter is
+-- ASCII. The spelling is that of WHATWG HTML, "Serializing HTML fragments", with more spellings
+-- beside it, which are this project's own. A value may stand in single quotes. Raw `<`, `>` and
+-- U+00A0 may stand in values, and raw `>` and U+00A0 in texts. `&quot;` and `&apos;` may stand in
+-- texts, and `&apos;` in values. A void element may end in `/>`. Names have their case.
 use Rattle.std.specs.Prelude.{ℕ, Bool, true, false, ◌&&◌, ◌||◌, not, List, [], ◌∷◌, ◌++◌, length, if◌then◌else◌, ◌==◌, nat_eq, nat_le, codes, bytes_eq}
 use Rattle.std.specs.List.{flat_map, list_any, list_all, starts_with}
 use Rattle.std.specs.Char.{is_ascii_alphabetic, is_ascii_alphanumeric}
@@ -45,7 +48,8 @@ pub record Attr : Type 0 where
   pub value : List ℕ
   pub quote : ℕ
 
--- A start tag with its name, its attributes and whether a void element's `/` stands; an end tag; characters; the text of a raw element; a comment.
+-- A start tag with its name, its attributes and whether a void element's `/` stands; an end tag;
+-- characters; the text of a raw element; a comment.
 pub data Token : Type 0 where
   Start : List ℕ → List Attr → Bool → Token
   End : List ℕ → Token
@@ -79,12 +83,14 @@ token_text (Comment text) = comment_open ++ text ++ comment_close
 
 -- ---- what has a spelling
 
--- Characters without the byte stop, where `&` stands only at the start of a reference. A text stops at `<`, a value at its quote.
+-- Characters without the byte stop, where `&` stands only at the start of a reference. A text stops
+-- at `<`, a value at its quote.
 abbrev pub is_run : ℕ → List ℕ → Bool
 is_run stop [] = true
 is_run stop (b ∷ bs) = not (b == stop) && not (is_barred b) && (not (b == 38) || starts_reference (b ∷ bs)) && is_run stop bs
 
--- Characters before the first place of close: no place in them begins with it, when it follows them.
+-- Characters before the first position of close: no position in them begins with it, when it
+-- follows them.
 abbrev pub is_verbatim : List ℕ → List ℕ → Bool
 is_verbatim close [] = true
 is_verbatim close (b ∷ bs) = not (is_barred b) && not (begins_with close (b ∷ bs ++ close)) && is_verbatim close bs

@@ -1,4 +1,5 @@
--- The laws of the spelling, in words: what is read is spelled so, what is spelled so is read, and at most one forest spells a text.
+-- The laws of the spelling, in words: what is read is spelled so, what is spelled so is read, and
+-- at most one forest spells a text.
 use Rattle.std.specs.Prelude.{◌≡◌, ℕ, ◌+◌, ◌≤◌, true, List, ◌∷◌, ◌++◌, length, Some, None, Ok}
 use Rattle.model_spelling.specs.Grammar.{Token, End, Raw, token_text, end_text, is_tag_name, is_verbatim}
 use Rattle.model_spelling.specs.Forest.{Forest, Spells, spelling, is_forest}
@@ -11,17 +12,18 @@ use Rattle.ve_base.specs.Limits.{max_open_elements}
 
 -- ---- tokens
 
--- What is read as a token is spelled so.
+-- A text that is read as a token is spelled so.
 abbrev pub ReadIsSpelled : Type 0
 ReadIsSpelled = (at : ℕ) (text : List ℕ) (t : Token) (to : ℕ) → token_at Between at text ≡ Ok (Some (t, to)) → IsTokenRead at text t to
 
--- What is spelled as a token is read, whatever follows that may.
+-- A text that is spelled as a token is read, whatever follows that may.
 abbrev pub SpelledIsRead : Type 0
 SpelledIsRead =
     (at : ℕ) (t : Token) (rest : List ℕ) → is_token t ≡ true → MayFollow t rest →
     token_at Between at (token_text t ++ rest) ≡ Ok (Some (t, at + length (token_text t)))
 
--- What is read after the start tag of a raw element is its raw text, with its end tag after it, or that end tag alone.
+-- After the start tag of a raw element its raw text is read, with its end tag after it, or that end
+-- tag alone.
 abbrev pub RawReadIsSpelled : Type 0
 RawReadIsSpelled =
     (at : ℕ) (name text : List ℕ) (t : Token) (to : ℕ) → is_tag_name name ≡ true → token_at (After name) at text ≡ Ok (Some (t, to)) →
@@ -71,10 +73,10 @@ BodyInside = (page : List ℕ) (from to : ℕ) → body_at page ≡ Ok (from, to
 abbrev pub PartsAreThePage : Type 0
 PartsAreThePage = (page : List ℕ) (p : PageParts) → page_parts page ≡ Ok p → p.prefix ++ p.body ++ p.suffix ≡ page
 
--- What is found as the body of a whole page is its body.
+-- The body that is found in a whole page is its body.
 abbrev pub BodyIsFound : Type 0
 BodyIsFound = (page : List ℕ) (from to : ℕ) → is_whole page ≡ true → body_at page ≡ Ok (from, to) → IsBody page from to
 
--- What is its body in these words is found; so a whole page has at most one body.
+-- Its body in these words is found; so a whole page has at most one body.
 abbrev pub BodyIsOnly : Type 0
 BodyIsOnly = (page : List ℕ) (from to : ℕ) → is_whole page ≡ true → IsBody page from to → body_at page ≡ Ok (from, to)

@@ -1,5 +1,6 @@
--- The prefix of a page before its body, its body and its suffix after that, and the first fault of a page.
--- A page that begins with `<!doctype`, in any case of its letters, is whole; every other page is all body.
+-- The prefix of a page before its body, its body and its suffix after that, and the first fault of
+-- a page. A page that begins with `<!doctype`, in any case of its letters, is whole; every other
+-- page is all body.
 use Rattle.std.specs.Prelude.{◌≡◌, ℕ, ◌+◌, ◌-◌, ◌<◌, Bool, true, false, ◌||◌, List, [], ◌∷◌, ◌++◌, length, take, drop, map, Option, Some, None, Result, Ok, Err, if◌then◌else◌, codes, bytes_eq}
 use Rattle.std.specs.Option.{option_or}
 use Rattle.std.specs.Char.{to_ascii_lowercase}
@@ -14,12 +15,12 @@ is_whole page = bytes_eq (map to_ascii_lowercase (take 9 page)) (codes "<!doctyp
 
 -- ---- where the body stands
 
--- the first place where what follows passes the test; at is the number of the first byte
+-- the first position where what follows passes the test; at is the number of the first byte
 unfoldable pub first_place : (List ℕ → Bool) → ℕ → List ℕ → Option ℕ
 first_place test at [] = None
 first_place test at (b ∷ bs) = if test (b ∷ bs) then Some at else first_place test (at + 1) bs
 
--- the last such place
+-- the last such position
 unfoldable pub last_place : (List ℕ → Bool) → ℕ → List ℕ → Option ℕ
 last_place test at [] = None
 last_place test at (b ∷ bs) = option_or (last_place test (at + 1) bs) (if test (b ∷ bs) then Some at else None)
@@ -51,7 +52,7 @@ pub record PageParts : Type 0 where
   pub body : List ℕ
   pub suffix : List ℕ
 
--- a text cut at two places
+-- a text cut at two positions
 abbrev pub page_parts_at : ℕ → ℕ → List ℕ → PageParts
 page_parts_at from to page = record { prefix = take from page; body = take (to - from) (drop from page); suffix = drop to page }
 
@@ -76,13 +77,15 @@ abbrev pub fault_between : List ℕ → Result (ℕ × ℕ) ScanFault → Option
 fault_between page (Err f) = Some (Scan f)
 fault_between page (Ok b) = fault_in_page_if_any b.0 (fault_of (take (b.1 - b.0) (drop b.0 page)))
 
--- The fault of the three parts where they aren't there, else the body's, with its byte counted from the start of the page.
+-- The fault of the three parts where they aren't there, else the body's, with its byte counted from
+-- the start of the page.
 unfoldable pub page_fault : List ℕ → Option ForestFault
 page_fault page = fault_between page (body_at page)
 
 -- ---- the body in other words
 
--- In a whole page the body begins after its start tag, and `</body>` follows it. No body starts before that tag, and none ends after that `</body>`.
+-- In a whole page the body begins after its start tag, and `</body>` follows it. No body starts
+-- before that tag, and none ends after that `</body>`.
 pub record IsBody (page : List ℕ) (from to : ℕ) : Type 0 where
   pub before : List ℕ
   pub attrs : List Attr

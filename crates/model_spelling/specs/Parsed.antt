@@ -6,7 +6,8 @@ use Rattle.model_spelling.specs.Tokens.{Placed, tokens_of}
 use Rattle.model_spelling.specs.Forest.{Forest, Nothing, Text, Remark, Void, RawElement, Element}
 use Rattle.model_spelling.specs.Faults.{fault_of}
 
--- What the tokens of a text's end spell: the raw text and the siblings that they begin with, and then, from the inside out, the siblings that follow each element which they close.
+-- The reading of the tokens of a text's end. First come the raw text and the siblings that they
+-- begin with; then, from the inside out, the siblings that follow each element which they close.
 pub record Ending : Type 0 where
   pub raw : List ℕ
   pub here : Forest

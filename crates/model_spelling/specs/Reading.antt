@@ -1,6 +1,8 @@
--- Reading a text from left to right: the next token, or the first fault. The first character that no spelling allows at its place decides which fault it is; where that character is U+0000 or U+000D the fault is its own.
--- That this reading is the grammar's is said by the laws: what is read is spelled so, what is spelled so is read, and a fault stands however the text goes on.
--- at is the number of the first byte of the list that is read. What is found ends before the byte whose number is answered.
+-- Reading a text from left to right: the next token, or the first fault. The first character that
+-- no spelling allows at its position decides which fault it is. Where that character is U+0000 or
+-- U+000D the fault is its own. The laws say that this reading is the grammar's: texts are read
+-- exactly as they are spelled, and a fault stands however the text goes on. at is the number of the
+-- first byte of the list that is read. What is found ends before the byte whose number is answered.
 use Rattle.std.specs.Prelude.{ℕ, zero, suc, ◌+◌, ◌-◌, max, Bool, true, false, ◌&&◌, ◌||◌, not, List, [], ◌∷◌, ◌++◌, take, drop, map, Option, Some, None, Result, Ok, Err, if◌then◌else◌, ◌==◌, nat_eq, slice_index, codes}
 use Rattle.std.specs.List.{prefix_len, common_prefix_len}
 use Rattle.std.specs.Char.{to_ascii_lowercase}
@@ -19,7 +21,7 @@ abbrev pub ◌>>=◌ : {A B : Type 0} → Result A ScanFault → (A → Result B
 abbrev pub fault : ℕ → ScanWhat → ScanFault
 fault at what = record { at = at; what = what }
 
--- the fault of a byte b that no spelling allows at its place: f, or its own
+-- the fault of a byte b that no spelling allows at its position: f, or its own
 abbrev pub byte_fault : ℕ → ℕ → ScanFault → ScanFault
 byte_fault at b f = if is_barred b then fault at BadChar else f
 
@@ -35,7 +37,8 @@ abbrev pub end_of_run : Option ScanFault → ℕ → Result ℕ ScanFault
 end_of_run None at = Ok at
 end_of_run (Some unclosed) at = Err unclosed
 
--- the fault of the `&` at amp, which starts no reference: what follows the longest prefix of one stands at next
+-- the fault of the `&` at amp, which starts no reference: what follows the longest prefix of one
+-- stands at next
 abbrev pub after_prefix : Option ScanFault → ℕ → ℕ → List ℕ → ScanFault
 after_prefix None amp next [] = fault amp BadReference
 after_prefix (Some unclosed) amp next [] = unclosed
@@ -53,7 +56,7 @@ run_end end stop at (b ∷ bs) =
     else if b == 38 && not (starts_reference (b ∷ bs)) then Err (reference_fault end at (b ∷ bs))
     else run_end end stop (at + 1) bs
 
--- characters up to the first place of close
+-- characters up to the first position of close
 unfoldable pub verbatim_end : List ℕ → ScanFault → ℕ → List ℕ → Result ℕ ScanFault
 verbatim_end close unclosed at [] = Err unclosed
 verbatim_end close unclosed at (b ∷ bs) =
@@ -67,7 +70,7 @@ verbatim_end close unclosed at (b ∷ bs) =
 abbrev pub value_end : ℕ → ℕ → ℕ → List ℕ → Result ℕ ScanFault
 value_end tag q at text = run_end (Some (fault tag UnclosedTag)) q at text
 
--- after ` name=`: a quote, which is answered; place is the byte before the name
+-- after ` name=`: a quote, which is answered; position is the byte before the name
 abbrev pub mark_at : ℕ → ℕ → ℕ → List ℕ → Result ℕ ScanFault
 mark_at tag place at [] = Err (fault tag UnclosedTag)
 mark_at tag place at (q ∷ rest) = if q == 34 || q == 39 then Ok q else Err (byte_fault at q (fault place BadAttribute))
@@ -95,7 +98,8 @@ head_at tag place text = do
   q ← quote_at tag place (place + 1 + n) (drop n text)
   Ok (n, q)
 
--- The attribute that begins after the space at place, and where it ends; room is how many may still come.
+-- The attribute that begins after the space at position, and where it ends; room is how many may
+-- still come.
 unfoldable pub attr_at : ℕ → ℕ → List Attr → ℕ → List ℕ → Result (Attr × ℕ) ScanFault
 attr_at room tag before place text = do
   h ← head_at tag place text
@@ -201,7 +205,8 @@ tag_at tag (c ∷ cs) =
 
 -- ---- tokens
 
--- Where a reader stands: between two tokens, after the start tag of the raw element of that name, or at its fault.
+-- Where a reader stands: between two tokens, after the start tag of the raw element of that name,
+-- or at its fault.
 pub data Mode : Type 0 where
   Between : Mode
   After : List ℕ → Mode

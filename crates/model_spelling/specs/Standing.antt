@@ -96,7 +96,8 @@ is_left_open (Some (Unclosed at)) = true
 is_left_open (Some (Stray at)) = false
 is_left_open (Some (TooDeep at)) = false
 
--- A cut reference can be completed: where the rest of a reference follows, no fault is left, or only that an element isn't closed yet.
+-- A cut reference can be completed: where the rest of a reference follows, no fault is left, or
+-- only that an element isn't closed yet.
 abbrev pub CutReferenceGoes : Type 0
 CutReferenceGoes = (text : List ℕ) (at : ℕ) → fault_of text ≡ Some (Scan (fault at BadReference)) → passes_reference (drop at text) ≡ false
     → (more : List ℕ) × (starts_reference (drop at (text ++ more)) ≡ true) × (is_left_open (fault_of (text ++ more)) ≡ true)

@@ -1,4 +1,5 @@
--- A text as its tokens, one after the other: what a token may be, what may follow it, and what is read.
+-- A text as its tokens, one after the other: what a token may be, what may follow it, and what is
+-- read.
 use Rattle.std.specs.Prelude.{◌≡◌, ℕ, zero, suc, ◌+◌, ◌-◌, ◌<◌, Bool, true, false, List, [], ◌∷◌, ◌++◌, length, drop, Option, Some, None, Ok, Err}
 use Rattle.model_spelling.specs.declared.scan_fault.ScanFault.{ScanFault}
 use Rattle.model_spelling.specs.Grammar.{Token, Start, End, Chars, Raw, Comment, token_text, end_text, is_tag_name, is_start, is_text, is_verbatim, comment_close}
@@ -6,7 +7,7 @@ use Rattle.model_spelling.specs.Reading.{Mode, Between, Step, mode_after, token_
 
 -- ---- what stands between two tokens
 
--- What a token may be that doesn't stand after a raw element's start tag.
+-- Tokens that don't stand after a raw element's start tag.
 abbrev pub is_token : Token → Bool
 is_token (Start name attrs slash) = is_start name attrs slash
 is_token (End name) = is_tag_name name
@@ -35,7 +36,7 @@ pub record IsTokenRead (at : ℕ) (text : List ℕ) (t : Token) (to : ℕ) : Typ
   pub allowed : is_token t ≡ true
   pub follows : MayFollow t rest
 
--- What is read after the start tag of a raw element.
+-- The reading after the start tag of a raw element.
 pub data RawRead (at : ℕ) (name text : List ℕ) (t : Token) (to : ℕ) : Type 0 where
   Inner : (inner rest : List ℕ) → t ≡ Raw inner → text ≡ inner ++ (end_text name ++ rest) → to ≡ at + length inner →
       0 < length inner → is_verbatim (end_text name) inner ≡ true → RawRead at name text t to
@@ -43,7 +44,8 @@ pub data RawRead (at : ℕ) (name text : List ℕ) (t : Token) (to : ℕ) : Type
 
 -- ---- all tokens of a text
 
--- All tokens from here, with the byte where each starts, and the fault after them, if there is one. Each token takes a byte or more, so count, the number of bytes, is enough.
+-- All tokens from here, with the byte where each starts, and the fault after them, if there is one.
+-- Each token takes a byte or more, so count, the number of bytes, is enough.
 pub record Placed : Type 0 where
   pub token : Token
   pub from : ℕ
@@ -56,7 +58,7 @@ pub record Tokens : Type 0 where
 abbrev pub with_placed : Placed → Tokens → Tokens
 with_placed t ts = record { tokens = t ∷ ts.tokens; fault = ts.fault }
 
--- what a step at the byte at gives, where more reads on
+-- the tokens from the byte at, after one step, where more reads on
 abbrev pub tokens_by : ℕ → (Token → ℕ → Tokens) → Step → Tokens
 tokens_by at more (Err f) = record { tokens = []; fault = Some f }
 tokens_by at more (Ok None) = record { tokens = []; fault = None }

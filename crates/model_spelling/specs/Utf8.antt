@@ -1,4 +1,4 @@
--- What is decoded, and each node of a text, is UTF-8 where the text is; and the body lies in the page.
+-- Decoding keeps UTF-8, each node of a UTF-8 text is UTF-8, and the body lies in the page.
 use Rattle.std.specs.Prelude.{◌≡◌, ℕ, true, false, List, ◌++◌, IsUtf8}
 use Rattle.model_spelling.specs.Grammar.{Comment, token_text, start_text, end_text}
 use Rattle.model_spelling.specs.Forest.{Forest, Nothing, Text, Remark, Void, RawElement, Element, spelling, is_forest}

@@ -1,4 +1,5 @@
--- What references stand for, and the canonical spelling of texts, values and tags (WHATWG HTML, "Serializing HTML fragments", but that `<` and `>` are written as references in values too).
+-- References, and the canonical spelling of texts, values and tags (WHATWG HTML, "Serializing HTML
+-- fragments", but that `<` and `>` are written as references in values too).
 use Rattle.std.specs.Prelude.{ℕ, zero, suc, ◌-◌, Bool, true, false, ◌&&◌, List, [], ◌∷◌, ◌++◌, length, map, if◌then◌else◌, ◌==◌, codes, encode_utf8_all}
 use Rattle.ve_base.specs.declared.attrs.Attr.{Attr}
 use Rattle.model_spelling.specs.Grammar.{begins_with, start_text}
@@ -10,7 +11,8 @@ meanings =
     (codes "&amp;", 38 ∷ []) ∷ (codes "&lt;", 60 ∷ []) ∷ (codes "&gt;", 62 ∷ []) ∷ (codes "&nbsp;", 194 ∷ 160 ∷ [])
     ∷ (codes "&quot;", 34 ∷ []) ∷ (codes "&apos;", 39 ∷ []) ∷ []
 
--- the reference that the bytes begin with and its meaning; else the first byte, which stands for itself
+-- the reference that the bytes begin with and its meaning; else the first byte, which stands for
+-- itself
 abbrev pub prefix_of : List (List ℕ × List ℕ) → ℕ → List ℕ → List ℕ × List ℕ
 prefix_of [] b bs = (b ∷ [], b ∷ [])
 prefix_of (m ∷ ms) b bs = if begins_with m.0 (b ∷ bs) then m else prefix_of ms b bs
@@ -24,7 +26,8 @@ decoded_from zero (b ∷ bs) = let m = prefix_of meanings b bs in m.1 ++ decoded
 abbrev pub decoded : List ℕ → List ℕ
 decoded spelled = decoded_from 0 spelled
 
--- The spelling of one byte. U+00A0 is the bytes 194 and 160, and is dealt with below; in a value `"` is written as a reference too.
+-- The spelling of one byte. U+00A0 is the bytes 194 and 160, and is dealt with below; in a value
+-- `"` is written as a reference too.
 abbrev pub escaped_byte : Bool → ℕ → List ℕ
 escaped_byte in_value b =
     if b == 38 then codes "&amp;"

@@ -1,7 +1,8 @@
-// What is wrong with a text whose tokens can't be read to its end.
+// Faults of a text whose tokens can't be read to its end.
 use thiserror::Error;
 
-/// What no spelling allows. It is found from left to right, and the first that is found decides.
+/// A character or a construct that no spelling allows. It is found from left to right, and the
+/// first that is found decides.
 #[derive(Clone, Copy, Debug, PartialEq, Eq)]
 pub enum ScanWhat {
     /// `<` begins no tag and no comment, or the name of a tag isn't allowed.

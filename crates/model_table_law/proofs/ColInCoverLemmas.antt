@@ -1,11 +1,11 @@
--- What rectangles cover when a column is put in: each is moved, or one wider, or stays.
+-- The area that rectangles cover when a column is put in: each is moved, or one wider, or stays.
 use Rattle.std.specs.Prelude.{filter, nat_le}
 use Rattle.std.specs.List.{list_any}
 use Rattle.std.proofs.Common.{◌≡◌, ◌⊎◌, inl, inr, ℕ, zero, suc, ◌+◌, ◌-◌, ◌<◌, ◌≤◌, Bool, true, false, not, ◌&&◌, ◌||◌, if◌then◌else◌, nat_lt, List, [], ◌∷◌, ◌++◌, map, refl, sym, ap, ◌∙◌, subst, arith}
 use Rattle.std.proofs.lemmas.Bool.{and_parts, and_from, or_parts, or_from, leb-true, leb-false, ltb-true, ltb-false, le-leb, lt-ltb, false_from_ne_true, true≢false}
 use Rattle.std.proofs.lemmas.List.Folds.{list_any-append}
 use Rattle.model_edit.specs.Layout.{Rectangle, has_row, has_column, grows_right, moved_right, one_by_one}
-use Rattle.model_edit_law.specs.Spans.{Line, covered, meet, bent, size_of, of_row}
+use Rattle.model_edit_law.specs.Spans.{Line, covers_cell, meet, bent, size_of, of_row}
 use Rattle.model_edit_law.proofs.LeastLemmas.{same_has, has_parts}
 use Rattle.model_edit_law.proofs.ColumnLemmas.{uncovered}
 use Rattle.model_table_law.proofs.RowsAddLemmas.{Sized, Sized-append, free_apart}
@@ -117,16 +117,17 @@ module _ (c : ℕ) where
           ap (λ b. nat_le r'.column c && b) (no_less c (r'.column + r'.columns) (omega arith)) ∙ and_no (nat_le r'.column c)
           ∙ sym (ap (λ b. nat_lt r.column c && (nat_le r.column c && b)) (no_less c (r.column + r.columns) (omega arith)) ∙ ap (λ b. nat_lt r.column c && b) (and_no (nat_le r.column c)) ∙ and_no (nat_lt r.column c))
 
-  -- What the rectangles so far cover, and what they cover with the column; in the rows from one on no new cell stands.
+  -- The area that the rectangles so far cover, and that which they cover with the column. In the
+  -- rows from one on no new cell stands.
   pub record Twin (from : ℕ) (B B' : List Rectangle) : Type 0 where
-    pub left : (row k : ℕ) → k < c → covered B' row k ≡ covered B row k
-    pub right : (row k : ℕ) → c ≤ k → covered B' row (suc k) ≡ covered B row k
-    pub middle : (row : ℕ) → from ≤ row → covered B' row c ≡ grown B row
+    pub left : (row k : ℕ) → k < c → covers_cell B' row k ≡ covers_cell B row k
+    pub right : (row k : ℕ) → c ≤ k → covers_cell B' row (suc k) ≡ covers_cell B row k
+    pub middle : (row : ℕ) → from ≤ row → covers_cell B' row c ≡ grown B row
 
   pub Twin-later : (from : ℕ) (B B' : List Rectangle) → Twin from B B' → Twin (suc from) B B'
   Twin-later from B B' t = record { left = t.left; right = t.right; middle = λ row l. t.middle row (omega arith) }
 
-  pub covered-append : (xs ys : List Rectangle) (row k : ℕ) → covered (xs ++ ys) row k ≡ (covered xs row k || covered ys row k)
+  pub covered-append : (xs ys : List Rectangle) (row k : ℕ) → covers_cell (xs ++ ys) row k ≡ (covers_cell xs row k || covers_cell ys row k)
   covered-append xs ys row k = list_any-append (λ (r : Rectangle). has_row r row && has_column r k) xs ys
 
   pub grown-append : (xs ys : List Rectangle) (row : ℕ) → grown (xs ++ ys) row ≡ (grown xs row || grown ys row)
@@ -161,24 +162,24 @@ module _ (c : ℕ) where
     right = λ at k l. beside at (suc k) (inr (omega arith)) ∙ t.right at k l;
     middle = λ at l.
         covered-append B' (one_by_one row c ∷ []) at c
-        ∙ ap (λ b. covered B' at c || (((nat_le row at && b) && has_column (one_by_one row c) c) || false)) (no_less at (row + 1) (omega arith))
-        ∙ ap (λ b. covered B' at c || ((b && has_column (one_by_one row c) c) || false)) (and_no (nat_le row at))
-        ∙ or_nil (covered B' at c) ∙ t.middle at (omega arith);
+        ∙ ap (λ b. covers_cell B' at c || (((nat_le row at && b) && has_column (one_by_one row c) c) || false)) (no_less at (row + 1) (omega arith))
+        ∙ ap (λ b. covers_cell B' at c || ((b && has_column (one_by_one row c) c) || false)) (and_no (nat_le row at))
+        ∙ or_nil (covers_cell B' at c) ∙ t.middle at (omega arith);
   }
     where
       apart : (k : ℕ) → (k < c) ⊎ (c < k) → has_column (one_by_one row c) k ≡ false
       apart k (inl l) = ap (λ b. b && nat_lt k (c + 1)) (no_least c k l)
       apart k (inr l) = ap (λ b. nat_le c k && b) (no_less k (c + 1) (omega arith)) ∙ and_no (nat_le c k)
 
-      beside : (at k : ℕ) → (k < c) ⊎ (c < k) → covered (B' ++ one_by_one row c ∷ []) at k ≡ covered B' at k
+      beside : (at k : ℕ) → (k < c) ⊎ (c < k) → covers_cell (B' ++ one_by_one row c ∷ []) at k ≡ covers_cell B' at k
       beside at k l =
           covered-append B' (one_by_one row c ∷ []) at k
-          ∙ ap (λ b. covered B' at k || ((has_row (one_by_one row c) at && b) || false)) (apart k l)
-          ∙ ap (λ b. covered B' at k || (b || false)) (and_no (has_row (one_by_one row c) at))
-          ∙ or_nil (covered B' at k)
+          ∙ ap (λ b. covers_cell B' at k || ((has_row (one_by_one row c) at && b) || false)) (apart k l)
+          ∙ ap (λ b. covers_cell B' at k || (b || false)) (and_no (has_row (one_by_one row c) at))
+          ∙ or_nil (covers_cell B' at k)
 
   -- where nothing covers the column, nothing grows into it
-  pub not_grown : (B : List Rectangle) (row : ℕ) → covered B row c ≡ false → grown B row ≡ false
+  pub not_grown : (B : List Rectangle) (row : ℕ) → covers_cell B row c ≡ false → grown B row ≡ false
   not_grown [] row h = refl
   not_grown (r ∷ B) row h =
       let p = or_parts (has_row r row && has_column r c) _ h in
@@ -205,7 +206,7 @@ module _ (c : ℕ) where
       let e : row ≡ (moved_right c one).row = sym its_row ∙ m.its_row in
       or_from (nat_lt left (moved_right c one).rows) _ (ap (nat_lt left) m.its_rows ∙ p.0)
       (free_apart (moved_right c one) B' (wide m.its_columns) (subst (λ k. Sized k B') e s)
-      (λ k low high. subst (λ v. covered B' v k ≡ false) e (free m.its_columns p.1 k low high)))
+      (λ k low high. subst (λ v. covers_cell B' v k ≡ false) e (free m.its_columns p.1 k low high)))
     where
       m' : Rectangle
       m' = moved_right c one
@@ -215,18 +216,18 @@ module _ (c : ℕ) where
       wide (inr (inl x)) = let x3 = x.3 in omega arith
       wide (inr (inr x)) = let x3 = x.3 in omega arith
 
-      old : list_any (meet one) B ≡ false → (k : ℕ) → one.column ≤ k → k < one.column + one.columns → covered B row k ≡ false
-      old apart k low high = subst (λ v. covered B v k ≡ false) its_row (uncovered one B k tall low high apart)
+      old : list_any (meet one) B ≡ false → (k : ℕ) → one.column ≤ k → k < one.column + one.columns → covers_cell B row k ≡ false
+      old apart k low high = subst (λ v. covers_cell B v k ≡ false) its_row (uncovered one B k tall low high apart)
 
-      before : list_any (meet one) B ≡ false → (j k : ℕ) → k ≡ suc j → c ≤ j → one.column ≤ j → j < one.column + one.columns → covered B' row k ≡ false
-      before apart j k e l low high = ap (covered B' row) e ∙ t.right row j l ∙ old apart j low high
+      before : list_any (meet one) B ≡ false → (j k : ℕ) → k ≡ suc j → c ≤ j → one.column ≤ j → j < one.column + one.columns → covers_cell B' row k ≡ false
+      before apart j k e l low high = ap (covers_cell B' row) e ∙ t.right row j l ∙ old apart j low high
 
-      free : Num one.column one.columns m'.column m'.columns → list_any (meet one) B ≡ false → (k : ℕ) → m'.column ≤ k → k < m'.column + m'.columns → covered B' row k ≡ false
+      free : Num one.column one.columns m'.column m'.columns → list_any (meet one) B ≡ false → (k : ℕ) → m'.column ≤ k → k < m'.column + m'.columns → covers_cell B' row k ≡ false
       free (inl x) apart zero low high = absurd (let x1 = x.1 in omega arith)
       free (inl x) apart (suc j) low high = let x0 = x.0 in let x1 = x.1 in let x2 = x.2 in before apart j (suc j) refl (omega arith) (omega arith) (omega arith)
       free (inr (inl x)) apart k low high = by (nat_lt k c) refl (nat_lt c k) refl
         where
-          by : (a : Bool) → nat_lt k c ≡ a → (b : Bool) → nat_lt c k ≡ b → covered B' row k ≡ false
+          by : (a : Bool) → nat_lt k c ≡ a → (b : Bool) → nat_lt c k ≡ b → covers_cell B' row k ≡ false
           by true e b f = let l = ltb-true k c e in let x1 = x.1 in let x2 = x.2 in t.left row k l ∙ old apart k (omega arith) (omega arith)
           by false e true f =
               let l = ltb-true c k f in let x0 = x.0 in let x1 = x.1 in let x3 = x.3 in
@@ -234,5 +235,5 @@ module _ (c : ℕ) where
           by false e false f =
               let l = ltb-false k c e in let g = ltb-false c k f in let x0 = x.0 in let x2 = x.2 in
               let z : k ≡ c = omega arith in
-              ap (covered B' row) z ∙ t.middle row (reach x0) ∙ not_grown B row (old apart c (omega arith) (omega arith))
+              ap (covers_cell B' row) z ∙ t.middle row (reach x0) ∙ not_grown B row (old apart c (omega arith) (omega arith))
       free (inr (inr x)) apart k low high = let x0 = x.0 in let x1 = x.1 in let x2 = x.2 in let x3 = x.3 in t.left row k (omega arith) ∙ old apart k (omega arith) (omega arith)

@@ -15,7 +15,7 @@ use Rattle.model_edit.specs.Causes.{TableCause, BadColumn, Ragged, SpanFull}
 use Rattle.model_edit.specs.Grid.{Grid, grid, children_of, section_rows, table_rows, covers_row, covers_column, is_covered}
 use Rattle.model_edit.specs.Layout.{Rectangle, with_rectangles}
 use Rattle.model_edit.specs.Tables.{spans_column, fault_or, first_fault, at_first, has_gap_before, column_edits}
-use Rattle.model_edit_law.specs.Spans.{Line, covered, rectangle_of, lay, line_at, table_lines}
+use Rattle.model_edit_law.specs.Spans.{Line, covers_cell, rectangle_of, lay, line_at, table_lines}
 use Rattle.model_edit_law.specs.TableLaws.{laid_out}
 use Rattle.model_edit_law.proofs.EditLemmas.{edited-transaction_from}
 use Rattle.model_edit_law.proofs.LinkLemmas.{grid_lays}
@@ -51,7 +51,7 @@ with_length : (column : ℕ) (all : List Rectangle) (row : ℕ) (lines : List Li
 with_length column all row [] = refl
 with_length column all row (line ∷ lines) = ap suc (with_length column all (suc row) lines)
 
-covered_cells : (cells : List GridCell) (row k : ℕ) → covered (map rectangle_of cells) row k ≡ is_covered cells row k
+covered_cells : (cells : List GridCell) (row k : ℕ) → covers_cell (map rectangle_of cells) row k ≡ is_covered cells row k
 covered_cells [] row k = refl
 covered_cells (c ∷ cells) row k = ap (λ b. (covers_row c row && covers_column c k) || b) (covered_cells cells row k)
 

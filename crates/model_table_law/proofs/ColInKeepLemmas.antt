@@ -1,4 +1,4 @@
--- What stands in the cells after a column is put in.
+-- The insides of the cells after a column is put in.
 use Rattle.std.specs.Prelude.{filter, flat_map, decimal}
 use Rattle.std.specs.List.{list_any, range_with_len, enumerate_from}
 use Rattle.std.proofs.Common.{◌≡◌, ℕ, suc, ◌+◌, ◌<◌, ◌==◌, Bool, true, false, cond, not, ◌&&◌, if◌then◌else◌, nat_le, nat_lt, List, [], ◌∷◌, ◌++◌, length, map, Option, Some, Ok, refl, sym, ap, ◌∙◌, subst, arith, append-nil}

@@ -5,7 +5,7 @@ use Rattle.std.proofs.Common.{◌≡◌, ◌⊎◌, inl, inr, ℕ, zero, suc, �
 use Rattle.std.proofs.lemmas.Bool.{and_from, or_from, leb-true, leb-false, ltb-true, ltb-false, le-leb, lt-ltb, true≢false}
 use Rattle.std.proofs.lemmas.List.{append_assoc}
 use Rattle.model_edit.specs.Layout.{Rectangle, has_row, has_column, grows_right, moved_right, one_by_one}
-use Rattle.model_edit_law.specs.Spans.{CellSpan, Line, covered, free_from, width, laid, bent, lay_row, lay, size_of, of_row, AllSome, EachSome}
+use Rattle.model_edit_law.specs.Spans.{CellSpan, Line, covers_cell, free_from, width, laid, bent, lay_row, lay, size_of, of_row, AllSome, EachSome}
 use Rattle.model_edit_law.proofs.LeastLemmas.{Least, placed_least, least_one}
 use Rattle.model_edit_law.proofs.LayLemmas.{not_bent}
 use Rattle.model_edit_law.proofs.TableSetLemmas.{map-append}
@@ -18,17 +18,17 @@ EachDeep [] = Unit {0}
 EachDeep (line ∷ lines) = (1 ≤ line.left) × EachDeep lines
 
 module _ (c : ℕ) where
-  -- the next free place at or right of the column
-  beyond_new : (row from end end' a : ℕ) (B B' : List Rectangle) → Twin c from B B' → Least (covered B row) end a → c ≤ a → end' ≤ suc a → ((k : ℕ) → end' ≤ k → k ≤ c → covered B' row k ≡ true) →
+  -- the next free position at or right of the column
+  beyond_new : (row from end end' a : ℕ) (B B' : List Rectangle) → Twin c from B B' → Least (covers_cell B row) end a → c ≤ a → end' ≤ suc a → ((k : ℕ) → end' ≤ k → k ≤ c → covers_cell B' row k ≡ true) →
       ((j : ℕ) → end' ≤ suc j → c ≤ j → end ≤ j) → free_from B' row end' (width B') ≡ suc a
   beyond_new row from end end' a B B' t l at low filled from_end =
-      least_one (covered B' row) (covered B' row) end' _ _ (λ k. refl) (placed_least B' row end') (record {
+      least_one (covers_cell B' row) (covers_cell B' row) end' _ _ (λ k. refl) (placed_least B' row end') (record {
         low = low;
         passed = λ k low' high. by k low' high (nat_le k c) refl;
         free = t.right row a at ∙ l.free;
       })
     where
-      by : (k : ℕ) → end' ≤ k → k < suc a → (b : Bool) → nat_le k c ≡ b → covered B' row k ≡ true
+      by : (k : ℕ) → end' ≤ k → k < suc a → (b : Bool) → nat_le k c ≡ b → covers_cell B' row k ≡ true
       by k low' high true e = filled k low' (leb-true k c e)
       by zero low' high false e = absurd (let g = leb-false zero c e in omega arith)
       by (suc j) low' high false e = let g = leb-false (suc j) c e in t.right row j (omega arith) ∙ l.passed j (from_end j low' (omega arith)) (omega arith)
@@ -49,7 +49,7 @@ module _ (c : ℕ) where
   none_grows [] row a = refl
   none_grows (r ∷ more) row a = ap (λ b. ((b && has_column r c) && has_row r row) || grown c more row) (no_less r.column c a.0) ∙ none_grows more row a.1
 
-  -- What a row adds right of the column, and what it adds then.
+  -- The rectangles that a row adds right of the column, and those that it adds then.
   record RightRow (row left end' : ℕ) (B B' C : List Rectangle) : Type 0 where
     pub more : List Rectangle
     pub whole : C ≡ B ++ more
@@ -104,7 +104,7 @@ module _ (c : ℕ) where
       right_moved (inr (inl x)) = absurd (let x0 = x.0 in omega arith)
       right_moved (inr (inr x)) = absurd (let x0 = x.0 in omega arith)
 
-  -- What a row adds, and what it adds with the column.
+  -- The rectangles that a row adds, and those that it adds with the column.
   record RowWith (row left end' : ℕ) (B B' C : List Rectangle) : Type 0 where
     pub more : List Rectangle
     pub whole : C ≡ B ++ more
@@ -141,19 +141,19 @@ module _ (c : ℕ) where
       a : ℕ
       a = free_from B row end (width B)
 
-      least : Least (covered B row) end a
+      least : Least (covers_cell B row) end a
       least = placed_least B row end
 
       new : Rectangle
       new = one_by_one row c
 
-      filled : grown c B row ≡ true → Near row end end' B → (k : ℕ) → end' ≤ k → k ≤ c → covered B' row k ≡ true
+      filled : grown c B row ≡ true → Near row end end' B → (k : ℕ) → end' ≤ k → k ≤ c → covers_cell B' row k ≡ true
       filled e (inr x) k low high = absurd (let x0 = x.0 in let x1 = x.1 in omega arith)
       filled e (inl x) k low high = at (nat_lt k c) refl
         where
-          at : (b : Bool) → nat_lt k c ≡ b → covered B' row k ≡ true
+          at : (b : Bool) → nat_lt k c ≡ b → covers_cell B' row k ≡ true
           at true f = let l = ltb-true k c f in let x1 = x.1 in t.left row k l ∙ least.passed k (omega arith) (omega arith)
-          at false f = let l = ltb-false k c f in let z : k ≡ c = omega arith in ap (covered B' row) z ∙ t.middle row (omega arith) ∙ e
+          at false f = let l = ltb-false k c f in let z : k ≡ c = omega arith in ap (covers_cell B' row) z ∙ t.middle row (omega arith) ∙ e
 
       from_end : Near row end end' B → (j : ℕ) → end' ≤ suc j → c ≤ j → end ≤ j
       from_end (inl x) j low high = let x0 = x.0 in omega arith
@@ -173,14 +173,14 @@ module _ (c : ℕ) where
       by false e (inl x) =
           let x0 = x.0 in
           let x1 = x.1 in
-          let free : covered B' row c ≡ false = t.middle row (omega arith) ∙ e in
-          let column : free_from B' row end' (width B') ≡ c = least_one (covered B' row) (covered B' row) end' _ _ (λ k. refl) (placed_least B' row end') (record {
+          let free : covers_cell B' row c ≡ false = t.middle row (omega arith) ∙ e in
+          let column : free_from B' row end' (width B') ≡ c = least_one (covers_cell B' row) (covers_cell B' row) end' _ _ (λ k. refl) (placed_least B' row end') (record {
             low = omega arith;
             passed = λ k low high. t.left row k high ∙ least.passed k (omega arith) (omega arith);
             free = free;
           }) in
           let straight : bent left B' new ≡ false = or_from (nat_lt left 1) _ (no_less left 1 deep)
-          (free_apart new B' (omega arith) sized (λ k low high. let z : k ≡ c = omega arith in ap (covered B' row) z ∙ free)) in
+          (free_apart new B' (omega arith) sized (λ k low high. let z : k ≡ c = omega arith in ap (covers_cell B' row) z ∙ free)) in
           let t1 = Twin-new c row B B' t in
           let seam = beyond_new row (suc row) end (c + 1) a B (B' ++ new ∷ []) t1 least ahead (omega arith) (λ k low high. absurd (omega arith)) (λ j low high. omega arith) in
           let r = right_row spans row left end (c + 1) B (B' ++ new ∷ []) C some ahead seam t1 (Sized-append row B' (new ∷ []) sized (omega arith, omega arith, tt)) h in
@@ -191,13 +191,13 @@ module _ (c : ℕ) where
       (λ i. moved c (cond (lt-ltb one.column c l i) (one ∷ lefts c more) (lefts c more)) ++ (new_here c grows row ++ moved c (cond (no_least c one.column l i) (one ∷ rights c more) (rights c more))))
 
   row_in_left : (spans : List CellSpan) (row left end end' : ℕ) (B B' C : List Rectangle) → AllSome spans → 1 ≤ left → Near row end end' B → Twin c row B B' → Sized row B' →
-      ((k : ℕ) → k < c → covered C row k ≡ true) → lay_row row left end spans B ≡ Some C → RowWith row left end' B B' C
+      ((k : ℕ) → k < c → covers_cell C row k ≡ true) → lay_row row left end spans B ≡ Some C → RowWith row left end' B B' C
   row_in_left [] row left end end' B B' C some deep near t sized full h =
       let e : B ≡ C = cc in
       let a = free_from B row end (width B) in
       let least = placed_least B row end in
       let ahead : (b : Bool) → nat_lt a c ≡ b → c ≤ a = λ b. elim b as (λ b. nat_lt a c ≡ b → c ≤ a) [
-        | true ↦ λ f. absurd (true≢false (sym (ap (λ v. covered v row a) e ∙ full a (ltb-true a c f)) ∙ least.free))
+        | true ↦ λ f. absurd (true≢false (sym (ap (λ v. covers_cell v row a) e ∙ full a (ltb-true a c f)) ∙ least.free))
         | false ↦ λ f. ltb-false a c f
       ] in
       row_switched [] row left end end' B B' C some deep near t sized (ahead (nat_lt a c) refl) h
@@ -212,7 +212,7 @@ module _ (c : ℕ) where
       m : Rectangle
       m = moved_right c one
 
-      least : Least (covered B row) end one.column
+      least : Least (covers_cell B row) end one.column
       least = placed_least B row end
 
       one_grown : one.column < c → c < one.column + one.columns → grown c (B ++ one ∷ []) row ≡ true
@@ -250,7 +250,7 @@ module _ (c : ℕ) where
           let t1 = Twin-more c row B B' one t in
           let sized1 = Sized-more c row B' one refl some.1 sized in
           let r = next (next_near l v.its_columns) t1 sized1 straight_before.1 in
-          let column : free_from B' row end' (width B') ≡ one.column = least_one (covered B' row) (covered B' row) end' _ _ (λ k. refl) (placed_least B' row end') (record {
+          let column : free_from B' row end' (width B') ≡ one.column = least_one (covers_cell B' row) (covers_cell B' row) end' _ _ (λ k. refl) (placed_least B' row end') (record {
             low = omega arith;
             passed = λ k low' high. t.left row k (omega arith) ∙ least.passed k (omega arith) high;
             free = t.left row one.column l ∙ least.free;
@@ -269,15 +269,15 @@ module _ (c : ℕ) where
           }
 
   -- rows below don't reach this one
-  none_below : (row : ℕ) (all : List Rectangle) (k : ℕ) → From (suc row) all → covered all row k ≡ false
+  none_below : (row : ℕ) (all : List Rectangle) (k : ℕ) → From (suc row) all → covers_cell all row k ≡ false
   none_below row [] k f = refl
-  none_below row (r ∷ all) k f = let l = f.0 in (ap (λ b. ((b && nat_lt row (r.row + r.rows)) && has_column r k) || covered all row k) (no_least r.row row (omega arith)) ∙ none_below row all k f.1)
+  none_below row (r ∷ all) k f = let l = f.0 in (ap (λ b. ((b && nat_lt row (r.row + r.rows)) && has_column r k) || covers_cell all row k) (no_least r.row row (omega arith)) ∙ none_below row all k f.1)
 
   none_from_below : (row : ℕ) (all : List Rectangle) → From (suc row) all → grown c all row ≡ false
   none_from_below row all f = not_grown c all row (none_below row all c f)
 
   lines_in : (lines : List Line) (row : ℕ) (B B' R : List Rectangle) → EachSome lines → EachDeep lines → Under row B → Twin c row B B' → Sized row B' →
-      ((i k : ℕ) → row ≤ i → i < row + length lines → k < c → covered R i k ≡ true) → lay row lines (Some B) ≡ Some R →
+      ((i k : ℕ) → row ≤ i → i < row + length lines → k < c → covers_cell R i k ≡ true) → lay row lines (Some B) ≡ Some R →
       lay row (lines_with c R row lines) (Some B') ≡ Some (B' ++ flat_map (row_with c R) (range_with_len row (length lines)))
   lines_in [] row B B' R some deep u t sized full h = ap Some (sym (append-nil B'))
   lines_in (line ∷ lines) row B B' R some deep u t sized full h =
@@ -295,8 +295,8 @@ module _ (c : ℕ) where
           let a = row_adds line.spans row line.left 0 B C e in
           let u1 = subst (Under (suc row)) (sym a.whole) (Under-append row B a.more u a.here) in
           let i = rows_add lines (suc row) C R u1 h in
-          let same : (k : ℕ) → covered C row k ≡ covered R row k = λ k.
-          sym (ap (λ v. covered v row k) i.whole ∙ covered-append c C i.later row k ∙ ap (λ b. covered C row k || b) (none_below row i.later k i.from) ∙ or_nil (covered C row k)) in
+          let same : (k : ℕ) → covers_cell C row k ≡ covers_cell R row k = λ k.
+          sym (ap (λ v. covers_cell v row k) i.whole ∙ covered-append c C i.later row k ∙ ap (λ b. covers_cell C row k || b) (none_below row i.later k i.from) ∙ or_nil (covers_cell C row k)) in
           let grows : grown c C row ≡ grown c R row =
           sym (ap (λ v. grown c v row) i.whole ∙ grown-append c C i.later row ∙ ap (λ b. grown c C row || b) (none_from_below row i.later i.from) ∙ or_nil (grown c C row)) in
           let r = row_in_left line.spans row line.left 0 0 B B' C some.0 deep.0 (inl (omega arith, refl)) t sized (λ k l. same k ∙ full row k (omega arith) (omega arith) l) e in
@@ -311,8 +311,9 @@ module _ (c : ℕ) where
           ∙ (λ j. Some ((B' ++ its j) ++ flat_map (row_with c R) (range_with_len (z j) (length lines))))
           ∙ ap Some (append_assoc B' (row_with c R row) rest)
 
-  -- Where each row covers the columns before, the rows with the column lay out the rectangles with it.
-  pub col_in_lays : (lines : List Line) (all : List Rectangle) → EachSome lines → EachDeep lines → ((row k : ℕ) → row < length lines → k < c → covered all row k ≡ true) →
+  -- Where each row covers the columns before, the rows with the column lay out the rectangles with
+  -- it.
+  pub col_in_lays : (lines : List Line) (all : List Rectangle) → EachSome lines → EachDeep lines → ((row k : ℕ) → row < length lines → k < c → covers_cell all row k ≡ true) →
       lay 0 lines (Some []) ≡ Some all → lay 0 (lines_with c all 0 lines) (Some []) ≡ Some (flat_map (row_with c all) (range_with_len 0 (length lines)))
   col_in_lays lines all some deep full h =
       lines_in lines 0 [] [] all some deep tt (record { left = λ row k l. refl; right = λ row k l. refl; middle = λ row l. refl }) tt

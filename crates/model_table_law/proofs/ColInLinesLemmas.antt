@@ -124,7 +124,7 @@ module _ (items : List PlainItem) (at column : ℕ) (g : Grid) (lawful : Lawful 
           other o r l (inl h) same = omega arith
           other o r l (inr h) same = omega arith
 
-  -- the table still opens at its place
+  -- the table still opens at its position
   pub opens_widened : passes (is_opening_of Table) (slice_get X at) ≡ true
   opens_widened =
       let o = s.table in

@@ -1,4 +1,5 @@
--- The edits that put a column in, row by row: where they stand, and the node that each new cell stands just inside.
+-- The edits that put a column in, row by row: where they stand, and the node that each new cell
+-- stands just inside.
 use Rattle.std.specs.Prelude.{slice_get, filter, flat_map, codes, decimal, nat_le}
 use Rattle.std.specs.List.{list_any, enumerate_from}
 use Rattle.std.proofs.Common.{◌≡◌, ◌⊎◌, inl, inr, ℕ, zero, suc, ◌+◌, ◌-◌, ◌≤◌, ◌==◌, Bool, true, false, cond, ◌&&◌, if◌then◌else◌, nat_lt, List, [], ◌∷◌, ◌++◌, length, map, Option, Some, None, refl, sym, ap, ◌∙◌, subst, arith}
@@ -97,7 +98,7 @@ module _ (items : List PlainItem) (row : TableRow) (column : ℕ) where
           let v = (chain.1.2).ahead in
           subst (λ (v : GridCell). nat_lt v.at later ≡ nat_lt v.column column) e (lt-ltb x.at later (omega arith) ∙ sym (lt-ltb x.column column (omega arith)))
 
-  -- the new cell's place is the row's end, or where a cell begins or ends
+  -- the new cell's position is the row's end, or where a cell begins or ends
   place_is : (P : ℕ → Type 0) (cells : List GridCell) → P (partner items row.at) → ((c : GridCell) → Among c cells → P c.at × P (end_of_node items c.at)) → P (cell_place items row column cells)
   place_is P [] end each = end
   place_is P (x ∷ []) end each = by (nat_le column x.column)
@@ -139,7 +140,7 @@ module _ (items : List PlainItem) (at column : ℕ) (g : Grid) (lawful : Lawful 
   abbrev pub place : ℕ → TableRow → ℕ
   place k r = cell_place items r column (cells_in k g.cells)
 
-  -- The new cell's place lies just inside the row.
+  -- The new cell's position lies just inside the row.
   pub place_inside : (k : ℕ) (r : TableRow) → is_row k r → JustInside items r.at (place k r)
   place_inside k r e =
       let o = opens_row k r e in

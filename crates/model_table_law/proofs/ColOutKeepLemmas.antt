@@ -1,4 +1,4 @@
--- What stands in the cells after a column is taken out.
+-- The insides of the cells after a column is taken out.
 use Rattle.std.specs.Prelude.{filter, flat_map, filter_map}
 use Rattle.std.specs.List.{cons_option}
 use Rattle.std.proofs.Common.{◌≡◌, ℕ, ◌-◌, ◌==◌, Bool, true, false, if◌then◌else◌, nat_le, nat_lt, List, [], ◌∷◌, ◌++◌, map, Option, Some, None, Result, Ok, refl, sym, ap, ◌∙◌, arith}

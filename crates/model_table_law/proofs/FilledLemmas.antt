@@ -10,7 +10,7 @@ use Rattle.model_items.specs.Offsets.{passes}
 use Rattle.model_edit.specs.Brackets.{is_opening_of}
 use Rattle.model_edit.specs.declared.grid_cell.GridCell.{GridCell}
 use Rattle.model_edit.specs.Causes.{TableCause, NotTable}
-use Rattle.model_edit.specs.Grid.{TableRow, Grid, grid, grid_with, right_end, table_rows, row_cells, first_free, is_covered, placed, is_crooked, with_row, with_rows}
+use Rattle.model_edit.specs.Grid.{TableRow, Grid, grid, grid_with, right_end, table_rows, row_cells, first_free, is_covered, placed_cell, is_crooked, with_row, with_rows}
 use Rattle.model_edit.specs.Layout.{Rectangle, Layout, layout_of}
 use Rattle.model_edit_law.specs.Spans.{rectangle_of}
 use Rattle.model_edit_law.specs.TableLaws.{laid_out}
@@ -68,7 +68,7 @@ row_by : (items : List PlainItem) (row left end : ℕ) (nodes : List Open) (befo
     (more : List GridCell) × (cells ≡ before ++ more) × AllIn row more × Pairs items more nodes × Rising end more
 row_by items row left end [] before cells h = let e : before ≡ cells = cc in ([], sym e ∙ sym (append-nil before), tt, tt, tt)
 row_by items row left end (n ∷ nodes) before cells h =
-    let one = placed items before row end n in
+    let one = placed_cell items before row end n in
     let p = if_ok_else (is_crooked left before one) _ _ cells h in
     let r = row_by items row left (one.column + one.columns) nodes (before ++ one ∷ []) cells p.1 in (
       one ∷ r.0,

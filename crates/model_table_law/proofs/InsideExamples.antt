@@ -1,4 +1,4 @@
--- What stands in the cells of a worked table after a row is taken out, and after a column is put in.
+-- The insides of a worked table's cells after a row is taken out, and after a column is put in.
 use Rattle.std.proofs.Common.{◌≡◌, ℕ, List, [], ◌∷◌, ◌++◌, Result, Ok, Err, refl}
 use Rattle.std.specs.Prelude.{codes}
 use Rattle.std.specs.Fmt.{digits}

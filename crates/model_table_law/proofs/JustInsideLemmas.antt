@@ -1,4 +1,5 @@
--- Which places lie just inside a node: where its children begin and end, and its end; and they lie just inside no other.
+-- Which positions lie just inside a node: where its children begin and end, and its end; and they
+-- lie just inside no other.
 use Rattle.std.specs.Prelude.{slice_get}
 use Rattle.std.proofs.Common.{◌≡◌, inl, inr, ℕ, zero, suc, ◌+◌, ◌-◌, ◌<◌, Bool, true, false, nat_lt, List, [], ◌∷◌, ◌++◌, length, take, drop, Option, Some, None, refl, sym, ap, ◌∙◌, arith}
 use Rattle.std.proofs.lemmas.Bool.{ltb-true, ltb-false}
@@ -48,7 +49,7 @@ depth_inside k pre (Opening kind head marks pre' origin generated ∷ inside) e 
 depth_inside k pre (Closing kind pre' ∷ inside) zero h = absurd (let z : 1 ≡ suc (suc (length inside)) = h [] in omega arith)
 depth_inside k pre (Closing kind pre' ∷ inside) (suc e) h = depth_inside k pre inside e (λ other. let z = h other in omega arith)
 
--- the place lies in the node that begins at a, and in none inside it
+-- the position lies in the node that begins at a, and in none inside it
 abbrev pub JustInside : List PlainItem → (a p : ℕ) → Type 0
 JustInside items a p = depth_after 0 (drop (suc a) (take p items)) ≡ Some 0
 

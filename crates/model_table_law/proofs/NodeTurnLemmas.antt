@@ -1,4 +1,4 @@
--- What becomes of a node, from what becomes of each of those in it that matter.
+-- A node under an edit, from what becomes of each of those in it that matter.
 use Rattle.std.specs.Prelude.{filter}
 use Rattle.std.proofs.Common.{◌≡◌, ℕ, zero, suc, ◌+◌, ◌-◌, ◌≤◌, Bool, true, false, cond, List, [], ◌∷◌, ◌++◌, length, take, drop, Option, refl, sym, ap, ◌∙◌, subst, arith, length-append, append-nil}
 use Rattle.std.proofs.lemmas.List.{append_assoc}
@@ -20,11 +20,11 @@ use Rattle.model_table_law.specs.Cells.{inside}
 use Rattle.model_table_law.proofs.ReadLemmas.{Level, InTable, InSection, InRow, entered, drop_next, get_first}
 use Rattle.model_table_law.proofs.PieceLemmas.{Walk, Turned, Turned-join, Turned-kept, Walk-none, Walk-char, Walk-other, Walk-section, Walk-section_end, Walk-row, Walk-row_end, Ends, closed_by, closed-append, take_before}
 
--- the items of the node that begins at a place
+-- the items of the node that begins at a position
 abbrev pub piece : List PlainItem → ℕ → List PlainItem
 piece items at = take (end_of_node items at - at) (drop at items)
 
--- a node that begins at a place, in parts
+-- a node that begins at a position, in parts
 pub record Node (items : List PlainItem) (kind : Kind) (at : ℕ) : Type 0 where
   pub head : Head
   pub marks : List Mark
@@ -122,7 +122,7 @@ module _ (k : Kind) (white : List ℕ) where
       record { within = []; closing = kind; its_white = pre; later = xs; whole = refl; ends = λ other. refl; left = λ other. less _ _ (h other) }
   split_node (Closing kind pre ∷ xs) (suc d) h = split_more (Closing kind pre) xs (suc d) d (λ list. refl) (split_node xs d (λ other. less _ _ (h other)))
 
--- Nodes that stand at places of things, each with its part of the edits and of what is read.
+-- Nodes that stand at positions of things, each with its part of the edits and of what is read.
 abbrev pub AllTurned : {A : Type 0} → (A → ℕ) → List PlainItem → Level → List A → List Edit → List (List PlainItem) → Type 0
 AllTurned f items level [] edits out = (edits ≡ []) × (out ≡ [])
 AllTurned f items level (x ∷ xs) edits out =

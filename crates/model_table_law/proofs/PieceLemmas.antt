@@ -20,7 +20,7 @@ use Rattle.model_table_law.proofs.ReadLemmas.{Level, InTable, InSection, InRow, 
 pub record Walk (s t : Level) (xs : List PlainItem) (out : List (List PlainItem)) : Type 0 where
   pub walks : (rest : List PlainItem) → read 0 s (xs ++ rest) ≡ out ++ read 0 t rest
 
--- A piece from the place q on with the edits in it. Afterwards the walk reads `out` over it.
+-- A piece from the position q on with the edits in it. Afterwards the walk reads `out` over it.
 pub record Turned (s t : Level) (q : ℕ) (xs : List PlainItem) (edits : List Edit) (out : List (List PlainItem)) : Type 0 where
   pub new : List PlainItem
   pub made : (end : ℕ) (rest : List PlainItem) (more : List Edit) → InOrder (q + length xs) end more →
@@ -77,7 +77,7 @@ Turned-kept q xs out w = record {
   walk = w;
 }
 
--- items put in at a place
+-- items put in at a position
 pub Turned-put : {s : Level} (q place : ℕ) (inserted : List PlainItem) (out : List (List PlainItem)) → place ≡ q → Walk s s inserted out →
     Turned s s q [] (Change place 0 inserted ∷ []) out
 Turned-put {s} q place inserted out e w = subst (λ k. Turned s s q [] (Change k 0 inserted ∷ []) out) (sym e) (record {

@@ -1,4 +1,5 @@
--- New cells put in at places of a list, and attributes set: where the other nodes stand then, and what is read there.
+-- New cells put in at positions of a list, and attributes set: where the other nodes stand then,
+-- and what is read there.
 use Rattle.std.specs.Prelude.{slice_get}
 use Rattle.std.proofs.Common.{◌≡◌, ◌⊎◌, inl, inr, ℕ, zero, suc, ◌+◌, ◌-◌, ◌<◌, ◌≤◌, ◌==◌, Bool, true, false, if◌then◌else◌, nat_lt, List, [], ◌∷◌, ◌++◌, length, map, take, drop, Option, Some, refl, sym, ap, ◌∙◌, subst, arith}
 use Rattle.std.proofs.lemmas.Bool.{cases_eq, ltb-true, ltb-false, eq-eqb, ne_eqb}
@@ -24,7 +25,7 @@ Puts [] = Unit {0}
 Puts (Change p count inserted ∷ edits) = (count ≡ 0) × (inserted ≡ new_cell) × Puts edits
 Puts (Set p name value ∷ edits) = Puts edits
 
--- where a place is then
+-- where a position is then
 abbrev pub to : List Edit → ℕ → ℕ
 to [] a = a
 to (Change p count inserted ∷ edits) a = past p (to edits a)
@@ -59,7 +60,7 @@ to-append [] ys a = refl
 to-append (Change p count inserted ∷ xs) ys a = ap (past p) (to-append xs ys a)
 to-append (Set p name value ∷ xs) ys a = to-append xs ys a
 
--- what stands at a place after attributes are set
+-- what stands at a position after attributes are set
 abbrev pub set_of : List Edit → ℕ → Option PlainItem → Option PlainItem
 set_of [] a o = o
 set_of (Change p count inserted ∷ edits) a o = set_of edits a o
@@ -96,7 +97,7 @@ pub moved_twice : (f g : ℕ → ℕ) (nodes : List Open) → map (moved_by f) (
 moved_twice f g [] = refl
 moved_twice f g (o ∷ nodes) = ap (λ v. record { kind = o.kind; from = f (g o.from) } ∷ v) (moved_twice f g nodes)
 
--- edits from a place on leave what is before
+-- edits from a position on leave what is before
 cut_before : (k q end : ℕ) (list : List PlainItem) (edits : List Edit) → InOrder (q + k) end edits → k ≤ length list → substituted_from q list edits ≡ take k list ++ substituted_from (q + k) (drop k list) edits
 cut_before zero q end list edits h l = let z : q ≡ q + 0 = omega arith in ap (λ m. substituted_from m list edits) z
 cut_before (suc k) q end [] edits h l = absurd (omega arith)
@@ -121,7 +122,7 @@ module _ (items : List PlainItem) where
       let y : p + 0 ≡ p = omega arith in
       (λ i. take (z i) items ++ (new_cell ++ substituted_from (y i) (drop (z i) items) edits))
 
-  -- the place of a change doesn't lie just inside the node that begins at a
+  -- the position of a change doesn't lie just inside the node that begins at a
   abbrev pub Apart : ℕ → List Edit → Type 0
   Apart a [] = Unit {0}
   Apart a (Change p count inserted ∷ edits) = (a < p → Elsewhere (depth_after 0 (drop (suc a) (take p items)))) × Apart a edits
@@ -221,7 +222,7 @@ module _ (items : List PlainItem) where
       set_children p end name value (xs ++ ys) (to (xs ++ ys) a) h.1 (omega arith)
       ∙ children_kept xs ys end a nodes puts (InOrder-within (suc p) 0 end end (xs ++ ys) (omega arith) (omega arith) h.1) room apart old
 
-  -- what is read at a place of the list before one edit
+  -- what is read at a position of the list before one edit
   get_change : (p end : ℕ) (edits : List Edit) (b : ℕ) → InOrder p end edits → p ≤ length items → slice_get (after (Change p 0 new_cell ∷ edits)) (past p b) ≡ slice_get (after edits) b
   get_change p end edits b h room =
       ap (λ v. slice_get v (past p b)) (after_change p edits)
@@ -249,7 +250,7 @@ module _ (items : List PlainItem) where
           at xs n b x rest (omega arith)
           ∙ ap (λ t. if t then set_in name value (slice_get (xs ++ x ∷ rest) b) else slice_get (xs ++ x ∷ rest) b) (sym (suc_eq n b))
 
-  -- what stands at an old place then
+  -- what stands at an old position then
   pub get_kept : (edits : List Edit) (low end a : ℕ) → Puts edits → InOrder low end edits → end ≤ length items → slice_get (after edits) (to edits a) ≡ set_of edits a (slice_get items a)
   get_kept [] low end a puts h room = refl
   get_kept (Change p count inserted ∷ edits) low end a puts h room =
@@ -282,7 +283,7 @@ module _ (items : List PlainItem) where
           far true e z = (let l = ltb-true a p e in let same = to_before edits (suc p) end a h.1 (omega arith) in n (z ∙ same))
           far false e z = (let l = ltb-false a p e in let low' = to_low edits a in n (omega arith))
 
-  -- and what stands after the edits' places
+  -- and what stands after the edits' positions
   pub get_beyond : (xs ys : List Edit) (low middle end b : ℕ) → Puts xs → InOrder low middle xs → InOrder 0 end (xs ++ ys) → end ≤ length items → middle ≤ b →
       slice_get (after (xs ++ ys)) (to xs b) ≡ slice_get (after ys) b
   get_beyond [] ys low middle end b puts g h room l = refl

@@ -1,4 +1,5 @@
--- A new cell put in at a place of a list: where the other nodes stand then, and what stands in each.
+-- A new cell put in at a position of a list: where the other nodes stand then, and what stands in
+-- each.
 use Rattle.std.specs.Prelude.{filter, slice_get}
 use Rattle.std.proofs.Common.{◌≡◌, ℕ, zero, suc, ◌+◌, ◌-◌, ◌<◌, ◌≤◌, Bool, true, false, cond, not, if◌then◌else◌, nat_lt, List, [], ◌∷◌, ◌++◌, length, map, drop, Option, Some, None, refl, sym, ap, ◌∙◌, arith, length-drop}
 use Rattle.std.proofs.lemmas.Bool.{ltb-true, ltb-false, lt-ltb}
@@ -50,7 +51,7 @@ siblings_between (suc d) q high (Opening kind head marks pre origin generated �
 siblings_between zero q high (Closing kind pre ∷ xs) l = tt
 siblings_between (suc d) q high (Closing kind pre ∷ xs) l = Between-within (suc q) q high _ (omega arith) (siblings_between d (suc q) high xs (omega arith))
 
--- a node at another place
+-- a node at another position
 abbrev pub moved_by : (ℕ → ℕ) → Open → Open
 moved_by f o = record { kind = o.kind; from = f o.from }
 
@@ -63,7 +64,7 @@ siblings_later (suc d) q q' n (Opening kind head marks pre origin generated ∷ 
 siblings_later zero q q' n (Closing kind pre ∷ xs) e = refl
 siblings_later (suc d) q q' n (Closing kind pre ∷ xs) e = siblings_later d (suc q) (suc q') n xs (omega arith)
 
--- where a place is when a new cell is put in at p
+-- where a position is when a new cell is put in at p
 abbrev pub past : ℕ → ℕ → ℕ
 past p b = if nat_lt b p then b else b + 4
 
@@ -81,7 +82,7 @@ all_after : (p low high : ℕ) (nodes : List Open) → p ≤ low → Between low
 all_after p low high [] l b = refl
 all_after p low high (o ∷ nodes) l b = let b0 = b.0 in (λ i. record { kind = o.kind; from = past-after p o.from (omega arith) i } ∷ all_after p low high nodes l b.2 i)
 
--- the nodes before a place, those from it on, and the nodes with a new cell at it
+-- the nodes before a position, those from it on, and the nodes with a new cell at it
 abbrev pub nodes_before : ℕ → List Open → List Open
 nodes_before p nodes = filter (λ (o : Open). nat_lt o.from p) nodes
 
@@ -104,7 +105,7 @@ after_split p low high [] (o ∷ ys) x y =
 after_split p low high (o ∷ xs) ys x y =
     ap (λ t. cond (not t) (o ∷ nodes_after p (xs ++ ys)) (nodes_after p (xs ++ ys))) (lt-ltb o.from p x.1) ∙ after_split p low high xs ys x.2 y
 
--- the place lies deeper in a node that begins before it, or after the node
+-- the position lies deeper in a node that begins before it, or after the node
 abbrev pub Elsewhere : Option ℕ → Type 0
 Elsewhere None = Unit {0}
 Elsewhere (Some zero) = ⊥
@@ -128,7 +129,7 @@ module _ (P Y : List PlainItem) (p : ℕ) (here : length P ≡ p) where
   first_between : (a : ℕ) → a < p → Between (suc a) p (siblings 0 (suc a) (drop (suc a) P))
   first_between a l = siblings_between 0 (suc a) p (drop (suc a) P) (omega (arith, length-drop (suc a) P))
 
-  -- In a node that the place isn't just inside stand the same nodes.
+  -- In a node that the position isn't just inside stand the same nodes.
   pub children_before : (a : ℕ) → a < p → Elsewhere (depth_after 0 (drop (suc a) P)) → children new_list a ≡ map (moved_by (past p)) (children old_list a)
   children_before a l other =
       children-cut a (new_cell ++ Y) l
@@ -174,7 +175,7 @@ module _ (P Y : List PlainItem) (p : ℕ) (here : length P ≡ p) where
       ∙ sym (all_after p (suc a) (suc a + length list) (siblings 0 (suc a) list) (omega arith) (siblings_between 0 (suc a) (suc a + length list) list (omega arith)))
       ∙ ap (λ v. map (moved_by (past p)) (siblings 0 (suc a) v)) (sym old)
 
-  -- What stood at a place stands where it is then.
+  -- An item of the old list stands where `past` moves it.
   pub get_past_new : (b : ℕ) → slice_get new_list (past p b) ≡ slice_get old_list b
   get_past_new b = by (nat_lt b p) refl
     where

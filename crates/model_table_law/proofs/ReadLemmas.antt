@@ -128,7 +128,7 @@ read-spelled zero InRow (Opening kind head marks pre origin generated ∷ items)
     by true = refl
     by false = refl
 
--- a list from a place on, one item further
+-- a list from a position on, one item further
 pub drop_next : (at : ℕ) (items : List PlainItem) (x : PlainItem) (rest : List PlainItem) → drop at items ≡ x ∷ rest → drop (suc at) items ≡ rest
 drop_next zero items x rest e = ap (drop 1) e
 drop_next (suc at) [] x rest e = cc
@@ -140,7 +140,7 @@ get_first zero (y ∷ items) x rest e = let z : y ≡ x = cc in ap Some z
 get_first (suc at) [] x rest e = cc
 get_first (suc at) (y ∷ items) x rest e = get_first at items x rest e
 
--- what is read of the nodes by their places is what is read of them as they begin
+-- what is read of the nodes by their positions is what is read of them as they begin
 nodes_alike : (whole : List PlainItem) (level : Level) (f : Open → List (List PlainItem)) (h : Begun → List (List PlainItem)) →
     ((at : ℕ) (kind : Kind) (head : Head) (marks : List Mark) (pre : List ℕ) (origin : Option ℕ) (generated : Bool) (later : List PlainItem) →
     drop at whole ≡ Opening kind head marks pre origin generated ∷ later → f (record { kind = kind; from = at }) ≡ h (record { kind = kind; later = later })) →

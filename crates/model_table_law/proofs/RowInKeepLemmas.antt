@@ -1,4 +1,4 @@
--- What stands in the cells after a row is put in.
+-- The insides of the cells after a row is put in.
 use Rattle.std.specs.Prelude.{filter, flat_map, codes, decimal}
 use Rattle.std.specs.List.{list_any, range_with_len}
 use Rattle.std.proofs.Common.{◌≡◌, ℕ, zero, suc, ◌+◌, ◌≤◌, ◌<◌, ◌==◌, Bool, true, false, ◌&&◌, ◌||◌, if◌then◌else◌, nat_le, nat_lt, List, [], ◌∷◌, ◌++◌, length, map, Option, Some, Ok, refl, sym, ap, ◌∙◌, subst, arith, append-nil}

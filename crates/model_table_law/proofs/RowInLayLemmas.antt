@@ -5,12 +5,13 @@ use Rattle.std.proofs.Common.{◌≡◌, inl, inr, ℕ, zero, suc, ◌+◌, ◌<
 use Rattle.std.proofs.lemmas.Bool.{and_parts, and_from, or_parts, or_from, leb-true, ltb-true, ltb-false, le-leb, lt-ltb, false_from_ne_true, true≢false}
 use Rattle.std.proofs.lemmas.List.{append_assoc}
 use Rattle.model_edit.specs.Layout.{Rectangle, has_row, has_column, grows_down, moved_down, one_by_one}
-use Rattle.model_edit_law.specs.Spans.{CellSpan, Line, covered, free_from, width, meet, laid, bent, lay_row, lay}
+use Rattle.model_edit_law.specs.Spans.{CellSpan, Line, covers_cell, free_from, width, meet, laid, bent, lay_row, lay}
 use Rattle.model_edit_law.proofs.LayLemmas.{meet_numbers, next_row}
 use Rattle.model_edit_law.proofs.LeastLemmas.{placed_least, least_one}
 use Rattle.model_table_law.proofs.RowInMoveLemmas.{Shift, moved_alike, has_column_same, any_append, Each, Each-append, rect, row_moved}
 
--- Lines above the row that is put in: a cell that reaches it is one higher, and a line has rows enough left for it.
+-- Lines above the row that is put in: a cell that reaches it is one higher, and a line has rows
+-- enough left for it.
 abbrev pub span_with : (row j : ℕ) → CellSpan → CellSpan
 span_with row j s = if nat_lt row (j + s.rows) then record s { rows = suc s.rows } else s
 
@@ -91,7 +92,7 @@ map_same : (spans : List CellSpan) → map (λ s. s) spans ≡ spans
 map_same [] = refl
 map_same (s ∷ spans) = ap (λ v. s ∷ v) (map_same spans)
 
-module _ (row : ℕ) (X N : List Rectangle) (free : (j column : ℕ) → row < j → covered N j column ≡ false) (apart : (r : Rectangle) → row < r.row → list_any (meet r) N ≡ false) where
+module _ (row : ℕ) (X N : List Rectangle) (free : (j column : ℕ) → row < j → covers_cell N j column ≡ false) (apart : (r : Rectangle) → row < r.row → list_any (meet r) N ≡ false) where
   abbrev parts : List Rectangle → List Rectangle
   parts Y = map (moved_down row) X ++ (N ++ map (moved_down row) Y)
 
@@ -126,8 +127,8 @@ single = record { rows = 1; columns = 1 }
 abbrev pub not_at : (ℕ → Bool) → (from n : ℕ) → List ℕ
 not_at test from n = filter (λ column. not (test column)) (range_with_len from n)
 
--- a cell of one row and one column meets no other where its place is not covered
-single_apart : (row column : ℕ) (all : List Rectangle) → covered all row column ≡ false → list_any (meet (one_by_one row column)) all ≡ false
+-- a cell of one row and one column meets no other where its position is not covered
+single_apart : (row column : ℕ) (all : List Rectangle) → covers_cell all row column ≡ false → list_any (meet (one_by_one row column)) all ≡ false
 single_apart row column [] h = refl
 single_apart row column (r ∷ all) h =
     let p = or_parts (has_row r row && has_column r column) _ h in
@@ -144,7 +145,7 @@ single_left : (row column later : ℕ) → column < later → has_column (one_by
 single_left row column later l = false_from_ne_true (has_column (one_by_one row column) later) (λ t. let p = and_parts (nat_le column later) _ t in let q = ltb-true later (column + 1) p.1 in omega arith)
 
 new_row_lays : (row left : ℕ) (test : ℕ → Bool) (n from end : ℕ) (B : List Rectangle) → 1 ≤ left → end ≤ from →
-    ((c : ℕ) → end ≤ c → c < from → covered B row c ≡ true) → ((c : ℕ) → from ≤ c → covered B row c ≡ test c) →
+    ((c : ℕ) → end ≤ c → c < from → covers_cell B row c ≡ true) → ((c : ℕ) → from ≤ c → covers_cell B row c ≡ test c) →
     lay_row row left end (map (λ c. single) (not_at test from n)) B ≡ Some (B ++ map (one_by_one row) (not_at test from n))
 new_row_lays row left test zero from end B some l passed rest = ap Some (sym (append-nil B))
 new_row_lays row left test (suc n) from end B some l passed rest =
@@ -157,29 +158,29 @@ new_row_lays row left test (suc n) from end B some l passed rest =
     next e cs = lay_row row left e (map (λ c. single) cs) B ≡ Some (B ++ map (one_by_one row) cs)
 
     by : (b : Bool) → test from ≡ b →
-        ((C : List Rectangle) (e : ℕ) → e ≤ from + 1 → ((c : ℕ) → e ≤ c → c < from + 1 → covered C row c ≡ true) → ((c : ℕ) → from + 1 ≤ c → covered C row c ≡ test c) →
+        ((C : List Rectangle) (e : ℕ) → e ≤ from + 1 → ((c : ℕ) → e ≤ c → c < from + 1 → covers_cell C row c ≡ true) → ((c : ℕ) → from + 1 ≤ c → covers_cell C row c ≡ test c) →
         lay_row row left e (map (λ c. single) L) C ≡ Some (C ++ map (one_by_one row) L)) →
         next end (cond (not b) (from ∷ L) L)
     by true t step =
         step B end (omega arith)
         (λ c low high. elim (Rattle.std.proofs.lemmas.Bool.cases_eq c from) [
-          | inl e ↦ ap (covered B row) e ∙ rest from (omega arith) ∙ t
+          | inl e ↦ ap (covers_cell B row) e ∙ rest from (omega arith) ∙ t
           | inr other ↦ passed c low (omega arith)
         ])
         (λ c low. rest c (omega arith))
     by false t step =
-        let here : covered B row from ≡ false = rest from (omega arith) ∙ t in
+        let here : covers_cell B row from ≡ false = rest from (omega arith) ∙ t in
         let one = one_by_one row from in
         let column : free_from B row end (width B) ≡ from =
-        least_one (covered B row) (covered B row) end _ from (λ c. refl) (placed_least B row end) (record { low = l; passed = passed; free = here }) in
+        least_one (covers_cell B row) (covers_cell B row) end _ from (λ c. refl) (placed_least B row end) (record { low = l; passed = passed; free = here }) in
         let place : laid B row end single ≡ one = ap (λ c. rect row c single) column in
         let straight : bent left B one ≡ false = or_from (nat_lt left 1) _ (no_less left 1 some) (single_apart row from B here) in
         ap (next_row row left (map (λ c. single) L) B) place
         ∙ ap (λ b. if b then None else lay_row row left (from + 1) (map (λ c. single) L) (B ++ one ∷ [])) straight
         ∙ step (B ++ one ∷ []) (from + 1) (omega arith) (λ c low high. absurd (omega arith))
         (λ c low. any_append (λ (r : Rectangle). has_row r row && has_column r c) B (one ∷ [])
-        ∙ ap (λ b. covered B row c || ((has_row one row && b) || false)) (single_left row from c (omega arith))
-        ∙ none (covered B row c) (has_row one row)
+        ∙ ap (λ b. covers_cell B row c || ((has_row one row && b) || false)) (single_left row from c (omega arith))
+        ∙ none (covers_cell B row c) (has_row one row)
         ∙ rest c (omega arith))
         ∙ ap Some (append_assoc B (one ∷ []) (map (one_by_one row) L))
       where
@@ -189,7 +190,7 @@ new_row_lays row left test (suc n) from end B some l passed rest =
         none false false = refl
 
 -- what is new covers nothing below, and meets nothing there
-new_free : (row : ℕ) (columns : List ℕ) (j column : ℕ) → row < j → covered (map (one_by_one row) columns) j column ≡ false
+new_free : (row : ℕ) (columns : List ℕ) (j column : ℕ) → row < j → covers_cell (map (one_by_one row) columns) j column ≡ false
 new_free row [] j column l = refl
 new_free row (c ∷ columns) j column l =
     let e : has_row (one_by_one row c) j ≡ false = false_from_ne_true (has_row (one_by_one row c) j) (λ t. let p = and_parts (nat_le row j) _ t in let q = ltb-true j (row + 1) p.1 in omega arith) in
@@ -204,7 +205,7 @@ new_apart row (c ∷ columns) r l =
 abbrev pub grown : (row : ℕ) → List Rectangle → ℕ → Bool
 grown row all column = list_any (λ (r : Rectangle). grows_down row r && has_column r column) all
 
-covers_new : (row column : ℕ) (X : List Rectangle) → Each (λ (r : Rectangle). r.row < row) X → covered (map (moved_down row) X) row column ≡ grown row X column
+covers_new : (row column : ℕ) (X : List Rectangle) → Each (λ (r : Rectangle). r.row < row) X → covers_cell (map (moved_down row) X) row column ≡ grown row X column
 covers_new row column [] h = refl
 covers_new row column (r ∷ X) h =
     let x = moved_alike row r in
@@ -331,7 +332,7 @@ row_in_lays lines lines' row columns all s h =
         let Y = down.0 in
         let split : all ≡ X ++ Y = down.1 in
         let mX = map (moved_down row) X in
-        let test : (column : ℕ) → covered mX row column ≡ grown row all column =
+        let test : (column : ℕ) → covers_cell mX row column ≡ grown row all column =
         λ column. covers_new row column X up.2 ∙ sym (ap (λ v. grown row v column) split ∙ grown_whole row column X Y down.2) in
         let middle = new_row_lays row s.left (grown row all) columns 0 0 mX s.some (omega arith) (λ c low high. absurd (omega arith)) (λ c low. test c) in
         let long : 0 + length s.above' ≡ row = (let w = wider_length row 0 s.above s.above' s.wider in omega arith) in

@@ -26,7 +26,7 @@ flat_map-append : {A B : Type 0} (f : A → List B) (xs ys : List A) → flat_ma
 flat_map-append f [] ys = refl
 flat_map-append f (x ∷ xs) ys = ap (λ v. f x ++ v) (flat_map-append f xs ys) ∙ sym (append_assoc (f x) (flat_map f xs) (flat_map f ys))
 
--- `new` is a list with a row of `n` items put in at the place p, which is row number `row`.
+-- `new` is a list with a row of `n` items put in at the position p, which is row number `row`.
 module _ (items new : List PlainItem) (p n row : ℕ) where
   abbrev nw : Open → Open
   nw o = node_with p n o
@@ -37,7 +37,8 @@ module _ (items new : List PlainItem) (p n row : ℕ) where
   abbrev new_lines : List TableRow → List Line
   new_lines rows = map (line_at new) rows
 
-  -- a row of number i has its cells still, and above the new one their spans are more where they reach it
+  -- a row of number i has its cells still, and above the new one their spans are more where they
+  -- reach it
   pub record Kept (i : ℕ) (r : TableRow) : Type 0 where
     pub above : i < row → map (cell_span_at new) (row_cells new (place_with p n r.at)) ≡ map (span_with row i) (map (cell_span_at items) (row_cells items r.at))
     pub below : row ≤ i → map (cell_span_at new) (row_cells new (place_with p n r.at)) ≡ map (cell_span_at items) (row_cells items r.at)

@@ -35,7 +35,7 @@ use Rattle.model_table_law.proofs.RowInSectionLemmas.{chain_at, rows_in, Parent,
 use Rattle.model_table_law.proofs.RowInLinesLemmas.{Kept, AllKept, lines_in}
 use Rattle.model_table_law.proofs.RowInCellsLemmas.{put_in, row_of, new_cells, row_is_one, cells_read, span_more}
 
--- the rows from the new one on stand at its place or after it
+-- the rows from the new one on stand at its position or after it
 place_before : (items : List PlainItem) (kinds : List Kind) (low high : ℕ) (rows : List TableRow) (i k : ℕ) (r : TableRow) →
     Chain row_at items kinds low high rows →
     slice_get rows i ≡ Some r → k ≤ i → row_place items rows k ≤ r.at
@@ -141,7 +141,7 @@ module _ (items : List PlainItem) (at row : ℕ) (g : Grid) (lawful : Lawful ite
       × Chain from_of items kinds (end_of_node items own.it.from) (partner items at) own.later
   own_chain = chain_at from_of items kinds (suc at) (partner items at) own.earlier own.it own.later (subst (Chain from_of items kinds (suc at) (partner items at)) own.whole stand)
 
-  -- the table goes on round the place
+  -- the table goes on round the position
   round : (at < p) × (Rattle.model_table_law.proofs.RowInNodesLemmas.depth_after 0 (before items lawful p at) ≡ Some 1)
   round = gap_round items lawful p kinds at own.earlier own.it own.later own.whole (own.gap).near (own.gap).level
 
@@ -315,7 +315,7 @@ module _ (items : List PlainItem) (at row : ℕ) (g : Grid) (lawful : Lawful ite
       subst (λ v. LinesIn row spans (table_lines items at) (map (line_at with_row) (flat_map (rows_in with_row) v))) (sym new_sections)
       (subst (λ v. LinesIn row spans (map (line_at items) (flat_map (rows_in items) v)) (map (line_at with_row) (flat_map (rows_in with_row) (map nw v)))) (sym w) split)
 
-  -- the table still opens at its place
+  -- the table still opens at its position
   pub opens_still : passes (is_opening_of Table) (slice_get with_row at) ≡ true
   opens_still =
       let o = s.table in

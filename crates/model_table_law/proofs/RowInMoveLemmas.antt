@@ -1,10 +1,11 @@
--- What is covered, and what meets, where a row is put in among rectangles; and a line laid there.
+-- The area that is covered, and what meets, where a row is put in among rectangles; and a line laid
+-- there.
 use Rattle.std.specs.List.{list_any}
 use Rattle.std.proofs.Common.{◌≡◌, ◌⊎◌, inl, inr, ℕ, suc, ◌+◌, ◌<◌, ◌≤◌, Bool, true, false, ◌&&◌, ◌||◌, if◌then◌else◌, nat_lt, nat_le, List, [], ◌∷◌, ◌++◌, map, Some, None, refl, sym, ap, ◌∙◌, subst, arith, append-nil}
 use Rattle.std.proofs.lemmas.Bool.{cases_Bool, and_parts, and_from, or_parts, or_from, leb-true, ltb-true, leb-false, ltb-false, le-leb, lt-ltb, false_from_ne_true, true≢false}
 use Rattle.std.proofs.lemmas.List.{append_assoc}
 use Rattle.model_edit.specs.Layout.{Rectangle, has_row, has_column, grows_down, moved_down}
-use Rattle.model_edit_law.specs.Spans.{CellSpan, covered, free_from, width, meet, laid, bent, lay_row}
+use Rattle.model_edit_law.specs.Spans.{CellSpan, covers_cell, free_from, width, meet, laid, bent, lay_row}
 use Rattle.model_edit_law.proofs.LayLemmas.{meet_numbers, next_row, not_bent}
 use Rattle.model_edit_law.proofs.LeastLemmas.{placed_same, same_has}
 
@@ -61,7 +62,7 @@ has_same row j j' a h a' h' (inr m) (inr (inr s)) =
 pub has_column_same : (row : ℕ) (r r' : Rectangle) (column : ℕ) → Alike row r r' → has_column r' column ≡ has_column r column
 has_column_same row r r' column x = (λ i. nat_le (x.column i) column && nat_lt column (x.column i + x.columns i))
 
-covered_moved : (row j j' column : ℕ) (all : List Rectangle) → Moved row j j' → covered (map (moved_down row) all) j' column ≡ covered all j column
+covered_moved : (row j j' column : ℕ) (all : List Rectangle) → Moved row j j' → covers_cell (map (moved_down row) all) j' column ≡ covers_cell all j column
 covered_moved row j j' column [] m = refl
 covered_moved row j j' column (r ∷ all) m =
     let x = moved_alike row r in
@@ -125,14 +126,14 @@ abbrev pub rect : (row column : ℕ) → CellSpan → Rectangle
 rect row column s = record { row = row; column = column; rows = s.rows; columns = s.columns }
 
 module _ (row j j' left left' : ℕ) (f : CellSpan → CellSpan) (moves : Moved row j j') (P : Rectangle → Type 0) (it : (column : ℕ) (s : CellSpan) → P (rect j column s)) (X N : List Rectangle)
-    (free : (column : ℕ) → covered N j' column ≡ false) (apart : (r : Rectangle) → r.row ≡ j' → list_any (meet r) N ≡ false)
+    (free : (column : ℕ) → covers_cell N j' column ≡ false) (apart : (r : Rectangle) → r.row ≡ j' → list_any (meet r) N ≡ false)
     (moved : (column : ℕ) (s : CellSpan) → moved_down row (rect j column s) ≡ rect j' column (f s)) (wide : (s : CellSpan) → (f s).columns ≡ s.columns)
     (short : (s : CellSpan) → nat_lt left s.rows ≡ false → nat_lt left' (f s).rows ≡ false) where
   -- the rectangles X and Y after, with the new ones between
   abbrev between : List Rectangle → List Rectangle
   between Y = map (moved_down row) X ++ (N ++ map (moved_down row) Y)
 
-  covered_between : (Y : List Rectangle) (column : ℕ) → covered (between Y) j' column ≡ covered (X ++ Y) j column
+  covered_between : (Y : List Rectangle) (column : ℕ) → covers_cell (between Y) j' column ≡ covers_cell (X ++ Y) j column
   covered_between Y column =
       let p : Rectangle → Bool = λ r. has_row r j' && has_column r column in
       let q : Rectangle → Bool = λ r. has_row r j && has_column r column in

@@ -1,4 +1,5 @@
--- A list with a node put in: in the node that it stands in directly is one more, in each other stand the same, and those after it are moved.
+-- A list with a node put in: in the node that it stands in directly is one more, in each other
+-- stand the same, and those after it are moved.
 use Rattle.std.specs.Prelude.{filter}
 use Rattle.std.proofs.Common.{◌≡◌, ℕ, zero, suc, ◌+◌, ◌-◌, ◌<◌, ◌≤◌, Bool, true, false, cond, if◌then◌else◌, nat_lt, List, [], ◌∷◌, ◌++◌, length, map, take, drop, Option, Some, None, refl, sym, ap, ◌∙◌, subst, arith, length-drop}
 use Rattle.std.proofs.lemmas.Bool.{lt-ltb}
@@ -56,7 +57,7 @@ nodes_ended (Begin kind ∷ xs) ys (suc d) q h = nodes_ended xs ys (suc (suc d))
 nodes_ended (End kind ∷ xs) ys zero q h = refl
 nodes_ended (End kind ∷ xs) ys (suc d) q h = nodes_ended xs ys d (suc q) h
 
--- a place where `n` items are put in at the place p, and a node there
+-- a position where `n` items are put in at the position p, and a node there
 abbrev pub place_with : (p n at : ℕ) → ℕ
 place_with p n at = if nat_lt at p then at else at + n
 
@@ -87,7 +88,7 @@ nodes_far p n (Begin kind ∷ xs) (suc d) q far l e = nodes_far p n xs (suc (suc
 nodes_far p n (End kind ∷ xs) zero q far l e = refl
 nodes_far p n (End kind ∷ xs) (suc d) q far l e = nodes_far p n xs d (suc q) (suc far) (omega arith) (omega arith)
 
--- the nodes in the node that begins at a place
+-- the nodes in the node that begins at a position
 abbrev pub kids_in : List Shape → ℕ → List Open
 kids_in shapes at = nodes_in 0 (suc at) (drop (suc at) shapes)
 
@@ -105,7 +106,7 @@ pub record OneNode (kind : Kind) (shapes : List Shape) : Type 0 where
   pub top : (q : ℕ) → nodes_in 0 q shapes ≡ record { kind = kind; from = q } ∷ []
   pub within : (d q : ℕ) → nodes_in (suc d) q shapes ≡ []
 
--- Shapes with one node put in at the place p.
+-- Shapes with one node put in at the position p.
 module _ (S R : List Shape) (p n : ℕ) (kind : Kind) (one : OneNode kind R) (size : length R ≡ n) (room : p ≤ length S) where
   abbrev pub S_with : List Shape
   S_with = take p S ++ (R ++ drop p S)
@@ -201,7 +202,7 @@ of_kinds-append kinds (o ∷ xs) ys = by (is_among kinds o.kind) (of_kinds-appen
     by true e = ap (λ v. o ∷ v) e
     by false e = e
 
--- where one of the nodes begins none is open, and those before it stand before its place
+-- where one of the nodes begins none is open, and those before it stand before its position
 pub record Begins (kinds : List Kind) (d q : ℕ) (shapes : List Shape) (before : List Open) (o : Open) : Type 0 where
   pub far : ℕ
   pub place : o.from ≡ q + far

@@ -1,4 +1,5 @@
--- The place of a new row: the section that it stands in directly, and the rows before it and after it.
+-- The position of a new row: the section that it stands in directly, and the rows before it and
+-- after it.
 use Rattle.std.proofs.Common.{◌≡◌, ℕ, zero, suc, ◌+◌, ◌-◌, ◌<◌, ◌≤◌, cond, List, [], ◌∷◌, ◌++◌, length, map, take, drop, Some, None, refl, sym, ap, ◌∙◌, arith, length-append, append-nil}
 use Rattle.std.proofs.lemmas.List.{append_assoc}
 use Rattle.ve_kinds.specs.declared.kind.Kind.{Kind}
@@ -106,7 +107,7 @@ module _ (items : List PlainItem) (lawful : Lawful items) (p : ℕ) where
   before_is : (at far : ℕ) → p ≡ suc at + far → before at ≡ take far (drop (suc at) S)
   before_is at far e = ap (λ m. drop (suc at) (take m S)) e ∙ drop_take (suc at) far S
 
-  -- the walk in a node that ends before the place has ended there
+  -- the walk in a node that ends before the position has ended there
   pub node_ended : (kind : Kind) (at : ℕ) → Opens items kind at → end_of_node items at ≤ p → depth_after 0 (before at) ≡ None
   node_ended kind at o l =
       let n = node_shapes items kind at lawful o in
@@ -123,7 +124,7 @@ module _ (items : List PlainItem) (lawful : Lawful items) (p : ℕ) where
       ∙ depth_append n.inside (End kind ∷ take (j - 1) n.rest) 0
       ∙ ap (λ v. depth_then v (End kind ∷ take (j - 1) n.rest)) (n.level 0)
 
-  -- the place is right in a node, after these of its nodes
+  -- the position is right in a node, after these of its nodes
   pub record Gap (kinds : List Kind) (at : ℕ) (those : List Open) : Type 0 where
     pub near : at < p
     pub level : depth_after 0 (before at) ≡ Some 0

@@ -68,7 +68,8 @@ cut_at (suc k) (o ∷ nodes) l =
 abbrev pub rows_in : List PlainItem → Open → List TableRow
 rows_in items section = section_rows (children_of (Tr ∷ []) items section.from)
 
--- The section that the place stands in, right after these of its rows, and those before it and after it.
+-- The section that the position stands in, right after these of its rows, and those before it and
+-- after it.
 pub record Parent (items : List PlainItem) (lawful : Lawful items) (p row : ℕ) (sections : List Open) : Type 0 where
   pub earlier : List Open
   pub it : Open

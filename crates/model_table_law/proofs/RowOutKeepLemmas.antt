@@ -1,4 +1,4 @@
--- What stands in the cells after a row is taken out.
+-- The insides of the cells after a row is taken out.
 use Rattle.std.specs.Prelude.{slice_get, filter, filter_map, codes, decimal}
 use Rattle.std.specs.List.{cons_option}
 use Rattle.std.proofs.Common.{◌≡◌, ℕ, zero, suc, ◌+◌, ◌-◌, ◌≤◌, ◌<◌, ◌==◌, Bool, true, false, cond, not, ◌&&◌, if◌then◌else◌, nat_le, nat_lt, List, [], ◌∷◌, ◌++◌, length, map, Option, Some, None, Ok, refl, sym, ap, ◌∙◌, subst, arith}

@@ -1,10 +1,10 @@
--- What each row of a table adds to the rectangles before it.
+-- The rectangles that each row of a table adds to those before it.
 use Rattle.std.specs.List.{list_any}
 use Rattle.std.proofs.Common.{◌≡◌, inl, inr, ℕ, suc, ◌+◌, ◌-◌, ◌<◌, ◌≤◌, Bool, true, false, cond, ◌&&◌, if◌then◌else◌, nat_lt, List, [], ◌∷◌, ◌++◌, Option, Some, None, refl, sym, ap, ◌∙◌, subst, arith, append-nil}
 use Rattle.std.proofs.lemmas.Bool.{cases_eq, and_from, or_parts, or_from, ltb-true, ltb-false, le-leb, lt-ltb, eq-eqb, ne_eqb, false_from_ne_true, true≢false}
 use Rattle.std.proofs.lemmas.List.{append_assoc}
 use Rattle.model_edit.specs.Layout.{Rectangle, has_row, has_column}
-use Rattle.model_edit_law.specs.Spans.{CellSpan, Line, covered, free_from, width, meet, laid, bent, lay_row, lay, size_of, of_row}
+use Rattle.model_edit_law.specs.Spans.{CellSpan, Line, covers_cell, free_from, width, meet, laid, bent, lay_row, lay, size_of, of_row}
 use Rattle.model_edit_law.proofs.LeastLemmas.{placed_least}
 use Rattle.model_edit_law.proofs.LayLemmas.{meet_numbers, next_row, not_bent}
 
@@ -21,8 +21,8 @@ pub Sized-later : (row : ℕ) (xs : List Rectangle) → Sized row xs → Sized (
 Sized-later row [] x = tt
 Sized-later row (r ∷ xs) x = let l = x.0 in (omega arith, x.1, Sized-later row xs x.2)
 
--- what covers only free places meets nothing
-pub free_apart : (one : Rectangle) (B : List Rectangle) → 1 ≤ one.columns → Sized one.row B → ((k : ℕ) → one.column ≤ k → k < one.column + one.columns → covered B one.row k ≡ false) →
+-- what covers only free positions meets nothing
+pub free_apart : (one : Rectangle) (B : List Rectangle) → 1 ≤ one.columns → Sized one.row B → ((k : ℕ) → one.column ≤ k → k < one.column + one.columns → covers_cell B one.row k ≡ false) →
     list_any (meet one) B ≡ false
 free_apart one [] wide sized free = refl
 free_apart one (b ∷ B) wide sized free =
@@ -39,7 +39,7 @@ free_apart one (b ∷ B) wide sized free =
     never n true e = (let l = ltb-true one.column b.column e in let s = sized.1 in let n2 = n.2 in let n3 = n.3 in at b.column (omega arith) (omega arith) (omega arith) (omega arith) n.0)
     never n false e = (let l = ltb-false one.column b.column e in let n2 = n.2 in let n3 = n.3 in at one.column (omega arith) (omega arith) (omega arith) (omega arith) n.0)
 
--- a cell at the least free place that meets nothing
+-- a cell at the least free position that meets nothing
 pub put_one : (row left end : ℕ) (spans : List CellSpan) (B D : List Rectangle) (m : Rectangle) → row ≡ m.row → free_from B row end (width B) ≡ m.column → bent left B m ≡ false →
     lay_row row left (m.column + m.columns) spans (B ++ m ∷ []) ≡ Some D → lay_row row left end (size_of m ∷ spans) B ≡ Some D
 put_one row left end spans B D m its_row column straight rest =

@@ -1,4 +1,4 @@
--- What becomes of a table's insides, from what becomes of each of its rows.
+-- A table's insides under an edit, from what becomes of each of its rows.
 use Rattle.std.specs.Prelude.{flat_map}
 use Rattle.std.proofs.Common.{◌≡◌, ℕ, suc, ◌+◌, ◌≤◌, List, [], ◌∷◌, ◌++◌, length, take, drop, refl, sym, ap, ◌∙◌, subst, arith, append-nil}
 use Rattle.std.proofs.lemmas.List.{append_assoc, take-append-drop, length-take-le}

@@ -10,7 +10,7 @@ use Rattle.model_edit.specs.Grid.{Grid, grid}
 use Rattle.model_edit.specs.Layout.{Rectangle}
 use Rattle.model_edit_law.specs.Spans.{rectangle_of}
 
--- what stands between the brackets of the node that begins at a place
+-- the items between the brackets of the node that begins at a position
 abbrev pub inside : List PlainItem → ℕ → List PlainItem
 inside items at = take (partner items at - suc at) (drop (suc at) items)
 
@@ -25,7 +25,7 @@ abbrev pub filled_grid : List PlainItem → Result Grid TableCause → Result (L
 filled_grid items (Err fault) = Err fault
 filled_grid items (Ok g) = Ok (filled_cells items g)
 
--- the cells of the table that begins at a place, if it has a grid
+-- the cells of the table that begins at a position, if it has a grid
 abbrev pub filled_at : List PlainItem → ℕ → Result (List FilledCell) TableCause
 filled_at items at = filled_grid items (grid items at)
 

@@ -1,4 +1,4 @@
--- What stands in the cells of a table after a row or a column is put in or taken out.
+-- The insides of a table's cells after a row or a column is put in or taken out.
 use Rattle.std.specs.Prelude.{◌≡◌, ℕ, ◌==◌, nat_le, nat_lt, if◌then◌else◌, List, [], ◌∷◌, ◌++◌, map, filter, filter_map, flat_map, Result, Ok}
 use Rattle.std.specs.List.{range_with_len}
 use Rattle.model_items.specs.declared.plain_item.PlainItem.{PlainItem}

@@ -2,7 +2,7 @@
 use Rattle.std.proofs.Common.{◌≡◌, ℕ, suc, ◌+◌, List, [], ◌∷◌, take, slice_get, Some, Result, Ok, Err, refl, ap, ◌∙◌, subst, arith}
 use Rattle.model_change.specs.Transaction.{Transaction}
 use Rattle.model_site.specs.Replica.{Replica, performed, all_performed}
-use Rattle.model_world.specs.declared.change.Change.{Change}
+use Rattle.model_world.specs.declared.edit_command.EditCommand.{EditCommand}
 use Rattle.model_world.specs.declared.refusal.Refusal.{Refusal}
 use Rattle.model_world.specs.Edits.{BatchRefusal, change_on, batch_from}
 use Rattle.model_world.specs.Laws.{MadeInTurn, BatchIsWhole, WholeIsBatch, BatchStopsAtFirst}
@@ -14,13 +14,13 @@ Batch = Result (List Transaction) BatchRefusal
 abbrev with_rest : Transaction → Batch → Batch
 with_rest t rest = elim rest as (λ _. Batch) [ Err refused ↦ Err refused | Ok ts ↦ Ok (t ∷ ts) ]
 
-abbrev with_first : ℕ → Replica → List Change → Result Transaction Refusal → Batch
+abbrev with_first : ℕ → Replica → List EditCommand → Result Transaction Refusal → Batch
 with_first i r cs first = elim first as (λ _. Batch) [
   | Err refusal ↦ Err (record { at = i; refusal = refusal })
   | Ok t ↦ with_rest t (batch_from (suc i) cs (performed t r))
 ]
 
-made_in_turn : (cs : List Change) (i : ℕ) (r : Replica) (ts : List Transaction) → batch_from i cs r ≡ Ok ts → MadeInTurn cs ts r
+made_in_turn : (cs : List EditCommand) (i : ℕ) (r : Replica) (ts : List Transaction) → batch_from i cs r ≡ Ok ts → MadeInTurn cs ts r
 made_in_turn [] i r ts h = let e : ◌≡◌ {A = List Transaction} [] ts = cc in subst (λ us. MadeInTurn [] us r) e tt
 made_in_turn (c ∷ cs) i r ts h = by_first (made_in_turn cs (suc i)) (change_on r c) refl h
   where
@@ -36,7 +36,7 @@ made_in_turn (c ∷ cs) i r ts h = by_first (made_in_turn cs (suc i)) (change_on
 pub batch_is_whole : BatchIsWhole
 batch_is_whole r cmds ts h = made_in_turn cmds 0 r ts h
 
-whole_from : (cs : List Change) (ts : List Transaction) (i : ℕ) (r : Replica) → MadeInTurn cs ts r → batch_from i cs r ≡ Ok ts
+whole_from : (cs : List EditCommand) (ts : List Transaction) (i : ℕ) (r : Replica) → MadeInTurn cs ts r → batch_from i cs r ≡ Ok ts
 whole_from [] [] i r m = refl
 whole_from [] (t ∷ ts) i r m = absurd m
 whole_from (c ∷ cs) [] i r m = absurd m
@@ -45,17 +45,17 @@ whole_from (c ∷ cs) (t ∷ ts) i r m = ap (with_first i r cs) m.0 ∙ ap (with
 pub whole_is_batch : WholeIsBatch
 whole_is_batch r cmds ts m = whole_from cmds ts 0 r m
 
--- counted from the place i on
-pub record StopsFrom (i : ℕ) (r : Replica) (cmds : List Change) (f : BatchRefusal) : Type 0 where
+-- counted from the position i on
+pub record StopsFrom (i : ℕ) (r : Replica) (cmds : List EditCommand) (f : BatchRefusal) : Type 0 where
   pub past : ℕ
   pub place : f.at ≡ i + past
   pub made : List Transaction
   pub in_turn : MadeInTurn (take past cmds) made r
-  pub change : Change
+  pub change : EditCommand
   pub there : slice_get cmds past ≡ Some change
   pub refused : change_on (all_performed made r) change ≡ Err f.refusal
 
-stops_from : (cs : List Change) (i : ℕ) (r : Replica) (f : BatchRefusal) → batch_from i cs r ≡ Err f → StopsFrom i r cs f
+stops_from : (cs : List EditCommand) (i : ℕ) (r : Replica) (f : BatchRefusal) → batch_from i cs r ≡ Err f → StopsFrom i r cs f
 stops_from [] i r f h = cc
 stops_from (c ∷ cs) i r f h = by_first (stops_from cs (suc i)) (change_on r c) refl h
   where

@@ -20,7 +20,8 @@ clusters : Answered
 unfolding page_on_literals is_utf8 digits unicode_segmentation
 clusters = refl
 
--- a raw no-break space gives the same items, and is written as a reference once its paragraph changed
+-- a raw no-break space gives the same items, and is written as a reference once its paragraph
+-- changed
 no_break_space : Answered
     ((codes "{\"do\":\"open\",\"page\":\"<p>e\\u0301x\\u00a0y</p>\"}", codes "ok 9")
     ∷ (codes "{\"do\":\"select\",\"anchor\":3,\"focus\":3}", codes "ok 3 3")
@@ -44,7 +45,8 @@ words_and_edges : Answered
 unfolding page_on_literals is_utf8 digits unicode_segmentation
 words_and_edges = refl
 
--- the anchor stays where it is kept, the selection is erased and typed over, and it cannot end inside a leaf
+-- the anchor stays where it is kept, the selection is erased and typed over, and it cannot end
+-- inside a leaf
 kept_anchor : Answered
     ((codes "{\"do\":\"open\",\"page\":\"<p>ab<br>cd</p>\"}", codes "ok 10")
     ∷ (codes "{\"do\":\"select\",\"anchor\":4,\"focus\":1}", codes "no bad_offset 4")

@@ -1,4 +1,5 @@
--- Worked scripts by computation: limits at the number and at the next one, and a page cut off after each of its bytes.
+-- Worked scripts by computation: limits at the number and at the next one, and a page cut off after
+-- each of its bytes.
 use Rattle.std.specs.Prelude.{ℕ, List, [], ◌∷◌, ◌++◌, take, map, codes, refl}
 use Rattle.std.specs.List.{range_with_len}
 use Rattle.std.specs.Fmt.{digits}

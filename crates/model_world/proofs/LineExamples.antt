@@ -8,10 +8,10 @@ use Rattle.model_items.specs.declared.plain_item.PlainItem.TheVariants.{Char, Op
 use Rattle.model_page.proofs.OnLiterals.{page_on_literals}
 use Rattle.model_edit.specs.declared.selection.Dir.TheVariants.{Back, Ahead}
 use Rattle.model_edit.specs.declared.selection.By.TheVariants.{Cluster, Word}
-use Rattle.model_world.specs.declared.change.TextMarks.TheVariants as text_marks
-use Rattle.model_world.specs.declared.change.OpWords.TheVariants as op
-use Rattle.model_world.specs.declared.change.Change.{Change}
-use Rattle.model_world.specs.declared.change.Change.TheVariants as change
+use Rattle.model_world.specs.declared.edit_command.TextMarks.TheVariants as text_marks
+use Rattle.model_world.specs.declared.edit_command.OpWords.TheVariants as op
+use Rattle.model_world.specs.declared.edit_command.EditCommand.{EditCommand}
+use Rattle.model_world.specs.declared.edit_command.EditCommand.TheVariants as change
 use Rattle.model_world.specs.declared.command.Request.{Request}
 use Rattle.model_world.specs.declared.command.Request.TheVariants as request
 use Rattle.model_world.specs.declared.command.Command.TheVariants.{OpenPage, Ask}
@@ -26,7 +26,7 @@ abbrev Asks : List ℕ → Request → Type 0
 Asks line asked = command line ≡ Ok (Ask asked 0)
 
 -- the line asks for the change, of site 0
-abbrev Changes : List ℕ → Change → Type 0
+abbrev Changes : List ℕ → EditCommand → Type 0
 Changes line changed = Asks line (request.Edit changed)
 
 -- this member is the first that is missing or ill-formed

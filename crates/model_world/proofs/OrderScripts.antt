@@ -5,7 +5,8 @@ use Rattle.std.specs.Str.{is_utf8}
 use Rattle.model_page.proofs.OnLiterals.{page_on_literals}
 use Rattle.model_world.proofs.Scripts.{Answered}
 
--- the line is judged before the world: its members, whether a page is open, and whether there is such a site
+-- the line is judged before the world: its members, whether a page is open, and whether there is
+-- such a site
 line_before_world : Answered
     ((codes "{\"do\":\"html\",\"site\":9}", codes "no not_open")
     ∷ (codes "{\"do\":\"text\",\"at\":0,\"text\":\"\",\"site\":9}", codes "no bad_command text")
@@ -32,7 +33,7 @@ ranges_and_offsets : Answered
 unfolding page_on_literals is_utf8 digits
 ranges_and_offsets = refl
 
--- of a fragment the offset is judged first, then its spelling, and then its place
+-- of a fragment the offset is judged first, then its spelling, and then its position
 offset_before_spelling : Answered
     ((codes "{\"do\":\"open\",\"page\":\"<p>a</p>\"}", codes "ok 5")
     ∷ (codes "{\"do\":\"insert\",\"at\":9,\"html\":\"<b>\"}", codes "no bad_offset 9")

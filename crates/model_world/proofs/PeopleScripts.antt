@@ -5,7 +5,7 @@ use Rattle.std.specs.Str.{is_utf8}
 use Rattle.model_page.proofs.OnLiterals.{page_on_literals}
 use Rattle.model_world.proofs.Scripts.{Answered}
 
--- two texts at one place: the committed one stays left
+-- two texts at one position: the committed one stays left
 tie : Answered
     ((codes "{\"do\":\"open\",\"page\":\"<p></p>\",\"sites\":2}", codes "ok 4")
     ∷ (codes "{\"do\":\"text\",\"at\":1,\"text\":\"A\",\"site\":0}", codes "ok 5")

@@ -1,4 +1,5 @@
--- Scripts with their replies, for worked examples: what is written for the lines of a script are the replies that stand beside them.
+-- Scripts with their replies, for worked examples: what is written for the lines of a script are
+-- the replies that stand beside them.
 use Rattle.std.specs.Prelude.{◌≡◌, ℕ, zero, suc, List, [], ◌∷◌, ◌++◌, codes}
 use Rattle.serde_json.specs.Data.{string}
 use Rattle.serde_json.specs.Written.{compact_text}

@@ -13,7 +13,7 @@ use Rattle.model_site.specs.declared.taken.Taken.{Taken}
 use Rattle.model_site.specs.declared.taken.Taken.TheVariants as taken
 use Rattle.model_site.specs.Site.{Site, Submission, undo, redo, send, revoke_entry}
 use Rattle.model_site.specs.Session.{Session, Member, serve_next, take_next}
-use Rattle.model_world.specs.declared.change.Change.TheVariants as change
+use Rattle.model_world.specs.declared.edit_command.EditCommand.TheVariants as change
 use Rattle.model_world.specs.declared.command.Request.{Request}
 use Rattle.model_world.specs.declared.command.Request.TheVariants as request
 use Rattle.model_world.specs.declared.command.Command.{Command}
@@ -24,11 +24,11 @@ use Rattle.model_world.specs.declared.reply.Reply.{Reply}
 use Rattle.model_world.specs.declared.reply.Reply.TheVariants as reply
 use Rattle.model_world.specs.Commands.{command}
 use Rattle.model_world.specs.Refusals.{refused_as, undo_refusal, redo_refusal, send_refusal, revoke_refusal, table_refusal, list_refusal}
-use Rattle.model_world.specs.Edits.{BatchRefusal, allowed, change_on, batch_on}
+use Rattle.model_world.specs.Edits.{BatchRefusal, checked_transaction, change_on, batch_on}
 use Rattle.model_world.specs.Opening.{open_page}
-use Rattle.model_world.specs.Answers.{Outcome, Asked, asked, site_of, replica_of, site_items, told, refused, changed_or_no, performed_or_no, batch_or_no, selected, is_no_end, select_between, next_place, moved_or_no, lower, higher, to_erase, erased_or_no, typing, typed_or_no, items_shown_or_no, node_told, node_or_no, grid_or_no, table_changed, list_changed, sent_or_no, served_or_no, taken_or_no, taken_reply, revoked_or_no}
+use Rattle.model_world.specs.Answers.{Outcome, Asked, request_outcome, site_of, replica_of, site_items, unchanged_outcome, refusal_outcome, changed_or_no, performed_or_no, batch_or_no, selection_outcome, is_no_end, select_between, next_place, moved_or_no, lower, higher, to_erase, erased_or_no, typing, typed_or_no, items_shown_or_no, node_told, node_or_no, grid_or_no, table_changed, list_changed, sent_or_no, served_or_no, taken_or_no, taken_reply, revoked_or_no}
 use Rattle.ve_base.specs.Limits.{max_line}
-use Rattle.model_world.specs.World.{World, Closed, Open, Answer, opened_or_no, on_page, asked_of, answered, answered_if, answer, settled}
+use Rattle.model_world.specs.World.{World, Closed, Open, Answer, opened_or_no, on_page, asked_of, answer_of, answered_if, answer, reply_and_next}
 use Rattle.model_world.specs.Laws.{is_refusal, RefusalsChangeNothing}
 
 -- a reply with a session is no refusal
@@ -69,10 +69,10 @@ grid_answers a (Ok g) = refl
 grid_answers a (Err fault) = tt
 
 table_answers : (a : Asked) (r : Result Transaction TableCause) → Answers (table_changed a r)
-table_answers a r = performed_answers a (allowed (replica_of a) (refused_as table_refusal r))
+table_answers a r = performed_answers a (checked_transaction (replica_of a) (refused_as table_refusal r))
 
 list_answers : (a : Asked) (r : Result Transaction ListCause) → Answers (list_changed a r)
-list_answers a r = performed_answers a (allowed (replica_of a) (refused_as list_refusal r))
+list_answers a r = performed_answers a (checked_transaction (replica_of a) (refused_as list_refusal r))
 
 sent_answers : (a : Asked) (r : Result (Site × Submission) Refusal) → Answers (sent_or_no a r)
 sent_answers a (Ok r) = refl
@@ -94,7 +94,7 @@ revoke_answers : (a : Asked) (i : ℕ) → Answers (revoked_or_no a i)
 revoke_answers a i = by_seen (nat_lt i (site_of a).seen)
   where
     by_seen : (b : Bool) → Answers {A = Session} (elim b [
-      | false ↦ refused (BadEntry i (site_of a).seen)
+      | false ↦ refusal_outcome (BadEntry i (site_of a).seen)
       | true ↦ changed_or_no a (refused_as revoke_refusal (revoke_entry a.session.committed i (site_of a)))
     ])
     by_seen false = tt
@@ -102,20 +102,20 @@ revoke_answers a i = by_seen (nat_lt i (site_of a).seen)
 
 show_answers : (a : Asked) (from to : ℕ) → Answers (items_shown_or_no a from to)
 show_answers a from to =
-    either (nat_lt to from || nat_lt (length (site_items a)) to) (refused (BadRange from to))
-    (told a (reply.Items (slice_range (site_items a) from to))) tt refl
+    either (nat_lt to from || nat_lt (length (site_items a)) to) (refusal_outcome (BadRange from to))
+    (unchanged_outcome a (reply.Items (slice_range (site_items a) from to))) tt refl
 
 node_answers : (a : Asked) (at : ℕ) → Answers (node_or_no a at)
-node_answers a at = either (nat_lt (length (site_items a)) at) (refused (BadOffset at)) (node_told a at) tt refl
+node_answers a at = either (nat_lt (length (site_items a)) at) (refusal_outcome (BadOffset at)) (node_told a at) tt refl
 
 select_answers : (a : Asked) (anchor focus : ℕ) → Answers (select_between a anchor focus)
 select_answers a anchor focus =
-    let done = selected a (between anchor focus) in
-    let second = if is_no_end (site_items a) focus then refused (BadOffset focus) else done in
-    either (is_no_end (site_items a) anchor) (refused (BadOffset anchor)) second tt
-    (either (is_no_end (site_items a) focus) (refused (BadOffset focus)) done tt refl)
+    let done = selection_outcome a (between anchor focus) in
+    let second = if is_no_end (site_items a) focus then refusal_outcome (BadOffset focus) else done in
+    either (is_no_end (site_items a) anchor) (refusal_outcome (BadOffset anchor)) second tt
+    (either (is_no_end (site_items a) focus) (refusal_outcome (BadOffset focus)) done tt refl)
 
-asked_answers : (a : Asked) (r : Request) → Answers (asked a r)
+asked_answers : (a : Asked) (r : Request) → Answers (request_outcome a r)
 asked_answers a request.Html = refl
 asked_answers a request.Tree = refl
 asked_answers a request.Refs = refl
@@ -149,13 +149,13 @@ page_answers page (Err r) p = tt
 member_answers : (page : Opened) (w : Session) (r : Request) (k : ℕ) (m : Option Member) → Answers (asked_of page w r k m)
 member_answers page w r k None = tt
 member_answers page w r k (Some m) =
-    let a : Asked = record { page = page; session = w; k = k; member = m } in page_answers page (asked a r) (asked_answers a r)
+    let a : Asked = record { page = page; session = w; k = k; member = m } in page_answers page (request_outcome a r) (asked_answers a r)
 
 open_answers : (sites : ℕ) (r : Result Opened Refusal) → Answers (opened_or_no sites r)
 open_answers sites (Ok page) = refl
 open_answers sites (Err refusal) = tt
 
-command_answers : (w : World) (c : Command) → Answers (answered w c)
+command_answers : (w : World) (c : Command) → Answers (answer_of w c)
 command_answers w (OpenPage page sites) = open_answers sites (open_page page)
 command_answers Closed (Ask r k) = tt
 command_answers (Open page session) (Ask r k) = member_answers page session r k (slice_get session.members k)
@@ -177,6 +177,6 @@ line_answers w line = by_length (nat_lt max_line (length line))
 pub refusals_change_nothing : RefusalsChangeNothing
 refusals_change_nothing w line = by_answer (answer w line) (line_answers w line)
   where
-    by_answer : (a : Answer) → Answers a → is_refusal (settled w a).0 ≡ true → (settled w a).1 ≡ w
+    by_answer : (a : Answer) → Answers a → is_refusal (reply_and_next w a).0 ≡ true → (reply_and_next w a).1 ≡ w
     by_answer (Ok r) p h = cc
     by_answer (Err r) p h = refl

@@ -1,4 +1,4 @@
--- What a line of a script asks.
+-- Commands of a script's lines.
 use Rattle.std.specs.Prelude.{ℕ, ◌&&◌, nat_le, false, if◌then◌else◌, List, [], ◌∷◌, length, map, codes, Bool, Option, Some, None, option_map, Result, Ok, Err}
 use Rattle.ve_base.specs.Limits.{max_batch, max_sites}
 use Rattle.serde_json.specs.Data.{Data, object, Members}
@@ -7,7 +7,7 @@ use Rattle.model_edit.specs.declared.selection.Dir.{Dir}
 use Rattle.model_edit.specs.declared.selection.Dir.TheVariants.{Back, Ahead}
 use Rattle.model_edit.specs.declared.selection.By.{By}
 use Rattle.model_edit.specs.declared.selection.By.TheVariants.{Cluster, Word}
-use Rattle.model_world.specs.declared.change.Change.{Change}
+use Rattle.model_world.specs.declared.edit_command.EditCommand.{EditCommand}
 use Rattle.model_world.specs.declared.command.Request.{Request}
 use Rattle.model_world.specs.declared.command.Request.TheVariants as request
 use Rattle.model_world.specs.declared.command.Command.{Command}
@@ -17,7 +17,7 @@ use Rattle.model_world.specs.declared.field.Field.TheVariants as field
 use Rattle.model_world.specs.declared.refusal.Refusal.{Refusal}
 use Rattle.model_world.specs.declared.refusal.Refusal.TheVariants.{BadJson, BadCommand}
 use Rattle.model_world.specs.Values.{line_json, such_that, number_in, number_between, source_in, list_in, word_in}
-use Rattle.model_world.specs.Members.{Reader, ◌>>=◌, needed, defaulted, made}
+use Rattle.model_world.specs.Members.{Reader, ◌>>=◌, required_member, optional_member, map_reader}
 use Rattle.model_world.specs.Changes.{some_text_in, changes, reader_in, change_in}
 
 -- ---- requests of a site
@@ -28,14 +28,14 @@ alone asked _ = Ok asked
 
 abbrev pub at_read : (ℕ → Request) → Reader Request
 at_read asked members = do
-  at ← needed field.At number_in members
+  at ← required_member field.At number_in members
   Ok (asked at)
 
--- a table's place and a row or a column of it
+-- a table's position and a row or a column of it
 abbrev pub table_read : Field → (ℕ → ℕ → Request) → Reader Request
 table_read line asked members = do
-  at ← needed field.At number_in members
-  number ← needed line number_in members
+  at ← required_member field.At number_in members
+  number ← required_member line number_in members
   Ok (asked at number)
 
 abbrev pub some_number_in : Data → Option (Option ℕ)
@@ -43,22 +43,22 @@ some_number_in json = option_map (λ n. Some n) (number_in json)
 
 abbrev pub show_read : Reader Request
 show_read members = do
-  from ← defaulted field.From 0 number_in members
-  to ← defaulted field.To None some_number_in members
+  from ← optional_member field.From 0 number_in members
+  to ← optional_member field.To None some_number_in members
   Ok (request.ShowItems from to)
 
-abbrev pub is_batch : List Change → Bool
+abbrev pub is_batch : List EditCommand → Bool
 is_batch cmds = nat_le 1 (length cmds) && nat_le (length cmds) max_batch
 
 abbrev pub batch_read : Reader Request
 batch_read members = do
-  cmds ← needed field.Cmds (λ json. such_that is_batch (list_in change_in json)) members
+  cmds ← required_member field.Cmds (λ json. such_that is_batch (list_in change_in json)) members
   Ok (request.Batch cmds)
 
 abbrev pub select_read : Reader Request
 select_read members = do
-  anchor ← needed field.Anchor number_in members
-  focus ← needed field.Focus number_in members
+  anchor ← required_member field.Anchor number_in members
+  focus ← required_member field.Focus number_in members
   Ok (request.Select anchor focus)
 
 abbrev pub dir_in : Data → Option Dir
@@ -69,25 +69,25 @@ by_in = word_in ((codes "cluster", Cluster) ∷ (codes "word", Word) ∷ [])
 
 abbrev pub move_read : Reader Request
 move_read members = do
-  dir ← needed field.Dir dir_in members
-  by ← defaulted field.By Cluster by_in members
-  keep ← defaulted field.Keep false as_bool members
+  dir ← required_member field.Dir dir_in members
+  by ← optional_member field.By Cluster by_in members
+  keep ← optional_member field.Keep false as_bool members
   Ok (request.Move dir by keep)
 
 abbrev pub type_read : Reader Request
 type_read members = do
-  text ← needed field.Text some_text_in members
+  text ← required_member field.Text some_text_in members
   Ok (request.TypeText text)
 
 abbrev pub erase_read : Reader Request
 erase_read members = do
-  dir ← needed field.Dir dir_in members
-  by ← defaulted field.By Cluster by_in members
+  dir ← required_member field.Dir dir_in members
+  by ← optional_member field.By Cluster by_in members
   Ok (request.Erase dir by)
 
 abbrev pub revoke_read : Reader Request
 revoke_read members = do
-  entry ← needed field.Entry number_in members
+  entry ← required_member field.Entry number_in members
   Ok (request.Revoke entry)
 
 -- each with its word; those that a batch may hold stand last
@@ -117,7 +117,7 @@ requests =
     ∷ (codes "indent", at_read (λ at. request.Indent at))
     ∷ (codes "outdent", at_read (λ at. request.Outdent at))
     ∷ (codes "revoke", revoke_read)
-    ∷ map (λ (row : List ℕ × Reader Change). (row.0, made (λ change. request.Edit change) row.1)) changes
+    ∷ map (λ (row : List ℕ × Reader EditCommand). (row.0, map_reader (λ change. request.Edit change) row.1)) changes
 
 -- ---- commands
 
@@ -125,13 +125,13 @@ requests =
 abbrev pub ask_read : Reader Request → Reader Command
 ask_read read members = do
   asked ← read members
-  site ← defaulted field.Site 0 number_in members
+  site ← optional_member field.Site 0 number_in members
   Ok (Ask asked site)
 
 abbrev pub open_read : Reader Command
 open_read members = do
-  page ← needed field.Page source_in members
-  sites ← defaulted field.Sites 1 (number_between 1 max_sites) members
+  page ← required_member field.Page source_in members
+  sites ← optional_member field.Sites 1 (number_between 1 max_sites) members
   Ok (OpenPage page sites)
 
 abbrev pub commands : List (List ℕ × Reader Command)
@@ -153,6 +153,6 @@ abbrev pub command_or_refusal : Option Data → Result Command Refusal
 command_or_refusal None = Err BadJson
 command_or_refusal (Some json) = command_in json
 
--- what a line asks, or why it asks nothing
+-- the command of a line, or why it is none
 abbrev pub command : List ℕ → Result Command Refusal
 command line = command_or_refusal (line_json line)

@@ -1,4 +1,5 @@
--- Items as a line writes them: as a reply shows them, with a text for its characters. They have no origin and are not generated.
+-- Items as a line writes them: as a reply shows them, with a text for its characters. They have no
+-- origin and are not generated.
 use Rattle.std.specs.Prelude.{ℕ, Bool, flat_map, false, not, ◌||◌, if◌then◌else◌, List, [], ◌∷◌, codes, Option, Some, None, option_map, option_and_then}
 use Rattle.serde_json.specs.Data.{Data, string, array, object, Members}
 use Rattle.serde_json.specs.Find.{get_member}

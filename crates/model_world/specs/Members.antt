@@ -5,7 +5,7 @@ use Rattle.model_world.specs.declared.field.Field.{Field}
 use Rattle.model_world.specs.Names.{field_name}
 use Rattle.model_world.specs.Values.{member_in, member_or}
 
--- what reads the members of a command
+-- readers of the members of a command
 abbrev pub Reader : Type 0 → Type 0
 Reader A = Members → Result A Field
 
@@ -20,15 +20,15 @@ or_bad field None = Err field
 or_bad field (Some x) = Ok x
 
 -- a member that has to be there
-abbrev pub needed : {A : Type 0} → Field → (Data → Option A) → Reader A
-needed field read members = or_bad field (member_in (field_name field) read members)
+abbrev pub required_member : {A : Type 0} → Field → (Data → Option A) → Reader A
+required_member field read members = or_bad field (member_in (field_name field) read members)
 
 -- a member that may be absent; `null` is not an absent one
-abbrev pub defaulted : {A : Type 0} → Field → A → (Data → Option A) → Reader A
-defaulted field default read members = or_bad field (member_or (field_name field) default read members)
+abbrev pub optional_member : {A : Type 0} → Field → A → (Data → Option A) → Reader A
+optional_member field default read members = or_bad field (member_or (field_name field) default read members)
 
--- what is made of what was read
-abbrev pub made : {A B : Type 0} → (A → B) → Reader A → Reader B
-made f read members = do
+-- a reader whose result is mapped
+abbrev pub map_reader : {A B : Type 0} → (A → B) → Reader A → Reader B
+map_reader f read members = do
   x ← read members
   Ok (f x)

@@ -1,10 +1,11 @@
--- The operations of a transaction, as a line writes them. What they remove, and the old values of attributes, are the list's.
+-- The operations of a transaction, as a line writes them. What they remove, and the old values of
+-- attributes, are the list's.
 use Rattle.std.specs.Prelude.{◌+◌, Bool, true, false, not, ◌&&◌, nat_lt, List, [], ◌∷◌, length, codes, Option, Some, None, option_map}
 use Rattle.serde_json.specs.Data.{Data, Members}
 use Rattle.serde_json.specs.Find.{get_member, as_object}
 use Rattle.model_items.specs.Same.{text_same}
-use Rattle.model_world.specs.declared.change.OpWords.{OpWords}
-use Rattle.model_world.specs.declared.change.OpWords.TheVariants.{Retain, Remove, Attr}
+use Rattle.model_world.specs.declared.edit_command.OpWords.{OpWords}
+use Rattle.model_world.specs.declared.edit_command.OpWords.TheVariants.{Retain, Remove, Attr}
 use Rattle.model_world.specs.Values.{◌>>=◌, such_that, number_in, text_or_null_in, list_in, member_in}
 use Rattle.model_world.specs.Attributes.{name_in}
 use Rattle.model_world.specs.ItemWords.{all_items_in}
@@ -34,7 +35,8 @@ op_in json = do
   members ← as_object json
   op_by members (get_member (codes "retain") members) (get_member (codes "remove") members)
 
--- The normal form, as of transactions: no two retains or removals are neighbours, and the attributes set at one place have different names and are followed by a retain.
+-- The normal form, as of transactions. No two retains or removals are neighbours. The attributes
+-- set at one position have different names and are followed by a retain.
 abbrev pub word_may_precede : OpWords → List OpWords → Bool
 word_may_precede (Retain count) (Retain other ∷ ops) = false
 word_may_precede (Retain count) _ = true

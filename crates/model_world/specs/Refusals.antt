@@ -1,4 +1,5 @@
--- The refusal that a cause is answered by. What a line removes is the list's own: an item that differs is never asked for, and has the word of a full store.
+-- The refusal that a cause is answered by. What a line removes is the list's own: an item that
+-- differs is never asked for, and has the word of a full store.
 use Rattle.std.specs.Prelude.{Result, Ok, Err}
 use Rattle.model_spelling.specs.Faults.{ForestFault}
 use Rattle.model_spelling.specs.Faults as forest
@@ -15,7 +16,7 @@ use Rattle.model_world.specs.declared.refusal.HtmlWord.TheVariants as word
 use Rattle.model_world.specs.declared.refusal.Refusal.{Refusal}
 use Rattle.model_world.specs.declared.refusal.Refusal.TheVariants as refusal
 
--- what a call gives, or its cause as a refusal
+-- the result of a call, or its cause as a refusal
 abbrev pub refused_as : {A E : Type 0} → (E → Refusal) → Result A E → Result A Refusal
 refused_as named (Ok x) = Ok x
 refused_as named (Err fault) = Err (named fault)

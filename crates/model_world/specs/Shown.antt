@@ -56,7 +56,8 @@ key_text (Auto n) = codes "a:" ++ decimal n
 abbrev pub key_shown : RefKey → Data
 key_shown key = json_list (json_text key.group ∷ json_text (key_text key.key) ∷ [])
 
--- ---- brackets: each member but the first stands only where it is not empty; members stand in the order of their names
+-- ---- brackets: each member but the first stands only where it is not empty; members stand in the
+-- order of their names
 
 abbrev pub with_text : List ℕ → List ℕ → Members → Members
 with_text name [] members = members
@@ -105,7 +106,8 @@ abbrev pub run_shown : List Mark → List ℕ → Data
 run_shown [] text = json_text text
 run_shown (m ∷ marks) text = json_list (json_text text ∷ marks_shown (m ∷ marks) ∷ [])
 
--- the items from a place on: a run of characters with equal marks and what follows it, or what begins with no character
+-- the items from a position on: a run of characters with equal marks and what follows it, or what
+-- begins with no character
 pub data Shown : Type 0 where
   Together : (marks : List Mark) (text : List ℕ) (later : List Data) → Shown
   Apart : (later : List Data) → Shown
@@ -122,15 +124,15 @@ char_shown c marks (Together others text later) =
     else Together marks (c ∷ []) (run_shown others text ∷ later)
 char_shown c marks (Apart later) = Together marks (c ∷ []) later
 
-abbrev pub shown : List PlainItem → Shown
-shown [] = Apart []
-shown (Char c marks ∷ items) = char_shown c marks (shown items)
-shown (Opening kind head marks pre origin generated ∷ items) =
-    Apart (object (opening_shown kind head marks pre origin generated) ∷ all_shown (shown items))
-shown (Closing kind pre ∷ items) = Apart (object (closing_shown kind pre) ∷ all_shown (shown items))
+abbrev pub as_shown : List PlainItem → Shown
+as_shown [] = Apart []
+as_shown (Char c marks ∷ items) = char_shown c marks (as_shown items)
+as_shown (Opening kind head marks pre origin generated ∷ items) =
+    Apart (object (opening_shown kind head marks pre origin generated) ∷ all_shown (as_shown items))
+as_shown (Closing kind pre ∷ items) = Apart (object (closing_shown kind pre) ∷ all_shown (as_shown items))
 
 abbrev pub items_shown : List PlainItem → Data
-items_shown items = json_list (all_shown (shown items))
+items_shown items = json_list (all_shown (as_shown items))
 
 -- ---- references and cells
 

@@ -1,4 +1,4 @@
--- What a JSON value is read as. None comes where the value is not well formed for it.
+-- Readings of a JSON value. None comes where the value is not well formed for it.
 use Rattle.std.specs.Prelude.{ℕ, Bool, not, ◌&&◌, nat_le, nat_lt, if◌then◌else◌, List, [], ◌∷◌, length, bytes_eq, chars, Option, Some, None, option_map, option_and_then}
 use Rattle.std.specs.List.{list_any}
 use Rattle.std.specs.Str.{is_utf8}
@@ -11,12 +11,12 @@ use Rattle.model_spelling.specs.Grammar.{is_barred}
 abbrev pub line_json : List ℕ → Option Data
 line_json line = if is_utf8 line then read line else None
 
--- what is well formed is read on
+-- a well formed value is read on
 infixl 10 ◌>>=◌
 abbrev pub ◌>>=◌ : {A B : Type 0} → Option A → (A → Option B) → Option B
 o >>= read = option_and_then read o
 
--- what passes the test is well formed
+-- a value that passes the test is well formed
 abbrev pub such_that : {A : Type 0} → (A → Bool) → Option A → Option A
 such_that test None = None
 such_that test (Some x) = if test x then Some x else None
@@ -48,7 +48,7 @@ abbrev pub text_or_null_in : Data → Option (Option (List ℕ))
 text_or_null_in null = Some None
 text_or_null_in json = option_map (λ text. Some text) (text_in json)
 
--- what the word stands for, in the first row that has it
+-- the meaning of the word, in the first row that has it
 abbrev pub meant_by : {A : Type 0} → List (List ℕ × A) → List ℕ → Option A
 meant_by [] word = None
 meant_by (row ∷ rows) word = if bytes_eq row.0 word then Some row.1 else meant_by rows word
@@ -58,9 +58,9 @@ abbrev pub word_in : {A : Type 0} → List (List ℕ × A) → Data → Option A
 word_in rows json = option_and_then (meant_by rows) (as_str json)
 
 -- the values of a list
-abbrev pub listed : Items → List Data
-listed no_items = []
-listed (item json items) = json ∷ listed items
+abbrev pub json_values : Items → List Data
+json_values no_items = []
+json_values (item json items) = json ∷ json_values items
 
 -- all of them, where each is well formed
 abbrev pub all_read : {A : Type 0} → (Data → Option A) → List Data → Option (List A)
@@ -68,7 +68,7 @@ all_read read [] = Some []
 all_read read (json ∷ more) = option_and_then (λ x. option_map (λ xs. x ∷ xs) (all_read read more)) (read json)
 
 abbrev pub list_in : {A : Type 0} → (Data → Option A) → Data → Option (List A)
-list_in read json = option_and_then (λ items. all_read read (listed items)) (as_array json)
+list_in read json = option_and_then (λ items. all_read read (json_values items)) (as_array json)
 
 abbrev pub two_of : List Data → Option (Data × Data)
 two_of (one ∷ other ∷ []) = Some (one, other)
@@ -76,13 +76,13 @@ two_of _ = None
 
 -- a list of exactly two
 abbrev pub pair_in : Data → Option (Data × Data)
-pair_in json = option_and_then (λ items. two_of (listed items)) (as_array json)
+pair_in json = option_and_then (λ items. two_of (json_values items)) (as_array json)
 
 -- a member that has to be there
 abbrev pub member_in : {A : Type 0} → List ℕ → (Data → Option A) → Members → Option A
 member_in name read members = option_and_then read (get_member name members)
 
--- what an absent member stands for
+-- the default of an absent member
 abbrev pub read_or : {A : Type 0} → A → (Data → Option A) → Option Data → Option A
 read_or default read None = Some default
 read_or default read (Some json) = read json

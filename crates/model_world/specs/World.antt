@@ -14,7 +14,7 @@ use Rattle.model_world.specs.declared.reply.Reply.TheVariants.{Length, No}
 use Rattle.model_world.specs.Commands.{command}
 use Rattle.model_world.specs.Spelled.{reply_text}
 use Rattle.model_world.specs.Opening.{open_page, session_of}
-use Rattle.model_world.specs.Answers.{Outcome, asked}
+use Rattle.model_world.specs.Answers.{Outcome, request_outcome}
 
 -- without a page, or with the page as it was first read and the sites that edit it
 pub data World : Type 0 where
@@ -27,8 +27,8 @@ Answer = Result (Reply × World) Reply
 
 -- ---- the answer to a line
 
--- The causes of a refusal come in this order: the line's length, JSON, the first bad member, no page, no such site, and then
--- those of the request.
+-- The causes of a refusal come in this order: the line's length, JSON, the first bad member, no
+-- page, no such site, and then those of the request.
 
 abbrev pub opened_or_no : ℕ → Result Opened Refusal → Answer
 opened_or_no sites (Err refusal) = Err (No refusal)
@@ -41,16 +41,16 @@ on_page page (Ok (reply, session)) = Ok (reply, Open page session)
 abbrev pub asked_of : Opened → Session → Request → ℕ → Option Member → Answer
 asked_of page session request k None = Err (No (BadSite (length session.members)))
 asked_of page session request k (Some member) =
-    on_page page (asked (record { page = page; session = session; k = k; member = member }) request)
+    on_page page (request_outcome (record { page = page; session = session; k = k; member = member }) request)
 
-abbrev pub answered : World → Command → Answer
-answered w (OpenPage page sites) = opened_or_no sites (open_page page)
-answered Closed (Ask request k) = Err (No NotOpen)
-answered (Open page session) (Ask request k) = asked_of page session request k (slice_get session.members k)
+abbrev pub answer_of : World → Command → Answer
+answer_of w (OpenPage page sites) = opened_or_no sites (open_page page)
+answer_of Closed (Ask request k) = Err (No NotOpen)
+answer_of (Open page session) (Ask request k) = asked_of page session request k (slice_get session.members k)
 
 abbrev pub answered_if : World → Result Command Refusal → Answer
 answered_if w (Err refusal) = Err (No refusal)
-answered_if w (Ok command) = answered w command
+answered_if w (Ok command) = answer_of w command
 
 abbrev pub answer : World → List ℕ → Answer
 answer w line = elim (nat_lt max_line (length line)) [
@@ -59,17 +59,18 @@ answer w line = elim (nat_lt max_line (length line)) [
 ]
 
 -- a refusal leaves the world as it is
-abbrev pub settled : World → Answer → Reply × World
-settled w (Ok both) = both
-settled w (Err refused) = (refused, w)
+abbrev pub reply_and_next : World → Answer → Reply × World
+reply_and_next w (Ok both) = both
+reply_and_next w (Err refused) = (refused, w)
 
 -- the reply to a line, and the world after it
 abbrev pub reply : World → List ℕ → Reply × World
-reply w line = settled w (answer w line)
+reply w line = reply_and_next w (answer w line)
 
 -- ---- scripts
 
--- The plain machine: the reply to a line and the world after it. It links no nodes, so it counts no steps.
+-- The plain machine: the reply to a line and the world after it. It links no nodes, so it counts no
+-- steps.
 abbrev pub meaning : Meaning World Reply
 meaning = record { reply = λ w line. (reply w line).0; next = λ w line. (reply w line).1; cost = λ w line. 0 }
 
@@ -77,6 +78,6 @@ meaning = record { reply = λ w line. (reply w line).0; next = λ w line. (reply
 abbrev pub world_after : World → List (List ℕ) → World
 world_after w lines = state_after meaning w lines
 
--- what is written for a script: each reply as a line
+-- the output for a script: each reply as a line
 abbrev pub output_of : World → List ℕ → List ℕ
 output_of w script = output reply_text meaning w script

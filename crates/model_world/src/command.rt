@@ -1,9 +1,9 @@
-// What a line of a script can ask.
-use crate::{Change, ChangeList};
+// Commands: all that a line of a script can ask.
+use crate::{EditCommand, EditCommandList};
 use model_edit::{By, Dir};
 use ve_base::Text;
 
-/// What is asked of one site. Offsets, places and ranges count items.
+/// A request to one site. Offsets, positions and ranges count items.
 #[derive(Drop)]
 pub enum Request {
     /// `html`: the page, written out.
@@ -29,16 +29,16 @@ pub enum Request {
     /// `at`: the innermost node at an offset, and what the offset is.
     At { at: usize },
     /// One of the ten commands that a batch may hold.
-    Edit { change: Change },
+    Edit { change: EditCommand },
     /// `batch`: 1 to 1,000 changes as one entry.
-    Batch { cmds: ChangeList },
+    Batch { cmds: EditCommandList },
     /// `select`: puts both ends of the selection.
     Select { anchor: usize, focus: usize },
-    /// `move`: moves the focus to the next place, and the anchor too unless `keep`.
+    /// `move`: moves the focus to the next position, and the anchor too unless `keep`.
     Move { dir: Dir, by: By, keep: bool },
     /// `type`: characters, at least one, in the place of the selection.
     TypeText { text: Text },
-    /// `erase`: takes the selection out, or what stands between it and the next place.
+    /// `erase`: takes the selection out, or what stands between it and the next position.
     Erase { dir: Dir, by: By },
     /// `grid`: the grid of a table.
     Grid { at: usize },
@@ -58,7 +58,8 @@ pub enum Request {
     Revoke { entry: usize },
 }
 
-/// What a line asks, after VisualEditor's commands on a surface; the words and members are this project's own.
+/// The command of a line, after VisualEditor's commands on a surface. The words and members are
+/// this project's own.
 #[derive(Drop)]
 pub enum Command {
     /// `open`: takes this page, in place of the one that is open, for 1 to 8 sites.

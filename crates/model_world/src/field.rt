@@ -15,7 +15,7 @@ pub enum Field {
     From,
     /// Where a range ends; or the new value of an attribute.
     To,
-    /// An offset, or the place of an item.
+    /// An offset, or the position of an item.
     At,
     /// Characters.
     Text,

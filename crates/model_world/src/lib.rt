@@ -1,20 +1,25 @@
-//! The plain machine: what a line of a script asks, what it is answered, and the world that the lines change. It knows
-//! every command and reply of the script, and no code that answers them. What a page, an edit or a site is it takes from
-//! the layers below. There are definitions in specs/, and the types that they speak of:
+//! The plain machine: what a line of a script asks, what it is answered, and the world that the
+//! lines change. It knows every command and reply of the script, and no code that answers them.
+//! What a page, an edit or a site is it takes from the layers below. There are definitions in
+//! specs/, and the types that they speak of:
 //!
 //! - `Values`, `Attributes`, `ItemWords`, `Operations`: what a JSON value is read as;
-//! - `Members`, `Changes`, `Commands`: the command that a line is, or the first member that is missing or ill-formed;
-//! - `Names`, `Shown`, `Spelled`: the words of a script, items and tables as JSON, and the text of a reply;
+//! - `Members`, `Changes`, `Commands`: the command that a line is, or the first member that is
+//!   missing or ill-formed;
+//! - `Names`, `Shown`, `Spelled`: the words of a script, items and tables as JSON, and the text of
+//!   a reply;
 //! - `Edits`: the transaction that a change is, and batches;
 //! - `Refusals`: the refusal that each fault is answered by;
 //! - `Opening`, `Answers`: a page opened, and what a site's request is answered;
-//! - `World`: the world, the reply to a line, and the plain machine's `meaning`, by which scripts are answered.
+//! - `World`: the world, the reply to a line, and the plain machine's `meaning`, which counts no
+//!   steps.
 //!
-//! The laws, each the contract of a function that does nothing: refusals change nothing ([`refusals_change_nothing`]), and a
-//! batch is whole or nothing ([`batches_are_whole`]). What holds of every world is `model_world_law`'s.
+//! The laws, each the contract of a function that does nothing: refusals change nothing
+//! ([`refusals_change_nothing`]), and a batch is whole or nothing ([`batches_are_whole`]). What
+//! holds of every world is `model_world_law`'s.
 #![tactic(auto)]
 
-mod change;
+mod edit_command;
 mod command;
 mod field;
 mod laws;
@@ -23,7 +28,7 @@ mod refusal;
 mod reply;
 mod shown;
 
-pub use change::{Change, ChangeList, OpWordList, OpWords, TextMarks};
+pub use edit_command::{EditCommand, EditCommandList, OpWordList, OpWords, TextMarks};
 pub use command::{Command, Request};
 pub use field::Field;
 pub use laws::{batches_are_whole, refusals_change_nothing};

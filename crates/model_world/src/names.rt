@@ -61,7 +61,7 @@ pub fn kind_name(kind: Kind) -> &'static str
     }
 }
 
-/// What an offset is.
+/// The name of an offset's class.
 pub fn class_name(class: OffsetClass) -> &'static str
     ensures { result.now ≡ words.class_name class }
 {
@@ -72,7 +72,7 @@ pub fn class_name(class: OffsetClass) -> &'static str
     }
 }
 
-/// What is wrong with a token.
+/// The word for a fault of a token.
 fn scan_word(what: ScanWhat) -> &'static str
     ensures { result.now ≡ words.scan_word what }
 {
@@ -91,7 +91,7 @@ fn scan_word(what: ScanWhat) -> &'static str
     }
 }
 
-/// What is wrong with the text of a page or of a fragment.
+/// The word for a fault in the text of a page or of a fragment.
 pub fn html_word(word: HtmlWord) -> &'static str
     ensures { result.now ≡ words.html_word word }
 {

@@ -2,7 +2,7 @@
 use crate::Field;
 use model_spelling::ScanWhat;
 
-/// What is wrong with the text of a page or of a fragment.
+/// A fault in the text of a page or of a fragment.
 #[derive(Clone, Copy, Debug, PartialEq, Eq)]
 pub enum HtmlWord {
     /// A token is not spelled right.
@@ -17,9 +17,9 @@ pub enum HtmlWord {
     TooDeep,
 }
 
-/// Why a line is refused. Nothing changes then. Places, offsets and ranges count items, with these exceptions, which
-/// count bytes of the page or of the fragment: `Html`, `TooDeep` to `open`, and `TooManyMarks` to `open` and to
-/// `insert`.
+/// Why a line is refused. Nothing changes then. Positions, offsets and ranges count items, with
+/// these exceptions, which count bytes of the page or of the fragment: `Html`, `TooDeep` to `open`,
+/// and `TooManyMarks` to `open` and to `insert`.
 #[derive(Clone, Copy, Debug, PartialEq, Eq)]
 pub enum Refusal {
     /// The line has `len` bytes, which are more than 8,388,608.
@@ -133,7 +133,8 @@ pub enum Refusal {
     NotTable {
         at: usize,
     },
-    /// The cell covers a place that an earlier cell covers, or passes the last row of its section.
+    /// The cell covers a position that an earlier cell covers, or passes the last row of its
+    /// section.
     Crooked {
         at: usize,
     },

@@ -1,4 +1,4 @@
-// What a line is answered.
+// Replies to lines.
 use crate::{GridCells, PlainList, Refusal, TreeWords};
 use model_items::OffsetClass;
 use model_page::RefTable;
@@ -39,7 +39,8 @@ pub enum Reply {
         total: usize,
         clash: Option<((usize, usize), (usize, usize))>,
     },
-    /// To `take`, of others' entries: how many they are, and how many of the site's own were dropped.
+    /// To `take`, of others' entries: how many they are, and how many of the site's own were
+    /// dropped.
     TookForeign {
         entries: usize,
         dropped: usize,

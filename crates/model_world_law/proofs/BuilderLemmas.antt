@@ -1,4 +1,4 @@
--- What each builder gives is reduced and puts in names apart: both are laws of edits.
+-- Each builder gives a reduced transaction that puts in names apart: both are laws of edits.
 use Rattle.std.proofs.Common.{◌≡◌, ℕ, List, Option, Ok}
 use Rattle.ve_kinds.specs.declared.kind.Kind.{Kind}
 use Rattle.ve_base.specs.declared.marks.Mark.{Mark}

@@ -1,4 +1,5 @@
--- What a reference that may stand is written as: it is editable, so the laws of composed texts hold of it.
+-- The written form of a reference that may stand: it is editable, so the laws of composed texts
+-- hold of it.
 use Rattle.std.specs.Prelude.{codes, is_some, option_and_then, option_map}
 use Rattle.std.proofs.Common.{◌≡◌, ℕ, true, List, Option, Some, None, refl, ap, ◌∙◌, subst}
 use Rattle.std.proofs.lemmas.Bool.{and_parts}

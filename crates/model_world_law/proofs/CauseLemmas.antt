@@ -3,7 +3,7 @@ use Rattle.std.specs.Option.{option_or}
 use Rattle.std.proofs.Common.{◌≡◌, ◌<◌, ℕ, zero, suc, ◌+◌, ◌==◌, Bool, true, false, ◌&&◌, nat_lt, if◌then◌else◌, List, [], ◌∷◌, length, take, drop, Option, Some, None, Result, Ok, Err, refl, sym, ap, ◌∙◌, subst}
 use Rattle.std.specs.Prelude.{encode_utf8_all, option_map}
 use Rattle.std.proofs.lemmas.Bool.{and_parts, ltb-true}
-use Rattle.ve_base.specs.Limits.{max_values}
+use Rattle.ve_base.specs.Limits.{max_values, max_items}
 use Rattle.model_spelling.specs.Forest.{Forest}
 use Rattle.model_spelling.specs.Faults.{ForestFault, fault_of}
 use Rattle.model_spelling.specs.Faults as forest
@@ -45,24 +45,24 @@ use Rattle.model_site.specs.Causes as edit
 use Rattle.model_site.specs.Replica.{Replica, performed}
 use Rattle.model_site.specs.Refused.{law_cause, items_cause, store_cause, edit_cause}
 use Rattle.model_site_law.specs.Sound.{Sound}
-use Rattle.model_world.specs.declared.change.TextMarks.{TextMarks}
-use Rattle.model_world.specs.declared.change.TextMarks.TheVariants.{Left, Plain}
-use Rattle.model_world.specs.declared.change.OpWords.{OpWords}
-use Rattle.model_world.specs.declared.change.OpWords.TheVariants as op
-use Rattle.model_world.specs.declared.change.Change.{Change}
-use Rattle.model_world.specs.declared.change.Change.TheVariants as change
+use Rattle.model_world.specs.declared.edit_command.TextMarks.{TextMarks}
+use Rattle.model_world.specs.declared.edit_command.TextMarks.TheVariants.{Left, Plain}
+use Rattle.model_world.specs.declared.edit_command.OpWords.{OpWords}
+use Rattle.model_world.specs.declared.edit_command.OpWords.TheVariants as op
+use Rattle.model_world.specs.declared.edit_command.EditCommand.{EditCommand}
+use Rattle.model_world.specs.declared.edit_command.EditCommand.TheVariants as change
 use Rattle.model_world.specs.declared.refusal.Refusal.{Refusal}
 use Rattle.model_world.specs.declared.refusal.Refusal.TheVariants.{StoreFull, BadOffset, BadLength, TooManyMarks}
 use Rattle.model_world.specs.Operations as operations
 use Rattle.model_world.specs.Refusals.{html_refusal, build_refusal, table_refusal, list_refusal}
-use Rattle.model_world.specs.Edits.{built, forest_inserted, text_inserted, fragment_inserted, needs, set_first, ops_on, applied, text_typed, change_of, unless_faulty, allowed}
+use Rattle.model_world.specs.Edits.{built_transaction, forest_inserted, text_inserted, fragment_inserted, needs, set_first, ops_on, transaction_of_ops, text_typed, change_of, unless_faulty, checked_transaction}
 use Rattle.model_world_law.specs.Fit.{IsWritten}
 use Rattle.model_world_law.specs.Causes.{FillsStore, StoreFullIsFull, IsFullFor, MovesFillStore}
 use Rattle.model_world_law.proofs.ChangeLemmas.{given}
 
 -- ---- no builder is refused as a full store
 
-built_is : (r : Result Transaction BuildCause) → built r ≡ Err StoreFull → ⊥
+built_is : (r : Result Transaction BuildCause) → built_transaction r ≡ Err StoreFull → ⊥
 built_is (Ok t) h = cc
 built_is (Err (build.BadOffset at)) h = cc
 built_is (Err (build.NoPlace at)) h = cc
@@ -90,7 +90,7 @@ forest_is items at f h = by (fragment_limit (stack_at items at) f) h
   where
     by : (o : Option ℕ) → (elim o as (λ _. Result Transaction Refusal) [
       | Some byte ↦ Err (TooManyMarks byte)
-      | None ↦ built (insertion items at (fragment_items (stack_at items at) f))
+      | None ↦ built_transaction (insertion items at (fragment_items (stack_at items at) f))
     ]) ≡ Err StoreFull → ⊥
     by (Some byte) h = cc
     by None h = built_is (insertion items at (fragment_items (stack_at items at) f)) h
@@ -115,7 +115,7 @@ fragment_is items at html h = by (is_bad_offset items at) h
     by true h = cc
     by false h = text_is items at (encode_utf8_all html) h
 
-applied_is : (items : List PlainItem) (ops : List OpWords) → applied items ops ≡ Err StoreFull → ⊥
+applied_is : (items : List PlainItem) (ops : List OpWords) → transaction_of_ops items ops ≡ Err StoreFull → ⊥
 applied_is items ops h = by (needs ops == length items) h
   where
     by : (b : Bool) → (elim b as (λ _. Result Transaction Refusal) [
@@ -125,7 +125,7 @@ applied_is items ops h = by (needs ops == length items) h
     by true h = cc
     by false h = cc
 
-change_is : (items : List PlainItem) (c : Change) → change_of items c ≡ Err StoreFull → ⊥
+change_is : (items : List PlainItem) (c : EditCommand) → change_of items c ≡ Err StoreFull → ⊥
 change_is items (change.Text at text marks) h = built_is (text_typed marks items at text) h
 change_is items (change.Insert at html) h = fragment_is items at html h
 change_is items (change.Remove from to) h = built_is (removal items from to) h
@@ -209,7 +209,7 @@ forest_match items at f t h = by (fragment_limit (stack_at items at) f) h
   where
     by : (o : Option ℕ) → (elim o as (λ _. Result Transaction Refusal) [
       | Some byte ↦ Err (TooManyMarks byte)
-      | None ↦ built (insertion items at (fragment_items (stack_at items at) f))
+      | None ↦ built_transaction (insertion items at (fragment_items (stack_at items at) f))
     ]) ≡ Ok t → Matches t items
     by (Some byte) h = cc
     by None h = fine_match items t (insertion_fine items at (fragment_items (stack_at items at) f) t (given build_refusal _ t h))
@@ -234,7 +234,7 @@ fragment_match items at html t h = by (is_bad_offset items at) h
     by true h = cc
     by false h = text_match items at (encode_utf8_all html) t h
 
-applied_match : (items : List PlainItem) (ops : List OpWords) (t : Transaction) → operations.words_are_normal ops ≡ true → applied items ops ≡ Ok t → Matches t items
+applied_match : (items : List PlainItem) (ops : List OpWords) (t : Transaction) → operations.words_are_normal ops ≡ true → transaction_of_ops items ops ≡ Ok t → Matches t items
 applied_match items ops t normal h = by (needs ops == length items) h
   where
     by : (b : Bool) → (elim b as (λ _. Result Transaction Refusal) [
@@ -248,7 +248,7 @@ typed_match : (marks : TextMarks) (items : List PlainItem) (at : ℕ) (text : Li
 typed_match Left items at text t h = fine_match items t (insertion_fine items at (text_pieces (marks_before items at) text) t h)
 typed_match Plain items at text t h = fine_match items t (insertion_fine items at (text_pieces [] text) t h)
 
-change_match : (items : List PlainItem) (c : Change) (t : Transaction) → IsWritten c → Sound items → change_of items c ≡ Ok t → Matches t items
+change_match : (items : List PlainItem) (c : EditCommand) (t : Transaction) → IsWritten c → Sound items → change_of items c ≡ Ok t → Matches t items
 change_match items (change.Text at text marks) t w s h = typed_match marks items at text t (given build_refusal _ t h)
 change_match items (change.Insert at html) t w s h = fragment_match items at html t h
 change_match items (change.Remove from to) t w s h = fine_match items t (removal_fine items from to t s.lawful (given build_refusal _ t h))
@@ -265,21 +265,21 @@ change_match items (change.Apply ops) t w s h = applied_match items ops t w.0 h
 abbrev Told : Option EditCause → Transaction → Type 0
 Told o t = unless_faulty o t ≡ Err StoreFull
 
-store_left : (count : ℕ) (t : Transaction) → Told (store_cause count) t → 1048576 < count
-store_left count t h = by (nat_lt 1048576 count) refl h
+store_left : (count : ℕ) (t : Transaction) → Told (store_cause count) t → max_values < count
+store_left count t h = by (nat_lt max_values count) refl h
   where
-    by : (b : Bool) → nat_lt 1048576 count ≡ b → Told (if b then Some edit.StoreFull else None) t → 1048576 < count
-    by true e h = ltb-true 1048576 count e
+    by : (b : Bool) → nat_lt max_values count ≡ b → Told (if b then Some edit.StoreFull else None) t → max_values < count
+    by true e h = ltb-true max_values count e
     by false e h = cc
 
-items_left : (count stored : ℕ) (t : Transaction) → Told (option_or (items_cause count) (store_cause stored)) t → 1048576 < stored
-items_left count stored t h = by (nat_lt 4194304 count) h
+items_left : (count stored : ℕ) (t : Transaction) → Told (option_or (items_cause count) (store_cause stored)) t → max_values < stored
+items_left count stored t h = by (nat_lt max_items count) h
   where
-    by : (b : Bool) → Told (option_or (if b then Some (edit.TooManyItems count) else None) (store_cause stored)) t → 1048576 < stored
+    by : (b : Bool) → Told (option_or (if b then Some (edit.TooManyItems count) else None) (store_cause stored)) t → max_values < stored
     by true h = cc
     by false h = store_left stored t h
 
-law_left : (o : Option LawFault) (count stored : ℕ) (t : Transaction) → Told (option_or (law_cause o) (option_or (items_cause count) (store_cause stored))) t → 1048576 < stored
+law_left : (o : Option LawFault) (count stored : ℕ) (t : Transaction) → Told (option_or (law_cause o) (option_or (items_cause count) (store_cause stored))) t → max_values < stored
 law_left None count stored t h = items_left count stored t h
 law_left (Some (law.Unlawful at)) count stored t h = cc
 law_left (Some (law.TooDeep at)) count stored t h = cc
@@ -298,8 +298,8 @@ full_left r t matches h =
     law_left (verdict new.items) (length new.items) (length new.store) t
     (matched_left (old_length t == length r.items) (mismatch_at 0 t r.items) (bad_attribute_at 0 t r.items) (length r.items) (old_length t) _ t matches h)
 
-full_from : (r : Replica) (c : Change) (result : Result Transaction Refusal) → change_of r.items c ≡ result → IsWritten c → Sound r.items →
-    allowed r result ≡ Err StoreFull → FillsStore r (change_of r.items c)
+full_from : (r : Replica) (c : EditCommand) (result : Result Transaction Refusal) → change_of r.items c ≡ result → IsWritten c → Sound r.items →
+    checked_transaction r result ≡ Err StoreFull → FillsStore r (change_of r.items c)
 full_from r c (Err refusal) e w s h = absurd (change_is r.items c (e ∙ h))
 full_from r c (Ok t) e w s h = record { t = t; gives = e; full = full_left r t (change_match r.items c t w s e) h }
 

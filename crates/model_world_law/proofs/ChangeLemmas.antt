@@ -1,4 +1,5 @@
--- Every change that was read gives, on every sound list, a reduced transaction that puts in names apart; and a page that opens is a sound list.
+-- Every change that was read gives, on every sound list, a reduced transaction that puts in names
+-- apart; and a page that opens is a sound list.
 use Rattle.std.proofs.Common.{◌≡◌, ℕ, zero, suc, ◌+◌, ◌≤◌, ◌==◌, Bool, true, false, not, ◌&&◌, nat_lt, List, [], ◌∷◌, length, take, drop, Option, Some, None, Result, Ok, Err, refl, ap, ◌∙◌, subst, arith}
 use Rattle.std.specs.Prelude.{encode_utf8_all, unwrap_or}
 use Rattle.std.proofs.lemmas.Bool.{and_parts, and_from, eqb-true}
@@ -22,16 +23,16 @@ use Rattle.model_page_law.proofs.OpenPageLemmas.{read_is_lawful, read_is_within}
 use Rattle.model_items.specs.Offsets.{stack_at}
 use Rattle.model_edit.specs.Insert.{is_bad_offset, marks_before, text_pieces, insertion}
 use Rattle.model_site_law.specs.Sound.{Sound}
-use Rattle.model_world.specs.declared.change.TextMarks.{TextMarks}
-use Rattle.model_world.specs.declared.change.TextMarks.TheVariants.{Left, Plain}
-use Rattle.model_world.specs.declared.change.OpWords.{OpWords}
-use Rattle.model_world.specs.declared.change.OpWords.TheVariants as op
-use Rattle.model_world.specs.declared.change.Change.TheVariants as change
+use Rattle.model_world.specs.declared.edit_command.TextMarks.{TextMarks}
+use Rattle.model_world.specs.declared.edit_command.TextMarks.TheVariants.{Left, Plain}
+use Rattle.model_world.specs.declared.edit_command.OpWords.{OpWords}
+use Rattle.model_world.specs.declared.edit_command.OpWords.TheVariants as op
+use Rattle.model_world.specs.declared.edit_command.EditCommand.TheVariants as change
 use Rattle.model_world.specs.declared.refusal.Refusal.{Refusal}
 use Rattle.model_world.specs.declared.refusal.Refusal.TheVariants.{BadOffset, BadLength, TooManyMarks}
 use Rattle.model_world.specs.Operations as operations
 use Rattle.model_world.specs.Refusals.{refused_as, html_refusal, build_refusal, open_refusal}
-use Rattle.model_world.specs.Edits.{built, forest_inserted, text_inserted, fragment_inserted, needs, set_first, ops_on, applied, text_typed}
+use Rattle.model_world.specs.Edits.{built_transaction, forest_inserted, text_inserted, fragment_inserted, needs, set_first, ops_on, transaction_of_ops, text_typed}
 use Rattle.model_world_law.specs.Fit.{Fit, OpsApart, ChangesFit, PagesAreSound}
 use Rattle.model_world_law.proofs.BuilderLemmas.{insertion_fits, split_fits, removal_fits, marking_fits, unmarking_fits, wrap_fits, convert_fits, attribute_fits}
 use Rattle.model_world_law.proofs.MadeLemmas.{apart-chars, ForestApart, forest_apart, read_apart, fragment_apart, page_apart}
@@ -104,7 +105,7 @@ ops_reduced (op.Attr name to ∷ ops) items n h =
     let here = Attribute (set_first name to items) in
     and_from (may_precede here (ops_on ops items)) (is_reduced (ops_on ops items)) (precedes (op.Attr name to) ops items items q.0) (ops_reduced ops items n q.1)
 
-applied_fits : (items : List PlainItem) (ops : List OpWords) (t : Transaction) → operations.words_are_normal ops ≡ true → OpsApart ops → applied items ops ≡ Ok t → Fit t
+applied_fits : (items : List PlainItem) (ops : List OpWords) (t : Transaction) → operations.words_are_normal ops ≡ true → OpsApart ops → transaction_of_ops items ops ≡ Ok t → Fit t
 applied_fits items ops t normal apart h = by (needs ops == length items) refl h
   where
     by : (b : Bool) → (needs ops == length items) ≡ b → (elim b as (λ _. Result Transaction Refusal) [
@@ -124,7 +125,7 @@ forest_fits items at f t s g h = by (fragment_limit (stack_at items at) f) h
   where
     by : (o : Option ℕ) → (elim o as (λ _. Result Transaction Refusal) [
       | Some byte ↦ Err (TooManyMarks byte)
-      | None ↦ built (insertion items at (fragment_items (stack_at items at) f))
+      | None ↦ built_transaction (insertion items at (fragment_items (stack_at items at) f))
     ]) ≡ Ok t → Fit t
     by (Some byte) h = cc
     by None h = insertion_fits items at (fragment_items (stack_at items at) f) t s (fragment_apart (stack_at items at) f g) (given build_refusal _ t h)

@@ -1,4 +1,4 @@
--- What each change that was read inserts may stand, and so may the items of a page that opens.
+-- The items that a read change inserts may stand, and so may the items of a page that opens.
 use Rattle.std.proofs.Common.{◌≡◌, ℕ, Bool, true, false, ◌==◌, List, [], ◌∷◌, drop, length, Option, Some, None, Result, Ok, Err, refl, sym, ap, ◌∙◌, subst}
 use Rattle.std.specs.List.{list_all}
 use Rattle.std.specs.Prelude.{IsUtf8, encode_utf8_all, unwrap_or}
@@ -22,13 +22,13 @@ use Rattle.model_page_law.proofs.EditsRefer.{fragments_refer}
 use Rattle.model_page_law.proofs.OpenPageLemmas.{read_is_within}
 use Rattle.model_page_law.proofs.PageRefers.{opened_refers}
 use Rattle.model_site_law.specs.Sound.{Sound}
-use Rattle.model_world.specs.Edits.{applied, built, forest_inserted, fragment_inserted, needs, ops_on, text_inserted, text_typed}
+use Rattle.model_world.specs.Edits.{transaction_of_ops, built_transaction, forest_inserted, fragment_inserted, needs, ops_on, text_inserted, text_typed}
 use Rattle.model_world.specs.Refusals.{build_refusal, html_refusal, open_refusal}
-use Rattle.model_world.specs.declared.change.Change.TheVariants as change
-use Rattle.model_world.specs.declared.change.OpWords.{OpWords}
-use Rattle.model_world.specs.declared.change.OpWords.TheVariants as op
-use Rattle.model_world.specs.declared.change.TextMarks.{TextMarks}
-use Rattle.model_world.specs.declared.change.TextMarks.TheVariants.{Left, Plain}
+use Rattle.model_world.specs.declared.edit_command.EditCommand.TheVariants as change
+use Rattle.model_world.specs.declared.edit_command.OpWords.{OpWords}
+use Rattle.model_world.specs.declared.edit_command.OpWords.TheVariants as op
+use Rattle.model_world.specs.declared.edit_command.TextMarks.{TextMarks}
+use Rattle.model_world.specs.declared.edit_command.TextMarks.TheVariants.{Left, Plain}
 use Rattle.model_world.specs.declared.refusal.Refusal.{Refusal}
 use Rattle.model_world.specs.declared.refusal.Refusal.TheVariants.{BadLength, BadOffset, TooManyMarks}
 use Rattle.model_world_law.specs.Fit.{ChangesStand, InsertsStanding, MovesStand, PagesStand}
@@ -48,7 +48,7 @@ ops_insert (op.Retain count ∷ ops) items p = ops_insert ops (drop count items)
 ops_insert (op.Remove count insert ∷ ops) items p = stand-append insert (all_inserted (ops_on ops (drop count items))) p.0 (ops_insert ops (drop count items) p.1)
 ops_insert (op.Attr name to ∷ ops) items p = ops_insert ops items p
 
-applied_stands : (items : List PlainItem) (ops : List OpWords) (t : Transaction) → OpsStand ops → applied items ops ≡ Ok t → InsertsStanding t
+applied_stands : (items : List PlainItem) (ops : List OpWords) (t : Transaction) → OpsStand ops → transaction_of_ops items ops ≡ Ok t → InsertsStanding t
 applied_stands items ops t p h = by (needs ops == length items) h
   where
     by : (b : Bool) → (elim b as (λ _. Result Transaction Refusal) [
@@ -65,7 +65,7 @@ forest_stands items at f t s h = by (fragment_limit (stack_at items at) f) refl 
   where
     by : (o : Option ℕ) → fragment_limit (stack_at items at) f ≡ o → (elim o as (λ _. Result Transaction Refusal) [
       | Some byte ↦ Err (TooManyMarks byte)
-      | None ↦ built (insertion items at (fragment_items (stack_at items at) f))
+      | None ↦ built_transaction (insertion items at (fragment_items (stack_at items at) f))
     ]) ≡ Ok t → InsertsStanding t
     by (Some byte) e h = cc
     by None e h =

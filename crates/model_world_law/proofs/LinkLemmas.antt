@@ -33,17 +33,17 @@ use Rattle.model_site_law.specs.MayHappen.{MayHappen}
 use Rattle.model_site_law.specs.SelectionLaws.{StandsIn, SelectsWithin}
 use Rattle.model_site_law.specs.SelectionLaws as selection
 use Rattle.model_site_law.proofs.EditLemmas.{edit_may_run}
-use Rattle.model_world.specs.declared.change.TextMarks.TheVariants.{Left}
-use Rattle.model_world.specs.declared.change.Change.{Change}
-use Rattle.model_world.specs.declared.change.Change.TheVariants as change
+use Rattle.model_world.specs.declared.edit_command.TextMarks.TheVariants.{Left}
+use Rattle.model_world.specs.declared.edit_command.EditCommand.{EditCommand}
+use Rattle.model_world.specs.declared.edit_command.EditCommand.TheVariants as change
 use Rattle.model_world.specs.declared.command.Request.{Request}
 use Rattle.model_world.specs.declared.command.Request.TheVariants as request
 use Rattle.model_world.specs.declared.refusal.Refusal.{Refusal}
 use Rattle.model_world.specs.declared.refusal.Refusal.TheVariants.{BadRange, BadOffset, BadEntry, NotContent}
 use Rattle.model_world.specs.declared.reply.Reply.TheVariants as reply
 use Rattle.model_world.specs.Refusals.{refused_as, build_refusal, undo_refusal, redo_refusal, send_refusal, revoke_refusal, table_refusal, list_refusal}
-use Rattle.model_world.specs.Edits.{BatchRefusal, allowed, unless_faulty, change_of, change_on, batch_from, batch_on}
-use Rattle.model_world.specs.Answers.{Outcome, Asked, asked, with_site, site_of, replica_of, site_items, told, refused, changed_or_no, performed_or_no, batch_or_no, selected, is_no_end, select_between, next_place, moved_or_no, lower, higher, is_collapsed, to_erase, erased_or_no, typing, after_text, typed_or_no, items_shown_or_no, node_told, node_or_no, grid_or_no, table_changed, list_changed, sent_or_no, served_or_no, taken_or_no, revoked_or_no, edge_or}
+use Rattle.model_world.specs.Edits.{BatchRefusal, checked_transaction, unless_faulty, change_of, change_on, batch_from, batch_on}
+use Rattle.model_world.specs.Answers.{Outcome, Asked, request_outcome, with_site, site_of, replica_of, site_items, unchanged_outcome, refusal_outcome, changed_or_no, performed_or_no, batch_or_no, selection_outcome, is_no_end, select_between, next_place, moved_or_no, lower, higher, is_collapsed, to_erase, erased_or_no, typing, after_text, typed_or_no, items_shown_or_no, node_told, node_or_no, grid_or_no, table_changed, list_changed, sent_or_no, served_or_no, taken_or_no, revoked_or_no, edge_or}
 use Rattle.model_change.proofs.Fits.{parts_of_Applies}
 use Rattle.model_site_law.specs.ItemLaws.{AllInsert, AllPass, Inserts}
 use Rattle.model_site_law.specs.Protocol.{Every}
@@ -65,7 +65,7 @@ pub record IsAllowed (r : Replica) (result : Result Transaction Refusal) (t : Tr
   pub given : result ≡ Ok t
   pub faultless : edit_cause t r ≡ None
 
-allowed_is : (r : Replica) (result : Result Transaction Refusal) (t : Transaction) → allowed r result ≡ Ok t → IsAllowed r result t
+allowed_is : (r : Replica) (result : Result Transaction Refusal) (t : Transaction) → checked_transaction r result ≡ Ok t → IsAllowed r result t
 allowed_is r (Err refusal) t h = cc
 allowed_is r (Ok u) t h = by_fault (edit_cause u r) refl h
   where
@@ -75,7 +75,7 @@ allowed_is r (Ok u) t h = by_fault (edit_cause u r) refl h
         let same : u ≡ t = cc in
         record { given = ap (λ v. Ok v) same; faultless = subst (λ v. edit_cause v r ≡ None) same e }
 
-may_run : (r : Replica) (result : Result Transaction Refusal) (t : Transaction) → ((u : Transaction) → result ≡ Ok u → Fit u) → allowed r result ≡ Ok t → MayRun t r.items
+may_run : (r : Replica) (result : Result Transaction Refusal) (t : Transaction) → ((u : Transaction) → result ≡ Ok u → Fit u) → checked_transaction r result ≡ Ok t → MayRun t r.items
 may_run r result t fit h =
     let a = allowed_is r result t h in
     let f = fit t a.given in
@@ -84,7 +84,7 @@ may_run r result t fit h =
 sound_next : (t : Transaction) (items : List PlainItem) → Sound items → MayRun t items → Sound (edited t items)
 sound_next t items s m = record { lawful = m.lawful; apart = names_stay_apart t items m.applies m.apart s.apart }
 
-batch_may : LayersFit → (i : ℕ) (cs : List Change) (r : Replica) (ts : List Transaction) → AllWritten cs → Sound r.items → batch_from i cs r ≡ Ok ts → AllMayRun ts r.items
+batch_may : LayersFit → (i : ℕ) (cs : List EditCommand) (r : Replica) (ts : List Transaction) → AllWritten cs → Sound r.items → batch_from i cs r ≡ Ok ts → AllMayRun ts r.items
 batch_may fit i [] r ts written sound h = let e : ◌≡◌ {A = List Transaction} [] ts = cc in subst (λ us. AllMayRun us r.items) e tt
 batch_may fit i (c ∷ cs) r ts written sound h = by_first (λ j s us. batch_may fit j cs s us written.1) (change_on r c) refl h
   where
@@ -106,7 +106,7 @@ batch_may fit i (c ∷ cs) r ts written sound h = by_first (λ j s us. batch_may
             subst (λ vs. AllMayRun vs r.items) same (may, rest_may (suc i) (performed t r) us (sound_next t r.items sound may) d)
 
 -- each change of a batch inserts such items, since those before it leave such items
-batch_stand : LayersFit → (i : ℕ) (cs : List Change) (r : Replica) (ts : List Transaction) → AllWritten cs → Sound r.items → AllPass may_stand r.items → batch_from i cs r ≡ Ok ts → AllInsert may_stand ts
+batch_stand : LayersFit → (i : ℕ) (cs : List EditCommand) (r : Replica) (ts : List Transaction) → AllWritten cs → Sound r.items → AllPass may_stand r.items → batch_from i cs r ≡ Ok ts → AllInsert may_stand ts
 batch_stand fit i [] r ts written sound p h = let e : ◌≡◌ {A = List Transaction} [] ts = cc in subst (AllInsert may_stand) e tt
 batch_stand fit i (c ∷ cs) r ts written sound p h = by_first (λ j s us. batch_stand fit j cs s us written.1) (change_on r c) refl h
   where
@@ -196,16 +196,16 @@ performed_leads a s (Err refusal) may inserts = tt
 performed_leads a s (Ok t) may inserts = performs a s (t ∷ []) (may t refl, tt) (λ p. (inserts t refl p, tt))
 
 allowed_leads : (a : Asked) → Stands a → (r : Result Transaction Refusal) → ((u : Transaction) → r ≡ Ok u → Fit u) → ((u : Transaction) → r ≡ Ok u → Items a → InsertsStanding u) →
-    Leads a (performed_or_no a (allowed (replica_of a) r))
+    Leads a (performed_or_no a (checked_transaction (replica_of a) r))
 allowed_leads a s r fit inserts =
-    performed_leads a s (allowed (replica_of a) r) (λ t e. may_run (replica_of a) r t fit e) (λ t e p. inserts t (allowed_is (replica_of a) r t e).given p)
+    performed_leads a s (checked_transaction (replica_of a) r) (λ t e. may_run (replica_of a) r t fit e) (λ t e p. inserts t (allowed_is (replica_of a) r t e).given p)
 
 batch_leads : (a : Asked) → Stands a → (r : Result (List Transaction) BatchRefusal) → ((ts : List Transaction) → r ≡ Ok ts → AllMayRun ts (site_items a)) → ((ts : List Transaction) → r ≡ Ok ts → Items a → AllInsert may_stand ts) →
     Leads a (batch_or_no a r)
 batch_leads a s (Err f) may inserts = tt
 batch_leads a s (Ok ts) may inserts = performs a s ts (may ts refl) (inserts ts refl)
 
-selects : (a : Asked) → Stands a → (sel : Selection) → StandsIn (site_items a) sel → Leads a (selected a sel)
+selects : (a : Asked) → Stands a → (sel : Selection) → StandsIn (site_items a) sel → Leads a (selection_outcome a sel)
 selects a s sel within =
     one_event a s (Select a.k sel) _ tt (λ m e. subst (λ n. StandsIn n.site.replica.items sel) (same_member a s m e) within) (λ p. tt)
     (of_member a s (λ m. events.with_site a.k m (with_selection sel m.site) a.session))
@@ -262,7 +262,7 @@ moved_leads a s keep (Ok at) stands = selects a s (between (if keep then (replic
     by true = s.selection.anchor
     by false = stands at refl
 
--- a caret's next place is one of its content branch
+-- a caret's next position is one of its content branch
 place_stands : (items : List PlainItem) (at : ℕ) (dir : Dir) (by : By) (to : ℕ) → Lawful items → next_place items at dir by ≡ Ok to → selection.EndStands items to
 place_stands items at dir by to lawful h = in_content (is_content items at) refl h
   where
@@ -309,7 +309,7 @@ revoked_leads : (a : Asked) → Stands a → (i : ℕ) → Leads a (revoked_or_n
 revoked_leads a s i = by_seen (nat_lt i (site_of a).seen) refl
   where
     by_seen : (b : Bool) → nat_lt i (site_of a).seen ≡ b → Leads a (elim b as (λ _. Outcome) [
-      | false ↦ refused (BadEntry i (site_of a).seen)
+      | false ↦ refusal_outcome (BadEntry i (site_of a).seen)
       | true ↦ changed_or_no a (refused_as revoke_refusal (revoke_entry a.session.committed i (site_of a)))
     ])
     by_seen false e = tt
@@ -338,7 +338,7 @@ list_leads : (a : Asked) → Stands a → (r : Result Transaction ListCause) →
 list_leads a s r fit inserts =
     allowed_leads a s (refused_as list_refusal r) (λ u e. fit u (given list_refusal r u e)) (λ u e p. inserts u (given list_refusal r u e))
 
-change_leads : LayersFit → (a : Asked) → Stands a → (c : Change) → IsWritten c → Leads a (performed_or_no a (change_on (replica_of a) c))
+change_leads : LayersFit → (a : Asked) → Stands a → (c : EditCommand) → IsWritten c → Leads a (performed_or_no a (change_on (replica_of a) c))
 change_leads fit a s c written =
     allowed_leads a s (change_of (site_items a) c) (λ u e. fit.changes (site_items a) c u written s.sound e) (λ u e p. fit.changes_stand (site_items a) c u written s.sound p e)
 
@@ -348,10 +348,10 @@ erased_leads fit a s (Ok sel) = change_leads fit a s (change.Remove (lower sel) 
 
 show_leads : (a : Asked) (from to : ℕ) → Leads a (items_shown_or_no a from to)
 show_leads a from to =
-    either a (nat_lt to from || nat_lt (length (site_items a)) to) (refused (BadRange from to)) (told a (reply.Items (slice_range (site_items a) from to))) tt (stays a)
+    either a (nat_lt to from || nat_lt (length (site_items a)) to) (refusal_outcome (BadRange from to)) (unchanged_outcome a (reply.Items (slice_range (site_items a) from to))) tt (stays a)
 
 node_leads : (a : Asked) (at : ℕ) → Leads a (node_or_no a at)
-node_leads a at = either a (nat_lt (length (site_items a)) at) (refused (BadOffset at)) (node_told a at) tt (stays a)
+node_leads a at = either a (nat_lt (length (site_items a)) at) (refusal_outcome (BadOffset at)) (node_told a at) tt (stays a)
 
 stands_from : (items : List PlainItem) (at : ℕ) → is_no_end items at ≡ false → selection.EndStands items at
 stands_from items at h = let p = or_parts (nat_lt (length items) at) (is_inside_leaf items at) h in (ltb-false (length items) at p.0, p.1)
@@ -360,13 +360,13 @@ select_leads : (a : Asked) → Stands a → (anchor focus : ℕ) → Leads a (se
 select_leads a s anchor focus = by (is_no_end (site_items a) anchor) (is_no_end (site_items a) focus) refl refl
   where
     by : (b c : Bool) → is_no_end (site_items a) anchor ≡ b → is_no_end (site_items a) focus ≡ c →
-        Leads a (if b then refused (BadOffset anchor) else (if c then refused (BadOffset focus) else selected a (between anchor focus)))
+        Leads a (if b then refusal_outcome (BadOffset anchor) else (if c then refusal_outcome (BadOffset focus) else selection_outcome a (between anchor focus)))
     by true true d e = tt
     by true false d e = tt
     by false true d e = tt
     by false false d e = selects a s (between anchor focus) (record { anchor = stands_from (site_items a) anchor d; focus = stands_from (site_items a) focus e })
 
-pub asked_leads : LayersFit → (a : Asked) → Stands a → (r : Request) → RequestWritten r → Leads a (asked a r)
+pub asked_leads : LayersFit → (a : Asked) → Stands a → (r : Request) → RequestWritten r → Leads a (request_outcome a r)
 asked_leads fit a s request.Html o = stays a
 asked_leads fit a s request.Tree o = stays a
 asked_leads fit a s request.Refs o = stays a

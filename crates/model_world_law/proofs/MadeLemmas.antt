@@ -1,4 +1,5 @@
--- What a page or a fragment becomes has names apart: each head is empty, keeps a source alone, or has the attributes of one start tag.
+-- The items of a page or a fragment have names apart: each head is empty, keeps a source alone, or
+-- has the attributes of one start tag.
 use Rattle.std.proofs.Common.{◌≡◌, ℕ, zero, suc, Bool, true, false, not, ◌&&◌, if◌then◌else◌, List, [], ◌∷◌, ◌++◌, map, Option, Some, None, refl, ap, subst}
 use Rattle.std.specs.Prelude.{chars, codes, flat_map, unwrap_or}
 use Rattle.std.proofs.lemmas.Bool.{and_parts}

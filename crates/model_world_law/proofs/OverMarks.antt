@@ -79,7 +79,8 @@ colored_later a b h = elim (cases_Bool (is_white (a ++ b))) [
   | inr other ↦ other
 ]
 
--- ---- what is made, by where it stands: the run of content, the run or what comes later in a flow parent, what comes later in a structural one
+-- ---- what is made, by where it stands: the run of content, the run or what comes later in a flow
+-- parent, what comes later in a structural one
 
 abbrev IsOver : Around → Made → Type 0
 IsOver (Content marks) m = Over m.run.items

@@ -1,4 +1,5 @@
--- A comment that is pasted where a leaf is open: it is read in the leaf, and is a block all the same.
+-- A comment that is pasted where a leaf is open: it is read in the leaf, and is a block all the
+-- same.
 use Rattle.std.proofs.Common.{◌≡◌, true, false, [], ◌∷◌, codes, refl}
 use Rattle.model_spelling.specs.Forest.{Forest, Nothing, Remark}
 use Rattle.ve_kinds.specs.declared.kind.Kind.TheVariants.{Root, P, Br}

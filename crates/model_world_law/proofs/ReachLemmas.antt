@@ -32,9 +32,9 @@ use Rattle.model_world.specs.declared.reply.Reply.TheVariants.{No}
 use Rattle.model_world.specs.Commands.{command}
 use Rattle.model_world.specs.Refusals.{open_refusal}
 use Rattle.model_world.specs.Opening.{open_page}
-use Rattle.model_world.specs.Answers.{Outcome, Asked, asked}
+use Rattle.model_world.specs.Answers.{Outcome, Asked, request_outcome}
 use Rattle.ve_base.specs.Limits.{max_line}
-use Rattle.model_world.specs.World.{World, Closed, Open, Answer, opened_or_no, on_page, asked_of, answered, answered_if, answer, settled, reply, world_after}
+use Rattle.model_world.specs.World.{World, Closed, Open, Answer, opened_or_no, on_page, asked_of, answer_of, answered_if, answer, reply_and_next, reply, world_after}
 use Rattle.model_world_law.specs.Fit.{RequestWritten, LayersFit}
 use Rattle.model_world_law.specs.Reached.{Becomes, IsReached, WorldReached, EveryItemStands, EveryWorldIsReached, SiteHolds, EverySiteHolds, SitesMeet, UneditedIsWrittenBack}
 use Rattle.std.specs.List.{AllByRecursion}
@@ -132,10 +132,10 @@ member_reached : LayersFit → (past : List (List ℕ)) (line : List ℕ) (o : O
 member_reached fit past line o w reached r k written None e = tt
 member_reached fit past line o w reached r k written (Some m) e =
     let a : Asked = record { page = o; session = w; k = k; member = m } in
-    page_reached past line o w reached a refl (asked a r) (asked_leads fit a (site_stands past o w k m reached e) r written)
+    page_reached past line o w reached a refl (request_outcome a r) (asked_leads fit a (site_stands past o w k m reached e) r written)
 
 ask_reached : LayersFit → (past : List (List ℕ)) (line : List ℕ) (w : World) → WorldReached past w → (r : Request) (k : ℕ) → RequestWritten r →
-    AnswerReached (past ++ line ∷ []) (answered w (Ask r k))
+    AnswerReached (past ++ line ∷ []) (answer_of w (Ask r k))
 ask_reached fit past line Closed reached r k written = tt
 ask_reached fit past line (Open o w) reached r k written = member_reached fit past line o w reached r k written (slice_get w.members k) refl
 
@@ -179,7 +179,7 @@ line_reached fit past w reached line = by_length (nat_lt max_line (length line))
 reply_reached : LayersFit → (past : List (List ℕ)) (w : World) → WorldReached past w → (line : List ℕ) → WorldReached (past ++ line ∷ []) (reply w line).1
 reply_reached fit past w reached line = by_answer (answer w line) (line_reached fit past w reached line)
   where
-    by_answer : (a : Answer) → AnswerReached (past ++ line ∷ []) a → WorldReached (past ++ line ∷ []) (settled w a).1
+    by_answer : (a : Answer) → AnswerReached (past ++ line ∷ []) a → WorldReached (past ++ line ∷ []) (reply_and_next w a).1
     by_answer (Ok r) p = p
     by_answer (Err r) p = unchanged past line w reached
 

@@ -15,9 +15,9 @@ use Rattle.model_items.specs.Same.{text_same}
 use Rattle.model_items.proofs.SameLemmas.{Means-text_same}
 use Rattle.model_change.specs.Attributes.{NamesApartIn, AllNamesApart}
 use Rattle.model_edit.specs.declared.wrap_plan.Shape.{Shape}
-use Rattle.model_world.specs.declared.change.OpWords.{OpWords}
-use Rattle.model_world.specs.declared.change.OpWords.TheVariants as op
-use Rattle.model_world.specs.Values.{such_that, number_in, text_in, text_or_null_in, list_in, listed, all_read, pair_in, member_in, read_or, member_or}
+use Rattle.model_world.specs.declared.edit_command.OpWords.{OpWords}
+use Rattle.model_world.specs.declared.edit_command.OpWords.TheVariants as op
+use Rattle.model_world.specs.Values.{such_that, number_in, text_in, text_or_null_in, list_in, json_values, all_read, pair_in, member_in, read_or, member_or}
 use Rattle.model_world.specs.Attributes.{name_in, attr_in, attrs_in, are_apart, are_free, free_attrs_in, marks_in, element_in, branch_in, shape_in, shapes_in}
 use Rattle.model_edit.specs.Insert.{text_pieces}
 use Rattle.model_world.specs.ItemWords.{white_in, may_open, opening_with, opening_in, may_close, closing_in, bracket_in, marked_text_in, items_in, all_items_in, one_list}
@@ -87,7 +87,7 @@ Of-all_read P read h (json ∷ more) =
     (λ x p. Of-map (Each P) (Each P) (λ xs. x ∷ xs) (all_read read more) (Of-all_read P read h more) (λ xs q. (p, q)))
 
 pub Of-list_in : {A : Type 0} (P : A → Type 0) (read : Data → Option A) → ((json : Data) → Of P (read json)) → (json : Data) → Of (Each P) (list_in read json)
-Of-list_in P read h json = Of-then (Each P) (λ items. all_read read (listed items)) (as_array json) (λ items. Of-all_read P read h (listed items))
+Of-list_in P read h json = Of-then (Each P) (λ items. all_read read (json_values items)) (as_array json) (λ items. Of-all_read P read h (json_values items))
 
 pub Of-member_in : {A : Type 0} (P : A → Type 0) (name : List ℕ) (read : Data → Option A) (ms : Members) → ((json : Data) → Of P (read json)) → Of P (member_in name read ms)
 Of-member_in P name read ms h = Of-then P read (get_member name ms) h

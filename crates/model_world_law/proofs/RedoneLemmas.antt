@@ -15,7 +15,7 @@ use Rattle.model_world.specs.declared.reply.Reply.TheVariants.{No}
 use Rattle.model_world.specs.Answers.{changed_or_no}
 use Rattle.model_world.specs.Commands.{command}
 use Rattle.model_world.specs.Refusals.{redo_refusal, refused_as, undo_refusal}
-use Rattle.model_world.specs.World.{Answer, Closed, Open, World, answered_if, asked_of, on_page, reply, settled, world_after}
+use Rattle.model_world.specs.World.{Answer, Closed, Open, World, answered_if, asked_of, on_page, reply, reply_and_next, world_after}
 use Rattle.model_world_law.specs.Reached.{IsReached, WorldReached}
 use Rattle.model_world_law.specs.Redone.{AsksTurn, LinesRedo}
 use Rattle.model_world_law.proofs.ReachLemmas.{every_world_is_reached, run-append}
@@ -28,24 +28,24 @@ record Turned (o : Opened) (k : ℕ) (w : Session) (v : World) : Type 0 where
 stays_so : (o : Opened) (k : ℕ) (w : Session) → Turned o k w (Open o w)
 stays_so o k w = record { order = []; same = refl }
 
-by_undo : (o : Opened) (k : ℕ) (w : Session) (x : Option Member) → slice_get w.members k ≡ x → Turned o k w (settled (Open o w) (asked_of o w request.Undo k x)).1
+by_undo : (o : Opened) (k : ℕ) (w : Session) (x : Option Member) → slice_get w.members k ≡ x → Turned o k w (reply_and_next (Open o w) (asked_of o w request.Undo k x)).1
 by_undo o k w None e = stays_so o k w
 by_undo o k w (Some m) e = by_result (undo m.site) refl
   where
     by_result : (r : Result Site UndoCause) → undo m.site ≡ r →
-        Turned o k w (settled (Open o w) (on_page o (changed_or_no (record { page = o; session = w; k = k; member = m }) (refused_as undo_refusal r)))).1
+        Turned o k w (reply_and_next (Open o w) (on_page o (changed_or_no (record { page = o; session = w; k = k; member = m }) (refused_as undo_refusal r)))).1
     by_result (Err f) d = stays_so o k w
     by_result (Ok site) d = record {
       order = true ∷ [];
       same = ap (λ r. Open o (with_site_of k m r w)) (sym d) ∙ ap (λ x. Open o (at_member w x (λ n. with_site_of k n (undo n.site) w))) (sym e);
     }
 
-by_redo : (o : Opened) (k : ℕ) (w : Session) (x : Option Member) → slice_get w.members k ≡ x → Turned o k w (settled (Open o w) (asked_of o w request.Redo k x)).1
+by_redo : (o : Opened) (k : ℕ) (w : Session) (x : Option Member) → slice_get w.members k ≡ x → Turned o k w (reply_and_next (Open o w) (asked_of o w request.Redo k x)).1
 by_redo o k w None e = stays_so o k w
 by_redo o k w (Some m) e = by_result (redo m.site) refl
   where
     by_result : (r : Result Site RedoCause) → redo m.site ≡ r →
-        Turned o k w (settled (Open o w) (on_page o (changed_or_no (record { page = o; session = w; k = k; member = m }) (refused_as redo_refusal r)))).1
+        Turned o k w (reply_and_next (Open o w) (on_page o (changed_or_no (record { page = o; session = w; k = k; member = m }) (refused_as redo_refusal r)))).1
     by_result (Err f) d = stays_so o k w
     by_result (Ok site) d = record {
       order = false ∷ [];
@@ -55,13 +55,13 @@ by_redo o k w (Some m) e = by_result (redo m.site) refl
 by_line : (o : Opened) (k : ℕ) (w : Session) (line : List ℕ) → AsksTurn k line → Turned o k w (reply (Open o w) line).1
 by_line o k w line asks = by_length (nat_lt max_line (length line))
   where
-    by_command : Turned o k w (settled (Open o w) (answered_if (Open o w) (command line))).1
+    by_command : Turned o k w (reply_and_next (Open o w) (answered_if (Open o w) (command line))).1
     by_command = elim asks [
-      | inl undoes ↦ subst (λ c. Turned o k w (settled (Open o w) (answered_if (Open o w) c)).1) (sym undoes) (by_undo o k w (slice_get w.members k) refl)
-      | inr redoes ↦ subst (λ c. Turned o k w (settled (Open o w) (answered_if (Open o w) c)).1) (sym redoes) (by_redo o k w (slice_get w.members k) refl)
+      | inl undoes ↦ subst (λ c. Turned o k w (reply_and_next (Open o w) (answered_if (Open o w) c)).1) (sym undoes) (by_undo o k w (slice_get w.members k) refl)
+      | inr redoes ↦ subst (λ c. Turned o k w (reply_and_next (Open o w) (answered_if (Open o w) c)).1) (sym redoes) (by_redo o k w (slice_get w.members k) refl)
     ]
 
-    by_length : (b : Bool) → Turned o k w (settled (Open o w) (elim b as (λ _. Answer) [
+    by_length : (b : Bool) → Turned o k w (reply_and_next (Open o w) (elim b as (λ _. Answer) [
       | true ↦ Err (No (LineTooLong (length line)))
       | false ↦ answered_if (Open o w) (command line)
     ])).1

@@ -22,7 +22,7 @@ use Rattle.model_world.specs.Values.{such_that, all_read, read_or, member_or}
 use Rattle.model_world.specs.Attributes.{are_free, free_attrs_in, marks_in, element_in}
 use Rattle.model_edit.specs.Insert.{text_pieces}
 use Rattle.model_world.specs.ItemWords.{white_in, may_open, opening_with, opening_in, may_close, closing_in, bracket_in, items_in, one_list}
-use Rattle.model_world.specs.Shown.{json_text, attrs_shown, marks_shown, opening_shown, closing_shown, run_shown, Shown, Together, Apart, all_shown, char_shown, shown}
+use Rattle.model_world.specs.Shown.{json_text, attrs_shown, marks_shown, opening_shown, closing_shown, run_shown, Shown, Together, Apart, all_shown, char_shown, as_shown}
 use Rattle.model_world_law.specs.ShownLaws.{IsText, AreAttrs, AreMarks, IsWhite, plain_head, CanWrite, ShownIsRead}
 use Rattle.model_world_law.proofs.ShownLemmas.{passes, text_back, listed_back, free_back, marks_back, kind_back, if_some, opened, open_at, attrs_at, marks_at, pre_at, close_at, no_open_at, closed_pre_at}
 
@@ -133,23 +133,23 @@ char_back c marks (Together others text later) items one ms b = by (marks_same m
         record { marked = b.marked; text_is = longer c text one b.text_is; suffix = b.suffix; rest = b.rest; parts = λ i. Char c (equal i) ∷ b.parts i }
     by false e = record { marked = ms; text_is = one; suffix = items; rest = all_back (Together others text later) items b; parts = refl }
 
-shown_back : (items : List PlainItem) → AllByRecursion CanWrite items → Back (shown items) items
+shown_back : (items : List PlainItem) → AllByRecursion CanWrite items → Back (as_shown items) items
 shown_back [] p = record { lists = []; are = refl; whole = refl }
-shown_back (Char c marks ∷ items) p = char_back c marks (shown items) items (p.0).0 (p.0).1 (shown_back items p.1)
+shown_back (Char c marks ∷ items) p = char_back c marks (as_shown items) items (p.0).0 (p.0).1 (shown_back items p.1)
 shown_back (Opening kind head marks pre origin generated ∷ items) p =
     let w = p.0 in
     let same : object (opened kind head.attrs marks pre) ≡ object (opening_shown kind head marks pre origin generated) = λ i. object (opening_shown kind (sym w.1 i) marks pre (sym w.7 i) (sym w.8 i)) in
     let item : ◌≡◌ {A = List PlainItem} (Opening kind (plain_head head.attrs) marks pre None false ∷ []) (Opening kind head marks pre origin generated ∷ []) = λ i. Opening kind (sym w.1 i) marks pre (sym w.7 i) (sym w.8 i) ∷ [] in
     let read : items_in (object (opening_shown kind head marks pre origin generated)) ≡ Some (Opening kind head marks pre origin generated ∷ []) =
     ap items_in (sym same) ∙ opening_back kind head.attrs marks pre w.0 w.2 w.3 w.4 w.5 w.6 ∙ ap (λ xs. Some xs) item in
-    one_back (object (opening_shown kind head marks pre origin generated)) (all_shown (shown items)) (Opening kind head marks pre origin generated ∷ []) items read (all_back (shown items) items (shown_back items p.1))
+    one_back (object (opening_shown kind head marks pre origin generated)) (all_shown (as_shown items)) (Opening kind head marks pre origin generated ∷ []) items read (all_back (as_shown items) items (shown_back items p.1))
 shown_back (Closing kind pre ∷ items) p =
     let w = p.0 in
-    one_back (object (closing_shown kind pre)) (all_shown (shown items)) (Closing kind pre ∷ []) items (closing_back kind pre w.0 w.1 w.2) (all_back (shown items) items (shown_back items p.1))
+    one_back (object (closing_shown kind pre)) (all_shown (as_shown items)) (Closing kind pre ∷ []) items (closing_back kind pre w.0 w.1 w.2) (all_back (as_shown items) items (shown_back items p.1))
 
 pub shown_is_read : ShownIsRead
 shown_is_read items p =
-    let b = all_back (shown items) items (shown_back items p) in
-    ap (λ values. option_map one_list (all_read items_in values)) (listed_back (all_shown (shown items)))
+    let b = all_back (as_shown items) items (shown_back items p) in
+    ap (λ values. option_map one_list (all_read items_in values)) (listed_back (all_shown (as_shown items)))
     ∙ ap (option_map one_list) b.are
     ∙ ap (λ xs. Some xs) (sym b.whole)

@@ -14,7 +14,7 @@ use Rattle.ve_kinds.specs.Table.{is_element}
 use Rattle.ve_base.specs.declared.attrs.Attr.{Attr}
 use Rattle.ve_base.specs.declared.marks.Mark.{Mark}
 use Rattle.model_world.specs.Names.{kind_name}
-use Rattle.model_world.specs.Values.{such_that, text_in, listed, all_read, list_in}
+use Rattle.model_world.specs.Values.{such_that, text_in, json_values, all_read, list_in}
 use Rattle.model_world.specs.Attributes.{name_in, attr_in, are_apart, attrs_in, are_free, free_attrs_in, is_mark, mark_in, marks_in, element_in}
 use Rattle.model_world.specs.Shown.{json_items, json_list, json_text, attr_shown, attrs_shown, mark_shown, marks_shown, opening_shown, closing_shown}
 use Rattle.model_world_law.specs.ShownLaws.{IsText, IsAttr, AreAttrs, IsMark, AreMarks, plain_head}
@@ -28,7 +28,7 @@ pub text_back : (text : List ℕ) → IsText text → text_in (json_text text) �
 text_back text t =
     ap (λ b. option_map chars (if not b then Some (encode_utf8_all text) else None)) t.free ∙ ap (λ cs. Some cs) (chars-encodes text t.scalars)
 
-pub listed_back : (values : List Data) → listed (json_items values) ≡ values
+pub listed_back : (values : List Data) → json_values (json_items values) ≡ values
 listed_back [] = refl
 listed_back (one ∷ more) = ap (λ r. one ∷ r) (listed_back more)
 

@@ -1,4 +1,4 @@
--- What each edit inserts may stand, where the list's items may and those that are given.
+-- The items that each edit inserts may stand, where the list's items may and those that are given.
 use Rattle.std.specs.Prelude.{codes, filter, find, flat_map, nat_le, nat_lt, slice_get}
 use Rattle.std.specs.List.{AllByRecursion, enumerate_from, list_all, list_any, range_with_len}
 use Rattle.std.proofs.Common.{◌≡◌, inl, inr, ◌≤◌, ℕ, zero, suc, ◌-◌, ◌==◌, Bool, true, false, not, ◌&&◌, if◌then◌else◌, List, [], ◌∷◌, ◌++◌, length, map, reverse, take, Option, Some, None, Result, Ok, refl, sym, ap, ◌∙◌, subst, arith}
@@ -297,7 +297,7 @@ item_in_list items at lawful h =
     let may = held n.before.stack (n.before).seen n.allowed.0 n.allowed.1 in
     list_other (kind_at items at) (ap (λ st. may_hold (top st) Li) (stack_at-after items at n.before n.reached) ∙ may)
   where
-    held : (stack : List Kind) (seen : Bool) (u : Rattle.model_items.specs.Law.State) → Rattle.model_items.specs.Law.opened (record { stack = stack; seen = seen }) Li ≡ Ok u → may_hold (top stack) Li ≡ true
+    held : (stack : List Kind) (seen : Bool) (u : Rattle.model_items.specs.Law.State) → Rattle.model_items.specs.Law.state_opened (record { stack = stack; seen = seen }) Li ≡ Ok u → may_hold (top stack) Li ≡ true
     held stack seen u e = (and_parts (may_hold (top stack) Li) _ (Rattle.model_items.proofs.LawLemmas.if_ok (Rattle.model_items.specs.Law.may_open (record { stack = stack; seen = seen }) Li) _ _ u e).0).0
 
 indent_pieces : (items : List PlainItem) (at : ℕ) (kind : Kind) → Other kind → AllStand (inserted_pieces (indent_edits items at kind))

@@ -1,4 +1,5 @@
--- Items that a line writes may stand: they are characters and elements, with at most 64 marks. So may the nodes that a wrap puts in.
+-- Items that a line writes may stand: they are characters and elements, with at most 64 marks. So
+-- may the nodes that a wrap puts in.
 use Rattle.std.specs.Prelude.{codes, nat_le, option_and_then}
 use Rattle.std.proofs.Common.{◌≡◌, ℕ, true, false, List, [], ◌∷◌, length, Option, Some, None, refl}
 use Rattle.serde_json.specs.Data.{Data, Members, array, boolean, null, number, object, string}
@@ -19,8 +20,8 @@ use Rattle.model_world.specs.Attributes.{branch_in, element_in, free_attrs_in, m
 use Rattle.model_world.specs.ItemWords.{all_items_in, bracket_in, closing_in, items_in, marked_text_in, may_close, may_open, one_list, opening_in, opening_with, white_in}
 use Rattle.model_world.specs.Operations.{op_by, op_in, ops_in, removal_in, setting_in, words_are_normal}
 use Rattle.model_world.specs.Values.{list_in, member_in, member_or, number_in, pair_in, text_in, text_or_null_in}
-use Rattle.model_world.specs.declared.change.OpWords.{OpWords}
-use Rattle.model_world.specs.declared.change.OpWords.TheVariants as op
+use Rattle.model_world.specs.declared.edit_command.OpWords.{OpWords}
+use Rattle.model_world.specs.declared.edit_command.OpWords.TheVariants as op
 use Rattle.model_world_law.specs.Standing.{OpsStand, ShapesOfElements}
 use Rattle.model_world_law.proofs.ReadLemmas.{Each, Of, Of-always, Of-choice, Of-list_in, Of-map, Of-member_in, Of-member_or, Of-passing, Of-such_that, Of-then, Of-then_with, Of-weaken}
 use Rattle.model_world_law.proofs.StandLemmas.{AllStand, Stands, opening_stands, stand-append}

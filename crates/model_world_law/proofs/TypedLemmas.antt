@@ -10,7 +10,7 @@ use Rattle.ve_base.specs.declared.marks.Mark.{Mark}
 use Rattle.model_items.specs.declared.plain_item.PlainItem.{PlainItem}
 use Rattle.model_items.specs.declared.plain_item.PlainItem.TheVariants.{Char, Opening, Closing}
 use Rattle.model_items.specs.declared.law_fault.LawFault.{LawFault}
-use Rattle.model_items.specs.Law.{State, start, finish, top, followed, step, after, Lawful}
+use Rattle.model_items.specs.Law.{State, start, finish, top, outcome_then, step, after, Lawful}
 use Rattle.model_items.proofs.LawLemmas.{if_ok, Ok-same, joined-ok, after_parts, after_whole, after_from_Lawful}
 use Rattle.model_change.specs.Transaction.{Retain, Replace, Attribute, Transaction, all_inserted, edited}
 use Rattle.model_change.specs.Join.{first}
@@ -92,7 +92,7 @@ char_after items n c marks lawful h =
     let s = p.0 in
     let q = joined-ok 1 (step s x) (λ next. after next (drop (suc n) items)) finish p.2 in
     let r = char_step s q.0 c marks q.1 in
-    let one : after s (x ∷ []) ≡ Ok s = ap (λ (o : Result State LawFault). followed 1 o (λ next. Ok next)) (q.1 ∙ ap (λ v. Ok v) (sym r.1)) in
+    let one : after s (x ∷ []) ≡ Ok s = ap (λ (o : Result State LawFault). outcome_then 1 o (λ next. Ok next)) (q.1 ∙ ap (λ v. Ok v) (sym r.1)) in
     let there : after start (take (suc n) items) ≡ Ok s = ap (after start) (take_more items n x h) ∙ after_whole (take n items) (x ∷ []) start s s p.1 one in
     let stack : stack_at items (suc n) ≡ s.stack = stack_at-after items (suc n) s there in
     let below = found_below items n x h in
@@ -118,7 +118,7 @@ was_suc : (m n : ℕ) → one_more m ≡ suc n → (k : ℕ) × (m ≡ suc k) ×
 was_suc zero n h = cc
 was_suc (suc m) n h = let e = bumped (suc m == 0) (suc m) n h in (m, refl, sym e)
 
--- the item before the place after the last character is one
+-- the item before the position after the last character is one
 abbrev IsChar : List PlainItem → ℕ → Type 0
 IsChar items n = (c : ℕ) × (marks : List Mark) × (slice_get items n ≡ Some (Char c marks))
 
@@ -201,7 +201,7 @@ prefix_get [] ys n x h = cc
 prefix_get (z ∷ xs) ys zero x h = h
 prefix_get (z ∷ xs) ys (suc n) x h = prefix_get xs ys n x h
 
--- the place after the last character that a transaction puts in
+-- the position after the last character that a transaction puts in
 abbrev pub suffix : Transaction → ℕ
 suffix t = first t + to_last_char (all_inserted t)
 
@@ -230,7 +230,7 @@ put_at_stands items at pieces t within h lawful (Some j) e =
     subst (λ u. selection.EndStands (edited u items) (suffix u)) same
     (put_stands items at new within (reopened_has_char (take j (openings_at items at)) pieces h) (subst (λ u. Lawful (edited u items)) (sym same) lawful))
 
--- Typed text stands in the new list, and so does the place after it.
+-- Typed text stands in the new list, and so does the position after it.
 pub typed_stands : (items : List PlainItem) (at : ℕ) (marks : List Mark) (text : List ℕ) (t : Transaction) → 0 < length text → insertion items at (text_pieces marks text) ≡ Ok t → Lawful (edited t items) →
     selection.EndStands (edited t items) (suffix t)
 typed_stands items at marks text t some h lawful =

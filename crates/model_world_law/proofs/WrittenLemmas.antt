@@ -1,4 +1,4 @@
--- What reading a line makes sure of: what each command's members say is well written.
+-- Lines that are read: each command's members are well written.
 use Rattle.std.proofs.Common.{◌≡◌, ℕ, ◌<◌, true, false, List, [], ◌∷◌, length, map, Option, Some, None, Result, Ok, Err, subst}
 use Rattle.std.specs.Prelude.{bytes_eq}
 use Rattle.std.proofs.lemmas.Bool.{ltb-true}
@@ -7,9 +7,9 @@ use Rattle.serde_json.specs.Data.{Data, null, boolean, number, string, array, ob
 use Rattle.serde_json.specs.Find.{get_member, as_str, as_bool, as_object}
 use Rattle.ve_base.specs.declared.marks.Mark as base
 use Rattle.model_edit.specs.declared.selection.By.TheVariants.{Cluster}
-use Rattle.model_world.specs.declared.change.TextMarks.TheVariants as text_marks
-use Rattle.model_world.specs.declared.change.Change.{Change}
-use Rattle.model_world.specs.declared.change.Change.TheVariants as change
+use Rattle.model_world.specs.declared.edit_command.TextMarks.TheVariants as text_marks
+use Rattle.model_world.specs.declared.edit_command.EditCommand.{EditCommand}
+use Rattle.model_world.specs.declared.edit_command.EditCommand.TheVariants as change
 use Rattle.model_world.specs.declared.command.Request.{Request}
 use Rattle.model_world.specs.declared.command.Request.TheVariants as request
 use Rattle.model_world.specs.declared.command.Command.{Command}
@@ -18,7 +18,7 @@ use Rattle.model_world.specs.declared.field.Field.{Field}
 use Rattle.model_world.specs.declared.field.Field.TheVariants as field
 use Rattle.model_world.specs.Names.{field_name}
 use Rattle.model_world.specs.Values.{such_that, number_in, number_between, source_in, text_in, text_or_null_in, list_in, meant_by, word_in, member_in, member_or, is_some_text}
-use Rattle.model_world.specs.Members.{Reader, or_bad, needed, defaulted, made}
+use Rattle.model_world.specs.Members.{Reader, or_bad, required_member, optional_member, map_reader}
 use Rattle.model_world.specs.Members as members
 use Rattle.model_world.specs.Attributes.{name_in, attrs_in, branch_in, kinds_in, shapes_in}
 use Rattle.model_world.specs.Operations.{ops_in}
@@ -26,7 +26,7 @@ use Rattle.model_world.specs.Changes.{some_text_in, some_source_in, text_marks_i
 use Rattle.model_world.specs.Commands.{some_number_in, dir_in, by_in, at_read, table_read, show_read, is_batch, batch_read, select_read, move_read, type_read, erase_read, revoke_read, requests, ask_read, open_read, commands, or_bad_command, read_by, command_in, command_or_refusal}
 use Rattle.model_world.specs.Values.{line_json}
 use Rattle.model_edit.specs.declared.wrap_plan.Shape.{Shape}
-use Rattle.model_world.specs.declared.change.OpWords.{OpWords}
+use Rattle.model_world.specs.declared.edit_command.OpWords.{OpWords}
 use Rattle.model_world_law.specs.Standing.{OpsStand, ShapesOfElements}
 use Rattle.model_world_law.proofs.StandReadLemmas.{ops_stand, shapes_of_elements}
 use Rattle.model_world_law.specs.Fit.{IsWritten, AllWritten, RequestWritten, LinesAreWritten}
@@ -47,10 +47,10 @@ bad_or : {A : Type 0} (P : A → Type 0) (bad : Field) (o : Option A) → Of P o
 bad_or P bad None h = tt
 bad_or P bad (Some x) h = h
 
-needed_is : {A : Type 0} (P : A → Type 0) (bad : Field) (read : Data → Option A) (ms : Members) → ((json : Data) → Of P (read json)) → OfOk P (needed bad read ms)
+needed_is : {A : Type 0} (P : A → Type 0) (bad : Field) (read : Data → Option A) (ms : Members) → ((json : Data) → Of P (read json)) → OfOk P (required_member bad read ms)
 needed_is P bad read ms h = bad_or P bad (member_in (field_name bad) read ms) (Of-member_in P (field_name bad) read ms h)
 
-defaulted_is : {A : Type 0} (P : A → Type 0) (bad : Field) (default : A) (read : Data → Option A) (ms : Members) → P default → ((json : Data) → Of P (read json)) → OfOk P (defaulted bad default read ms)
+defaulted_is : {A : Type 0} (P : A → Type 0) (bad : Field) (default : A) (read : Data → Option A) (ms : Members) → P default → ((json : Data) → Of P (read json)) → OfOk P (optional_member bad default read ms)
 defaulted_is P bad default read ms d h = bad_or P bad (member_or (field_name bad) default read ms) (Of-member_or P (field_name bad) default read ms d h)
 
 -- ---- changes
@@ -59,19 +59,19 @@ abbrev Reads : {A : Type 0} → (A → Type 0) → Reader A → Type 0
 Reads P read = (ms : Members) → OfOk P (read ms)
 
 text_written : Reads IsWritten text_read
-text_written ms = bind IsWritten (needed field.At number_in ms) _ (λ at. bind IsWritten (needed field.Text some_text_in ms) _ (λ text. bind IsWritten (defaulted field.Marks text_marks.Left text_marks_in ms) _ (λ marks. tt)))
+text_written ms = bind IsWritten (required_member field.At number_in ms) _ (λ at. bind IsWritten (required_member field.Text some_text_in ms) _ (λ text. bind IsWritten (optional_member field.Marks text_marks.Left text_marks_in ms) _ (λ marks. tt)))
 
 insert_written : Reads IsWritten insert_read
-insert_written ms = bind IsWritten (needed field.At number_in ms) _ (λ at. bind IsWritten (needed field.Html some_source_in ms) _ (λ html. tt))
+insert_written ms = bind IsWritten (required_member field.At number_in ms) _ (λ at. bind IsWritten (required_member field.Html some_source_in ms) _ (λ html. tt))
 
 remove_written : Reads IsWritten remove_read
-remove_written ms = bind IsWritten (needed field.From number_in ms) _ (λ from. bind IsWritten (needed field.To number_in ms) _ (λ to. tt))
+remove_written ms = bind IsWritten (required_member field.From number_in ms) _ (λ from. bind IsWritten (required_member field.To number_in ms) _ (λ to. tt))
 
 split_written : Reads IsWritten split_read
-split_written ms = bind IsWritten (needed field.At number_in ms) _ (λ at. bind IsWritten (defaulted field.Depth 1 number_in ms) _ (λ depth. tt))
+split_written ms = bind IsWritten (required_member field.At number_in ms) _ (λ at. bind IsWritten (optional_member field.Depth 1 number_in ms) _ (λ depth. tt))
 
-mark_written : (changed : ℕ → ℕ → base.Mark → Change) → ((from to : ℕ) (mark : base.Mark) → IsWritten (changed from to mark)) → Reads IsWritten (mark_read changed)
-mark_written changed h ms = bind IsWritten (needed field.From number_in ms) _ (λ from. bind IsWritten (needed field.To number_in ms) _ (λ to. bind IsWritten (needed field.Tag text_in ms) _ (λ tag. bind IsWritten (defaulted field.Attrs [] attrs_in ms) _ (λ attrs. h from to (record { tag = tag; attrs = attrs })))))
+mark_written : (changed : ℕ → ℕ → base.Mark → EditCommand) → ((from to : ℕ) (mark : base.Mark) → IsWritten (changed from to mark)) → Reads IsWritten (mark_read changed)
+mark_written changed h ms = bind IsWritten (required_member field.From number_in ms) _ (λ from. bind IsWritten (required_member field.To number_in ms) _ (λ to. bind IsWritten (required_member field.Tag text_in ms) _ (λ tag. bind IsWritten (optional_member field.Attrs [] attrs_in ms) _ (λ attrs. h from to (record { tag = tag; attrs = attrs })))))
 
 both : {A : Type 0} (P Q : A → Type 0) (o : Option A) → Of P o → Of Q o → Of (λ x. P x × Q x) o
 both P Q None p q = tt
@@ -85,22 +85,22 @@ shapes_written json = both ShapesApart ShapesOfElements (shapes_in json) (shapes
 
 wrap_written : Reads IsWritten wrap_read
 wrap_written ms =
-    bind IsWritten (needed field.From number_in ms) _ (λ from. bind IsWritten (needed field.To number_in ms) _ (λ to. bind IsWritten (defaulted field.UnwrapOuter [] kinds_in ms) _ (λ unwrap_outer.
-    bind_with Shapes IsWritten (defaulted field.WrapOuter [] shapes_in ms) _ (defaulted_is Shapes field.WrapOuter [] shapes_in ms (tt, tt) shapes_written) (λ wrap_outer p.
-    bind IsWritten (defaulted field.UnwrapEach [] kinds_in ms) _ (λ unwrap_each.
-    bind_with Shapes IsWritten (defaulted field.WrapEach [] shapes_in ms) _ (defaulted_is Shapes field.WrapEach [] shapes_in ms (tt, tt) shapes_written) (λ wrap_each q. ((p.0, q.0), (p.1, q.1))))))))
+    bind IsWritten (required_member field.From number_in ms) _ (λ from. bind IsWritten (required_member field.To number_in ms) _ (λ to. bind IsWritten (optional_member field.UnwrapOuter [] kinds_in ms) _ (λ unwrap_outer.
+    bind_with Shapes IsWritten (optional_member field.WrapOuter [] shapes_in ms) _ (defaulted_is Shapes field.WrapOuter [] shapes_in ms (tt, tt) shapes_written) (λ wrap_outer p.
+    bind IsWritten (optional_member field.UnwrapEach [] kinds_in ms) _ (λ unwrap_each.
+    bind_with Shapes IsWritten (optional_member field.WrapEach [] shapes_in ms) _ (defaulted_is Shapes field.WrapEach [] shapes_in ms (tt, tt) shapes_written) (λ wrap_each q. ((p.0, q.0), (p.1, q.1))))))))
 
 convert_written : Reads IsWritten convert_read
-convert_written ms = bind IsWritten (needed field.At number_in ms) _ (λ at. bind IsWritten (needed field.Kind branch_in ms) _ (λ kind. tt))
+convert_written ms = bind IsWritten (required_member field.At number_in ms) _ (λ at. bind IsWritten (required_member field.Kind branch_in ms) _ (λ kind. tt))
 
 attr_written : Reads IsWritten attr_read
-attr_written ms = bind IsWritten (needed field.At number_in ms) _ (λ at. bind IsWritten (needed field.Name name_in ms) _ (λ name. bind IsWritten (needed field.To text_or_null_in ms) _ (λ to. tt)))
+attr_written ms = bind IsWritten (required_member field.At number_in ms) _ (λ at. bind IsWritten (required_member field.Name name_in ms) _ (λ name. bind IsWritten (required_member field.To text_or_null_in ms) _ (λ to. tt)))
 
 abbrev OpsAll : List OpWords → Type 0
 OpsAll ops = OpsWritten ops × OpsStand ops
 
 apply_written : Reads IsWritten apply_read
-apply_written ms = bind_with OpsAll IsWritten (needed field.Ops ops_in ms) _ (needed_is OpsAll field.Ops ops_in ms (λ json. both OpsWritten OpsStand (ops_in json) (ops_written json) (ops_stand json))) (λ ops p. (p.0.0, p.0.1, p.1))
+apply_written ms = bind_with OpsAll IsWritten (required_member field.Ops ops_in ms) _ (needed_is OpsAll field.Ops ops_in ms (λ json. both OpsWritten OpsStand (ops_in json) (ops_written json) (ops_stand json))) (λ ops p. (p.0.0, p.0.1, p.1))
 
 -- each row's reader
 abbrev Rows : {A : Type 0} → (A → Type 0) → List (List ℕ × Reader A) → Type 0
@@ -147,7 +147,7 @@ change_written json =
 
 -- ---- requests
 
-each_change : (cmds : List Change) → Each IsWritten cmds → AllWritten cmds
+each_change : (cmds : List EditCommand) → Each IsWritten cmds → AllWritten cmds
 each_change [] p = tt
 each_change (c ∷ cmds) p = (p.0, each_change cmds p.1)
 
@@ -155,22 +155,22 @@ cmds_written : (json : Data) → Of AllWritten (such_that is_batch (list_in chan
 cmds_written json = Of-passing AllWritten is_batch (list_in change_in json) (Of-weaken (Each IsWritten) AllWritten (list_in change_in json) (Of-list_in IsWritten change_in change_written json) each_change)
 
 batch_written : Reads RequestWritten batch_read
-batch_written ms = bind_with AllWritten RequestWritten (needed field.Cmds (λ json. such_that is_batch (list_in change_in json)) ms) _ (needed_is AllWritten field.Cmds (λ json. such_that is_batch (list_in change_in json)) ms cmds_written) (λ cmds p. p)
+batch_written ms = bind_with AllWritten RequestWritten (required_member field.Cmds (λ json. such_that is_batch (list_in change_in json)) ms) _ (needed_is AllWritten field.Cmds (λ json. such_that is_batch (list_in change_in json)) ms cmds_written) (λ cmds p. p)
 
 at_written : (asked : ℕ → Request) → ((at : ℕ) → RequestWritten (asked at)) → Reads RequestWritten (at_read asked)
-at_written asked h ms = bind RequestWritten (needed field.At number_in ms) _ (λ at. h at)
+at_written asked h ms = bind RequestWritten (required_member field.At number_in ms) _ (λ at. h at)
 
 table_written : (line : Field) (asked : ℕ → ℕ → Request) → ((at n : ℕ) → RequestWritten (asked at n)) → Reads RequestWritten (table_read line asked)
-table_written line asked h ms = bind RequestWritten (needed field.At number_in ms) _ (λ at. bind RequestWritten (needed line number_in ms) _ (λ n. h at n))
+table_written line asked h ms = bind RequestWritten (required_member field.At number_in ms) _ (λ at. bind RequestWritten (required_member line number_in ms) _ (λ n. h at n))
 
 show_written : Reads RequestWritten show_read
-show_written ms = bind RequestWritten (defaulted field.From 0 number_in ms) _ (λ from. bind RequestWritten (defaulted field.To None some_number_in ms) _ (λ to. tt))
+show_written ms = bind RequestWritten (optional_member field.From 0 number_in ms) _ (λ from. bind RequestWritten (optional_member field.To None some_number_in ms) _ (λ to. tt))
 
 select_written : Reads RequestWritten select_read
-select_written ms = bind RequestWritten (needed field.Anchor number_in ms) _ (λ anchor. bind RequestWritten (needed field.Focus number_in ms) _ (λ focus. tt))
+select_written ms = bind RequestWritten (required_member field.Anchor number_in ms) _ (λ anchor. bind RequestWritten (required_member field.Focus number_in ms) _ (λ focus. tt))
 
 move_written : Reads RequestWritten move_read
-move_written ms = bind RequestWritten (needed field.Dir dir_in ms) _ (λ dir. bind RequestWritten (defaulted field.By Cluster by_in ms) _ (λ by. bind RequestWritten (defaulted field.Keep false as_bool ms) _ (λ keep. tt)))
+move_written ms = bind RequestWritten (required_member field.Dir dir_in ms) _ (λ dir. bind RequestWritten (optional_member field.By Cluster by_in ms) _ (λ by. bind RequestWritten (optional_member field.Keep false as_bool ms) _ (λ keep. tt)))
 
 some_text : (json : Data) → Of (λ text. 0 < length text) (some_text_in json)
 some_text json =
@@ -179,15 +179,15 @@ some_text json =
 
 type_written : Reads RequestWritten type_read
 type_written ms =
-    bind_with (λ text. 0 < length text) RequestWritten (needed field.Text some_text_in ms) _ (needed_is (λ text. 0 < length text) field.Text some_text_in ms some_text) (λ text p. p)
+    bind_with (λ text. 0 < length text) RequestWritten (required_member field.Text some_text_in ms) _ (needed_is (λ text. 0 < length text) field.Text some_text_in ms some_text) (λ text p. p)
 
 erase_written : Reads RequestWritten erase_read
-erase_written ms = bind RequestWritten (needed field.Dir dir_in ms) _ (λ dir. bind RequestWritten (defaulted field.By Cluster by_in ms) _ (λ by. tt))
+erase_written ms = bind RequestWritten (required_member field.Dir dir_in ms) _ (λ dir. bind RequestWritten (optional_member field.By Cluster by_in ms) _ (λ by. tt))
 
 revoke_written : Reads RequestWritten revoke_read
-revoke_written ms = bind RequestWritten (needed field.Entry number_in ms) _ (λ entry. tt)
+revoke_written ms = bind RequestWritten (required_member field.Entry number_in ms) _ (λ entry. tt)
 
-edit_rows : (rows : List (List ℕ × Reader Change)) → Rows IsWritten rows → Rows RequestWritten (map (λ (row : List ℕ × Reader Change). (row.0, made (λ c. request.Edit c) row.1)) rows)
+edit_rows : (rows : List (List ℕ × Reader EditCommand)) → Rows IsWritten rows → Rows RequestWritten (map (λ (row : List ℕ × Reader EditCommand). (row.0, map_reader (λ c. request.Edit c) row.1)) rows)
 edit_rows [] h = tt
 edit_rows (row ∷ rows) h = ((λ ms. bind_with IsWritten RequestWritten (row.1 ms) _ (h.0 ms) (λ c p. p)), edit_rows rows h.1)
 
@@ -274,10 +274,10 @@ CommandWritten (Ask asked k) = RequestWritten asked
 
 ask_rows : (rows : List (List ℕ × Reader Request)) → Rows RequestWritten rows → Rows CommandWritten (map (λ (row : List ℕ × Reader Request). (row.0, ask_read row.1)) rows)
 ask_rows [] h = tt
-ask_rows (row ∷ rows) h = ((λ ms. bind_with RequestWritten CommandWritten (row.1 ms) _ (h.0 ms) (λ asked p. bind CommandWritten (defaulted field.Site 0 number_in ms) _ (λ site. p))), ask_rows rows h.1)
+ask_rows (row ∷ rows) h = ((λ ms. bind_with RequestWritten CommandWritten (row.1 ms) _ (h.0 ms) (λ asked p. bind CommandWritten (optional_member field.Site 0 number_in ms) _ (λ site. p))), ask_rows rows h.1)
 
 open_written : Reads CommandWritten open_read
-open_written ms = bind CommandWritten (needed field.Page source_in ms) _ (λ page. bind CommandWritten (defaulted field.Sites 1 (number_between 1 max_sites) ms) _ (λ sites. tt))
+open_written ms = bind CommandWritten (required_member field.Page source_in ms) _ (λ page. bind CommandWritten (optional_member field.Sites 1 (number_between 1 max_sites) ms) _ (λ sites. tt))
 
 commands_written : Rows CommandWritten commands
 commands_written = (open_written, ask_rows requests requests_written)

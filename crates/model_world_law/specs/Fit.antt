@@ -1,4 +1,5 @@
--- What the layers below the world make sure of: lines are read as written, what they ask gives transactions that are reduced and put in names apart, and pages open as sound lists.
+-- Promises of the layers below the world. Lines are read as written. Their commands give
+-- transactions that are reduced and put in names apart. Pages open as sound lists.
 use Rattle.std.specs.Prelude.{◌≡◌, ◌<◌, ℕ, true, List, [], ◌∷◌, length, Ok, IsUtf8}
 use Rattle.model_items.specs.declared.plain_item.PlainItem.{PlainItem}
 use Rattle.model_change.specs.Attributes.{AllNamesApart}
@@ -8,10 +9,10 @@ use Rattle.model_edit.specs.Tables.{row_in, row_out, col_in, col_out}
 use Rattle.model_edit.specs.Lists.{indent, outdent}
 use Rattle.model_edit_law.specs.ApartLaws.{PlanApart}
 use Rattle.model_site_law.specs.Sound.{Sound}
-use Rattle.model_world.specs.declared.change.OpWords.{OpWords}
-use Rattle.model_world.specs.declared.change.OpWords.TheVariants as op
-use Rattle.model_world.specs.declared.change.Change.{Change}
-use Rattle.model_world.specs.declared.change.Change.TheVariants as change
+use Rattle.model_world.specs.declared.edit_command.OpWords.{OpWords}
+use Rattle.model_world.specs.declared.edit_command.OpWords.TheVariants as op
+use Rattle.model_world.specs.declared.edit_command.EditCommand.{EditCommand}
+use Rattle.model_world.specs.declared.edit_command.EditCommand.TheVariants as change
 use Rattle.model_world.specs.declared.command.Request.{Request}
 use Rattle.model_world.specs.declared.command.Request.TheVariants as request
 use Rattle.model_world.specs.declared.command.Command.TheVariants.{Ask}
@@ -32,12 +33,12 @@ OpsApart (op.Remove count insert ∷ ops) = AllNamesApart insert × OpsApart ops
 OpsApart (op.Attr name to ∷ ops) = OpsApart ops
 
 -- operations are in normal form, and what is put in has distinct names, and may stand
-abbrev pub IsWritten : Change → Type 0
+abbrev pub IsWritten : EditCommand → Type 0
 IsWritten (change.Apply ops) = (words_are_normal ops ≡ true) × OpsApart ops × OpsStand ops
 IsWritten (change.Wrap from to plan) = PlanApart plan × PlanOfElements plan
 IsWritten _ = Unit {0}
 
-abbrev pub AllWritten : List Change → Type 0
+abbrev pub AllWritten : List EditCommand → Type 0
 AllWritten [] = Unit {0}
 AllWritten (c ∷ cs) = IsWritten c × AllWritten cs
 
@@ -59,7 +60,7 @@ pub record Fit (t : Transaction) : Type 0 where
 
 -- a change that was read gives such a transaction on every sound list
 abbrev pub ChangesFit : Type 0
-ChangesFit = (items : List PlainItem) (c : Change) (t : Transaction) → IsWritten c → Sound items → change_of items c ≡ Ok t → Fit t
+ChangesFit = (items : List PlainItem) (c : EditCommand) (t : Transaction) → IsWritten c → Sound items → change_of items c ≡ Ok t → Fit t
 
 -- so do rows, columns and moved list items
 pub record MovesFit : Type 0 where
@@ -82,7 +83,7 @@ InsertsStanding t = AllPass may_stand (all_inserted t)
 
 -- So it is where the list's items may stand: of each change that was read,
 abbrev pub ChangesStand : Type 0
-ChangesStand = (items : List PlainItem) (c : Change) (t : Transaction) → IsWritten c → Sound items → AllPass may_stand items →
+ChangesStand = (items : List PlainItem) (c : EditCommand) (t : Transaction) → IsWritten c → Sound items → AllPass may_stand items →
     change_of items c ≡ Ok t → InsertsStanding t
 
 -- and of rows, columns and moved list items.

@@ -1,4 +1,4 @@
--- What always holds of a world, whatever lines it was given: the laws of sites and server hold of it.
+-- The invariant of a world, whatever lines it was given: the laws of sites and server hold of it.
 use Rattle.std.specs.Prelude.{◌≡◌, ◌≤◌, ℕ, List, [], ◌∷◌, ◌++◌, length, slice_get, Some, Ok, IsUtf8}
 use Rattle.std.specs.List.{AllByRecursion}
 use Rattle.model_items.specs.Plain.{AreDistinct}
@@ -31,8 +31,8 @@ pub record Becomes (w next : Session) : Type 0 where
   pub inserts : Every (λ m. AllPass may_stand m.site.replica.items) w.members → AllByRecursion (Inserts may_stand) events
   pub same : next ≡ run w events
 
--- The session is what some events make of the sites that one of the lines asked for, each of which began with the items of the page that
--- this line gave.
+-- The session is the result of some events on the sites that one of the lines asked for. Each of
+-- these began with the items of the page that this line gave.
 pub record IsReached (lines : List (List ℕ)) (page : Opened) (w : Session) : Type 0 where
   pub before : List (List ℕ)
   pub line : List ℕ
@@ -56,7 +56,8 @@ abbrev pub WorldReached : List (List ℕ) → World → Type 0
 WorldReached lines Closed = Unit {0}
 WorldReached lines (Open page session) = IsReached lines page session
 
--- Over every list of lines: each world that they lead to is what some events make of freshly started sites. So what holds of sites and server over every list of events holds of every world.
+-- Over every list of lines: each world that they lead to is what some events make of freshly
+-- started sites. So what holds of sites and server over every list of events holds of every world.
 abbrev pub EveryWorldIsReached : Type 0
 EveryWorldIsReached = (lines : List (List ℕ)) → WorldReached lines (world_after Closed lines)
 
@@ -67,7 +68,8 @@ pub record SiteHolds (base : Replica) (w : Session) (m : Member) : Type 0 where
   pub base_stays : w.base ≡ base
   -- its list is lawful, and no opening has two attributes of one name
   pub sound : Sound m.site.replica.items
-  -- it is the replay of the committed entries that it has seen, of those sent and of those unsent, each of which can be performed and undone
+  -- it is the replay of the committed entries that it has seen, of those sent and of those unsent,
+  -- each of which can be performed and undone
   pub list : m.site.replica.items ≡ replay (flattened (entries_of w.committed m.site)) base.items
   pub runs : AllRun (flattened (entries_of w.committed m.site)) base.items
   -- it has seen no more entries than are committed
@@ -75,7 +77,8 @@ pub record SiteHolds (base : Replica) (w : Session) (m : Member) : Type 0 where
   -- its store has every value that its list cites, and has each value once
   pub stored : AllIn m.site.replica.store (cited m.site.replica.items)
   pub distinct : AreDistinct m.site.replica.store
-  -- its store begins with the one that was opened, and each pending entry was made on a store with as many values or more
+  -- its store begins with the one that was opened, and each pending entry was made on a store with
+  -- as many values or more
   pub begins : BeginsWith base.store m.site
   -- both ends of its selection stand in the list, and not inside a leaf
   pub selection : StandsIn m.site.replica.items m.site.replica.selection
@@ -88,8 +91,8 @@ abbrev pub EverySiteHolds : Type 0
 EverySiteHolds = (lines : List (List ℕ)) (page : Opened) (w : Session) (k : ℕ) (m : Member) → world_after Closed lines ≡ Open page w → slice_get w.members k ≡ Some m →
     SiteHolds (opened_with page.items) w m
 
--- Where the page is UTF-8, each item of each site's list may stand: a reference is editable and has its key, an internal item has its key, and no
--- item has more than 64 marks.
+-- Where the page is UTF-8, each item of each site's list may stand. A reference is editable and has
+-- its key, an internal item has its key, and no item has more than 64 marks.
 abbrev pub EveryItemStands : Type 0
 EveryItemStands = (lines : List (List ℕ)) (page : Opened) (w : Session) (k : ℕ) (m : Member) → world_after Closed lines ≡ Open page w → slice_get w.members k ≡ Some m →
     IsUtf8 page.page → AllPass may_stand m.site.replica.items
@@ -100,7 +103,8 @@ SitesMeet = (lines : List (List ℕ)) (page : Opened) (w : Session) (k l : ℕ) 
     slice_get w.members k ≡ Some m → slice_get w.members l ≡ Some n → m.site.seen ≡ n.site.seen → pending m.site ≡ [] → pending n.site ≡ [] →
     m.site.replica.items ≡ n.site.replica.items
 
--- A site that has the page's items writes the page as it was opened, byte for byte, whatever happened between.
+-- A site that has the page's items writes the page as it was opened, byte for byte, whatever
+-- happened between.
 abbrev pub UneditedIsWrittenBack : Type 0
 UneditedIsWrittenBack = (lines : List (List ℕ)) (page : Opened) (w : Session) (k : ℕ) (m : Member) → world_after Closed lines ≡ Open page w → slice_get w.members k ≡ Some m →
     IsUtf8 page.page → m.site.replica.items ≡ page.items → write page m.site.replica.items ≡ page.page

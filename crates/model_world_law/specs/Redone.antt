@@ -1,4 +1,4 @@
--- What a site undoes and redoes, line by line.
+-- Undo and redo of a site, line by line.
 use Rattle.std.specs.Prelude.{◌≡◌, ◌⊎◌, ℕ, List, [], ◌++◌, slice_get, Some, Ok}
 use Rattle.std.specs.List.{AllByRecursion}
 use Rattle.model_page.specs.PageItems.{Opened}
@@ -12,8 +12,8 @@ use Rattle.model_world.specs.World.{Closed, Open, world_after}
 abbrev pub AsksTurn : ℕ → List ℕ → Type 0
 AsksTurn k line = (command line ≡ Ok (Ask Undo k)) ⊎ (command line ≡ Ok (Ask Redo k))
 
--- A site that has taken nothing and has nothing undone undoes and redoes, line by line and in any order, until nothing is undone again: its
--- list and its store are as before.
+-- A site that has taken nothing and has nothing undone undoes and redoes, line by line and in any
+-- order, until nothing is undone again. Its list and its store are then as before.
 abbrev pub LinesRedo : Type 0
 LinesRedo = (lines turns : List (List ℕ)) (page same : Opened) (w next : Session) (k : ℕ) (m n : Member) → world_after Closed lines ≡ Open page w →
     AllByRecursion (AsksTurn k) turns → world_after Closed (lines ++ turns) ≡ Open same next →

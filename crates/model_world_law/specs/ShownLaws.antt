@@ -1,4 +1,5 @@
--- What a reply shows is what a line may write: items with nothing but what a line can say are shown so that they are read back.
+-- Replies show items as lines may write them: items with nothing but what a line can say are shown
+-- so that they are read back.
 use Rattle.std.specs.Prelude.{◌≡◌, ℕ, true, false, nat_le, List, [], ◌∷◌, length, encode_utf8_all, Some, None}
 use Rattle.std.specs.List.{AllByRecursion, list_any}
 use Rattle.std.specs.Str.{all_scalars}
@@ -46,7 +47,7 @@ pub record IsWhite (pre : List ℕ) : Type 0 where
 abbrev pub plain_head : List Attr → Head
 plain_head attrs = record { tag = []; attrs = attrs; raw = []; reference = None; owner = false }
 
--- what a line can write of an item: it has no origin and is not generated
+-- an item that a line can write: it has no origin and is not generated
 abbrev pub CanWrite : PlainItem → Type 0
 CanWrite (Char c marks) = IsText (c ∷ []) × AreMarks marks
 CanWrite (Opening kind head marks pre origin generated) =

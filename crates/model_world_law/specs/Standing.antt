@@ -11,8 +11,8 @@ use Rattle.model_page.specs.Fragment.{fragment_items}
 use Rattle.model_page.specs.Limits.{fragment_limit, page_limit}
 use Rattle.model_page.specs.PageItems.{items_of_page, page_made}
 use Rattle.model_site_law.specs.ItemLaws.{AllPass}
-use Rattle.model_world.specs.declared.change.OpWords.{OpWords}
-use Rattle.model_world.specs.declared.change.OpWords.TheVariants as op
+use Rattle.model_world.specs.declared.edit_command.OpWords.{OpWords}
+use Rattle.model_world.specs.declared.edit_command.OpWords.TheVariants as op
 use Rattle.model_edit.specs.Marking.{item_marks}
 use Rattle.model_edit.specs.declared.wrap_plan.Shape.{Shape}
 use Rattle.model_edit.specs.declared.wrap_plan.WrapPlan.{WrapPlan}
@@ -21,7 +21,8 @@ use Rattle.model_edit.specs.declared.wrap_plan.WrapPlan.{WrapPlan}
 abbrev pub has_few_marks : PlainItem → Bool
 has_few_marks item = nat_le (length (item_marks item)) max_marks
 
--- a reference has its key and is editable, an internal item has its key, and no item has more than 64 marks
+-- a reference has its key and is editable, an internal item has its key, and no item has more than
+-- 64 marks
 abbrev pub may_stand : PlainItem → Bool
 may_stand item = item_refers item && has_few_marks item
 

@@ -1,4 +1,4 @@
--- What a reference that may stand is written as.
+-- The written form of a reference that may stand.
 use Rattle.std.specs.Prelude.{◌≡◌, ℕ, true, List, Some, None, codes, encode_utf8_all, option_map, option_and_then}
 use Rattle.ve_kinds.specs.declared.kind.Kind.TheVariants.{Ref}
 use Rattle.model_items.specs.declared.plain_item.PlainItem.TheVariants.{Opening}
@@ -17,7 +17,8 @@ pub record IsWrittenFor (w : Writer) (s : Start) (children : Forest) : Type 0 wh
   pub element : IsWrittenAs w s children
   pub said : RefRead
   pub says : option_and_then reference_of (data_mw s.head.attrs) ≡ Some said
-  -- the body that the reference carries, where a forest of at most 200 levels spells the body's text
+  -- the body that the reference carries, where a forest of at most 200 levels spells the body's
+  -- text
   pub body : (html : List ℕ) (f : Forest) → option_map w.html s.body ≡ Some html → Spells html f →
       option_and_then reference_of (value_named (codes "data-mw") element.attrs)
       ≡ Some (record { group = said.group; name = said.name; html = Some html })

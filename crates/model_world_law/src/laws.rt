@@ -10,10 +10,11 @@ ghost use Rattle.model_world_law.specs.Reached.{EveryItemStands, EveryWorldIsRea
 
 use model_edit_law::fragment_stays_lawful;
 
-/// A line that is read asks for operations in normal form, for no opening with two attributes of one name, and for
-/// characters and elements alone, with at most 64 marks. On a
-/// sound list, one that is lawful and has names apart, every change that was read gives a reduced transaction that puts
-/// in names apart, and so do rows, columns and moved list items. Every page that opens is a sound list.
+/// A line that is read asks for operations in normal form, and for no opening with two attributes
+/// of one name. It asks for characters and elements alone, with at most 64 marks. A sound list is
+/// lawful and has names apart. On one, every change that was read gives a reduced transaction that
+/// puts in names apart. So do rows, columns and moved list items. Every page that opens is a sound
+/// list.
 pub fn layers_fit()
     ensures lines { LinesAreWritten }
     ensures changes { ChangesFit }
@@ -21,46 +22,49 @@ pub fn layers_fit()
     ensures pages { PagesAreSound }
 {}
 
-/// Items that a line can write, elements without origin with well-written attributes, marks and whitespace, are shown
-/// so that they are read back.
+/// Items that a line can write, elements without origin with well-written attributes, marks and
+/// whitespace, are shown so that they are read back.
 #[tactic(auto, using(crate::proofs::ShownItemLemmas::shown_is_read))]
 pub fn shown_is_read()
     ensures { ShownIsRead }
 {}
 
-/// Want of memory, and an item that is not the one to be removed, are never the cause of a refusal of a change, a row, a
-/// column or a moved list item: `store_full` is told only where the store would have too many values.
+/// Want of memory is never the cause of a refusal of a change, a row, a column or a moved list
+/// item. Neither is an item that is not the one to be removed. `store_full` is told only where the
+/// store would have too many values.
 #[tactic(auto, using(crate::proofs::CauseLemmas::store_full_is_full, crate::proofs::CauseLemmas::moves_fill_store))]
 pub fn store_full_is_full()
     ensures changes { StoreFullIsFull }
     ensures moves { MovesFillStore }
 {}
 
-/// Whatever lines a world is given, it is what some events make of the sites that began on its page, events that the
-/// laws of sites and server speak of. One of the lines opened the page, for just so many sites as there are.
+/// Whatever lines a world is given, it is the result of some events on the sites that began on its
+/// page. The laws of sites and server speak of these events. One of the lines opened the page, for
+/// just so many sites as there are.
 #[tactic(auto, using(crate::proofs::ReachLemmas::every_world_is_reached))]
 pub fn every_world_is_reached()
     ensures { EveryWorldIsReached }
 {}
 
-/// So each site of every world has a sound list, the replay of what it has seen and made; it has seen no more
-/// than is committed; its store has what the list cites, and each value once; its selection stands in the
-/// list; the server's answers count what it still holds as sent; and with everything undone, and nothing
-/// taken, it has the page's items and the first store.
+/// So each site of every world has a sound list, the replay of what it has seen and made. It has
+/// seen no more than is committed. Its store has what the list cites, and each value once. Its
+/// selection stands in the list. The server's answers count what it still holds as sent. With
+/// everything undone, and nothing taken, it has the page's items and the first store.
 pub fn every_site_holds()
     ensures { EverySiteHolds }
 {}
 
-/// Where a list's items may stand, so may all that a change, a row, a column or a moved list item inserts: references
-/// that are editable and have their keys, and items with at most 64 marks. So may the items of a page that is UTF-8.
+/// Where a list's items may stand, so may all that a change, a row, a column or a moved list item
+/// inserts. These are references that are editable and have their keys, and items with at most 64
+/// marks. So may the items of a page that is UTF-8.
 pub fn insertions_stand()
     ensures changes { ChangesStand }
     ensures moves { MovesStand }
     ensures pages { PagesStand }
 {}
 
-/// A fragment is within its limit exactly where no item has more than 64 marks. Of a page one way is claimed: within its
-/// limits none has.
+/// A fragment is within its limit exactly where no item has more than 64 marks. Of a page one way
+/// is claimed: within its limits none has.
 #[tactic(auto, using(crate::proofs::FewMarks::fragment_few, crate::proofs::FewMarks::page_few, crate::proofs::OverMarks::fragment_over))]
 pub fn limits_hold()
     ensures fragments { FragmentsWithin }
@@ -68,9 +72,10 @@ pub fn limits_hold()
     ensures pages { PagesWithin }
 {}
 
-/// A reference that may stand is written as an element of its group and name. That has the body that the reference
-/// carries, where a forest of at most 200 levels spells the body's text, and is not editable where none does. Where the
-/// reference carries none, the element uses one by its name, and is not editable where it has no name.
+/// A reference that may stand is written as an element of its group and name. That has the body
+/// that the reference carries, where a forest of at most 200 levels spells the body's text, and is
+/// not editable where none does. Where the reference carries none, the element uses one by its
+/// name, and is not editable where it has no name.
 #[tactic(auto, using(crate::proofs::CarriedLemmas::references_are_written))]
 pub fn references_are_written()
     ensures { ReferencesAreWritten }
@@ -81,8 +86,8 @@ pub fn every_item_stands()
     ensures { EveryItemStands }
 {}
 
-/// A site that has taken nothing and has nothing undone may undo and redo, line by line and in any order: once nothing
-/// is undone again, its list and its store are as before.
+/// A site that has taken nothing and has nothing undone may undo and redo, line by line and in any
+/// order. Once nothing is undone again, its list and its store are as before.
 #[tactic(auto, using(crate::proofs::RedoneLemmas::lines_redo))]
 pub fn lines_redo()
     ensures { LinesRedo }
@@ -100,8 +105,8 @@ pub fn unedited_is_written_back()
     ensures { UneditedIsWrittenBack }
 {}
 
-/// The items of a fragment are children of some kind, whatever kinds are open. So pasting one leaves a lawful list lawful, unless nodes are then
-/// nested over 100 deep.
+/// The items of a fragment are children of some kind, whatever kinds are open. So pasting one
+/// leaves a lawful list lawful, unless nodes are then nested over 100 deep.
 pub fn pasting_stays_lawful()
     ensures pieces { FragmentsAreChildren }
     ensures lawful { PastingStaysLawful }

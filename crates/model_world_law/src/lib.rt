@@ -1,16 +1,18 @@
-//! What always holds of a world, whatever lines it was given. It has laws alone: what they speak of is `model_world`'s and
-//! the layers' below it. Definitions stand in specs/, in this order:
+//! Invariants of a world, whatever lines it was given. It has laws alone: their subjects are
+//! `model_world`'s and the layers' below it. Definitions stand in specs/, in this order:
 //!
 //! - `Standing`: which items a page under edit may have ([`limits_hold`]);
 //! - `Written`: what a reference that may stand is written as ([`references_are_written`]);
-//! - `Fit`: what a line that is read can ask, and that what it asks is what the layers below expect ([`layers_fit`],
-//!   [`insertions_stand`]);
-//! - `ShownLaws`: items that a line can write, and that they are shown so that they are read back ([`shown_is_read`]);
+//! - `Fit`: what a line that is read can ask, and that what it asks is what the layers below expect
+//!   ([`layers_fit`], [`insertions_stand`]);
+//! - `ShownLaws`: items that a line can write, and that they are shown so that they are read back
+//!   ([`shown_is_read`]);
 //! - `Causes`: when a refusal tells of a full store ([`store_full_is_full`]);
-//! - `Pasted`: what a fragment becomes stands together under some kind, so pasting keeps the law ([`pasting_stays_lawful`]);
-//! - `Reached`: which events make a world ([`every_world_is_reached`]), what each of its sites holds
-//!   ([`every_site_holds`], [`every_item_stands`]), when sites have one list ([`sites_meet`]), and when a page is written as it was opened
-//!   ([`unedited_is_written_back`]);
+//! - `Pasted`: what a fragment becomes stands together under some kind, so pasting keeps the law
+//!   ([`pasting_stays_lawful`]);
+//! - `Reached`: the events that make a world ([`every_world_is_reached`]), and what each of its
+//!   sites holds ([`every_site_holds`], [`every_item_stands`]). Also when sites have one list
+//!   ([`sites_meet`]), and when a page is written as it was opened ([`unedited_is_written_back`]);
 //! - `Redone`: what a site undoes and redoes, line by line ([`lines_redo`]).
 #![tactic(auto)]
 

@@ -5,7 +5,7 @@ use Rattle.model_items.specs.Tree.{NodeExtent, node_at, class_at}
 use Rattle.model_world.specs.declared.refusal.Refusal.TheVariants.{BadOffset, BadRange}
 use Rattle.model_world.specs.declared.reply.Reply.{Reply}
 use Rattle.model_world.specs.declared.reply.Reply.TheVariants as reply
-use Rattle.model_world.specs.Answers.{refused, site_items, told}
+use Rattle.model_world.specs.Answers.{refusal_outcome, site_items, unchanged_outcome}
 use Rattle.ve_answers.specs.Asked.{outcome_of, CaretIsAsked, HtmlIsAsked, ItemsAreAsked, NodeIsAsked, RefsAreAsked, TreeIsAsked}
 
 pub html_is_asked : HtmlIsAsked
@@ -29,7 +29,7 @@ items_are_asked a from to = along (nat_lt end from || nat_lt (length (site_items
     shown : Reply
     shown = reply.Items (slice_range (site_items a) from end)
 
-    along : (c : Bool) → (if c then refused (BadRange from end) else told a shown) ≡ outcome_of a.session (if c then reply.No (BadRange from end) else shown)
+    along : (c : Bool) → (if c then refusal_outcome (BadRange from end) else unchanged_outcome a shown) ≡ outcome_of a.session (if c then reply.No (BadRange from end) else shown)
     along true = refl
     along false = refl
 
@@ -42,6 +42,6 @@ node_is_asked a at = along (nat_lt (length (site_items a)) at)
     shown : Reply
     shown = reply.At node.kind node.from node.to (class_at (site_items a) at)
 
-    along : (c : Bool) → (if c then refused (BadOffset at) else told a shown) ≡ outcome_of a.session (if c then reply.No (BadOffset at) else shown)
+    along : (c : Bool) → (if c then refusal_outcome (BadOffset at) else unchanged_outcome a shown) ≡ outcome_of a.session (if c then reply.No (BadOffset at) else shown)
     along true = refl
     along false = refl

@@ -1,4 +1,4 @@
--- What is written into an empty buffer and read as UTF-8 is the page.
+-- The text that is written into an empty buffer and read as UTF-8 is the page.
 use Rattle.std.proofs.Common.{◌≡◌, ℕ, List, [], ◌++◌, ap, ◌∙◌}
 use Rattle.std.specs.Prelude.{chars}
 

@@ -1,4 +1,5 @@
--- A paragraph of two characters and the internal list, asked for its parts, and a table of two cells, asked for its grid.
+-- A paragraph of two characters and the internal list, asked for its parts, and a table of two
+-- cells, asked for its grid.
 use Rattle.std.proofs.Common.{◌≡◌, ℕ, List, [], ◌∷◌, ◌++◌, None, false, refl}
 use Rattle.ve_kinds.specs.declared.kind.Kind.{Kind}
 use Rattle.ve_kinds.specs.declared.kind.Kind.TheVariants.{P, InternalList, Root, Table, Tbody, Td, Tr}

@@ -1,4 +1,5 @@
--- What is replied to the requests that change nothing: by the page that was first read, the site's items, and what is selected.
+-- Replies to the requests that change nothing: by the page that was first read, the site's items,
+-- and the selection.
 use Rattle.std.specs.Prelude.{ℕ, ◌||◌, nat_lt, if◌then◌else◌, chars, List, length, slice_range, Result, Ok, Err}
 use Rattle.model_items.specs.declared.plain_item.PlainItem.{PlainItem}
 use Rattle.model_items.specs.Tree.{tree_of, node_at, class_at}
@@ -18,7 +19,7 @@ use Rattle.model_world.specs.Shown.{tree_words}
 abbrev pub html_reply : Opened → List PlainItem → Reply
 html_reply page items = reply.Page (chars (write page items))
 
--- the items from one place up to another
+-- the items from one position up to another
 abbrev pub items_reply : List PlainItem → ℕ → ℕ → Reply
 items_reply items from to =
     if nat_lt to from || nat_lt (length items) to then reply.No (BadRange from to) else reply.Items (slice_range items from to)
@@ -43,6 +44,6 @@ abbrev pub grid_told : Result Grid TableCause → Reply
 grid_told (Err cause) = reply.No (table_refusal cause)
 grid_told (Ok grid) = reply.Grid grid.rows grid.columns grid.cells
 
--- the grid of the table that opens at a place
+-- the grid of the table that opens at a position
 abbrev pub grid_reply : List PlainItem → ℕ → Reply
 grid_reply items at = grid_told (grid items at)

@@ -1,4 +1,5 @@
--- How the words of a tree are read off its items. A lemma takes them to the model's words of the list's tree.
+-- How the words of a tree are read off its items. A lemma takes them to the model's words of the
+-- list's tree.
 use Rattle.std.specs.Prelude.{◌≡◌, ℕ, zero, suc, List, [], ◌∷◌, ◌++◌, Option, Some, None}
 use Rattle.model_items.specs.declared.item.Item.{Item}
 use Rattle.model_items.specs.declared.item.Item.TheVariants.{Char, Opening, Closing}
@@ -23,6 +24,7 @@ words_after count (Char ch marks ∷ items) = words_after (suc count) items
 words_after count (Opening kind generated head marks pre origin ∷ items) = run_words count ++ tree.Begin kind ∷ words_after 0 items
 words_after count (Closing kind pre ∷ items) = run_words count ++ tree.End ∷ words_after 0 items
 
--- Whatever follows the items: where their words were still to come, only what follows is, after so many characters.
+-- Whatever follows the items: where their words were still to come, only what follows is, after so
+-- many characters.
 abbrev pub GoesOn : (old new : List TreeWord) → (before after : ℕ) → List Item → Type 0
 GoesOn old new before after items = (rest : List Item) → new ++ words_after after rest ≡ old ++ words_after before (items ++ rest)

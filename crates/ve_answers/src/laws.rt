@@ -1,7 +1,8 @@
 // That the replies are the model's. The function does nothing, and its contract is the law.
 ghost use Rattle.ve_answers.specs.Asked.{CaretIsAsked, GridIsAsked, HtmlIsAsked, ItemsAreAsked, NodeIsAsked, RefsAreAsked, TreeIsAsked};
 
-/// What is replied to each request is what the model answers: a refusal, or the reply with the session as it is.
+/// The reply to each request is what the model answers: a refusal, or the reply with the session as
+/// it is.
 pub fn replies_are_as_asked()
     ensures html { HtmlIsAsked }
     ensures items { ItemsAreAsked }

@@ -14,10 +14,12 @@ use ve_offsets::Doc;
 use ve_origin::Origins;
 use ve_write::write;
 
-/// To `html`: the page that the list gives, after the one that was first read. What is written is UTF-8.
+/// To `html`: the page that the list gives, after the one that was first read. What is written is
+/// UTF-8.
 ///
-/// It is asked that the references of the list are editable, and that the page that was first read stands over the
-/// values of this one: each of its rows is the range of a node, and each origin in its list is the number of a row.
+/// The references of the list have to be editable, and the page that was first read has to stand
+/// over the values of this one. So each of its rows is the range of a node, and each origin in its
+/// list is the number of a row.
 pub fn html<'a, 'b>(
     alloc: Global,
     origins: &'a Origins<'a>,
@@ -27,7 +29,10 @@ pub fn html<'a, 'b>(
     requires cites { All (CitesWell doc.store.now) doc.list.now.items }
     requires refers { all_refer (page_items doc) ≡ true }
     requires first { IsFirst doc.store.now origins.now }
-    ensures reply { IfOk result (λ answer. reply_of answer ≡ html_reply (opened_over doc.entry.store.now origins.entry.now) (page_items doc.entry)) }
+    ensures reply { IfOk result (λ answer.
+        reply_of answer
+        ≡ html_reply (opened_over doc.entry.store.now origins.entry.now)
+        (page_items doc.entry)) }
     ensures cites { IfOk result AnswerCites }
 {
     let mut written = Bytes::new(alloc);

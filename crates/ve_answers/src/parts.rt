@@ -13,11 +13,12 @@ use ve_internal::table;
 use ve_json::Answer;
 use ve_offsets::Doc;
 
-/// To `data`: the items from one place up to another, up to the list's end where none is named; or the range is none of the
-/// list. They are lent.
+/// To `data`: the items from one position up to another, up to the list's end where none is named;
+/// or the range is none of the list. They are borrowed.
 pub fn items<'a>(doc: Doc<'a>, from: usize, to: Option<usize>) -> Answer<'a>
     requires cites { All (CitesWell doc.store.now) doc.list.now.items }
-    ensures reply { reply_of result ≡ items_reply (page_items doc.entry) from (unwrap_or to (length (page_items doc.entry))) }
+    ensures reply { reply_of result
+        ≡ items_reply (page_items doc.entry) from (unwrap_or to (length (page_items doc.entry))) }
     ensures cites { AnswerCites result }
 {
     let len = doc.list.len();

@@ -11,7 +11,7 @@ use model_world::Refusal;
 use ve_json::Answer;
 use ve_offsets::{Doc, is_content, is_inside_leaf};
 
-/// What an offset is.
+/// The class of an offset.
 fn class_at(doc: Doc<'_>, at: usize) -> OffsetClass
     requires doc { IsDoc doc }
     requires within { at ≤ length doc.list.now.items }
@@ -27,7 +27,7 @@ fn class_at(doc: Doc<'_>, at: usize) -> OffsetClass
     }
 }
 
-/// The innermost node round an offset of the list, and what the offset is.
+/// The innermost node round an offset of the list, and the offset's class.
 fn node_within<'a>(doc: Doc<'a>, at: usize) -> Answer<'a>
     requires doc { IsDoc doc }
     requires within { at ≤ length doc.list.now.items }
@@ -44,8 +44,8 @@ fn node_within<'a>(doc: Doc<'a>, at: usize) -> Answer<'a>
     }
 }
 
-/// To `at`: the innermost node round an offset with its range, and what the offset is; or it is past the list's end. The
-/// tree tells it.
+/// To `at`: the innermost node round an offset with its range, and the offset's class; or it is
+/// past the list's end. The tree tells it.
 pub fn node<'a>(doc: Doc<'a>, at: usize) -> Answer<'a>
     requires doc { IsDoc doc }
     ensures reply { reply_of result ≡ node_reply (page_items doc.entry) at }

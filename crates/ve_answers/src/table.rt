@@ -40,8 +40,9 @@ fn cells_of(alloc: Global, cells: &[GridCell]) -> Result<GridCells, Memory>
     Ok(GridCells::from_vec(list))
 }
 
-/// To `grid`: how many rows and columns the table that opens at a place has, and its cells with their rectangles; or no
-/// table opens there, or a cell is crooked. The nodes of the table are found by the tree, and no list is copied.
+/// To `grid`: how many rows and columns the table that opens at a position has, and its cells with
+/// their rectangles. It is refused where no table opens there, or a cell is crooked. The nodes of
+/// the table are found by the tree, and no list is copied.
 pub fn grid<'a>(alloc: Global, doc: Doc<'a>, at: usize) -> Result<Answer<'a>, Memory>
     requires doc { IsDoc doc }
     requires cites { All (CitesWell doc.store.now) doc.list.now.items }

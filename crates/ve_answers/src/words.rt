@@ -35,7 +35,8 @@ fn bracket_word(item: Item) -> Option<TreeWord>
     }
 }
 
-/// Appends the words that an item ends, where so many characters stand before it, and gives how many stand after it.
+/// Appends the words that an item ends, where so many characters stand before it, and gives how
+/// many stand after it.
 fn push_item(item: Item, before: usize, words: &mut TreeWords) -> Result<usize, Memory>
     requires { before + 1 < 2 ^ 64 }
     ensures words { IfOk result (λ after. GoesOn words.old words.new before after (item ∷ [])) }

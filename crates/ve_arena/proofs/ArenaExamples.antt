@@ -1,4 +1,5 @@
--- An arena of a paragraph and its text: the paragraph has number 0, number 1 is vacant, the text has number 2.
+-- An arena of a paragraph and its text: the paragraph has number 0, number 1 is vacant, the text
+-- has number 2.
 use Rattle.std.proofs.Common.{◌≡◌, ◌∷◌, List, [], Option, Some, None, refl}
 use Rattle.ve_kinds.specs.declared.kind.Kind.TheVariants.{P}
 use Rattle.ve_arena.specs.declared.node.NodeWhat.TheVariants.{Node, Run}

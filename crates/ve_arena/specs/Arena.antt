@@ -1,10 +1,11 @@
--- An arena as a finite map: the slots give the node under each number, or nothing. What one write changes.
+-- An arena as a finite map: the slots give the node under each number, or nothing. What one write
+-- changes.
 use Rattle.std.specs.Prelude.{◌≡◌, ◌≢◌, ℕ, List, Option, None, IsSome, slice_index_or, option_map}
 use Rattle.ve_arena.specs.declared.node.NodeId.{NodeId}
 use Rattle.ve_arena.specs.declared.node.NodeWhat.{NodeWhat}
 use Rattle.ve_arena.specs.declared.node.ArenaNode.{ArenaNode}
 
--- what stands in the slot of a number; nothing past the last slot
+-- the node in the slot of a number; none past the last slot
 abbrev pub slot_at : List (Option ArenaNode) → ℕ → Option ArenaNode
 slot_at slots n = slice_index_or slots n None
 

@@ -10,10 +10,17 @@ use std::marker::Model;
 use std::sync::ledger::Ledger;
 use ve_base::{Memory, Steps};
 
-/// Nodes under numbers that the arena picks. It is seen as a list of slots: the node under each number from 0 on, or nothing.
-#[derive(Drop)]
+/// Nodes under numbers that the arena picks. It is seen as a list of slots: the node under each
+/// number from 0 on, or nothing.
 pub struct Arena {
     nodes: Slab<ArenaNode>,
+}
+
+impl Drop for Arena {
+    fn drop(self) {
+        let Arena { nodes } = self;
+        drop(nodes);
+    }
 }
 
 impl Model for Arena {
@@ -43,8 +50,8 @@ impl Arena {
         &self.nodes[n.0]
     }
 
-    /// A new node without links and of length 0, under a number that had no node. It is one step, also where there is no memory for it; then the
-    /// arena is as before.
+    /// A new node without links and of length 0, under a number that had no node. It is one step,
+    /// also where there is no memory for it; then the arena is as before.
     pub fn make<L: Ledger>(
         &mut self,
         what: NodeWhat,

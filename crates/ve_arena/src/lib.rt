@@ -1,15 +1,18 @@
-//! The nodes of a tree, linked by numbers: each has a parent, a first and a last child, a sibling on either side, and a length.
+//! An arena of tree nodes, linked by numbers: each has a parent, a first and a last child, a
+//! sibling on either side, and a length.
 //!
-//! It knows which numbers have a node, and what each node's fields are: a new node has no links, a write
-//! changes one field of one node, and a number is given out again only after its node was freed. It doesn't
-//! know whether the links are those of a tree, whether a link leads to a node, or what a length counts: that
-//! is said by whoever builds on it.
+//! It knows which numbers have a node, and each node's fields. A new node has no links, and a write
+//! changes one field of one node. A number is given out again only after its node was freed. It
+//! doesn't know whether the links are those of a tree, whether a link leads to a node, or what a
+//! length counts. Its users say that.
 //!
-//! Each node that is made or freed and each write is one step of a count, so a bound on steps is a bound on writes. Reading is free.
+//! Each node that is made or freed and each write is one step of a count, so a bound on steps is a
+//! bound on writes. Reading is free.
 //!
-//! Definitions, in reading order, all in `Arena`: `slot_at` and `node_under` (what stands under a number),
-//! `IsLive`, `Puts` and `Changes` (what one call leaves as it was), `new_node`, and the fields' `with_parent`
-//! to `with_len`. It has no laws: each clause is the whole of what its call does.
+//! Definitions, in reading order, all in `Arena`: `slot_at` and `node_under` (what stands under a
+//! number), `IsLive`, `Puts` and `Changes` (what one call leaves as it was), `new_node`, and the
+//! fields' `with_parent` to `with_len`. It has no laws: each clause is the whole of what its call
+//! does.
 #![tactic(auto)]
 
 mod arena;

@@ -5,7 +5,7 @@ use ve_kinds::Kind;
 #[derive(Clone, Copy, Debug, PartialEq, Eq)]
 pub struct NodeId(pub usize);
 
-/// What a node stands for in the flat list.
+/// The items that a node stands for in the flat list.
 #[derive(Clone, Copy, Debug, PartialEq, Eq)]
 pub enum NodeWhat {
     /// An opening and its closing, with all that stands between.

@@ -1,7 +1,7 @@
 -- A piece of what is left, and what is left after it.
 use Rattle.std.proofs.Common.{◌≡◌, ◌+◌, ◌<◌, ℕ, List, [], ◌++◌, length, take, drop, min, sym, ap, ◌∙◌, arith, take-append-drop, length-drop}
 use Rattle.std.proofs.lemmas.List.{drop-drop, drop_all, drop_min}
-use Rattle.ve_base.specs.Feed.{Feed, after_piece, counted, next_cut}
+use Rattle.ve_base.specs.Feed.{Feed, after_piece, next_count, next_cut}
 
 -- what a read consumed, by the bytes and the number that were given before
 pub consumed : (bytes room : List ℕ) (given n most : ℕ) → n ≡ min (length (drop given bytes)) most → take n room ≡ take n (drop given bytes) → drop given bytes ≡ take n room ++ drop (given + n) bytes
@@ -17,7 +17,7 @@ cuts_after cuts used now many size next = ap (λ n. drop n cuts) (next ∙ ap (�
 
 -- the source after a piece, by its bytes and cuts and the numbers of these that were used
 pub after_piece_by_counts : (bytes cuts fails : List ℕ) (given used calls faults n most room used' many calls' : ℕ)
-    → n ≡ min (length (drop given bytes)) most → most ≡ next_cut (drop used cuts) room → many ≡ length cuts → used' ≡ min (used + 1) many → calls' ≡ counted calls
+    → n ≡ min (length (drop given bytes)) most → most ≡ next_cut (drop used cuts) room → many ≡ length cuts → used' ≡ min (used + 1) many → calls' ≡ next_count calls
     → let new : Feed = record { left = drop (given + n) bytes; cuts = drop used' cuts; fails = fails; calls = calls'; faults = faults } in
     let old : Feed = record { left = drop given bytes; cuts = drop used cuts; fails = fails; calls = calls; faults = faults } in new ≡ after_piece old room
 after_piece_by_counts bytes cuts fails given used calls faults n most room used' many calls' size greatest all next call =

@@ -13,8 +13,8 @@ pub record Feed : Type 0 where
   pub faults : ℕ
 
 -- one more, in a count that stays at its last value
-abbrev pub counted : ℕ → ℕ
-counted count = min (count + 1) (2 ^ 64 - 1)
+abbrev pub next_count : ℕ → ℕ
+next_count count = min (count + 1) (2 ^ 64 - 1)
 
 -- the greatest size of the next piece: after the last cut, as large as the room
 abbrev pub next_cut : List ℕ → ℕ → ℕ
@@ -30,7 +30,7 @@ after_piece feed room = record {
   left = drop (piece_size feed room) feed.left;
   cuts = drop 1 feed.cuts;
   fails = feed.fails;
-  calls = counted feed.calls;
+  calls = next_count feed.calls;
   faults = feed.faults;
 }
 
@@ -40,6 +40,6 @@ after_fault feed = record {
   left = feed.left;
   cuts = feed.cuts;
   fails = feed.fails;
-  calls = counted feed.calls;
-  faults = counted feed.faults;
+  calls = next_count feed.calls;
+  faults = next_count feed.faults;
 }

@@ -1,6 +1,6 @@
 -- A sink that takes bytes into a room of fixed size.
 use Rattle.std.specs.Prelude.{◌≡◌, ◌<◌, ◌⊎◌, ℕ, ◌-◌, List, ◌++◌, Contains, length, take}
-use Rattle.ve_base.specs.Feed.{counted}
+use Rattle.ve_base.specs.Feed.{next_count}
 
 pub record Fill : Type 0 where
   -- the bytes that were taken
@@ -21,13 +21,13 @@ IsFullFor free piece = (free ≡ 0) × (0 < length piece)
 abbrev pub FailsAt : Fill → List ℕ → Type 0
 FailsAt fill piece = Contains fill.fails fill.calls ⊎ IsFullFor fill.free piece
 
--- what fits of a piece was taken
+-- as much of a piece as fits was taken
 abbrev pub after_write : Fill → List ℕ → Fill
 after_write fill piece = record {
   held = fill.held ++ take fill.free piece;
   free = fill.free - length piece;
   fails = fill.fails;
-  calls = counted fill.calls;
+  calls = next_count fill.calls;
   faults = fill.faults;
 }
 
@@ -36,8 +36,8 @@ after_failed_write fill = record {
   held = fill.held;
   free = fill.free;
   fails = fill.fails;
-  calls = counted fill.calls;
-  faults = counted fill.faults;
+  calls = next_count fill.calls;
+  faults = next_count fill.faults;
 }
 
 -- the same without listed calls, and so without their count
@@ -50,4 +50,4 @@ abbrev pub after_taking : Room → List ℕ → Room
 after_taking room piece = record { held = room.held ++ take room.free piece; free = room.free - length piece; faults = room.faults }
 
 abbrev pub after_full : Room → Room
-after_full room = record { held = room.held; free = room.free; faults = counted room.faults }
+after_full room = record { held = room.held; free = room.free; faults = next_count room.faults }

@@ -1,11 +1,12 @@
--- The numbers of the product, each under its name. Definitions and clauses cite these names; `src/limits.rt` has the same numbers for the code.
+-- The numbers of the product, each under its name. Definitions and clauses cite these names;
+-- `src/limits.rt` has the same numbers for the code.
 use Rattle.std.specs.Prelude.{ℕ, ◌^◌}
 
 -- how many bytes a page may have
 abbrev pub max_page : ℕ
 max_page = 4194304
 
--- how many elements may be open at one place of a page, void ones counted
+-- how many elements may be open at one position of a page, void ones counted
 abbrev pub max_open_elements : ℕ
 max_open_elements = 200
 
@@ -13,7 +14,7 @@ max_open_elements = 200
 abbrev pub max_attributes : ℕ
 max_attributes = 256
 
--- how many kinds of nodes may be open at one place of a list
+-- how many kinds of nodes may be open at one position of a list
 abbrev pub max_open_kinds : ℕ
 max_open_kinds = 100
 
@@ -29,7 +30,7 @@ max_items = 4194304
 abbrev pub max_values : ℕ
 max_values = 1048576
 
--- what all lengths of a transaction's operations may add up to
+-- the most that all lengths of a transaction's operations may add up to
 abbrev pub max_total_length : ℕ
 max_total_length = 2 ^ 60
 

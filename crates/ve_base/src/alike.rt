@@ -4,14 +4,14 @@ ghost use Rattle.std.specs.Prelude.{◌≡◌, ◌↔◌, IfOk, IsTrue};
 use crate::Memory;
 use std::alloc::Global;
 
-/// What can be copied where there is memory.
+/// A value that can be copied where there is memory.
 pub trait TryCopy: Drop + Sized {
     /// An equal value.
     fn copy(&self, alloc: Global) -> Result<Self, Memory>
         ensures { IfOk result (λ copy. copy ≡ self.now) };
 }
 
-/// What can be compared as a whole.
+/// Values that can be compared as a whole.
 pub trait Same {
     /// Whether both are equal.
     fn same(&self, other: &Self) -> bool

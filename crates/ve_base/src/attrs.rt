@@ -14,9 +14,15 @@ pub struct Attr {
 }
 
 /// A list of attributes whose names are distinct, in the order of the source.
-#[derive(Drop)]
 pub struct Attrs {
     list: Vec<Attr>,
+}
+
+impl Drop for Attrs {
+    fn drop(self) {
+        let Attrs { list } = self;
+        drop(list);
+    }
 }
 
 impl Model for Attrs {

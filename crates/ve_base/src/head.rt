@@ -1,4 +1,4 @@
-// What an opening carries beside its kind: attributes, kept source, and what a reference names.
+// The head of an opening, beside its kind: attributes, kept source, and the names of a reference.
 ghost use Rattle.std.specs.Prelude.{◌≡◌, ◌↔◌, IsTrue};
 
 use crate::{Attrs, Memory, Same, Text, TryCopy};
@@ -18,9 +18,10 @@ pub struct RefKey {
     pub key: Key,
 }
 
-/// `tag` is used by references alone, `raw` by aliens and generated leaves (whole source) and by references (inner
-/// source), `reference` by references and internal items, and `attrs` by element kinds and references. `owner` is true
-/// exactly on a reference that carries its body.
+/// `tag` is used by references alone. `raw` is used by aliens and generated leaves (whole source)
+/// and by references (inner source). `reference` is used by references and internal items, and
+/// `attrs` by element kinds and references. `owner` is true exactly on a reference that carries its
+/// body.
 #[derive(Drop)]
 pub struct Head {
     pub tag: Text,

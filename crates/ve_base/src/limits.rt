@@ -1,12 +1,13 @@
-// The numbers of the product, each under its name. `specs/Limits.antt` has the same numbers for definitions and clauses.
+// The numbers of the product, each under its name. `specs/Limits.antt` has the same numbers for
+// definitions and clauses.
 
 /// How many bytes a page may have.
 pub const MAX_PAGE: usize = 4_194_304;
-/// How many elements may be open at one place of a page, void ones counted.
+/// How many elements may be open at one position of a page, void ones counted.
 pub const MAX_OPEN_ELEMENTS: usize = 200;
 /// How many attributes a tag of a page may have.
 pub const MAX_ATTRIBUTES: usize = 256;
-/// How many kinds of nodes may be open at one place of a list.
+/// How many kinds of nodes may be open at one position of a list.
 pub const MAX_OPEN_KINDS: usize = 100;
 /// How many marks an item may have.
 pub const MAX_MARKS: usize = 64;
@@ -14,7 +15,7 @@ pub const MAX_MARKS: usize = 64;
 pub const MAX_ITEMS: usize = 4_194_304;
 /// How many values a store may have after opening a page or after an edit.
 pub const MAX_VALUES: usize = 1_048_576;
-/// What all lengths of a transaction's operations may add up to, in items.
+/// The most that all lengths of a transaction's operations may add up to, in items.
 pub const MAX_TOTAL_LENGTH: usize = 1 << 60;
 /// How many rows a cell of a table may span.
 pub const MAX_ROW_SPAN: usize = 65_534;
@@ -30,5 +31,6 @@ pub const MAX_SITES: usize = 8;
 pub const MAX_BATCH: usize = 1_000;
 /// How many items a block of the flat list may have.
 pub const MAX_BLOCK: usize = 512;
-/// How many items a block of the flat list gets where it is made, so that later ones find room in it.
+/// How many items a block of the flat list gets where it is made, so that later ones find room in
+/// it.
 pub const FILLED_BLOCK: usize = 320;

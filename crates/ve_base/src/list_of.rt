@@ -6,9 +6,15 @@ use std::alloc::Global;
 use std::marker::Model;
 
 /// A list that grows at its end, seen as the list of its members.
-#[derive(Drop)]
 pub struct ListOf<T> {
     list: Vec<T>,
+}
+
+impl<T: Drop> Drop for ListOf<T> {
+    fn drop(self) {
+        let ListOf { list } = self;
+        drop(list);
+    }
 }
 
 impl<T> Model for ListOf<T> {
@@ -68,7 +74,8 @@ impl<T: Drop> ListOf<T> {
     pub fn into_vec(self) -> Vec<T>
         ensures { result.items ≡ self }
     {
-        self.list
+        let ListOf { list } = self;
+        list
     }
 }
 

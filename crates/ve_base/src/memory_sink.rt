@@ -1,4 +1,5 @@
-// Sinks that write into a lent slice: one with chosen faults, and one that only fails where the slice is full.
+// Sinks that write into a borrowed slice: one with chosen faults, and one that only fails where the
+// slice is full.
 ghost use Rattle.std.specs.Prelude.{◌≡◌, ◌↔◌, ◌<◌, ◌≤◌, ◌+◌, ◌-◌, ◌++◌, [], length, take, drop, min, IfOk, IsErr, OnOk, OnErr};
 ghost use Rattle.std.specs.Io.KnownBytes.{WriteAppends};
 ghost use Rattle.ve_base.specs.Fill.{FailsAt, IsFullFor, after_write, after_failed_write, after_taking, after_full};
@@ -7,9 +8,10 @@ ghost use Rattle.ve_base.specs.Outside.{HasCause};
 use crate::{Calls, Failed, Sink};
 use std::marker::Model;
 
-/// A sink that takes of each piece what fits into a lent slice, and fails on chosen calls.
+/// A sink that takes of each piece what fits into a borrowed slice, and fails on chosen calls.
 ///
-/// It also fails where a piece that isn't empty meets a full slice. Calls are counted from 0, the failing ones too.
+/// It also fails where a piece that isn't empty meets a full slice. Calls are counted from 0, the
+/// failing ones too.
 #[derive(Drop)]
 pub struct MemSink<'a> {
     room: &'a mut [u8],
@@ -30,7 +32,7 @@ impl<'a> Model for MemSink<'a> {
     ghost invariant = { λ s. s.len ≤ length s.room.now };
 }
 
-/// Copies what fits of a piece to a place of the room, and gives its length.
+/// Copies what fits of a piece to a position of the room, and gives its length.
 fn put(room: &mut [u8], len: usize, piece: &[u8]) -> usize
     requires { len ≤ length room.old }
     ensures size { result ≡ min (length piece.now) (length room.old - len) }
@@ -45,7 +47,13 @@ fn put(room: &mut [u8], len: usize, piece: &[u8]) -> usize
 impl<'a> MemSink<'a> {
     /// A sink that holds nothing, before its first call. It takes no memory.
     pub fn new(room: &'a mut [u8], fails: Calls) -> MemSink<'a>
-        ensures { result ≡ record { held = []; free = length room.entry.now; fails = fails; calls = 0; faults = 0 } }
+        ensures { result ≡ record {
+          held = [];
+          free = length room.entry.now;
+          fails = fails;
+          calls = 0;
+          faults = 0;
+        } }
     {
         MemSink {
             room,
@@ -95,7 +103,7 @@ impl<'a> Sink for MemSink<'a> {
     }
 }
 
-/// A sink that takes of each piece what fits into a lent slice.
+/// A sink that takes of each piece what fits into a borrowed slice.
 ///
 /// It fails only where a piece that isn't empty meets a full slice.
 #[derive(Drop)]

@@ -9,8 +9,8 @@ use std::marker::Model;
 
 /// A source that gives its bytes in pieces of chosen sizes and fails on chosen calls.
 ///
-/// The cuts are used in turn, each by one call that doesn't fail; after the last one a piece is as large as the room.
-/// Calls are counted from 0, the failing ones too.
+/// The cuts are used in turn, each by one call that doesn't fail; after the last one a piece is as
+/// large as the room. Calls are counted from 0, the failing ones too.
 #[derive(Drop)]
 pub struct MemSource {
     bytes: Bytes,
@@ -36,7 +36,8 @@ impl Model for MemSource {
 impl MemSource {
     /// A source of these bytes, before its first call. It takes no memory.
     pub fn new(bytes: Bytes, cuts: Cuts, fails: Calls) -> MemSource
-        ensures { result ≡ record { left = bytes; cuts = cuts; fails = fails; calls = 0; faults = 0 } }
+        ensures { result
+            ≡ record { left = bytes; cuts = cuts; fails = fails; calls = 0; faults = 0 } }
     {
         MemSource {
             bytes,
@@ -70,7 +71,7 @@ fn after_use(used: usize, cuts: usize) -> usize
     if used < cuts { used + 1 } else { cuts }
 }
 
-/// Copies the bytes from a place on to the start of the room, at most so many.
+/// Copies the bytes from a position on to the start of the room, at most so many.
 fn give(bytes: &[u8], from: usize, most: usize, room: &mut [u8]) -> usize
     requires from { from ≤ length bytes.now }
     requires most { most ≤ length room.old }

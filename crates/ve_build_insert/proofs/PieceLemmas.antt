@@ -16,10 +16,10 @@ use Rattle.model_edit.specs.Brackets.{opening_of, closing_of}
 use Rattle.model_edit.specs.Insert.{outer_items, is_content_item, is_content_pieces, is_mixed, in_paragraph}
 use Rattle.ve_build_insert.specs.declared.pieces.Question.{Question}
 use Rattle.ve_build_insert.specs.declared.pieces.Question.TheVariants.{IsContent, IsBlock}
-use Rattle.ve_build_insert.specs.Placed.{asked, depth_after, passes_outer}
+use Rattle.ve_build_insert.specs.Placed.{item_answer, depth_after, passes_outer}
 
 outer_first : (q : Question) (depth : ℕ) (x : PlainItem) (rest : List PlainItem) →
-    list_all (asked q) (outer_items depth (x ∷ rest)) ≡ (passes_outer q depth x && list_all (asked q) (outer_items (depth_after depth x) rest))
+    list_all (item_answer q) (outer_items depth (x ∷ rest)) ≡ (passes_outer q depth x && list_all (item_answer q) (outer_items (depth_after depth x) rest))
 outer_first q zero (Char c marks) rest = refl
 outer_first q (suc depth) (Char c marks) rest = refl
 outer_first q zero (Opening kind head marks pre origin generated) rest = refl
@@ -27,27 +27,27 @@ outer_first q (suc depth) (Opening kind head marks pre origin generated) rest = 
 outer_first q zero (Closing kind pre) rest = refl
 outer_first q (suc depth) (Closing kind pre) rest = refl
 
--- the items from a place on, with the one there
+-- the items from a position on, with the one there
 pub rest_first : (values : List Value) (items : List Item) (i : ℕ) (x : Item) → drop i items ≡ x ∷ drop (i + 1) items →
     plain_list values (drop i items) ≡ plain values x ∷ plain_list values (drop (i + 1) items)
 rest_first values items i x parts = ap (plain_list values) parts
 
 module _ (q : Question) (depth : ℕ) (items : List Item) (i : ℕ) (x : Item) (parts : drop i items ≡ x ∷ drop (i + 1) items) (values : List Value) where
-  outer_more : list_all (asked q) (outer_items depth (plain_list values (drop i items)))
-      ≡ (passes_outer q depth (plain values x) && list_all (asked q) (outer_items (depth_after depth (plain values x)) (plain_list values (drop (i + 1) items))))
+  outer_more : list_all (item_answer q) (outer_items depth (plain_list values (drop i items)))
+      ≡ (passes_outer q depth (plain values x) && list_all (item_answer q) (outer_items (depth_after depth (plain values x)) (plain_list values (drop (i + 1) items))))
   outer_more =
-      ap (λ l. list_all (asked q) (outer_items depth l)) (rest_first values items i x parts)
+      ap (λ l. list_all (item_answer q) (outer_items depth l)) (rest_first values items i x parts)
       ∙ outer_first q depth (plain values x) (plain_list values (drop (i + 1) items))
 
-  pub outer_fails : (b : Bool) → b ≡ passes_outer q depth (plain values x) → b ≡ false → list_all (asked q) (outer_items depth (plain_list values (drop i items))) ≡ false
+  pub outer_fails : (b : Bool) → b ≡ passes_outer q depth (plain values x) → b ≡ false → list_all (item_answer q) (outer_items depth (plain_list values (drop i items))) ≡ false
   outer_fails b is fails =
-      outer_more ∙ ap (λ b. b && list_all (asked q) (outer_items (depth_after depth (plain values x)) (plain_list values (drop (i + 1) items)))) (sym is ∙ fails)
+      outer_more ∙ ap (λ b. b && list_all (item_answer q) (outer_items (depth_after depth (plain values x)) (plain_list values (drop (i + 1) items)))) (sym is ∙ fails)
 
   pub outer_passes : (b : Bool) (next : ℕ) → b ≡ passes_outer q depth (plain values x) → b ≡ true → next ≡ depth_after depth (plain values x) →
-      list_all (asked q) (outer_items next (plain_list values (drop (i + 1) items))) ≡ list_all (asked q) (outer_items depth (plain_list values (drop i items)))
+      list_all (item_answer q) (outer_items next (plain_list values (drop (i + 1) items))) ≡ list_all (item_answer q) (outer_items depth (plain_list values (drop i items)))
   outer_passes b next is holds n =
-      ap (λ n. list_all (asked q) (outer_items n (plain_list values (drop (i + 1) items)))) n
-      ∙ sym (outer_more ∙ ap (λ b. b && list_all (asked q) (outer_items (depth_after depth (plain values x)) (plain_list values (drop (i + 1) items)))) (sym is ∙ holds))
+      ap (λ n. list_all (item_answer q) (outer_items n (plain_list values (drop (i + 1) items)))) n
+      ∙ sym (outer_more ∙ ap (λ b. b && list_all (item_answer q) (outer_items (depth_after depth (plain values x)) (plain_list values (drop (i + 1) items)))) (sym is ∙ holds))
 
 -- some item passes where not all fail
 pub any_unless_none : (f : PlainItem → Bool) (items : List PlainItem) → list_any f items ≡ not (list_all (λ item. not (f item)) items)
@@ -59,7 +59,7 @@ any_unless_none f (x ∷ items) = by (f x) (any_unless_none f items)
     by false rest = rest
 
 -- content and blocks are mixed where neither all are blocks nor all are content
-pub mixed_is : (items : List PlainItem) (content blocks : Bool) → content ≡ list_all (asked IsContent) (outer_items 0 items) → blocks ≡ list_all (asked IsBlock) (outer_items 0 items) →
+pub mixed_is : (items : List PlainItem) (content blocks : Bool) → content ≡ list_all (item_answer IsContent) (outer_items 0 items) → blocks ≡ list_all (item_answer IsBlock) (outer_items 0 items) →
     is_mixed items ≡ (not blocks && not content)
 mixed_is items content blocks c b =
     ap (λ x. x && not (is_content_pieces items)) (any_unless_none is_content_item (outer_items 0 items) ∙ ap not (sym b))

@@ -122,7 +122,7 @@ copies_more store openings left start old new copies x copy listed there so_far 
           ∙ ap (fill S) (sym (cited-append (plain_list O copies) (q ∷ []))) ∙ ap (λ l. fill S (cited l)) (sym parts);
     })
 
--- the same at a place before the ones copied, by the slice's own reading
+-- the same at a position before the ones copied, by the slice's own reading
 pub copies_step : (store : List Value) (openings : List Item) (left : ℕ) (start old new : Following) (copies : List Item) (d copy : Item) → 0 < left →
     All (CitesWell (together store start)) openings → AreCopies store openings left start old copies → Grows old new →
     plain (together store new) copy ≡ copy_of (plain (together store old) (get_or openings (left - 1) d)) → CitesWell (together store new) copy →

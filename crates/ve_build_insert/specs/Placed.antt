@@ -1,4 +1,4 @@
--- What is asked of pieces, and where they may stand.
+-- Conditions on pieces, and where they may stand.
 use Rattle.std.specs.Prelude.{◌≡◌, ◌≤◌, ◌<◌, ℕ, zero, suc, ◌-◌, Bool, true, false, not, if◌then◌else◌, List, length, All, Option, None, option_map, Result}
 use Rattle.ve_base.specs.declared.value.Value.{Value}
 use Rattle.ve_kinds.specs.declared.kind.Kind.{Kind}
@@ -19,10 +19,10 @@ use Rattle.ve_build_insert.specs.declared.pieces.Question.TheVariants.{IsContent
 use Rattle.ve_build_insert.specs.declared.place.Placed.{Placed}
 
 -- the answer that an item gives
-abbrev pub asked : Question → PlainItem → Bool
-asked IsContent = is_content_item
-asked IsBlock = λ item. not (is_content_item item)
-asked (IsHeldBy parent) = may_hold_item parent
+abbrev pub item_answer : Question → PlainItem → Bool
+item_answer IsContent = is_content_item
+item_answer IsBlock = λ item. not (is_content_item item)
+item_answer (IsHeldBy parent) = may_hold_item parent
 
 -- how many pieces are open after an item
 abbrev pub depth_after : ℕ → PlainItem → ℕ
@@ -34,8 +34,8 @@ depth_after depth (Closing kind pre) = depth - 1
 abbrev pub passes_outer : Question → ℕ → PlainItem → Bool
 passes_outer question (suc depth) item = true
 passes_outer question zero (Closing kind pre) = true
-passes_outer question zero (Char c marks) = asked question (Char c marks)
-passes_outer question zero (Opening kind head marks pre origin generated) = asked question (Opening kind head marks pre origin generated)
+passes_outer question zero (Char c marks) = item_answer question (Char c marks)
+passes_outer question zero (Opening kind head marks pre origin generated) = item_answer question (Opening kind head marks pre origin generated)
 
 -- the items are the pieces, content among them put into a paragraph, over every list of values
 abbrev pub IsPlaced : Kind → List Item → List Item → Type 0

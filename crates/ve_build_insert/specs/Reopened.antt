@@ -17,7 +17,8 @@ use Rattle.ve_edits.specs.Filled.{IsFilledFor}
 abbrev pub AreClosings : List Item → List Item → Type 0
 AreClosings openings closings = (values : List Value) → plain_list values closings ≡ map closing_for (plain_list values openings)
 
--- Copies of the openings from a number on, the last one first; the values that they cite have come after the first ones.
+-- Copies of the openings from a number on, the last one first; the values that they cite have come
+-- after the first ones.
 pub record AreCopies (store : List Value) (openings : List Item) (left : ℕ) (start new : Following) (copies : List Item) : Type 0 where
   pub within : left ≤ length openings
   pub grown : Grows start new
@@ -25,14 +26,16 @@ pub record AreCopies (store : List Value) (openings : List Item) (left : ℕ) (s
   pub cites : All (CitesWell (together store new)) copies
   pub filled : IsFilledFor store start new (plain_list (together store new) copies)
 
--- The openings are closed, and after the pieces opened again; the values that this cites have come after the first ones.
+-- The openings are closed, and after the pieces opened again; the values that this cites have come
+-- after the first ones.
 pub record IsReopened (store : List Value) (openings pieces : List Item) (start new : Following) (made : List Item) : Type 0 where
   pub means : plain_list (together store new) made ≡ reopened (plain_list (together store start) openings) (plain_list (together store start) pieces)
   pub cites : All (CitesWell (together store new)) made
   pub filled : IsFilledFor store start new (plain_list (together store new) made)
 
--- The transaction puts the pieces at the offset of a page, so many open nodes being closed before them and opened again after them. The pieces are read with the
--- first values that follow the store, and the transaction with the new ones.
+-- The transaction puts the pieces at the offset of a page, so many open nodes being closed before
+-- them and opened again after them. The pieces are read with the first values that follow the
+-- store, and the transaction with the new ones.
 abbrev pub PutsInto : Doc → (at levels : ℕ) → List Item → (old new : Following) → List Operation → Type 0
 PutsInto doc at levels pieces old new tx =
     let items = page_items doc in

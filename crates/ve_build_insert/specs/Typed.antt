@@ -11,12 +11,12 @@ use Rattle.model_edit.specs.Causes.{BuildCause}
 use Rattle.ve_offsets.specs.declared.doc.Doc.{Doc}
 use Rattle.ve_offsets.specs.Docs.{page_items}
 
--- What is cited is the marks of the item at the place, over every list of values.
+-- The cited number is that of the marks of the item at the position, over every list of values.
 pub record MarksAreCited (items : List Item) (at : ℕ) (id : Option ValueId) : Type 0 where
   pub marks : (values : List Value) → marks_in (value_at values id) ≡ marks_of (slice_get (plain_list values items) at)
   pub cites : (values : List Value) → All (CitesWell values) items → CitesMarks values id
 
--- What is cited is the marks to the left of the offset, over every list of values.
+-- The cited number is that of the marks to the left of the offset, over every list of values.
 pub record AreMarksBefore (items : List Item) (at : ℕ) (id : Option ValueId) : Type 0 where
   pub marks : (values : List Value) → marks_in (value_at values id) ≡ marks_before (plain_list values items) at
   pub cites : (values : List Value) → All (CitesWell values) items → CitesMarks values id

@@ -19,13 +19,14 @@ use ve_offsets::Doc;
 use ve_store::NewValues;
 use ve_tx::Transaction;
 
-/// The change that puts pieces at an offset. They go into the innermost open node that may hold them all, but out of no
-/// internal list or item: the nodes inside it are closed before them, and copies of those are opened after them. Content
-/// is first put into a paragraph, unless the innermost open node is a branch of content.
+/// The transaction that puts pieces at an offset. They go into the innermost open node that may
+/// hold them all, but out of no internal list or item. The nodes inside it are closed before them,
+/// and copies of those are opened after them. Content is first put into a paragraph, unless the
+/// innermost open node is a branch of content.
 ///
-/// `BadOffset` comes exactly where the offset is the list's length or past it, or inside a leaf; then `NoPlace` where no
-/// open node may hold the pieces, or where they are content and blocks side by side. After a refusal `new` may hold
-/// further values.
+/// `BadOffset` comes exactly where the offset is the list's length or past it, or inside a leaf.
+/// Then `NoPlace` comes where no open node may hold the pieces, or where they are content and
+/// blocks side by side. After a refusal `new` may hold further values.
 pub fn insertion(
     alloc: Global,
     doc: Doc<'_>,
@@ -37,11 +38,14 @@ pub fn insertion(
     requires cites { All (CitesWell doc.store.now) doc.list.now.items }
     requires follows { new.old.after ≡ length doc.store.now }
     requires pieces { All (CitesWell (together doc.store.now new.old)) pieces.now }
-    ensures means { IfOk result (λ tx. insertion_meant doc.entry new.old at pieces.now ≡ Ok (by_value (together doc.entry.store.now new.new) tx)) }
+    ensures means { IfOk result (λ tx.
+        insertion_meant doc.entry new.old at pieces.now
+        ≡ Ok (by_value (together doc.entry.store.now new.new) tx)) }
     ensures cites { IfOk result (TxCites (together doc.entry.store.now new.new)) }
     ensures values { IfOk result (BringsInserted doc.entry.store.now new.old new.new) }
     ensures grows { Grows new.old new.new }
-    ensures refused { IfErr result (λ fault. IsRefusal fault (insertion_meant doc.entry new.old at pieces.now)) }
+    ensures refused { IfErr result (λ fault.
+        IsRefusal fault (insertion_meant doc.entry new.old at pieces.now)) }
 {
     let Some(state) = open_at(doc, at) else {
         return Err(BuildFault::BadOffset { at });

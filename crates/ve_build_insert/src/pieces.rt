@@ -1,10 +1,10 @@
-// What pieces are: content, blocks, or both side by side, and what may hold them.
+// Sorts of pieces: content, blocks, or both side by side, and what may hold them.
 ghost use Rattle.std.specs.Prelude.{◌≡◌, ◌+◌, ◌<◌, ◌^◌, ◌&&◌, not, IfOk};
 ghost use Rattle.std.specs.List.{list_all};
 ghost use Rattle.ve_kinds.specs.Table as table;
 ghost use Rattle.model_items.specs.Plain.{plain, plain_list};
 ghost use Rattle.model_edit.specs.Insert as model;
-ghost use Rattle.ve_build_insert.specs.Placed.{asked, depth_after, passes_outer, CitesAsPieces, IsPlaced};
+ghost use Rattle.ve_build_insert.specs.Placed.{item_answer, depth_after, passes_outer, CitesAsPieces, IsPlaced};
 
 use std::alloc::Global;
 use ve_base::Memory;
@@ -12,7 +12,7 @@ use ve_edits::is_content_item;
 use ve_items::{Item, Items};
 use ve_kinds::{Kind, is_content_branch, may_hold};
 
-/// What is asked of each piece that stands in no other.
+/// A test of each piece that stands in no other.
 #[derive(Clone, Copy)]
 pub enum Question {
     IsContent,
@@ -32,7 +32,7 @@ fn may_hold_item(parent: Kind, item: Item) -> bool
 }
 
 fn is_so(question: Question, item: Item) -> bool
-    ensures { (values : _) → result ≡ asked question (plain values item) }
+    ensures { (values : _) → result ≡ item_answer question (plain values item) }
 {
     match question {
         Question::IsContent => is_content_item(item),
@@ -68,7 +68,9 @@ fn opened(depth: usize, item: Item) -> usize
 
 /// Whether each piece that stands in no other is so.
 pub fn all_outer(pieces: &[Item], question: Question) -> bool
-    ensures { (values : _) → result ≡ list_all (asked question) (model.outer_items 0 (plain_list values pieces.now)) }
+    ensures { (values : _)
+        → result
+        ≡ list_all (item_answer question) (model.outer_items 0 (plain_list values pieces.now)) }
 {
     let mut depth: usize = 0;
     for item in pieces {
@@ -91,7 +93,10 @@ pub fn is_mixed(pieces: &[Item]) -> bool
 
 /// Whether the pieces are content that a node of the kind doesn't hold.
 fn wants_paragraph(parent: Kind, pieces: &[Item]) -> bool
-    ensures { (values : _) → result ≡ (model.is_content_pieces (plain_list values pieces.now) && not (table.is_content_branch parent)) }
+    ensures { (values : _)
+        → result
+        ≡ (model.is_content_pieces (plain_list values pieces.now)
+        && not (table.is_content_branch parent)) }
 {
     if is_content_branch(parent) {
         return false;

@@ -1,4 +1,5 @@
-// Where something may be put: the nodes that are open at an offset, and how many of them pieces have to leave.
+// Where something may be put: the nodes that are open at an offset, and how many of them pieces
+// have to leave.
 ghost use Rattle.std.specs.Prelude.{◌≡◌, ◌≤◌, true, false, None, IfOk, IfSome, length};
 ghost use Rattle.model_items.specs.Law.{top};
 ghost use Rattle.model_items.specs.Plain.{plain_list};
@@ -31,10 +32,13 @@ pub fn innermost(state: &State) -> Kind
     state.kind(0)
 }
 
-/// The open kinds at an offset, unless nothing can be put there: it is the list's end or past it, or inside a leaf.
+/// The open kinds at an offset, unless nothing can be put there: it is the list's end or past it,
+/// or inside a leaf.
 pub fn open_at(doc: Doc<'_>, at: usize) -> Option<State>
     requires doc { IsDoc doc }
-    ensures none { result ≡ None → (values : _) → model.is_bad_offset (plain_list values doc.entry.list.now.items) at ≡ true }
+    ensures none { result ≡ None
+        → (values : _)
+        → model.is_bad_offset (plain_list values doc.entry.list.now.items) at ≡ true }
     ensures some { IfSome result (IsOpenAt doc.entry.list.now.items at) }
 {
     if at >= doc.list.len() {
@@ -47,10 +51,11 @@ pub fn open_at(doc: Doc<'_>, at: usize) -> Option<State>
     Some(state)
 }
 
-/// How far out the innermost kind stands that may hold the pieces, the root past the outermost. No internal list or item
-/// is left.
+/// How far out the innermost kind stands that may hold the pieces, the root past the outermost. No
+/// internal list or item is left.
 fn levels_up(state: &State, pieces: &[Item]) -> Option<usize>
-    ensures means { (values : _) → result ≡ model.levels_up (plain_list values pieces.now) state.now.stack }
+    ensures means { (values : _)
+        → result ≡ model.levels_up (plain_list values pieces.now) state.now.stack }
     ensures within { IfSome result (λ levels. levels ≤ length state.now.stack) }
 {
     let depth = state.depth();
@@ -69,8 +74,8 @@ fn levels_up(state: &State, pieces: &[Item]) -> Option<usize>
     None
 }
 
-/// The pieces as they are to stand where these kinds are open; none where no open kind may hold them, or where they are
-/// content and blocks side by side.
+/// The pieces as they are to stand where these kinds are open; none where no open kind may hold
+/// them, or where they are content and blocks side by side.
 pub fn place_pieces(alloc: Global, state: &State, pieces: &[Item]) -> Result<Option<Placed>, Memory>
     ensures means { IfOk result (ArePlaced state.now.stack pieces.now) }
     ensures holds { IfOk result (λ found. IfSome found (HoldsPlaced pieces.now state.now.stack)) }

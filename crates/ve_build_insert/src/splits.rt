@@ -20,7 +20,8 @@ use ve_offsets::{Doc, State};
 use ve_store::NewValues;
 use ve_tx::Transaction;
 
-/// Whether so many of the open nodes cannot be split: none or too many, or one is the internal list or an item of it.
+/// Whether so many of the open nodes cannot be split: none or too many, or one is the internal list
+/// or an item of it.
 fn is_bad_depth(state: &State, depth: usize) -> bool
     ensures means { result ≡ model.is_bad_depth state.now.stack depth }
     ensures within { result ≡ false → depth ≤ length state.now.stack }
@@ -36,12 +37,13 @@ fn is_bad_depth(state: &State, depth: usize) -> bool
     false
 }
 
-/// The change that splits the innermost open nodes at an offset, as many as `depth` says: each is closed there, and a copy
-/// of it goes on.
+/// The change that splits the innermost open nodes at an offset, as many as `depth` says: each is
+/// closed there, and a copy of it goes on.
 ///
-/// `BadOffset` comes exactly where the offset is the list's length or past it, or inside a leaf; then `NotContent` where
-/// the innermost open node is no branch of content; then `BadDepth` where the depth is 0 or more nodes than are open, or
-/// reaches an internal list or item. After a refusal `new` may hold further values.
+/// `BadOffset` comes exactly where the offset is the list's length or past it, or inside a leaf.
+/// Then `NotContent` comes where the innermost open node is no branch of content. Last, `BadDepth`
+/// comes where the depth is 0 or more nodes than are open, or reaches an internal list or item.
+/// After a refusal `new` may hold further values.
 pub fn split(
     alloc: Global,
     doc: Doc<'_>,
@@ -52,11 +54,14 @@ pub fn split(
     requires doc { IsDoc doc }
     requires cites { All (CitesWell doc.store.now) doc.list.now.items }
     requires follows { new.old.after ≡ length doc.store.now }
-    ensures means { IfOk result (λ tx. model.split (page_items doc.entry) at depth ≡ Ok (by_value (together doc.entry.store.now new.new) tx)) }
+    ensures means { IfOk result (λ tx.
+        model.split (page_items doc.entry) at depth
+        ≡ Ok (by_value (together doc.entry.store.now new.new) tx)) }
     ensures cites { IfOk result (TxCites (together doc.entry.store.now new.new)) }
     ensures values { IfOk result (BringsInserted doc.entry.store.now new.old new.new) }
     ensures grows { Grows new.old new.new }
-    ensures refused { IfErr result (λ fault. IsRefusal fault (model.split (page_items doc.entry) at depth)) }
+    ensures refused { IfErr result (λ fault.
+        IsRefusal fault (model.split (page_items doc.entry) at depth)) }
 {
     let Some(state) = open_at(doc, at) else {
         return Err(BuildFault::BadOffset { at });

@@ -21,7 +21,7 @@ use ve_offsets::Doc;
 use ve_store::NewValues;
 use ve_tx::Transaction;
 
-/// What the item at a place cites as its marks.
+/// The marks that the item at a position cites.
 fn marks_at(doc: Doc<'_>, at: usize) -> Option<ValueId>
     requires { at < length doc.list.now.items }
     ensures { MarksAreCited doc.entry.list.now.items at result }
@@ -33,7 +33,7 @@ fn marks_at(doc: Doc<'_>, at: usize) -> Option<ValueId>
     }
 }
 
-/// What is cited as marks by the character that ends at an offset, or by the inline leaf that does.
+/// The marks cited by the character or the inline leaf that ends at an offset.
 fn marks_before(doc: Doc<'_>, at: usize) -> Option<ValueId>
     requires doc { IsDoc doc }
     ensures { AreMarksBefore doc.entry.list.now.items at result }
@@ -65,8 +65,8 @@ fn letters(alloc: Global, marks: Option<ValueId>, text: &str) -> Result<Items, M
     Ok(all)
 }
 
-/// The change that puts a text at an offset, with the marks of what stands to the left: of the character that ends
-/// there, or of the inline leaf that does. It is refused as `insertion` is.
+/// The transaction that puts a text at an offset, with the marks of its left neighbour: of the
+/// character that ends there, or of the inline leaf that does. It is refused as `insertion` is.
 pub fn text_insertion(
     alloc: Global,
     doc: Doc<'_>,
@@ -77,7 +77,9 @@ pub fn text_insertion(
     requires doc { IsDoc doc }
     requires cites { All (CitesWell doc.store.now) doc.list.now.items }
     requires follows { new.old.after ≡ length doc.store.now }
-    ensures means { IfOk result (λ tx. text_meant doc.entry at text.now ≡ Ok (by_value (together doc.entry.store.now new.new) tx)) }
+    ensures means { IfOk result (λ tx.
+        text_meant doc.entry at text.now
+        ≡ Ok (by_value (together doc.entry.store.now new.new) tx)) }
     ensures cites { IfOk result (TxCites (together doc.entry.store.now new.new)) }
     ensures values { IfOk result (BringsInserted doc.entry.store.now new.old new.new) }
     ensures grows { Grows new.old new.new }
@@ -100,11 +102,14 @@ pub fn plain_text_insertion(
     requires doc { IsDoc doc }
     requires cites { All (CitesWell doc.store.now) doc.list.now.items }
     requires follows { new.old.after ≡ length doc.store.now }
-    ensures means { IfOk result (λ tx. plain_text_meant doc.entry at text.now ≡ Ok (by_value (together doc.entry.store.now new.new) tx)) }
+    ensures means { IfOk result (λ tx.
+        plain_text_meant doc.entry at text.now
+        ≡ Ok (by_value (together doc.entry.store.now new.new) tx)) }
     ensures cites { IfOk result (TxCites (together doc.entry.store.now new.new)) }
     ensures values { IfOk result (BringsInserted doc.entry.store.now new.old new.new) }
     ensures grows { Grows new.old new.new }
-    ensures refused { IfErr result (λ fault. IsRefusal fault (plain_text_meant doc.entry at text.now)) }
+    ensures refused { IfErr result (λ fault.
+        IsRefusal fault (plain_text_meant doc.entry at text.now)) }
 {
     let Ok(pieces) = letters(alloc, None, text) else {
         return Err(BuildFault::Memory);

@@ -13,13 +13,14 @@ use Rattle.ve_build_remove.specs.declared.join.Join.{Join}
 abbrev pub join_of : Join → model.Join
 join_of join = record { first = join.first; second = join.second; second_closing = join.second_closing }
 
--- the join of the branch that one item closes, which is given over each list of values, to the branch that the item at q opens
+-- the join of the branch that one item closes, which is given over each list of values, to the
+-- branch that the item at q opens
 abbrev pub IsJoinTo : List Item → (List Value → Option PlainItem) → ℕ → Option Join → Type 0
 IsJoinTo items first q join =
     (values : List Value) →
     option_map join_of join ≡ model.join_by (first values) (slice_get (plain_list values items) q) (partner (plain_list values items) q)
 
--- the item at a place, by value
+-- the item at a position, by value
 abbrev pub item_at : List Item → ℕ → List Value → Option PlainItem
 item_at items p values = slice_get (plain_list values items) p
 

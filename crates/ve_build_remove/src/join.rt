@@ -32,10 +32,13 @@ fn are_content(first: Kind, second: Kind) -> bool
 fn join_to(doc: Doc<'_>, first: Kind, q: usize) -> Option<Join>
     requires doc { IsDoc doc }
     requires within { q < length doc.list.now.items }
-    ensures join { (pre : _) → IsJoinTo doc.entry.list.now.items (λ _. Some (plain_item.Closing first pre)) q result }
+    ensures join { (pre : _)
+        → IsJoinTo doc.entry.list.now.items (λ _. Some (plain_item.Closing first pre)) q result }
     ensures after { IfSome result (λ join. q ≤ join.second_closing) }
     ensures within { IfSome result (λ join. join.second_closing < length doc.entry.list.now.items) }
-    ensures closing { IfSome result (λ join. (values : _) → join.second_closing ≡ partner (plain_list values doc.entry.list.now.items) q) }
+    ensures closing { IfSome result (λ join.
+        (values : _)
+        → join.second_closing ≡ partner (plain_list values doc.entry.list.now.items) q) }
 {
     match doc.list.get(q) {
         Item::Char { .. } => None,
@@ -62,7 +65,9 @@ fn join_by(doc: Doc<'_>, p: usize, q: usize) -> Option<Join>
     ensures join { IsJoinTo doc.entry.list.now.items (item_at doc.entry.list.now.items p) q result }
     ensures after { IfSome result (λ join. q ≤ join.second_closing) }
     ensures within { IfSome result (λ join. join.second_closing < length doc.entry.list.now.items) }
-    ensures closing { IfSome result (λ join. (values : _) → join.second_closing ≡ partner (plain_list values doc.entry.list.now.items) q) }
+    ensures closing { IfSome result (λ join.
+        (values : _)
+        → join.second_closing ≡ partner (plain_list values doc.entry.list.now.items) q) }
 {
     match doc.list.get(p) {
         Item::Char { .. } => None,
@@ -71,13 +76,17 @@ fn join_by(doc: Doc<'_>, p: usize, q: usize) -> Option<Join>
     }
 }
 
-/// The join in a range, where a closing and an opening of branches of content are all that is unmatched there.
+/// The join in a range, where a closing and an opening of branches of content are all that is
+/// unmatched there.
 pub fn join_at(doc: Doc<'_>, from: usize, to: usize, unmatched: &[usize]) -> Option<Join>
     requires doc { IsDoc doc }
     requires order { from ≤ to }
     requires within { to ≤ length doc.list.now.items }
-    requires unmatched { (values : _) → unmatched.now ≡ offsets.unmatched_places (plain_list values doc.list.now.items) from to }
-    ensures join { (values : _) → option_map join_of result ≡ model.join_at (plain_list values doc.entry.list.now.items) unmatched.now }
+    requires unmatched { (values : _)
+        → unmatched.now ≡ offsets.unmatched_places (plain_list values doc.list.now.items) from to }
+    ensures join { (values : _)
+        → option_map join_of result
+        ≡ model.join_at (plain_list values doc.entry.list.now.items) unmatched.now }
     ensures past { IfSome result (λ join. to ≤ join.second_closing) }
     ensures within { IfSome result (λ join. join.second_closing < length doc.entry.list.now.items) }
 {

@@ -20,7 +20,7 @@ use ve_items::Item;
 use ve_offsets::Doc;
 use ve_tx::Transaction;
 
-/// The places of a range whose partners are not in it.
+/// The positions of a range whose partners are not in it.
 fn unmatched_places(
     alloc: Global,
     doc: Doc<'_>,
@@ -30,7 +30,10 @@ fn unmatched_places(
     requires doc { IsDoc doc }
     requires order { from ≤ to }
     requires within { to ≤ length doc.list.now.items }
-    ensures { IfOk result (λ all. (values : _) → all.items ≡ offsets.unmatched_places (plain_list values doc.entry.list.now.items) from to) }
+    ensures { IfOk result (λ all.
+        (values : _)
+        → all.items
+        ≡ offsets.unmatched_places (plain_list values doc.entry.list.now.items) from to) }
 {
     let mut all = Vec::new(alloc);
     for at in from..to {
@@ -52,7 +55,8 @@ fn matched_removed(
     requires doc { IsDoc doc }
     requires order { from ≤ to }
     requires within { to ≤ length doc.list.now.items }
-    ensures means { IfOk result (IsTransactionOf doc.entry.list.now.items (λ all. removal_edits all from to None)) }
+    ensures means { IfOk result (
+        IsTransactionOf doc.entry.list.now.items (λ all. removal_edits all from to None)) }
     ensures cites { IfOk result (CitesAsItems doc.entry.list.now.items) }
 {
     let mut edits = Edits::new(alloc);
@@ -77,7 +81,9 @@ fn joined(
     requires order { from ≤ to }
     requires past { to ≤ join.second_closing }
     requires within { join.second_closing < length doc.list.now.items }
-    ensures means { IfOk result (IsTransactionOf doc.entry.list.now.items (λ all. removal_edits all from to (Some (join_of join)))) }
+    ensures means { IfOk result (
+        IsTransactionOf doc.entry.list.now.items (λ all.
+        removal_edits all from to (Some (join_of join)))) }
     ensures cites { IfOk result (CitesAsItems doc.entry.list.now.items) }
 {
     let mut edits = Edits::new(alloc);
@@ -95,7 +101,7 @@ fn joined(
     Ok(tx)
 }
 
-/// What is removed of a range that may be.
+/// The removed pieces of a range that may be removed.
 fn removed(alloc: Global, doc: Doc<'_>, from: usize, to: usize) -> Result<Transaction, Memory>
     requires doc { IsDoc doc }
     requires order { from ≤ to }
@@ -116,10 +122,11 @@ fn removed(alloc: Global, doc: Doc<'_>, from: usize, to: usize) -> Result<Transa
     }
 }
 
-/// The change that removes a range: where a branch of content ends in it, another begins in it, and nothing else is
-/// unmatched, the whole range, so that the second branch is joined to the first; else each matched item. `BadRange` comes
-/// exactly where the range is none of the list, has an end inside a leaf, or holds a bracket of the internal list or of
-/// one of its items.
+/// The transaction that removes a range. Where a branch of content ends in it, another begins in
+/// it, and nothing else is unmatched, the whole range goes. So the second branch is joined to the
+/// first. In every other range each matched item goes. `BadRange` comes exactly where the range is
+/// none of the list, has an end inside a leaf, or holds a bracket of the internal list or of one of
+/// its items.
 pub fn removal(
     alloc: Global,
     doc: Doc<'_>,
@@ -128,9 +135,11 @@ pub fn removal(
 ) -> Result<Transaction, BuildFault>
     requires doc { IsDoc doc }
     requires cites { All (CitesWell doc.store.now) doc.list.now.items }
-    ensures means { IfOk result (λ tx. model.removal (page_items doc.entry) from to ≡ Ok (by_value doc.entry.store.now tx)) }
+    ensures means { IfOk result (λ tx.
+        model.removal (page_items doc.entry) from to ≡ Ok (by_value doc.entry.store.now tx)) }
     ensures cites { IfOk result (λ tx. TxCites doc.entry.store.now tx) }
-    ensures refused { IfErr result (λ fault. IsRefusal fault (model.removal (page_items doc.entry) from to)) }
+    ensures refused { IfErr result (λ fault.
+        IsRefusal fault (model.removal (page_items doc.entry) from to)) }
 {
     if is_bad_span(doc, from, to) {
         return Err(BuildFault::BadRange { from, to });

@@ -101,7 +101,7 @@ module _ (items : List PlainItem) (kinds : List Kind) (nodes : List ℕ) (i d : 
 pub node_done : (items : List PlainItem) (kinds : List Kind) (nodes : List ℕ) (i : ℕ) → length nodes ≤ i → None ≡ first_wrong (flat_map (node_claims items kinds) (drop i nodes))
 node_done items kinds nodes i past = sym (ap (λ l. first_wrong (flat_map (node_claims items kinds) l)) (drop_all i nodes past))
 
--- the model's claims on nodes, by the places where they begin
+-- the model's claims on nodes, by the positions where they begin
 pub among_nodes : (items : List PlainItem) (from to : ℕ) (outer each : List Kind) → wrong_place items from to outer each ≡ wrong_among items from to outer each (node_starts (nodes_in items from to))
 among_nodes items from to outer each =
     let first = from - length outer in

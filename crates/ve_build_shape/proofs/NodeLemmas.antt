@@ -17,7 +17,7 @@ use Rattle.model_items.specs.declared.plain_item.PlainItem.TheVariants.{Char, Op
 use Rattle.model_items.specs.declared.offset_class.OffsetClass.{OffsetClass}
 use Rattle.model_items.specs.declared.offset_class.OffsetClass.TheVariants.{Content, Structural, Inside}
 use Rattle.model_items.specs.Law.{start, finish, top, step, after, Lawful}
-use Rattle.model_items.specs.Offsets.{is_closing, is_opening, passes, opens_at, stack_at, kind_at, is_content, first_from, partner, is_unmatched, places_in, siblings, unmatched}
+use Rattle.model_items.specs.Offsets.{is_closing, is_opening, passes, opens_at, stack_at, kind_at, is_content, first_from, partner, is_unmatched, places_in, siblings, unmatched_counts}
 use Rattle.model_items.specs.Plain.{plain, plain_list}
 use Rattle.model_items.specs.Tree.{Open, opens_with, opens_after, class_at, node_at, place_with}
 use Rattle.model_items.proofs.LawLemmas.{if_ok, after_parts, joined-ok, closed_before, after_from_Lawful}
@@ -80,7 +80,7 @@ module _ (items : List PlainItem) (from to : ℕ) (within : to ≤ length items)
   none_counted all =
       (count_by (λ at. passes is_closing (slice_get items at)) all == 0) && (count_by (λ at. passes is_opening (slice_get items at)) all == 0)
 
-  -- one place more is counted
+  -- one position more is counted
   one_counted : (at : ℕ) (rest : List ℕ) →
       none_counted (at ∷ rest)
       ≡ ((cond (passes is_closing (slice_get items at)) 1 0 + count_by (λ at. passes is_closing (slice_get items at)) rest == 0)
@@ -154,14 +154,14 @@ any_same values items from to a (suc n) high =
     ap (λ b. b || list_any (is_unmatched (unvalued items) from to) (range_with_len (a + 1) n)) here
     ∙ ap (λ b. is_unmatched (plain_list values items) from to a || b) (any_same values items from to (a + 1) n (omega arith))
 
-matched_by_counts : (values : List Value) (items : List Item) (from to : ℕ) (counts : ℕ × ℕ) → from ≤ to → to ≤ length items → counts ≡ unmatched (unvalued items) from to →
+matched_by_counts : (values : List Value) (items : List Item) (from to : ℕ) (counts : ℕ × ℕ) → from ≤ to → to ≤ length items → counts ≡ unmatched_counts (unvalued items) from to →
     ((counts.0 == 0) && (counts.1 == 0)) ≡ is_matched (plain_list values items) from to
 matched_by_counts values items from to counts order within is =
     ap (λ (p : ℕ × ℕ). (p.0 == 0) && (p.1 == 0)) is
     ∙ none_by_counts (unvalued items) from to (omega (arith, length-map items (plain []))) from (to - from) (omega arith) (omega arith)
     ∙ ap not (any_same values items from to from (to - from) (omega arith))
 
-module _ (values : List Value) (items : List Item) (from to : ℕ) (counts : ℕ × ℕ) (order : from ≤ to) (within : to ≤ length items) (is : counts ≡ unmatched (unvalued items) from to) where
+module _ (values : List Value) (items : List Item) (from to : ℕ) (counts : ℕ × ℕ) (order : from ≤ to) (within : to ≤ length items) (is : counts ≡ unmatched_counts (unvalued items) from to) where
   pub matched_then : counts.0 ≡ 0 → (counts.1 == 0) ≡ is_matched (plain_list values items) from to
   matched_then none = sym (ap (λ n. (n == 0) && (counts.1 == 0)) none) ∙ matched_by_counts values items from to counts order within is
 
@@ -192,7 +192,7 @@ starts_end depth at (Opening kind head marks pre origin generated) xs h = absurd
 starts_end zero at (Closing kind pre) xs h = refl
 starts_end (suc depth) at (Closing kind pre) xs h = absurd (cc)
 
--- the places of the nodes from a place of a range on
+-- the positions of the nodes from a position of a range on
 abbrev pub starts_from : List PlainItem → (depth at to : ℕ) → List ℕ
 starts_from items depth at to = node_starts (siblings depth at (take (to - at) (drop at items)))
 
@@ -219,7 +219,7 @@ nodes_done items depth at to nodes past =
     let n : 0 ≡ to - at = omega arith in
     sym (append-nil nodes) ∙ ap (λ k. nodes ++ node_starts (siblings depth at (take k (drop at items)))) n
 
--- they are places of the range
+-- they are positions of the range
 starts_within : (end depth at : ℕ) (xs : List PlainItem) → at + length xs ≤ end → All (λ n. n < end) (node_starts (siblings depth at xs))
 starts_within end depth at [] h = All-nil (λ n. n < end)
 starts_within end depth at (Char c marks ∷ xs) h = starts_within end depth (suc at) xs (omega arith)
@@ -239,7 +239,7 @@ nodes_within values items from to nodes order within is =
 
 -- ---- there is a node
 
--- each open node begins before the place
+-- each open node begins before the position
 abbrev Below : ℕ → List Open → Type 0
 Below at [] = Unit {0}
 Below at (node ∷ outer) = (node.from < at) × Below at outer

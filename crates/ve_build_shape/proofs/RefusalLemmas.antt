@@ -9,7 +9,7 @@ use Rattle.model_change.specs.Transaction.{Transaction}
 use Rattle.model_edit.specs.Causes.{BuildCause, BadRange, BadMark, TooManyMarks}
 use Rattle.model_edit.specs.Marking.{is_bad_mark, is_full_for, marked_unless, remark, marking, unmarking}
 
--- the first place of a range that passes a test
+-- the first position of a range that passes a test
 places_first : (at to : ℕ) → at < to → places_in at to ≡ at ∷ places_in (at + 1) to
 places_first at to less = let n : to - at ≡ suc (to - (at + 1)) = omega arith in ap (range_with_len at) n
 

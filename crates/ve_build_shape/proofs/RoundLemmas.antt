@@ -51,7 +51,7 @@ module _ (values : List Value) (items : List Item) where
   change_collected at count inserted plains old new listed cited is one = λ done m.
       subst (λ l. Makes values items (done ++ Change at count l ∷ []) new) is (one values done listed cited m)
 
-  -- the same, where what is put in is lent
+  -- the same, where what is put in is borrowed
   pub lent_collected : (at count : ℕ) (lent own : List Item) (plains : List PlainItem) (old new : Collected) → lent ≡ own → All (CitesWell values) items → All (CitesWell values) own →
       plain_list values own ≡ plains → MakesOneMore items at count lent old new → Gives (Change at count plains ∷ []) old new
   lent_collected at count lent own plains old new same listed cited is one =
@@ -87,7 +87,7 @@ module _ (values : List Value) (items : List Item) where
       (lent_collected at count openings brackets.openings O a b opened listed are.openings_cite are.openings first)
       (lent_collected (end - count) count closings brackets.closings C b c closed listed are.closings_cite are.closings last))
 
--- one node more of those that begin at the places
+-- one node more of those that begin at the positions
 pub nodes_more : (items : List PlainItem) (count : ℕ) (shapes : List Shape) (places places' : List ℕ) (at : ℕ) → places' ≡ places ++ at ∷ [] →
     nodes_edits items count shapes places' ≡ nodes_edits items count shapes places ++ nodes_edits items count shapes (at ∷ [])
 nodes_more items count shapes places places' at parts =
@@ -183,7 +183,7 @@ pub room_next : (items : List PlainItem) (count at end : ℕ) (places : List ℕ
     HaveRoom items count (end_of_node items (get_or places i d)) end (drop (i + 1) places)
 room_next items count at end places i d inside room = (subst (HaveRoom items count at end) (drop_more places i d inside) room).2
 
--- the model's edits, by the places where the nodes begin
+-- the model's edits, by the positions where the nodes begin
 pub edits_are : (items : List PlainItem) (from to : ℕ) (plan : WrapPlan) → edits_round items from to plan (node_starts (nodes_in items from to)) ≡ wrap_edits items from to plan
 edits_are items from to plan =
     let outer = length plan.unwrap_outer in

@@ -1,4 +1,5 @@
--- The operations that set an attribute apply, and with the position that they keep they are the model's transaction.
+-- The operations that set an attribute apply, and with the position that they keep they are the
+-- model's transaction.
 use Rattle.std.proofs.Common.{◌≡◌, ◌-◌, ℕ, zero, suc, ◌+◌, Bool, true, false, not, ◌&&◌, ◌==◌, if◌then◌else◌, List, [], ◌∷◌, length, drop, slice_get, Option, Some, None, option_map, Result, Ok, Err, refl, sym, ap, ◌∙◌, arith, eq-eqb}
 use Rattle.std.specs.Option.{option_or}
 use Rattle.std.proofs.lemmas.Bool.{and_parts}
@@ -96,7 +97,7 @@ setting_cites values (suc n) rest name from to =
     All-cons C (with_position (op.Retain (suc n)) None) (with_position (op.Attribute name from to) None ∷ with_position (op.Retain rest) None ∷ []) tt
     (All-cons C (with_position (op.Attribute name from to) None) (with_position (op.Retain rest) None ∷ []) tt (All-cons C (with_position (op.Retain rest) None) [] tt (All-nil C)))
 
--- an element that opens at a place
+-- an element that opens at a position
 pub may_from : (items : List PlainItem) (at : ℕ) (name : List ℕ) → passes (opens_kind is_element) (slice_get items at) ≡ true → is_reserved name ≡ false → may_set name (drop at items) ≡ true
 may_from [] at name opens free = absurd (cc)
 may_from (Char c marks ∷ items) zero name opens free = absurd (cc)
@@ -104,7 +105,7 @@ may_from (Closing kind pre ∷ items) zero name opens free = absurd (cc)
 may_from (Opening kind head marks pre origin generated ∷ items) zero name opens free = and_from (is_element kind) (not (is_reserved name)) opens (ap not free)
 may_from (x ∷ items) (suc at) name opens free = may_from items at name opens free
 
--- what the model's transaction is, where an item stands at the place
+-- what the model's transaction is, where an item stands at the position
 model_is : (items : List PlainItem) (at : ℕ) (x : PlainItem) (more : List PlainItem) (name : List ℕ) (to : Option (List ℕ)) → drop at items ≡ x ∷ more →
     transaction_of items (Set at name to ∷ []) ≡ retaining at (Attribute (setting name to (x ∷ more)) ∷ Retain (suc (length more)) ∷ [])
 model_is items at x more name to there =

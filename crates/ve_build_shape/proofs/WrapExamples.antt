@@ -1,4 +1,5 @@
--- Which nodes stand in a range, which bracket of them is wrong, and the edits that put brackets round them.
+-- Which nodes stand in a range, which bracket of them is wrong, and the edits that put brackets
+-- round them.
 use Rattle.std.proofs.Common.{◌≡◌, ℕ, List, [], ◌∷◌, Some, None, refl, true, false, arith}
 use Rattle.ve_kinds.specs.declared.kind.Kind.{Kind}
 use Rattle.ve_kinds.specs.declared.kind.Kind.TheVariants.{Ul, Ol, Li, Div, P}
@@ -52,7 +53,7 @@ all_right = refl
 other_kind_outside : wrong_among (plain_list [] page) 1 11 (Ol ∷ []) (Li ∷ []) (1 ∷ 6 ∷ []) ≡ Some 0
 other_kind_outside = refl
 
--- the first wrong place is named, in the order of the list
+-- the first wrong position is named, in the order of the list
 other_kind_inside : wrong_among (plain_list [] page) 1 11 (Ul ∷ []) (Li ∷ Div ∷ []) (1 ∷ 6 ∷ []) ≡ Some 2
 other_kind_inside = refl
 

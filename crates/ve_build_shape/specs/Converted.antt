@@ -11,7 +11,7 @@ use Rattle.model_edit.specs.Brackets.{closing_of}
 use Rattle.model_edit.specs.Convert.{opens_kind, converted}
 use Rattle.model_edit.specs.Edits.{Edit, Change}
 
--- a branch of content begins at the place
+-- a branch of content begins at the position
 abbrev pub begins_branch : List PlainItem → ℕ → Bool
 begins_branch items at = passes (opens_kind is_content_branch) (slice_get items at)
 
@@ -20,7 +20,8 @@ abbrev pub conversion : ℕ → Kind → List PlainItem → List Edit
 conversion at kind items =
     Change at 1 (converted kind (slice_get items at)) ∷ Change (partner items at) 1 (closing_of kind ∷ []) ∷ []
 
--- Where the first item opens a branch of content, the second is its opening with the kind, over every list of values.
+-- Where the first item opens a branch of content, the second is its opening with the kind, over
+-- every list of values.
 abbrev pub HasKind : Item → Kind → Item → Type 0
 HasKind item kind new =
     (values : List Value) → opens_kind is_content_branch (plain values item) ≡ true → plain values new ∷ [] ≡ converted kind (Some (plain values item))

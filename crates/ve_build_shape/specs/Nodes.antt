@@ -19,7 +19,7 @@ depth_past depth (Opening kind head marks pre origin generated) = Some (suc dept
 depth_past zero (Closing kind pre) = None
 depth_past (suc depth) (Closing kind pre) = Some depth
 
--- the place, where a node begins there that stands in none of the open ones
+-- the position, where a node begins there that stands in none of the open ones
 abbrev pub begun : (depth at : ℕ) → PlainItem → List ℕ
 begun zero at (Opening kind head marks pre origin generated) = at ∷ []
 begun _ at _ = []
@@ -28,19 +28,19 @@ begun _ at _ = []
 abbrev pub is_matched : List PlainItem → ℕ → ℕ → Bool
 is_matched items from to = not (list_any (is_unmatched items from to) (places_in from to))
 
--- a node of the kind begins at the place
+-- a node of the kind begins at the position
 abbrev pub begins_kind : Kind → List PlainItem → ℕ → Bool
 begins_kind kind items at = passes (is_opening_of kind) (slice_get items at)
 
--- The places are those where the nodes of the range begin, over every list of values.
+-- The positions are those where the nodes of the range begin, over every list of values.
 abbrev pub AreNodes : List Item → ℕ → ℕ → List ℕ → Type 0
 AreNodes items from to places = (values : List Value) → places ≡ map (λ (node : Open). node.from) (nodes_in (plain_list values items) from to)
 
--- all of them are places of the list
+-- all of them are positions of the list
 abbrev pub AreWithin : List Item → List ℕ → Type 0
 AreWithin items places = All (λ at. at < length items) places
 
--- the first wrong place, where the nodes begin at these places
+-- the first wrong position, where the nodes begin at these positions
 abbrev pub wrong_among : List PlainItem → ℕ → ℕ → List Kind → List Kind → List ℕ → Option ℕ
 wrong_among items from to outer each places =
     if nat_lt from (length outer) then Some 0

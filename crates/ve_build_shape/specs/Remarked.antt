@@ -51,7 +51,7 @@ IsItemFilled store old new other item = together store new ≡ fill (together st
 abbrev pub IsMeant : List Value → Following → Result Transaction BuildCause → List Operation → Type 0
 IsMeant store new meant tx = meant ≡ Ok (by_value (together store new) tx)
 
--- the edits of the places of a range
+-- the edits of the positions of a range
 abbrev pub remark_edits : (List Mark → List Mark) → List PlainItem → ℕ → ℕ → List Edit
 remark_edits f items from to = flat_map (λ at. remark_edit f at (slice_get items at)) (places_in from to)
 
@@ -63,7 +63,8 @@ remarked_item f (Some item) = if keeps_marks f item then [] else remarked f item
 abbrev pub remarked_items : (List Mark → List Mark) → List PlainItem → ℕ → ℕ → List PlainItem
 remarked_items f items from to = flat_map (λ at. remarked_item f (slice_get items at)) (places_in from to)
 
--- The edits of a page's items from a place up to another are collected, and the values that they cite have come after the first ones.
+-- The edits of a page's items from a position up to another are collected, and the values that they
+-- cite have come after the first ones.
 pub record IsRemarked (store : List Value) (items : List Item) (f : List Mark → List Mark) (from at : ℕ) (start new : Following) (c : Collected) : Type 0 where
   pub order : c.at ≤ at
   pub grown : Grows start new

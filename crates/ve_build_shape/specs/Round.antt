@@ -18,7 +18,8 @@ use Rattle.ve_edits.specs.Collected.{Collected, Makes}
 use Rattle.ve_edits.specs.Filled.{IsFilledFor}
 use Rattle.ve_build_shape.specs.declared.shapes.Brackets.{Brackets}
 
--- The items are the openings of the shapes, and the values that they cite have come after the first ones.
+-- The items are the openings of the shapes, and the values that they cite have come after the first
+-- ones.
 pub record AreOpenings (store : List Value) (start new : Following) (shapes : List Shape) (items : List Item) : Type 0 where
   pub grown : Grows start new
   pub means : plain_list (together store new) items ≡ openings_of shapes
@@ -40,23 +41,25 @@ pub record AreBrackets (values : List Value) (shapes : List Shape) (brackets : B
 abbrev pub Collects : List Value → List Item → List Edit → (old new : Collected) → Type 0
 Collects values items edits old new = (done : List Edit) → Makes values items done old → Makes values items (done ++ edits) new
 
--- the edits of the nodes that begin at these places
+-- the edits of the nodes that begin at these positions
 abbrev pub nodes_edits : List PlainItem → ℕ → List Shape → List ℕ → List Edit
 nodes_edits items count shapes places = flat_map (λ at. node_edits at (end_of_node items at) count shapes) places
 
--- Over every list of values that the page's items cite, the brackets are put in the place of so many that each node begins and ends with.
+-- Over every list of values that the page's items cite, the brackets are put in the place of so
+-- many that each node begins and ends with.
 abbrev pub PutsRound : List Item → (count : ℕ) → Brackets → List ℕ → (old new : Collected) → Type 0
 PutsRound items count brackets places old new =
     (values : List Value) (shapes : List Shape) → All (CitesWell values) items → AreBrackets values shapes brackets →
     Collects values items (nodes_edits (plain_list values items) count shapes places) old new
 
--- From a place on the nodes stand one after the other, each with room for so many brackets at either end.
+-- From a position on the nodes stand one after the other, each with room for so many brackets at
+-- either end.
 abbrev pub HaveRoom : List PlainItem → (count at end : ℕ) → List ℕ → Type 0
 HaveRoom items count at end [] = at ≤ end
 HaveRoom items count at end (place ∷ places) =
     (at ≤ place) × (place + count ≤ end_of_node items place - count) × HaveRoom items count (end_of_node items place) end places
 
--- the edits of a wrap whose nodes begin at these places
+-- the edits of a wrap whose nodes begin at these positions
 abbrev pub edits_round : List PlainItem → ℕ → ℕ → WrapPlan → List ℕ → List Edit
 edits_round items from to plan places =
     let outer = length plan.unwrap_outer in
@@ -64,14 +67,16 @@ edits_round items from to plan places =
     ∷ nodes_edits items (length plan.unwrap_each) plan.wrap_each places
     ++ Change to outer (closings_of plan.wrap_outer) ∷ []
 
--- The transaction is that of those edits, over every list of values that the page's items and the brackets cite, and cites only what it holds.
+-- The transaction is that of those edits, over every list of values that the page's items and the
+-- brackets cite, and cites only what it holds.
 pub record IsRound (items : List Item) (from to : ℕ) (plan : WrapPlan) (places : List ℕ) (outer each : Brackets) (tx : List Operation) : Type 0 where
   pub means : (values : List Value) → All (CitesWell values) items → AreBrackets values plan.wrap_outer outer → AreBrackets values plan.wrap_each each →
       by_value values tx ≡ transaction_of (plain_list values items) (edits_round (plain_list values items) from to plan places)
   pub cites : (values : List Value) → All (CitesWell values) items → AreBrackets values plan.wrap_outer outer → AreBrackets values plan.wrap_each each →
       TxCites values tx
 
--- the places stand before the range and after it where the outer brackets go, and between them the nodes
+-- the positions stand before the range and after it where the outer brackets go, and between them
+-- the nodes
 pub record Fits (items : List PlainItem) (from to : ℕ) (plan : WrapPlan) (places : List ℕ) : Type 0 where
   pub before : length plan.unwrap_outer ≤ from
   pub nodes : HaveRoom items (length plan.unwrap_each) from to places

@@ -1,4 +1,5 @@
--- The operations that set an attribute of the opening at a place, and what is known of the opening.
+-- The operations that set an attribute of the opening at a position, and what is known of the
+-- opening.
 use Rattle.std.specs.Prelude.{◌≡◌, ℕ, zero, suc, Bool, true, List, [], ◌∷◌, ◌++◌, Option, drop, slice_get, option_map, Result}
 use Rattle.std.specs.Borrow.{Bor}
 use Rattle.std.specs.Str.{chars}
@@ -23,7 +24,7 @@ retain_ops (suc n) = Retain (suc n) ∷ []
 abbrev pub setting_ops : (at rest : ℕ) (name : List ℕ) (from to : Option (List ℕ)) → List Op
 setting_ops at rest name from to = retain_ops at ++ Attribute name from to ∷ Retain rest ∷ []
 
--- an element begins at the place
+-- an element begins at the position
 abbrev pub begins_element : List PlainItem → ℕ → Bool
 begins_element items at = passes (opens_kind is_element) (slice_get items at)
 
@@ -39,6 +40,6 @@ attribute_spelled items at name to = attribute items at (chars name) (value_spel
 abbrev pub IsSetting : List PlainItem → ℕ → List ℕ → Option (List ℕ) → Transaction → Type 0
 IsSetting items at name to t = t ≡ transaction_of items (Set at name to ∷ [])
 
--- an element opens at the place, and the name may be set, over every list of values
+-- an element opens at the position, and the name may be set, over every list of values
 abbrev pub MaySetAt : List Item → ℕ → List ℕ → Type 0
 MaySetAt items at name = (values : List Value) → may_set name (drop at (plain_list values items)) ≡ true

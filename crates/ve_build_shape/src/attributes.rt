@@ -29,10 +29,11 @@ fn opens_element(item: Item) -> bool
     }
 }
 
-/// Whether an element begins at a place.
+/// Whether an element begins at a position.
 fn begins_element(doc: Doc<'_>, at: usize) -> bool
     ensures within { result ≡ true → at < length doc.entry.list.now.items }
-    ensures means { (values : _) → result ≡ begins_element (plain_list values doc.entry.list.now.items) at }
+    ensures means { (values : _)
+        → result ≡ begins_element (plain_list values doc.entry.list.now.items) at }
 {
     if at >= doc.list.len() {
         return false;
@@ -64,7 +65,8 @@ fn retain(alloc: Global, count: usize) -> Result<OpList, Memory>
     Ok(ops)
 }
 
-/// The operations that set an attribute of the item at a place, which has so many items from it on.
+/// The operations that set an attribute of the item at a position, which has so many items from it
+/// on.
 fn setting_ops(
     alloc: Global,
     at: usize,
@@ -81,8 +83,8 @@ fn setting_ops(
     Ok(ops)
 }
 
-/// The change that sets an attribute of the element at a place. One whose lengths add up to more than 2^60 is a want of
-/// memory like any other.
+/// The change that sets an attribute of the element at a position. One whose lengths add up to more
+/// than 2^60 is a want of memory like any other.
 fn set(
     alloc: Global,
     doc: Doc<'_>,
@@ -93,7 +95,9 @@ fn set(
     requires within { at < length doc.list.now.items }
     requires cites { All (CitesWell doc.store.now) doc.list.now.items }
     requires may { MaySetAt doc.list.now.items at name }
-    ensures means { IfOk result (λ tx. IsSetting (page_items doc.entry) at name (value_spelled to.entry) (by_value doc.entry.store.now tx)) }
+    ensures means { IfOk result (λ tx.
+        IsSetting (page_items doc.entry) at name (value_spelled to.entry)
+        (by_value doc.entry.store.now tx)) }
     ensures cites { IfOk result (TxCites doc.entry.store.now) }
 {
     let from = present_value(alloc, doc.store, doc.list.get(at), &name)?;
@@ -106,10 +110,12 @@ fn set(
     Ok(tx)
 }
 
-/// The change that sets an attribute of the element that begins at a place to a value, or takes it off where that is
-/// `None`. Where it takes one off, it keeps the attribute's position, so that the inverse puts it back there.
+/// The change that sets an attribute of the element that begins at a position to a value, or takes
+/// it off where that is `None`. Where it takes one off, it keeps the attribute's position, so that
+/// the inverse puts it back there.
 ///
-/// `NotOpening` comes exactly where no element begins at the place; then `BadAttr` where the name is `about` or `typeof`.
+/// `NotOpening` comes exactly where no element begins at the position; then `BadAttr` where the
+/// name is `about` or `typeof`.
 pub fn attribute(
     alloc: Global,
     doc: Doc<'_>,
@@ -119,9 +125,12 @@ pub fn attribute(
 ) -> Result<Transaction, BuildFault>
     requires doc { IsDoc doc }
     requires cites { All (CitesWell doc.store.now) doc.list.now.items }
-    ensures means { IfOk result (λ tx. attribute_spelled (page_items doc.entry) at name.now to.entry ≡ Ok (by_value doc.entry.store.now tx)) }
+    ensures means { IfOk result (λ tx.
+        attribute_spelled (page_items doc.entry) at name.now to.entry
+        ≡ Ok (by_value doc.entry.store.now tx)) }
     ensures cites { IfOk result (TxCites doc.entry.store.now) }
-    ensures refused { IfErr result (λ fault. IsRefusal fault (attribute_spelled (page_items doc.entry) at name.now to.entry)) }
+    ensures refused { IfErr result (λ fault.
+        IsRefusal fault (attribute_spelled (page_items doc.entry) at name.now to.entry)) }
 {
     if !begins_element(doc, at) {
         return Err(BuildFault::NotOpening { at });

@@ -23,10 +23,11 @@ fn opens(item: Item, kind: Kind) -> bool
     }
 }
 
-/// Whether a node of the kind begins at a place.
+/// Whether a node of the kind begins at a position.
 fn begins(doc: Doc<'_>, at: usize, kind: Kind) -> bool
     ensures within { result ≡ true → at < length doc.entry.list.now.items }
-    ensures means { (values : _) → result ≡ begins_kind kind (plain_list values doc.entry.list.now.items) at }
+    ensures means { (values : _)
+        → result ≡ begins_kind kind (plain_list values doc.entry.list.now.items) at }
 {
     if at >= doc.list.len() {
         return false;
@@ -34,12 +35,13 @@ fn begins(doc: Doc<'_>, at: usize, kind: Kind) -> bool
     opens(doc.list.get(at), kind)
 }
 
-/// Just past the node that begins at a place.
+/// Just past the node that begins at a position.
 pub fn end_of_node(doc: Doc<'_>, at: usize) -> usize
     requires doc { IsDoc doc }
     requires within { at < length doc.list.now.items }
     ensures within { result ≤ length doc.entry.list.now.items }
-    ensures means { (values : _) → result ≡ offsets.end_of_node (plain_list values doc.entry.list.now.items) at }
+    ensures means { (values : _)
+        → result ≡ offsets.end_of_node (plain_list values doc.entry.list.now.items) at }
 {
     let other = partner(doc, at);
     let len = doc.list.len();
@@ -47,10 +49,12 @@ pub fn end_of_node(doc: Doc<'_>, at: usize) -> usize
     other + 1
 }
 
-/// The first place, from one on, where no node of the next kind begins.
+/// The first position, from one on, where no node of the next kind begins.
 fn wrong_opening(doc: Doc<'_>, at: usize, kinds: &[Kind]) -> Option<usize>
     requires within { at ≤ length doc.list.now.items }
-    ensures means { (values : _) → result ≡ first_wrong (opening_claims (plain_list values doc.entry.list.now.items) at kinds.now) }
+    ensures means { (values : _)
+        → result
+        ≡ first_wrong (opening_claims (plain_list values doc.entry.list.now.items) at kinds.now) }
     ensures room { result ≡ None → at + length kinds.now ≤ length doc.entry.list.now.items }
 {
     let len = doc.list.len();
@@ -64,23 +68,26 @@ fn wrong_opening(doc: Doc<'_>, at: usize, kinds: &[Kind]) -> Option<usize>
     None
 }
 
-/// Whether the node that begins at a place ends with the item at another.
+/// Whether the node that begins at a position ends with the item at another.
 fn ends_with(doc: Doc<'_>, opening: usize, place: usize) -> bool
     requires doc { IsDoc doc }
     requires within { opening < length doc.list.now.items }
     ensures within { result ≡ true → place < length doc.entry.list.now.items }
-    ensures means { (values : _) → result ≡ (offsets.partner (plain_list values doc.entry.list.now.items) opening == place) }
+    ensures means { (values : _)
+        → result ≡ (offsets.partner (plain_list values doc.entry.list.now.items) opening == place) }
 {
     partner(doc, opening) == place
 }
 
-/// The first place, from one on, where the next closing doesn't stand. So many nodes begin one after the other at `first`,
-/// and their closings are to stand there, the innermost first.
+/// The first position, from one on, where the next closing doesn't stand. So many nodes begin one
+/// after the other at `first`, and their closings are to stand there, the innermost first.
 fn wrong_closing(doc: Doc<'_>, first: usize, count: usize, at: usize) -> Option<usize>
     requires doc { IsDoc doc }
     requires openings { first + count ≤ length doc.list.now.items }
     requires within { at ≤ length doc.list.now.items }
-    ensures { (values : _) → result ≡ first_wrong (closing_claims (plain_list values doc.entry.list.now.items) first count at) }
+    ensures { (values : _)
+        → result ≡ first_wrong (
+        closing_claims (plain_list values doc.entry.list.now.items) first count at) }
 {
     let len = doc.list.len();
     let mut left = count;
@@ -96,12 +103,14 @@ fn wrong_closing(doc: Doc<'_>, first: usize, count: usize, at: usize) -> Option<
     None
 }
 
-/// The first wrong place in the node that begins at a place: of these kinds are to be its first brackets, and its last ones
-/// their closings.
+/// The first wrong position in the node that begins at a position: of these kinds are to be its
+/// first brackets, and its last ones their closings.
 fn wrong_in_node(doc: Doc<'_>, at: usize, kinds: &[Kind]) -> Option<usize>
     requires doc { IsDoc doc }
     requires within { at < length doc.list.now.items }
-    ensures { (values : _) → result ≡ first_wrong (node_claims (plain_list values doc.entry.list.now.items) kinds.now at) }
+    ensures { (values : _)
+        → result
+        ≡ first_wrong (node_claims (plain_list values doc.entry.list.now.items) kinds.now at) }
 {
     if let Some(place) = wrong_opening(doc, at, kinds) {
         return Some(place);
@@ -112,11 +121,14 @@ fn wrong_in_node(doc: Doc<'_>, at: usize, kinds: &[Kind]) -> Option<usize>
     wrong_closing(doc, at, count, last)
 }
 
-/// The first wrong place in the nodes that begin at some places.
+/// The first wrong position in the nodes that begin at some positions.
 fn wrong_in_nodes(doc: Doc<'_>, nodes: &[usize], kinds: &[Kind]) -> Option<usize>
     requires doc { IsDoc doc }
     requires within { AreWithin doc.list.now.items nodes.now }
-    ensures { (values : _) → result ≡ first_wrong (flat_map (node_claims (plain_list values doc.entry.list.now.items) kinds.now) nodes.now) }
+    ensures { (values : _)
+        → result ≡ first_wrong (
+        flat_map (node_claims (plain_list values doc.entry.list.now.items) kinds.now)
+        nodes.now) }
 {
     for i in 0..nodes.len() {
         if let Some(place) = wrong_in_node(doc, nodes[i], kinds) {
@@ -126,8 +138,9 @@ fn wrong_in_nodes(doc: Doc<'_>, nodes: &[usize], kinds: &[Kind]) -> Option<usize
     None
 }
 
-/// The first place, in the list's order, where a bracket that is to go doesn't stand: those of the outer kinds round the
-/// range, and those of the others at the ends of each node. Where too few items stand before the range it is 0.
+/// The first position, in the list's order, where a bracket that is to go doesn't stand. They are
+/// those of the outer kinds round the range, and those of the others at the ends of each node.
+/// Where too few items stand before the range it is 0.
 pub fn wrong_place(
     doc: Doc<'_>,
     from: usize,
@@ -140,7 +153,10 @@ pub fn wrong_place(
     requires order { from ≤ to }
     requires within { to ≤ length doc.list.now.items }
     requires nodes { AreWithin doc.list.now.items nodes.now }
-    ensures { (values : _) → result ≡ wrong_among (plain_list values doc.entry.list.now.items) from to outer.now each.now nodes.now }
+    ensures { (values : _)
+        → result
+        ≡ wrong_among (plain_list values doc.entry.list.now.items) from to outer.now each.now
+        nodes.now }
 {
     let count = outer.len();
     if from < count {

@@ -31,10 +31,13 @@ fn opens_content(item: Item) -> bool
     }
 }
 
-/// Whether a branch of content begins at a place, and the kind is one of content.
+/// Whether a branch of content begins at a position, and the kind is one of content.
 fn may_convert(doc: Doc<'_>, at: usize, kind: Kind) -> bool
     ensures within { result ≡ true → at < length doc.entry.list.now.items }
-    ensures means { (values : _) → result ≡ (begins_branch (plain_list values doc.entry.list.now.items) at && table.is_content_branch kind) }
+    ensures means { (values : _)
+        → result
+        ≡ (begins_branch (plain_list values doc.entry.list.now.items) at
+        && table.is_content_branch kind) }
 {
     if at >= doc.list.len() {
         return false;
@@ -45,7 +48,8 @@ fn may_convert(doc: Doc<'_>, at: usize, kind: Kind) -> bool
     is_content_branch(kind)
 }
 
-/// An opening of the kind, with the attributes and the whitespace before it; any other item as it is.
+/// An opening of the kind, with the attributes and the whitespace before it; any other item as it
+/// is.
 fn with_kind(item: Item, kind: Kind) -> Item
     ensures means { HasKind item kind result }
     ensures cites { (values : _) → CitesWell values item → CitesWell values result }
@@ -88,8 +92,9 @@ fn converted(alloc: Global, doc: Doc<'_>, at: usize, kind: Kind) -> Result<Trans
     Ok(tx)
 }
 
-/// The change that gives a branch of content another kind of content; it keeps its attributes and the whitespace before
-/// it. `NotBranch` comes exactly where no branch of content begins at the place, or the kind is none.
+/// The change that gives a branch of content another kind of content; it keeps its attributes and
+/// the whitespace before it. `NotBranch` comes exactly where no branch of content begins at the
+/// position, or the kind is none.
 pub fn convert(
     alloc: Global,
     doc: Doc<'_>,
@@ -98,9 +103,11 @@ pub fn convert(
 ) -> Result<Transaction, BuildFault>
     requires doc { IsDoc doc }
     requires cites { All (CitesWell doc.store.now) doc.list.now.items }
-    ensures means { IfOk result (λ tx. model.convert (page_items doc.entry) at kind ≡ Ok (by_value doc.entry.store.now tx)) }
+    ensures means { IfOk result (λ tx.
+        model.convert (page_items doc.entry) at kind ≡ Ok (by_value doc.entry.store.now tx)) }
     ensures cites { IfOk result (λ tx. TxCites doc.entry.store.now tx) }
-    ensures refused { IfErr result (λ fault. IsRefusal fault (model.convert (page_items doc.entry) at kind)) }
+    ensures refused { IfErr result (λ fault.
+        IsRefusal fault (model.convert (page_items doc.entry) at kind)) }
 {
     if !may_convert(doc, at, kind) {
         return Err(BuildFault::NotBranch { at });

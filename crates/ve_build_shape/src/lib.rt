@@ -1,16 +1,18 @@
-//! Edits that change what nodes and characters are, as transactions: `marking` and `unmarking` set a mark on a range and take
-//! it off, `convert` gives a branch of content another kind, `attribute` sets one attribute of an element, and `wrap` puts
-//! brackets round nodes that stand side by side, or takes them off.
+//! Marks, conversions, attributes and wraps as transactions. `marking` and `unmarking` set a mark
+//! on a range and take it off. `convert` gives a branch of content another kind, and `attribute`
+//! sets one attribute of an element. `wrap` puts brackets round nodes that stand side by side, or
+//! takes them off.
 //!
-//! Each gives the model's transaction, or the model's refusal, and writes nothing. New values go into the `NewValues` that are
-//! passed: after a success just those that the inserted items bring, and after a refused `wrap` none. The tree is reached
-//! through `ve_edits` alone.
+//! Each gives the model's transaction, or the model's refusal, and writes nothing. New values go
+//! into the `NewValues` that are passed: after a success just those that the inserted items bring,
+//! and after a refused `wrap` none. The tree is reached through `ve_edits` alone.
 //!
-//! Definitions, in reading order: `Converted` (the edits of a conversion), `Remarked` (those of a range's marks), `Setting` (the
-//! operations that set an attribute), `Nodes` (the nodes of a range that is wrapped, and the claims on them), `Round` (the
-//! brackets, and the edits that put them). Most serve private functions. What the edits are stands in `model_edit`'s `Convert`,
-//! `Marking` and `Wrap`, how they refuse in `ve_edits`' `Refused`. There are no laws here: those of `model_edit_law` hold of the
-//! results by the clauses.
+//! Definitions, in reading order: `Converted` (the edits of a conversion), `Remarked` (those of a
+//! range's marks), and `Setting` (the operations that set an attribute). Then `Nodes` (the nodes of
+//! a range that is wrapped, and the claims on them), and `Round` (the brackets, and the edits that
+//! put them). Most serve private functions. The edits are defined in `model_edit`'s `Convert`,
+//! `Marking` and `Wrap`, their refusals in `ve_edits`' `Refused`. There are no laws here: those of
+//! `model_edit_law` hold of the results by the clauses.
 #![tactic(auto)]
 
 mod attributes;

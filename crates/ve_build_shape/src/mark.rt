@@ -19,11 +19,13 @@ use ve_offsets::Doc;
 use ve_store::NewValues;
 use ve_tx::Transaction;
 
-/// The first place of a range where an item would have too many marks.
+/// The first position of a range where an item would have too many marks.
 fn first_full(doc: Doc<'_>, from: usize, to: usize, mark: &Mark) -> Option<usize>
     requires within { to ≤ length doc.list.now.items }
     requires cites { All (CitesWell doc.store.now) doc.list.now.items }
-    ensures { result ≡ find (λ at. passes (model.is_full_for mark.now) (slice_get (page_items doc.entry) at)) (places_in from to) }
+    ensures { result
+        ≡ find (λ at. passes (model.is_full_for mark.now) (slice_get (page_items doc.entry) at))
+        (places_in from to) }
 {
     for at in from..to {
         if is_full(doc.store, doc.list.get(at), mark) {
@@ -47,7 +49,9 @@ fn remark_item(
     requires order { edits.old.at ≤ at }
     requires cites { All (CitesWell doc.store.now) doc.list.now.items }
     requires follows { new.old.after ≡ length doc.store.now }
-    ensures one { OnOk result (RemarksOneMore doc.entry.store.now doc.entry.list.now.items (marks_after remark mark.now) at new.old new.new edits.old edits.new) }
+    ensures one { OnOk result (
+        RemarksOneMore doc.entry.store.now doc.entry.list.now.items
+        (marks_after remark mark.now) at new.old new.new edits.old edits.new) }
     ensures grows { Grows new.old new.new }
 {
     let item = doc.list.get(at);
@@ -73,7 +77,9 @@ fn remark_range(
     requires within { to ≤ length doc.list.now.items }
     requires cites { All (CitesWell doc.store.now) doc.list.now.items }
     requires follows { new.old.after ≡ length doc.store.now }
-    ensures means { IfOk result (IsMeant doc.entry.store.now new.new (Ok (model.remark (marks_after remark mark.now) (page_items doc.entry) from to))) }
+    ensures means { IfOk result (
+        IsMeant doc.entry.store.now new.new (
+        Ok (model.remark (marks_after remark mark.now) (page_items doc.entry) from to))) }
     ensures cites { IfOk result (TxCites (together doc.entry.store.now new.new)) }
     ensures brings { IfOk result (BringsInserted doc.entry.store.now new.old new.new) }
     ensures grows { Grows new.old new.new }
@@ -86,12 +92,13 @@ fn remark_range(
     Ok(tx)
 }
 
-/// The change that sets a mark on each character and inline leaf of a range, inside its other marks, unless it has an
-/// equal one. Origins stay.
+/// The change that sets a mark on each character and inline leaf of a range, inside its other
+/// marks, unless it has an equal one. Origins stay.
 ///
-/// `BadRange` comes exactly where the range is none of the list or an end of it is inside a leaf; then `BadMark` where the
-/// tag marks no text or an attribute has a reserved name; then `TooManyMarks` at the first item that would have more than
-/// 64. After a refusal `new` may hold further values.
+/// `BadRange` comes exactly where the range is none of the list or an end of it is inside a leaf.
+/// Then `BadMark` comes where the tag marks no text or an attribute has a reserved name. Last,
+/// `TooManyMarks` comes at the first item that would have more than 64 marks. After a refusal `new`
+/// may hold further values.
 pub fn marking(
     alloc: Global,
     doc: Doc<'_>,
@@ -103,11 +110,14 @@ pub fn marking(
     requires doc { IsDoc doc }
     requires cites { All (CitesWell doc.store.now) doc.list.now.items }
     requires follows { new.old.after ≡ length doc.store.now }
-    ensures means { IfOk result (IsMeant doc.entry.store.now new.new (model.marking (page_items doc.entry) from to mark.now)) }
+    ensures means { IfOk result (
+        IsMeant doc.entry.store.now new.new (
+        model.marking (page_items doc.entry) from to mark.now)) }
     ensures cites { IfOk result (TxCites (together doc.entry.store.now new.new)) }
     ensures brings { IfOk result (BringsInserted doc.entry.store.now new.old new.new) }
     ensures grows { Grows new.old new.new }
-    ensures refused { IfErr result (λ fault. IsRefusal fault (model.marking (page_items doc.entry) from to mark.now)) }
+    ensures refused { IfErr result (λ fault.
+        IsRefusal fault (model.marking (page_items doc.entry) from to mark.now)) }
 {
     if is_bad_span(doc, from, to) {
         return Err(BuildFault::BadRange { from, to });
@@ -124,9 +134,11 @@ pub fn marking(
     }
 }
 
-/// The change that takes each mark equal to this off the characters and inline leaves of a range. Origins stay.
+/// The change that takes each mark equal to this off the characters and inline leaves of a range.
+/// Origins stay.
 ///
-/// `BadRange` and then `BadMark` come as in `marking`. After a refusal `new` may hold further values.
+/// `BadRange` and then `BadMark` come as in `marking`. After a refusal `new` may hold further
+/// values.
 pub fn unmarking(
     alloc: Global,
     doc: Doc<'_>,
@@ -138,11 +150,14 @@ pub fn unmarking(
     requires doc { IsDoc doc }
     requires cites { All (CitesWell doc.store.now) doc.list.now.items }
     requires follows { new.old.after ≡ length doc.store.now }
-    ensures means { IfOk result (IsMeant doc.entry.store.now new.new (model.unmarking (page_items doc.entry) from to mark.now)) }
+    ensures means { IfOk result (
+        IsMeant doc.entry.store.now new.new (
+        model.unmarking (page_items doc.entry) from to mark.now)) }
     ensures cites { IfOk result (TxCites (together doc.entry.store.now new.new)) }
     ensures brings { IfOk result (BringsInserted doc.entry.store.now new.old new.new) }
     ensures grows { Grows new.old new.new }
-    ensures refused { IfErr result (λ fault. IsRefusal fault (model.unmarking (page_items doc.entry) from to mark.now)) }
+    ensures refused { IfErr result (λ fault.
+        IsRefusal fault (model.unmarking (page_items doc.entry) from to mark.now)) }
 {
     if is_bad_span(doc, from, to) {
         return Err(BuildFault::BadRange { from, to });

@@ -17,7 +17,8 @@ use ve_offsets::{Doc, is_content, unmatched};
 fn holds_content(doc: Doc<'_>, o: usize) -> bool
     requires doc { IsDoc doc }
     requires within { o ≤ length doc.list.now.items }
-    ensures { (values : _) → result ≡ offsets.is_content (plain_list values doc.entry.list.now.items) o }
+    ensures { (values : _)
+        → result ≡ offsets.is_content (plain_list values doc.entry.list.now.items) o }
 {
     is_content(doc, o)
 }
@@ -27,7 +28,8 @@ fn is_matched(doc: Doc<'_>, from: usize, to: usize) -> bool
     requires doc { IsDoc doc }
     requires order { from ≤ to }
     requires within { to ≤ length doc.list.now.items }
-    ensures { (values : _) → result ≡ spec.is_matched (plain_list values doc.entry.list.now.items) from to }
+    ensures { (values : _)
+        → result ≡ spec.is_matched (plain_list values doc.entry.list.now.items) from to }
 {
     let (closings, openings) = unmatched(doc, from, to);
     closings == 0 && openings == 0
@@ -36,7 +38,8 @@ fn is_matched(doc: Doc<'_>, from: usize, to: usize) -> bool
 /// Whether a range is one or more whole nodes side by side, which stand in no branch of content.
 fn is_whole_nodes(doc: Doc<'_>, from: usize, to: usize) -> bool
     requires doc { IsDoc doc }
-    ensures means { (values : _) → result ≡ model.is_whole_nodes (plain_list values doc.entry.list.now.items) from to }
+    ensures means { (values : _)
+        → result ≡ model.is_whole_nodes (plain_list values doc.entry.list.now.items) from to }
     ensures order { result ≡ true → from < to }
     ensures within { result ≡ true → to ≤ length doc.entry.list.now.items }
 {
@@ -52,10 +55,12 @@ fn is_whole_nodes(doc: Doc<'_>, from: usize, to: usize) -> bool
     is_matched(doc, from, to)
 }
 
-/// Whether a range is not one of whole nodes side by side, or holds a bracket of the internal list or of one of its items.
+/// Whether a range is not one of whole nodes side by side, or holds a bracket of the internal list
+/// or of one of its items.
 pub fn is_bad_wrap(doc: Doc<'_>, from: usize, to: usize) -> bool
     requires doc { IsDoc doc }
-    ensures means { (values : _) → result ≡ model.is_bad_wrap (plain_list values doc.entry.list.now.items) from to }
+    ensures means { (values : _)
+        → result ≡ model.is_bad_wrap (plain_list values doc.entry.list.now.items) from to }
     ensures order { result ≡ false → from < to }
     ensures within { result ≡ false → to ≤ length doc.entry.list.now.items }
 {
@@ -83,9 +88,11 @@ fn depth_past(depth: usize, item: Item) -> Option<usize>
     }
 }
 
-/// Notes the place, where a node begins there that stands in none of the open ones.
+/// Notes the position, where a node begins there that stands in none of the open ones.
 fn note(nodes: &mut Vec<usize>, depth: usize, at: usize, item: Item) -> Result<(), Memory>
-    ensures { OnOk result ((values : _) → nodes.new.items ≡ nodes.old.items ++ spec.begun depth at (plain values item)) }
+    ensures { OnOk result (
+        (values : _)
+        → nodes.new.items ≡ nodes.old.items ++ spec.begun depth at (plain values item)) }
 {
     match item {
         Item::Char { .. } => Ok(()),
@@ -100,7 +107,7 @@ fn note(nodes: &mut Vec<usize>, depth: usize, at: usize, item: Item) -> Result<(
     }
 }
 
-/// The places where the nodes of a range begin.
+/// The positions where the nodes of a range begin.
 pub fn nodes_in(alloc: Global, doc: Doc<'_>, from: usize, to: usize) -> Result<Vec<usize>, Memory>
     requires order { from ≤ to }
     requires within { to ≤ length doc.list.now.items }

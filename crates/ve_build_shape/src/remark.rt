@@ -20,7 +20,7 @@ use ve_kinds::is_annotation_tag;
 use ve_store::{NewValues, Store, has_mark, with_mark, without_mark};
 use ve_tx::is_reserved;
 
-/// What is done with a mark.
+/// Whether a mark is set or taken off.
 #[derive(Clone, Copy)]
 pub enum Remark {
     Set,
@@ -39,8 +39,8 @@ fn has_reserved(attrs: &[Attr]) -> bool
     attrs.iter().any(|attr| is_reserved(&attr.name))
 }
 
-/// Whether a mark is none that an edit may set or take off: no text has its tag as a mark, or one of its attributes has
-/// a reserved name.
+/// Whether a mark is none that an edit may set or take off: no text has its tag as a mark, or one
+/// of its attributes has a reserved name.
 pub fn is_bad_mark(mark: &Mark) -> bool
     ensures { result ≡ model.is_bad_mark mark.now }
 {
@@ -61,7 +61,7 @@ fn marks_at(store: &Store, marks: Option<ValueId>) -> &[Mark]
     }
 }
 
-/// What an item cites as its marks.
+/// The marks that an item cites.
 fn marks_id(item: Item) -> Option<ValueId>
     ensures { CitesItsMarks item result }
 {
@@ -119,9 +119,13 @@ fn changed_marks(
 ) -> Result<Option<ValueId>, Memory>
     requires follows { new.old.after ≡ length store.now }
     requires cites { CitesMarks (together store.now new.old) marks }
-    ensures cited { IfOk result (λ id. marks_cited store.now new.new id ≡ marks_after remark mark.now (marks_cited store.now new.old marks)) }
+    ensures cited { IfOk result (λ id.
+        marks_cited store.now new.new id
+        ≡ marks_after remark mark.now (marks_cited store.now new.old marks)) }
     ensures cites { IfOk result (CitesMarks (together store.now new.new)) }
-    ensures fills { IfOk result (IsMarksFilled store.now new.old new.new (marks_after remark mark.now (marks_cited store.now new.old marks))) }
+    ensures fills { IfOk result (
+        IsMarksFilled store.now new.old new.new (
+        marks_after remark mark.now (marks_cited store.now new.old marks))) }
     ensures grows { Grows new.old new.new }
 {
     match remark {
@@ -173,9 +177,13 @@ pub fn remarked(
     requires follows { new.old.after ≡ length store.now }
     requires cites { CitesWell store.now item }
     requires may { insert.is_content_item (plain store.now item) ≡ true }
-    ensures means { IfOk result (λ other. plain (together store.now new.new) other ≡ model.remarked (marks_after remark mark.now) (plain store.now item)) }
+    ensures means { IfOk result (λ other.
+        plain (together store.now new.new) other
+        ≡ model.remarked (marks_after remark mark.now) (plain store.now item)) }
     ensures cites { IfOk result (CitesWell (together store.now new.new)) }
-    ensures fills { IfOk result (IsItemFilled store.now new.old new.new (model.remarked (marks_after remark mark.now) (plain store.now item))) }
+    ensures fills { IfOk result (
+        IsItemFilled store.now new.old new.new (
+        model.remarked (marks_after remark mark.now) (plain store.now item))) }
     ensures grows { Grows new.old new.new }
 {
     let marks = changed_marks(alloc, store, new, marks_id(item), remark, mark)?;

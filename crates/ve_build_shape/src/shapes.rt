@@ -14,15 +14,16 @@ use ve_edits::cite_attrs;
 use ve_items::{Item, Items};
 use ve_store::{NewValues, Store};
 
-/// The brackets of nodes one inside the other: the openings from the outermost in, and the closings from the innermost
-/// out.
+/// The brackets of nodes one inside the other: the openings from the outermost in, and the closings
+/// from the innermost out.
 #[derive(Drop)]
 pub struct Brackets {
     pub openings: Items,
     pub closings: Items,
 }
 
-/// The opening of a shape: its kind and all its attributes, and nothing else. `new` takes the head where it is new.
+/// The opening of a shape: its kind and all its attributes, and nothing else. `new` takes the head
+/// where it is new.
 fn opening_of(
     alloc: Global,
     store: &Store,
@@ -30,9 +31,13 @@ fn opening_of(
     shape: &Shape,
 ) -> Result<Item, Memory>
     requires follows { new.old.after ≡ length store.now }
-    ensures means { IfOk result (λ item. plain (together store.now new.new) item ≡ brackets.opening_of shape.now.kind shape.now.attrs) }
+    ensures means { IfOk result (λ item.
+        plain (together store.now new.new) item
+        ≡ brackets.opening_of shape.now.kind shape.now.attrs) }
     ensures cites { IfOk result (CitesWell (together store.now new.new)) }
-    ensures values { OnOk result (IsFilledFor store.now new.old new.new (brackets.opening_of shape.now.kind shape.now.attrs ∷ [])) }
+    ensures values { OnOk result (
+        IsFilledFor store.now new.old new.new (
+        brackets.opening_of shape.now.kind shape.now.attrs ∷ [])) }
     ensures grows { Grows new.old new.new }
 {
     let attrs = shape.attrs.copy(alloc)?;
@@ -90,7 +95,8 @@ pub fn brackets_of(
 ) -> Result<Brackets, Memory>
     requires follows { new.old.after ≡ length store.now }
     ensures means { IfOk result (AreBrackets (together store.now new.new) shapes.now) }
-    ensures values { OnOk result (IsFilledFor store.now new.old new.new (model.openings_of shapes.now)) }
+    ensures values { OnOk result (
+        IsFilledFor store.now new.old new.new (model.openings_of shapes.now)) }
     ensures grows { Grows new.old new.new }
 {
     let openings = openings_of(alloc, store, new, shapes)?;

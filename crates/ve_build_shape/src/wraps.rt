@@ -23,8 +23,8 @@ use ve_offsets::Doc;
 use ve_store::NewValues;
 use ve_tx::Transaction;
 
-/// Collects the edits of the node that begins at a place: brackets come in the place of so many of its first items, and of
-/// so many of its last ones.
+/// Collects the edits of the node that begins at a position: brackets replace so many of its first
+/// items, and so many of its last ones.
 fn put_round(
     doc: Doc<'_>,
     edits: &mut Edits,
@@ -37,7 +37,8 @@ fn put_round(
     requires order { edits.old.at ≤ at }
     requires room { at + count ≤ offsets.end_of_node (page_items doc) at - count }
     ensures at { OnOk result (edits.new.at ≡ offsets.end_of_node (page_items doc.entry) at) }
-    ensures puts { OnOk result (PutsRound doc.entry.list.now.items count brackets.now (at ∷ []) edits.old edits.new) }
+    ensures puts { OnOk result (
+        PutsRound doc.entry.list.now.items count brackets.now (at ∷ []) edits.old edits.new) }
 {
     let end = end_of_node(doc, at);
     let openings = brackets.openings.as_slice();
@@ -47,7 +48,7 @@ fn put_round(
     Ok(())
 }
 
-/// Collects the edits of the nodes that begin at some places.
+/// Collects the edits of the nodes that begin at some positions.
 fn put_round_each(
     doc: Doc<'_>,
     edits: &mut Edits,
@@ -60,7 +61,8 @@ fn put_round_each(
     requires within { AreWithin doc.list.now.items nodes.now }
     requires room { HaveRoom (page_items doc) count edits.old.at end nodes.now }
     ensures at { OnOk result (edits.new.at ≤ end) }
-    ensures puts { OnOk result (PutsRound doc.entry.list.now.items count brackets.now nodes.now edits.old edits.new) }
+    ensures puts { OnOk result (
+        PutsRound doc.entry.list.now.items count brackets.now nodes.now edits.old edits.new) }
 {
     for i in 0..nodes.len() {
         put_round(doc, edits, nodes[i], count, brackets)?;
@@ -68,7 +70,8 @@ fn put_round_each(
     Ok(())
 }
 
-/// The change that puts brackets round a range and round each of its nodes, in the place of those that stand there.
+/// The change that puts brackets round a range and round each of its nodes, in the place of those
+/// that stand there.
 fn put_all(
     alloc: Global,
     doc: Doc<'_>,
@@ -82,7 +85,8 @@ fn put_all(
     requires doc { IsDoc doc }
     requires within { AreWithin doc.list.now.items nodes.now }
     requires fits { Fits (page_items doc) from to plan.now nodes.now }
-    ensures { IfOk result (IsRound doc.entry.list.now.items from to plan.now nodes.now outer.now each.now) }
+    ensures { IfOk result (
+        IsRound doc.entry.list.now.items from to plan.now nodes.now outer.now each.now) }
 {
     let outer_kinds = plan.unwrap_outer.as_slice();
     let each_kinds = plan.unwrap_each.as_slice();
@@ -98,8 +102,8 @@ fn put_all(
     Ok(tx)
 }
 
-/// The change that a plan is where no bracket is wrong. The openings of each shape are made once, whatever the number of
-/// nodes.
+/// The change that a plan is where no bracket is wrong. The openings of each shape are made once,
+/// whatever the number of nodes.
 fn wrapped(
     alloc: Global,
     doc: Doc<'_>,
@@ -128,13 +132,15 @@ fn wrapped(
     Ok(tx)
 }
 
-/// The change that takes the brackets of some kinds off a range of nodes that stand side by side, and of others off each
-/// node, and puts the brackets of shapes in their place. A new opening has all attributes of its shape, and nothing else.
+/// The transaction of a wrap. It takes the brackets of some kinds off a range of nodes that stand
+/// side by side, and of others off each node. It puts the brackets of shapes in their place. A new
+/// opening has all attributes of its shape, and nothing else.
 ///
-/// `BadRange` comes exactly where the range isn't one or more whole nodes side by side that stand in no branch of content,
-/// or holds a bracket of the internal list or of one of its items; then `NotWrapped` where a bracket that is to go doesn't
-/// stand in its place, with the first such place in the list's order, or 0 where too few items stand before the range. A
-/// closing stands where it must only if it is the partner of the opening that goes. After want of memory `new` may hold
+/// `BadRange` comes exactly where the range isn't one or more whole nodes side by side in no branch
+/// of content, or holds a bracket of the internal list or of one of its items. Then `NotWrapped`
+/// comes where a bracket that is to go doesn't stand in its place. It names the first such position
+/// in the list's order, or 0 where too few items stand before the range. A closing stands where it
+/// must only if it is the partner of the opening that goes. After want of memory `new` may hold
 /// further values, and after another refusal it is as it was.
 pub fn wrap(
     alloc: Global,
@@ -147,12 +153,15 @@ pub fn wrap(
     requires doc { IsDoc doc }
     requires cites { All (CitesWell doc.store.now) doc.list.now.items }
     requires follows { new.old.after ≡ length doc.store.now }
-    ensures means { IfOk result (λ tx. model.wrap (page_items doc.entry) from to plan.now ≡ Ok (by_value (together doc.entry.store.now new.new) tx)) }
+    ensures means { IfOk result (λ tx.
+        model.wrap (page_items doc.entry) from to plan.now
+        ≡ Ok (by_value (together doc.entry.store.now new.new) tx)) }
     ensures cites { IfOk result (TxCites (together doc.entry.store.now new.new)) }
     ensures brings { IfOk result (BringsInserted doc.entry.store.now new.old new.new) }
     ensures grows { Grows new.old new.new }
     ensures kept { IfErr result (λ fault. fault ≢ BuildFault.Memory → new.new ≡ new.old) }
-    ensures refused { IfErr result (λ fault. IsRefusal fault (model.wrap (page_items doc.entry) from to plan.now)) }
+    ensures refused { IfErr result (λ fault.
+        IsRefusal fault (model.wrap (page_items doc.entry) from to plan.now)) }
 {
     if is_bad_wrap(doc, from, to) {
         return Err(BuildFault::BadRange { from, to });

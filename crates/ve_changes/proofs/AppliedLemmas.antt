@@ -13,18 +13,18 @@ use Rattle.model_items.specs.declared.plain_item.PlainItem.TheVariants.{Char, Op
 use Rattle.model_change.specs.Store.{cited, cited_by, fill}
 use Rattle.model_change.specs.Transaction.{Retain, Replace, Attribute, Transaction, all_inserted}
 use Rattle.model_edit.specs.Edits.{present_value}
-use Rattle.model_world.specs.declared.change.OpWords.{OpWords}
-use Rattle.model_world.specs.declared.change.OpWords.TheVariants as words
+use Rattle.model_world.specs.declared.edit_command.OpWords.{OpWords}
+use Rattle.model_world.specs.declared.edit_command.OpWords.TheVariants as words
 use Rattle.model_world.specs.declared.refusal.Refusal.{Refusal}
 use Rattle.model_world.specs.declared.refusal.Refusal.TheVariants as refusal
-use Rattle.model_world.specs.Edits.{needs, ops_on, applied}
+use Rattle.model_world.specs.Edits.{needs, ops_on, transaction_of_ops}
 use Rattle.ve_store.specs.Following.{Following, together}
 use Rattle.ve_tx.specs.declared.op.Op.{Op as CitedOp}
 use Rattle.ve_tx.specs.Cites.{OperationCites, TxCites}
 use Rattle.ve_tx.specs.Operation.{Operation, by_value, operation_by_value, unkept, with_position}
 use Rattle.ve_tx.proofs.ValuesLemmas.{extends_by_fill, filled_on, all-extended, list-extended}
 use Rattle.ve_editor.proofs.GrownLemmas.{by_value-extended, cites-extended}
-use Rattle.ve_changes.specs.Applied.{passed, op_on, inserted_by}
+use Rattle.ve_changes.specs.Applied.{items_passed, op_on, inserted_by}
 use Rattle.ve_changes.specs.Drafts.{IsDrafted}
 
 -- ---- the value that an attribute has
@@ -35,7 +35,7 @@ of_first name (Opening kind head marks pre origin generated) items = refl
 of_first name (Char ch marks) items = refl
 of_first name (Closing kind pre) items = refl
 
--- so that of the item at a place is that of the items from there on
+-- so that of the item at a position is that of the items from there on
 pub of_place : (store : List Value) (items : List Item) (at : ℕ) (x : Item) (name : List ℕ) → slice_get items at ≡ Some x →
     present_value name (plain store x ∷ []) ≡ present_value name (drop at (plain_list store items))
 of_place store [] at x name e = cc
@@ -73,12 +73,12 @@ module _ (store : List Value) (new : Following) (items removed : List Item) (at 
 
 -- ---- one operation after the other
 
-first_on : (o : OpWords) (ops : List OpWords) (items : List PlainItem) → ops_on (o ∷ ops) items ≡ op_on o items ∷ ops_on ops (drop (passed o) items)
+first_on : (o : OpWords) (ops : List OpWords) (items : List PlainItem) → ops_on (o ∷ ops) items ≡ op_on o items ∷ ops_on ops (drop (items_passed o) items)
 first_on (words.Retain count) ops items = refl
 first_on (words.Remove count insert) ops items = refl
 first_on (words.Attr name to) ops items = refl
 
-first_needs : (o : OpWords) (ops : List OpWords) → needs (o ∷ ops) ≡ passed o + needs ops
+first_needs : (o : OpWords) (ops : List OpWords) → needs (o ∷ ops) ≡ items_passed o + needs ops
 first_needs (words.Retain count) ops = refl
 first_needs (words.Remove count insert) ops = refl
 first_needs (words.Attr name to) ops = omega arith
@@ -95,13 +95,14 @@ inserted-append (Replace removed inserted ∷ s) t = ap (λ l. inserted ++ l) (i
 inserted-append (Attribute change ∷ s) t = inserted-append s t
 
 -- so far a sum and what is left of it are the whole
-pub needs_next : (sum : ℕ) (o : OpWords) (ops : List OpWords) (whole : ℕ) → sum + needs (o ∷ ops) ≡ whole → (sum + passed o) + needs ops ≡ whole
+pub needs_next : (sum : ℕ) (o : OpWords) (ops : List OpWords) (whole : ℕ) → sum + needs (o ∷ ops) ≡ whole → (sum + items_passed o) + needs ops ≡ whole
 needs_next sum o ops whole e = let first = first_needs o ops in omega (arith, e, first)
 
-pub needs_within : (at : ℕ) (o : OpWords) (ops : List OpWords) (whole : ℕ) → at + needs (o ∷ ops) ≡ whole → at + passed o ≤ whole
+pub needs_within : (at : ℕ) (o : OpWords) (ops : List OpWords) (whole : ℕ) → at + needs (o ∷ ops) ≡ whole → at + items_passed o ≤ whole
 needs_within at o ops whole e = let first = first_needs o ops in omega (arith, e, first)
 
--- Of the operations on these items those before `rest` are made, over values that have grown by what they insert.
+-- Of the operations on these items those before `rest` are made, over values that have grown by
+-- what they insert.
 pub record Applying (v0 v : List Value) (items : List PlainItem) (ops rest : List OpWords) (at : ℕ) (made : List CitedOp) : Type 0 where
   pub cites : TxCites v (unkept made)
   pub means : ops_on ops items ≡ by_value v (unkept made) ++ ops_on rest (drop at items)
@@ -128,23 +129,23 @@ module _ (v0 v w : List Value) (items : List PlainItem) (ops rest : List OpWords
       ap (by_value w) longer ∙ map-append (operation_by_value w) (unkept made) (one ∷ [])
       ∙ ap (λ t. t ++ operation_by_value w one ∷ []) same ∙ ap (λ x. by_value v (unkept made) ++ x ∷ []) e
 
-  on : ops_on (o ∷ rest) (drop at items) ≡ op_on o (drop at items) ∷ ops_on rest (drop (at + passed o) items)
-  on = first_on o rest (drop at items) ∙ ap (λ l. op_on o (drop at items) ∷ ops_on rest l) (drop-drop (passed o) at items)
+  on : ops_on (o ∷ rest) (drop at items) ≡ op_on o (drop at items) ∷ ops_on rest (drop (at + items_passed o) items)
+  on = first_on o rest (drop at items) ∙ ap (λ l. op_on o (drop at items) ∷ ops_on rest l) (drop-drop (items_passed o) at items)
 
   inserts : all_inserted (by_value v (unkept made)) ++ inserted_by o ≡ all_inserted (by_value w (unkept (made ++ m ∷ [])))
   inserts =
       ap (λ l. all_inserted (by_value v (unkept made)) ++ l) (sym (first_inserts o (drop at items)))
       ∙ sym (inserted-append (by_value v (unkept made)) (op_on o (drop at items) ∷ [])) ∙ ap all_inserted (sym made_is)
 
-  pub applying_next : Applying v0 w items ops rest (at + passed o) (made ++ m ∷ [])
+  pub applying_next : Applying v0 w items ops rest (at + items_passed o) (made ++ m ∷ [])
   applying_next = record {
     cites = subst (TxCites w) (sym longer)
         (All-append (OperationCites w) (unkept made) (one ∷ []) (cites-extended v w (extends_by_fill v w (cited (inserted_by o)) f) (unkept made) so_far.cites)
         (All-cons (OperationCites w) one [] c (All-nil (OperationCites w))));
     means =
         so_far.means ∙ ap (λ l. by_value v (unkept made) ++ l) on
-        ∙ sym (append_assoc (by_value v (unkept made)) (op_on o (drop at items) ∷ []) (ops_on rest (drop (at + passed o) items)))
-        ∙ ap (λ l. l ++ ops_on rest (drop (at + passed o) items)) (sym made_is);
+        ∙ sym (append_assoc (by_value v (unkept made)) (op_on o (drop at items) ∷ []) (ops_on rest (drop (at + items_passed o) items)))
+        ∙ ap (λ l. l ++ ops_on rest (drop (at + items_passed o) items)) (sym made_is);
     filled =
         f ∙ filled_on v0 v (cited (all_inserted (by_value v (unkept made)))) (cited (inserted_by o)) so_far.filled
         ∙ ap (fill v0) (sym (flat_map-append cited_by (all_inserted (by_value v (unkept made))) (inserted_by o)))
@@ -179,7 +180,7 @@ not_by_lengths items ops true e = cc
 not_by_lengths items ops false e = refl
 
 pub bad_length : (items : List PlainItem) (ops : List OpWords) (has need : ℕ) → has ≡ length items → need ≡ needs ops → need ≢ has →
-    applied items ops ≡ Err (refusal.BadLength has need)
+    transaction_of_ops items ops ≡ Err (refusal.BadLength has need)
 bad_length items ops has need h n differ =
     not_by_lengths items ops (needs ops == length items) (ne_eqb (needs ops) (length items) (λ e. differ (n ∙ e ∙ sym h)))
     ∙ ap (λ l. Err (refusal.BadLength l (needs ops))) (sym h) ∙ ap (λ l. Err (refusal.BadLength has l)) (sym n)
@@ -187,7 +188,7 @@ bad_length items ops has need h n differ =
 pub applied_is : (store : List Value) (first new : Following) (items : List PlainItem) (ops : List OpWords) (tx : List Operation) →
     first ≡ record { after = length store; values = [] } → new.after ≡ length store → TxCites (together store new) tx →
     by_value (together store new) tx ≡ ops_on ops items → together store new ≡ fill (together store first) (cited (all_inserted (ops_on ops items))) →
-    needs ops ≡ length items → IsDrafted store (applied items ops) (record { tx = tx; values = new })
+    needs ops ≡ length items → IsDrafted store (transaction_of_ops items ops) (record { tx = tx; values = new })
 applied_is store first new items ops tx is follows cites means filled lengths =
     record {
       draft = record {

@@ -5,8 +5,8 @@ use Rattle.ve_kinds.specs.declared.kind.Kind.TheVariants.{InternalList, P}
 use Rattle.model_items.specs.declared.item.Item.TheVariants as item
 use Rattle.model_items.specs.declared.plain_item.PlainItem.TheVariants.{Char, Closing, Opening}
 use Rattle.model_site.specs.Replica.{Replica}
-use Rattle.model_world.specs.declared.change.Change.TheVariants as change
-use Rattle.model_world.specs.declared.change.TextMarks.TheVariants.{Left}
+use Rattle.model_world.specs.declared.edit_command.EditCommand.TheVariants as change
+use Rattle.model_world.specs.declared.edit_command.TextMarks.TheVariants.{Left}
 use Rattle.model_world.specs.declared.refusal.Refusal.TheVariants as refusal
 use Rattle.model_world.specs.Edits.{batch_on}
 use Rattle.ve_tx.specs.declared.op.Op.TheVariants as op
@@ -27,7 +27,7 @@ letter = record {
   selection = record { anchor = 2; focus = 1 };
 }
 
--- a refusal is told with its place, and memory without one
+-- a refusal is told with its position, and memory without one
 place_is_told : stop_at 1 (one.Refused (refusal.BadRange 9 12)) ≡ stop.Refused 1 (refusal.BadRange 9 12)
 place_is_told = refl
 

@@ -13,14 +13,14 @@ use Rattle.model_site.specs.Refused.{edit_cause}
 use Rattle.model_site.specs.Replica.{Replica, all_filled, all_performed, performed}
 use Rattle.model_site_law.specs.MayHappen.{EditMayRun}
 use Rattle.model_site_law.specs.Sound.{AllMayRun, MayRun, Sound}
-use Rattle.model_world.specs.declared.change.Change.{Change}
+use Rattle.model_world.specs.declared.edit_command.EditCommand.{EditCommand}
 use Rattle.model_world.specs.declared.refusal.Refusal.{Refusal}
-use Rattle.model_world.specs.Edits.{BatchRefusal, allowed, batch_from, batch_on, change_of, change_on, unless_faulty}
+use Rattle.model_world.specs.Edits.{BatchRefusal, checked_transaction, batch_from, batch_on, change_of, change_on, unless_faulty}
 use Rattle.model_world_law.specs.Fit.{AllWritten, ChangesFit, IsWritten}
 use Rattle.ve_tx.specs.declared.draft.Draft.{Draft}
 use Rattle.ve_tx.specs.declared.entry.Entry.{Entry as KeptEntry}
 use Rattle.ve_tx.specs.Cites.{TxCites}
-use Rattle.ve_tx.specs.Entry.{appended}
+use Rattle.ve_tx.specs.Entry.{entry_with}
 use Rattle.ve_tx.specs.Making.{Extends}
 use Rattle.ve_tx.specs.Operation.{by_value}
 use Rattle.ve_tx.proofs.ValuesLemmas.{extends_by_fill}
@@ -51,26 +51,26 @@ may-append (t ∷ ts) us r p q = (p.0, may-append ts us (performed t r) p.1 q)
 -- ---- one change
 
 -- the transaction that a draft is, over the page that lent its list and its store
-pub drafted_on : (r : Replica) (store : List Value) (items : List PlainItem) (c : Change) (d : Draft) → store ≡ r.store → items ≡ r.items →
+pub drafted_on : (r : Replica) (store : List Value) (items : List PlainItem) (c : EditCommand) (d : Draft) → store ≡ r.store → items ≡ r.items →
     IsDrafted store (change_of items c) d → IsDrafted r.store (change_of r.items c) d
 drafted_on r store items c d s i h = subst (λ v. IsDrafted v (change_of r.items c) d) s (subst (λ l. IsDrafted store (change_of l c) d) i h)
 
-pub undrafted : (r : Replica) (items : List PlainItem) (c : Change) (why : ChangeStop) → items ≡ r.items → IsRefused why (change_of items c) → IsRefused why (change_on r c)
-undrafted r items c (one.Refused why) i h = ap (allowed r) (ap (λ l. change_of l c) (sym i) ∙ h)
+pub undrafted : (r : Replica) (items : List PlainItem) (c : EditCommand) (why : ChangeStop) → items ≡ r.items → IsRefused why (change_of items c) → IsRefused why (change_on r c)
+undrafted r items c (one.Refused why) i h = ap (checked_transaction r) (ap (λ l. change_of l c) (sym i) ∙ h)
 undrafted r items c one.Memory i h = tt
 
-pub allowed_is : (r : Replica) (c : Change) (t : Transaction) → change_of r.items c ≡ Ok t → edit_cause t r ≡ None → change_on r c ≡ Ok t
-allowed_is r c t e n = ap (allowed r) e ∙ ap (λ o. unless_faulty o t) n
+pub allowed_is : (r : Replica) (c : EditCommand) (t : Transaction) → change_of r.items c ≡ Ok t → edit_cause t r ≡ None → change_on r c ≡ Ok t
+allowed_is r c t e n = ap (checked_transaction r) e ∙ ap (λ o. unless_faulty o t) n
 
-pub not_allowed : (r : Replica) (c : Change) (t : Transaction) (why : ChangeStop) → change_of r.items c ≡ Ok t → IsRefused why (unless_faulty (edit_cause t r) t) → IsRefused why (change_on r c)
-not_allowed r c t (one.Refused why) e h = ap (allowed r) e ∙ h
+pub not_allowed : (r : Replica) (c : EditCommand) (t : Transaction) (why : ChangeStop) → change_of r.items c ≡ Ok t → IsRefused why (unless_faulty (edit_cause t r) t) → IsRefused why (change_on r c)
+not_allowed r c t (one.Refused why) e h = ap (checked_transaction r) e ∙ h
 not_allowed r c t one.Memory e h = tt
 
-pub may_run : (fit : ChangesFit) (law : EditMayRun) (r : Replica) (c : Change) (t : Transaction) → IsWritten c → Sound r.items → change_of r.items c ≡ Ok t → edit_cause t r ≡ None →
+pub may_run : (fit : ChangesFit) (law : EditMayRun) (r : Replica) (c : EditCommand) (t : Transaction) → IsWritten c → Sound r.items → change_of r.items c ≡ Ok t → edit_cause t r ≡ None →
     MayRun t r.items
 may_run fit law r c t written sound e n = let f = fit r.items c t written sound e in law t r f.reduced f.apart n
 
-pub steps_of_one : (r : Replica) (c : Change) (t : Transaction) (old new : ℕ) → change_of r.items c ≡ Ok t → new ≤ old + steps_of t r.items → new ≤ old + steps_of_change r c
+pub steps_of_one : (r : Replica) (c : EditCommand) (t : Transaction) (old new : ℕ) → change_of r.items c ≡ Ok t → new ≤ old + steps_of t r.items → new ≤ old + steps_of_change r c
 steps_of_one r c t old new e h =
     subst (λ (m : Result Transaction Refusal). new ≤ old + (elim m as (λ _. ℕ) [ Err refusal ↦ 0 | Ok t ↦ steps_of t r.items ])) (sym e) h
 
@@ -82,7 +82,7 @@ after ts (Ok us) = Ok (ts ++ us)
 after ts (Err e) = Err e
 
 -- Of the changes those before `rest` are performed, so many.
-pub record SoFar (r : Replica) (changes rest : List Change) (i : ℕ) (now : Replica) (e : KeptEntry) : Type 0 where
+pub record SoFar (r : Replica) (changes rest : List EditCommand) (i : ℕ) (now : Replica) (e : KeptEntry) : Type 0 where
   pub ts : List Transaction
   pub meant : batch_on r changes ≡ after ts (batch_from i rest now)
   pub may : AllMayRun ts r.items
@@ -96,7 +96,7 @@ after_none : (m : Result (List Transaction) BatchRefusal) → m ≡ after [] m
 after_none (Ok us) = refl
 after_none (Err e) = refl
 
-pub first_so_far : (r : Replica) (changes : List Change) (e : KeptEntry) → Sound r.items → AllWritten changes → e ≡ no_entry (length r.store) → SoFar r changes changes 0 r e
+pub first_so_far : (r : Replica) (changes : List EditCommand) (e : KeptEntry) → Sound r.items → AllWritten changes → e ≡ no_entry (length r.store) → SoFar r changes changes 0 r e
 first_so_far r changes e sound written none =
     subst (SoFar r changes changes 0 r) (sym none)
     (record {
@@ -111,7 +111,7 @@ first_so_far r changes e sound written none =
     })
 
 -- a batch that goes on after a change
-batch_next : (i : ℕ) (c : Change) (cs : List Change) (r : Replica) (t : Transaction) → change_on r c ≡ Ok t →
+batch_next : (i : ℕ) (c : EditCommand) (cs : List EditCommand) (r : Replica) (t : Transaction) → change_on r c ≡ Ok t →
     batch_from i (c ∷ cs) r ≡ after (t ∷ []) (batch_from (suc i) cs (performed t r))
 batch_next i c cs r t e = by (change_on r c) e
   where
@@ -132,7 +132,7 @@ batch_next i c cs r t e = by (change_on r c) e
     by (Err refusal) e = cc
 
 -- and one that ends with it
-batch_ends : (i : ℕ) (c : Change) (cs : List Change) (r : Replica) (why : Refusal) → change_on r c ≡ Err why → batch_from i (c ∷ cs) r ≡ Err (record { at = i; refusal = why })
+batch_ends : (i : ℕ) (c : EditCommand) (cs : List EditCommand) (r : Replica) (why : Refusal) → change_on r c ≡ Err why → batch_from i (c ∷ cs) r ≡ Err (record { at = i; refusal = why })
 batch_ends i c cs r why e = by (change_on r c) e
   where
     by : (m : Result Transaction Refusal) → m ≡ Err why → (elim m as (λ _. Result (List Transaction) BatchRefusal) [
@@ -149,14 +149,14 @@ after-append : (ts us : List Transaction) (m : Result (List Transaction) BatchRe
 after-append ts us (Ok vs) = ap Ok (sym (append_assoc ts us vs))
 after-append ts us (Err e) = refl
 
-module _ (r now new : Replica) (changes rest : List Change) (c : Change) (i : ℕ) (e later : KeptEntry) (s : SoFar r changes (c ∷ rest) i now e) (p : IsPerformed now (change_on now c) new later) where
+module _ (r now new : Replica) (changes rest : List EditCommand) (c : EditCommand) (i : ℕ) (e later : KeptEntry) (s : SoFar r changes (c ∷ rest) i now e) (p : IsPerformed now (change_on now c) new later) where
   extends : Extends now.store new.store
   extends = extends_by_fill now.store new.store (brought p.t now.items) (ap (λ (x : Replica). x.store) p.page)
 
   ends : all_performed (s.ts ++ p.t ∷ []) r ≡ new
   ends = performed-append s.ts (p.t ∷ []) r ∙ ap (performed p.t) (sym s.page) ∙ sym p.page
 
-  txs : map (by_value new.store) (appended e later).txs ≡ all_filled (s.ts ++ p.t ∷ []) r.items
+  txs : map (by_value new.store) (entry_with e later).txs ≡ all_filled (s.ts ++ p.t ∷ []) r.items
   txs =
       map-append (by_value new.store) e.txs later.txs
       ∙ ap (λ l. l ++ map (by_value new.store) later.txs) (all_by_value-extended now.store new.store extends e.txs s.cites ∙ ap (λ (x : Entry). x.txs) s.entry)
@@ -167,10 +167,10 @@ module _ (r now new : Replica) (changes rest : List Change) (c : Change) (i : �
   last : later.store_after ≡ length (all_performed (s.ts ++ p.t ∷ []) r).store
   last = ap (λ (x : Entry). x.store_after) p.entry ∙ ap (λ (x : Replica). length x.store) (sym p.page ∙ sym ends)
 
-  as_one : entry_by_value new.store (appended e later) ≡ entry_of (s.ts ++ p.t ∷ []) r
+  as_one : entry_by_value new.store (entry_with e later) ≡ entry_of (s.ts ++ p.t ∷ []) r
   as_one = λ j. record { txs = txs j; store_before = (ap (λ (x : Entry). x.store_before) s.entry) j; store_after = last j }
 
-  pub next_so_far : SoFar r changes rest (suc i) new (appended e later)
+  pub next_so_far : SoFar r changes rest (suc i) new (entry_with e later)
   next_so_far = record {
     ts = s.ts ++ p.t ∷ [];
     meant =
@@ -193,7 +193,7 @@ module _ (r now new : Replica) (changes rest : List Change) (c : Change) (i : �
       of_next (Ok u) e = let same : u ≡ p.t = cc in ap (λ t. steps_of_changes (performed t now) rest) same
       of_next (Err why) e = cc
 
-pub all_made : (r now : Replica) (changes rest : List Change) (i : ℕ) (e : KeptEntry) → SoFar r changes rest i now e → rest ≡ [] → IsMade r (batch_on r changes) now e
+pub all_made : (r now : Replica) (changes rest : List EditCommand) (i : ℕ) (e : KeptEntry) → SoFar r changes rest i now e → rest ≡ [] → IsMade r (batch_on r changes) now e
 all_made r now changes rest i e s none = record {
   ts = s.ts;
   same = s.meant ∙ ap (λ l. after s.ts (batch_from i l now)) none ∙ ap Ok (append-nil s.ts);
@@ -203,17 +203,17 @@ all_made r now changes rest i e s none = record {
   cites = s.cites;
 }
 
-pub one_refused : (r now : Replica) (changes rest : List Change) (c : Change) (i : ℕ) (e : KeptEntry) (why : ChangeStop) → SoFar r changes (c ∷ rest) i now e → IsRefused why (change_on now c) →
+pub one_refused : (r now : Replica) (changes rest : List EditCommand) (c : EditCommand) (i : ℕ) (e : KeptEntry) (why : ChangeStop) → SoFar r changes (c ∷ rest) i now e → IsRefused why (change_on now c) →
     IsBatchRefused (batch_on r changes) (stop_at i why)
 one_refused r now changes rest c i e (one.Refused why) s h = s.meant ∙ ap (after s.ts) (batch_ends i c rest now why h)
 one_refused r now changes rest c i e one.Memory s h = tt
 
--- ---- changes by their places
+-- ---- changes by their positions
 
-drop_next : (changes : List Change) (i : ℕ) (c : Change) → i < length changes → c ≡ get_or changes i c → drop i changes ≡ c ∷ drop (i + 1) changes
+drop_next : (changes : List EditCommand) (i : ℕ) (c : EditCommand) → i < length changes → c ≡ get_or changes i c → drop i changes ≡ c ∷ drop (i + 1) changes
 drop_next changes i c inside is = drop_more changes i c inside ∙ ap (λ x. x ∷ drop (i + 1) changes) (sym is)
 
-module _ (r now : Replica) (changes : List Change) (c : Change) (i : ℕ) (e : KeptEntry) (inside : i < length changes) (is : c ≡ get_or changes i c) (s : SoFar r changes (drop i changes) i now e) where
+module _ (r now : Replica) (changes : List EditCommand) (c : EditCommand) (i : ℕ) (e : KeptEntry) (inside : i < length changes) (is : c ≡ get_or changes i c) (s : SoFar r changes (drop i changes) i now e) where
   at_place : SoFar r changes (c ∷ drop (i + 1) changes) i now e
   at_place = subst (λ l. SoFar r changes l i now e) (drop_next changes i c inside is) s
 
@@ -223,11 +223,11 @@ module _ (r now : Replica) (changes : List Change) (c : Change) (i : ℕ) (e : K
   pub written_at : IsWritten c
   written_at = at_place.written.0
 
-  pub performed_at : (new : Replica) (later next : KeptEntry) → IsPerformed now (change_on now c) new later → next ≡ appended e later → SoFar r changes (drop (i + 1) changes) (i + 1) new next
+  pub performed_at : (new : Replica) (later next : KeptEntry) → IsPerformed now (change_on now c) new later → next ≡ entry_with e later → SoFar r changes (drop (i + 1) changes) (i + 1) new next
   performed_at new later next p same =
       let one : suc i ≡ i + 1 = omega arith in
       subst (SoFar r changes (drop (i + 1) changes) (i + 1) new) (sym same)
-      (subst (λ n. SoFar r changes (drop (i + 1) changes) n new (appended e later)) one (next_so_far r now new changes (drop (i + 1) changes) c i e later at_place p))
+      (subst (λ n. SoFar r changes (drop (i + 1) changes) n new (entry_with e later)) one (next_so_far r now new changes (drop (i + 1) changes) c i e later at_place p))
 
   pub steps_at : (new : Replica) (later : KeptEntry) (old mid end : ℕ) → IsPerformed now (change_on now c) new later → mid + steps_of_changes now (drop i changes) ≤ old + steps_of_changes r changes →
       end ≤ mid + steps_of_change now c → end + steps_of_changes new (drop (i + 1) changes) ≤ old + steps_of_changes r changes
@@ -242,12 +242,12 @@ module _ (r now : Replica) (changes : List Change) (c : Change) (i : ℕ) (e : K
 
 -- ---- one change alone, as several
 
-pub lone_batch : (r : Replica) (c : Change) (t : Transaction) → change_on r c ≡ Ok t → batch_on r (c ∷ []) ≡ Ok (t ∷ [])
+pub lone_batch : (r : Replica) (c : EditCommand) (t : Transaction) → change_on r c ≡ Ok t → batch_on r (c ∷ []) ≡ Ok (t ∷ [])
 lone_batch r c t e = batch_next 0 c [] r t e
 
-pub lone_refused : (r : Replica) (c : Change) (why : Refusal) → change_on r c ≡ Err why → batch_on r (c ∷ []) ≡ Err (record { at = 0; refusal = why })
+pub lone_refused : (r : Replica) (c : EditCommand) (why : Refusal) → change_on r c ≡ Err why → batch_on r (c ∷ []) ≡ Err (record { at = 0; refusal = why })
 lone_refused r c why e = batch_ends 0 c [] r why e
 
-pub steps_of_lone : (r : Replica) (c : Change) (t : Transaction) (old new : ℕ) → change_of r.items c ≡ Ok t → new ≤ old + steps_after (t ∷ []) r.items → new ≤ old + steps_of_batch r (c ∷ [])
+pub steps_of_lone : (r : Replica) (c : EditCommand) (t : Transaction) (old new : ℕ) → change_of r.items c ≡ Ok t → new ≤ old + steps_after (t ∷ []) r.items → new ≤ old + steps_of_batch r (c ∷ [])
 steps_of_lone r c t old new e h =
     let own : new ≤ old + steps_of_change r c = steps_of_one r c t old new e (omega (arith, h)) in omega (arith, own)

@@ -1,4 +1,5 @@
--- A paragraph with a line break between two characters: what may be selected there, and what is erased.
+-- A paragraph with a line break between two characters: what may be selected there, and what is
+-- erased.
 use Rattle.std.proofs.Common.{◌≡◌, List, [], ◌∷◌, None, false, Ok, Err, refl}
 use Rattle.ve_kinds.specs.declared.kind.Kind.TheVariants.{P, Br, InternalList}
 use Rattle.model_items.specs.declared.item.Item.{Item}

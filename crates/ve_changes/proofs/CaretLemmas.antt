@@ -38,7 +38,7 @@ end_within values items at b h is =
     let n = length-map items (plain values) in
     is ∙ before (length (plain_list values items)) at (is_inside_leaf (plain_list values items) at) (omega (arith, h, n))
 
--- ---- the next place
+-- ---- the next position
 
 content_no_leaf : (k : Kind) → is_content_branch k ≡ true → is_leaf k ≡ false
 content_no_leaf k content = by_leaf (is_leaf k) refl

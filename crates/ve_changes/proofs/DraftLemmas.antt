@@ -1,4 +1,4 @@
--- What a builder gives over a store alone is a draft over it.
+-- A builder's transaction over a store alone is a draft over it.
 use Rattle.std.proofs.Common.{◌≡◌, List, [], ◌∷◌, length, Contains, refl, sym, ap, ◌∙◌, subst, append-nil, arith}
 use Rattle.std.proofs.lemmas.List.Concat.{flat_map-append}
 use Rattle.std.proofs.lemmas.List.Elements.{All-head, All-tail, Contains-append_right}

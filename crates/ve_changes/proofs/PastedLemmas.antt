@@ -22,7 +22,7 @@ use Rattle.model_edit.specs.Edits.{Change, transaction_of}
 use Rattle.model_edit.specs.Insert.{is_bad_offset, is_mixed, is_content_pieces, in_paragraph, levels_up, put_into, reopened, insertion}
 use Rattle.model_world.specs.declared.refusal.Refusal.{Refusal}
 use Rattle.model_world.specs.declared.refusal.Refusal.TheVariants as refusal
-use Rattle.model_world.specs.Edits.{built, fragment_inserted}
+use Rattle.model_world.specs.Edits.{built_transaction, fragment_inserted}
 use Rattle.model_world.specs.Refusals.{html_refusal, build_refusal}
 use Rattle.ve_html_tree.specs.declared.fault.HtmlFault.{HtmlFault}
 use Rattle.ve_html_tree.specs.declared.fault.HtmlFault.TheVariants as lent
@@ -85,7 +85,7 @@ placed_cites parent pieces = by (is_content_pieces pieces && not (is_content_bra
     by true = cited-append pieces (closing_of P ∷ []) ∙ append-nil (cited pieces)
     by false = refl
 
--- What is inserted cites what the pieces do, and then more.
+-- The inserted items cite the values of the pieces, and then more.
 record Brings (pieces : List PlainItem) (t : Transaction) : Type 0 where
   more : List Value
   cites : cited (all_inserted t) ≡ cited pieces ++ more
@@ -130,7 +130,8 @@ filled_first start mid new xs ys first is =
     let there : mid ≡ fill mid xs = all_there mid xs (λ v h. subst (λ l. Contains l v) (sym first) ((fill_appends start xs).all v h)) in
     is ∙ fill-append mid xs ys ∙ ap (λ l. fill l ys) (sym there) ∙ ap (λ l. fill l ys) first ∙ sym (fill-append start xs ys)
 
--- What was found of a page where a fragment is pasted: nothing is wrong with the offset, the spelling or the marks.
+-- The findings for a page where a fragment is pasted: nothing is wrong with the offset, the
+-- spelling or the marks.
 pub record IsFine (items : List PlainItem) (at : ℕ) (html : List ℕ) : Type 0 where
   pub offset : is_bad_offset items at ≡ false
   pub spelled : fault_of (encode_utf8_all html) ≡ None
@@ -143,7 +144,7 @@ pasted items at html = fragment_in (stack_at items at) (encode_utf8_all html)
 abbrev forest_by : List PlainItem → ℕ → List ℕ → Option ℕ → Result Transaction Refusal
 forest_by items at html limit = elim limit [
   | Some byte ↦ Err (refusal.TooManyMarks byte)
-  | None ↦ built (insertion items at (pasted items at html))
+  | None ↦ built_transaction (insertion items at (pasted items at html))
 ]
 
 abbrev text_by : List PlainItem → ℕ → List ℕ → Option ForestFault → Result Transaction Refusal
@@ -161,7 +162,7 @@ offset_by items at html bad = elim bad [
 pub pasted_badly : (items : List PlainItem) (at : ℕ) (html : List ℕ) → is_bad_offset items at ≡ true → fragment_inserted items at html ≡ Err (refusal.BadOffset at)
 pasted_badly items at html bad = ap (offset_by items at html) bad
 
-pub pasted_is : (items : List PlainItem) (at : ℕ) (html : List ℕ) → IsFine items at html → fragment_inserted items at html ≡ built (insertion items at (pasted items at html))
+pub pasted_is : (items : List PlainItem) (at : ℕ) (html : List ℕ) → IsFine items at html → fragment_inserted items at html ≡ built_transaction (insertion items at (pasted items at html))
 pasted_is items at html fine = ap (offset_by items at html) fine.offset ∙ ap (text_by items at html) fine.spelled ∙ ap (forest_by items at html) fine.within
 
 -- ---- what refuses it
@@ -201,12 +202,12 @@ cause_refused (cause.NotBranch at) = refl
 cause_refused (cause.NotOpening at) = refl
 cause_refused (cause.BadAttr at) = refl
 
-build_refused : (fault : BuildFault) (meant : Result Transaction BuildCause) → IsRefusal fault meant → IsRefused (build_stop fault) (built meant)
-build_refused fault meant (inl e) = subst (λ f. IsRefused (build_stop f) (built meant)) (sym e) tt
+build_refused : (fault : BuildFault) (meant : Result Transaction BuildCause) → IsRefusal fault meant → IsRefused (build_stop fault) (built_transaction meant)
+build_refused fault meant (inl e) = subst (λ f. IsRefused (build_stop f) (built_transaction meant)) (sym e) tt
 build_refused fault meant (inr h) =
-    subst (λ f. IsRefused (build_stop f) (built meant)) (sym h.2) (subst (λ m. IsRefused (build_stop (build_fault h.0)) (built m)) (sym h.1) (cause_refused h.0))
+    subst (λ f. IsRefused (build_stop f) (built_transaction meant)) (sym h.2) (subst (λ m. IsRefused (build_stop (build_fault h.0)) (built_transaction m)) (sym h.1) (cause_refused h.0))
 
--- What a fragment is, as it was read: its items, over the store and what follows it.
+-- The fragment as it was read: its items, over the store and what follows it.
 pub record IsRead (store : List Value) (items : List PlainItem) (at : ℕ) (html : List ℕ) (new : Following) (pieces : List Item) : Type 0 where
   pub fine : IsFine items at html
   pub reads : plain_list (together store new) pieces ≡ pasted items at html
@@ -235,7 +236,7 @@ pasted_draft store items at html mid new pieces tx read means cites follows fill
         cites = cites;
         filled = filled_first store M N X b.more read.filled (filled ∙ ap (fill M) b.cites) ∙ ap (fill store) (sym b.cites);
       };
-      same = pasted_is items at html read.fine ∙ ap built is;
+      same = pasted_is items at html read.fine ∙ ap built_transaction is;
     }
 
 -- ---- as the calls say it

@@ -1,12 +1,12 @@
--- What typing is, and where its caret stands.
+-- Typing, and where its caret stands.
 use Rattle.std.proofs.Common.{◌≡◌, ◌==◌, ℕ, Bool, true, false, if◌then◌else◌, List, [], ◌∷◌, ◌++◌, ◌≢◌, map, refl, ap, ◌∙◌, sym, eq-eqb, eqb-true}
 use Rattle.ve_base.specs.declared.value.Value.{Value}
 use Rattle.model_edit.specs.declared.selection.Selection.{Selection}
 use Rattle.model_site.specs.Entries.{Entry}
 use Rattle.model_site.specs.Replica.{Replica}
-use Rattle.model_world.specs.declared.change.Change.{Change}
-use Rattle.model_world.specs.declared.change.Change.TheVariants as change
-use Rattle.model_world.specs.declared.change.TextMarks.TheVariants.{Left}
+use Rattle.model_world.specs.declared.edit_command.EditCommand.{EditCommand}
+use Rattle.model_world.specs.declared.edit_command.EditCommand.TheVariants as change
+use Rattle.model_world.specs.declared.edit_command.TextMarks.TheVariants.{Left}
 use Rattle.model_world.specs.Answers.{after_text, is_collapsed, lower, higher, typing}
 use Rattle.model_world.specs.Edits.{batch_on}
 use Rattle.model_world_law.specs.Fit.{AllWritten}
@@ -27,13 +27,13 @@ not_same m n h = cases (m == n) refl
     cases false e = refl
     cases true e = absurd (h (eqb-true _ _ e))
 
-pub typing_caret : (s : Selection) (text copy : List ℕ) (from : ℕ) (first all : List Change) → s.anchor ≡ s.focus → from ≡ lower s → copy ≡ text → first ≡ [] →
+pub typing_caret : (s : Selection) (text copy : List ℕ) (from : ℕ) (first all : List EditCommand) → s.anchor ≡ s.focus → from ≡ lower s → copy ≡ text → first ≡ [] →
     all ≡ first ++ change.Text from copy Left ∷ [] → all ≡ typing s text
 typing_caret s text copy from first all same f t e h =
     h ∙ ap (λ l. l ++ change.Text from copy Left ∷ []) e ∙ ap (λ n. change.Text n copy Left ∷ []) f ∙ ap (λ l. change.Text (lower s) l Left ∷ []) t
     ∙ sym (ap (λ b. if b then change.Text (lower s) text Left ∷ [] else change.Remove (lower s) (higher s) ∷ change.Text (lower s) text Left ∷ []) (same_place s same))
 
-pub typing_range : (s : Selection) (text copy : List ℕ) (from to : ℕ) (none first all : List Change) → s.anchor ≢ s.focus → from ≡ lower s → to ≡ higher s → copy ≡ text → none ≡ [] →
+pub typing_range : (s : Selection) (text copy : List ℕ) (from to : ℕ) (none first all : List EditCommand) → s.anchor ≢ s.focus → from ≡ lower s → to ≡ higher s → copy ≡ text → none ≡ [] →
     first ≡ none ++ change.Remove from to ∷ [] → all ≡ first ++ change.Text from copy Left ∷ [] → all ≡ typing s text
 typing_range s text copy from to none first all apart f u t n e h =
     h ∙ ap (λ l. l ++ change.Text from copy Left ∷ []) (e ∙ ap (λ l. l ++ change.Remove from to ∷ []) n)

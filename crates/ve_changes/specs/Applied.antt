@@ -2,15 +2,15 @@
 use Rattle.std.specs.Prelude.{ℕ, List, [], take}
 use Rattle.model_items.specs.declared.plain_item.PlainItem.{PlainItem}
 use Rattle.model_change.specs.Transaction.{Op, Retain, Replace, Attribute}
-use Rattle.model_world.specs.declared.change.OpWords.{OpWords}
-use Rattle.model_world.specs.declared.change.OpWords.TheVariants as op
+use Rattle.model_world.specs.declared.edit_command.OpWords.{OpWords}
+use Rattle.model_world.specs.declared.edit_command.OpWords.TheVariants as op
 use Rattle.model_world.specs.Edits.{set_first}
 
 -- how many items one passes
-abbrev pub passed : OpWords → ℕ
-passed (op.Retain count) = count
-passed (op.Remove count insert) = count
-passed (op.Attr name to) = 0
+abbrev pub items_passed : OpWords → ℕ
+items_passed (op.Retain count) = count
+items_passed (op.Remove count insert) = count
+items_passed (op.Attr name to) = 0
 
 -- what one is, these items being next
 abbrev pub op_on : OpWords → List PlainItem → Op

@@ -16,7 +16,8 @@ use Rattle.ve_changes.specs.declared.batch_stop.BatchStop.TheVariants as stop
 use Rattle.ve_changes.specs.declared.batch.Batch.{Batch}
 use Rattle.ve_changes.specs.declared.typed.Typed.{Typed}
 
--- The model's changes, performed on this replica: the new one is as they leave it, and the entry is theirs.
+-- The model's changes, performed on this replica: the new one is as they leave it, and the entry is
+-- theirs.
 pub record IsMade (r : Replica) (meant : Result (List Transaction) BatchRefusal) (new : Replica) (e : Entry) : Type 0 where
   pub ts : List Transaction
   pub same : meant ≡ Ok ts
@@ -28,7 +29,7 @@ pub record IsMade (r : Replica) (meant : Result (List Transaction) BatchRefusal)
 abbrev pub IsBatch : Replica → Result (List Transaction) BatchRefusal → Batch → Type 0
 IsBatch r meant b = IsMade r meant b.editor b.entry
 
--- A refusal is the model's, with its place; memory may be wanting at any time.
+-- A refusal is the model's, with its position; memory may be wanting at any time.
 abbrev pub IsBatchRefused : Result (List Transaction) BatchRefusal → BatchStop → Type 0
 IsBatchRefused meant (stop.Refused at refusal) = meant ≡ Err (record { at = at; refusal = refusal })
 IsBatchRefused meant stop.Memory = Unit {0}
@@ -49,7 +50,7 @@ pub record IsPerformed (r : Replica) (meant : Result Transaction Refusal) (new :
   pub entry : entry_by_value new.store e ≡ entry_of (t ∷ []) r
   pub cites : EntryCites new.store e
 
--- what stops the change at a place, as what stops all of them
+-- what stops the change at a position, as what stops all of them
 abbrev pub stop_at : ℕ → ChangeStop → BatchStop
 stop_at at (one.Refused refusal) = stop.Refused at refusal
 stop_at at one.Memory = stop.Memory

@@ -4,8 +4,8 @@ use Rattle.model_items.specs.declared.plain_item.PlainItem.{PlainItem}
 use Rattle.model_change.specs.Transaction.{Transaction}
 use Rattle.model_edit.specs.Tables.{row_in, row_out, col_in, col_out}
 use Rattle.model_edit.specs.Lists.{indent, outdent}
-use Rattle.model_world.specs.Answers.{Asked, asked, performed_or_no, replica_of, site_items}
-use Rattle.model_world.specs.Edits.{allowed}
+use Rattle.model_world.specs.Answers.{Asked, request_outcome, performed_or_no, replica_of, site_items}
+use Rattle.model_world.specs.Edits.{checked_transaction}
 use Rattle.model_world.specs.Refusals.{refused_as, table_refusal, list_refusal}
 use Rattle.model_world.specs.declared.command.Request.{Request}
 use Rattle.model_world.specs.declared.command.Request.TheVariants as request
@@ -32,4 +32,4 @@ moved_by items _ = Ok []
 
 -- A move is answered by performing that transaction, where it may be.
 abbrev pub MovesAreAsked : Type 0
-MovesAreAsked = (a : Asked) (r : Request) → is_move r ≡ true → asked a r ≡ performed_or_no a (allowed (replica_of a) (moved_by (site_items a) r))
+MovesAreAsked = (a : Asked) (r : Request) → is_move r ≡ true → request_outcome a r ≡ performed_or_no a (checked_transaction (replica_of a) (moved_by (site_items a) r))

@@ -21,7 +21,7 @@ abbrev pub first_of : List Op → ℕ
 first_of (Retain count ∷ ops) = count
 first_of _ = 0
 
--- So many items were seen, and the last character is the one just before this place.
+-- So many items were seen, and the last character is the one just before this position.
 pub record HasSeen (items : List Item) (seen : Seen) : Type 0 where
   pub count : seen.count ≡ length items
   pub last : (values : List Value) → seen.last ≡ to_last_char (plain_list values items)

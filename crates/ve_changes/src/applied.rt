@@ -1,10 +1,10 @@
-// Operations as a line writes them, over a page's store: the items that they remove are the list's, and those that they
-// insert cite values.
+// Operations as a line writes them, over a page's store: the items that they remove are the list's,
+// and those that they insert cite values.
 ghost use Rattle.std.specs.Prelude.{◌≡◌, ◌≤◌, ◌+◌, None, IfOk, OnOk, drop, length};
 ghost use Rattle.model_change.specs.Store.{cited, fill};
 ghost use Rattle.model_change.specs.Transaction.{all_inserted};
 ghost use Rattle.model_edit.specs.Edits as model_edits;
-ghost use Rattle.model_world.specs.declared.change.Change.TheVariants as change;
+ghost use Rattle.model_world.specs.declared.edit_command.EditCommand.TheVariants as change;
 ghost use Rattle.model_world.specs.Edits as model;
 ghost use Rattle.model_world_law.specs.Fit.{IsWritten};
 ghost use Rattle.ve_store.specs.Following.{together};
@@ -27,7 +27,7 @@ use ve_tx::{Draft, Op, OpList, Transaction};
 
 /// How many items an operation passes.
 fn passed(op: &OpWords) -> usize
-    ensures { result ≡ words.passed op.now }
+    ensures { result ≡ words.items_passed op.now }
 {
     match op {
         OpWords::Retain(count) => *count,
@@ -36,8 +36,8 @@ fn passed(op: &OpWords) -> usize
     }
 }
 
-/// How long a list operations need. A length that no `usize` counts is a want of memory like any other: what a line can
-/// write, below 2^32 each, doesn't add up to one.
+/// The length of the list that operations need. A length that no `usize` counts is a want of memory
+/// like any other: what a line can write, below 2^32 each, doesn't add up to one.
 fn needs(ops: &[OpWords]) -> Result<usize, Memory>
     ensures { IfOk result (λ needs. needs ≡ model.needs ops.now) }
 {
@@ -51,10 +51,11 @@ fn needs(ops: &[OpWords]) -> Result<usize, Memory>
     Ok(sum)
 }
 
-/// The value that an attribute has at a place; none at the list's end.
+/// The value that an attribute has at a position; none at the list's end.
 fn value_at(alloc: Global, doc: Doc<'_>, at: usize, name: &Text) -> Result<Option<Text>, Memory>
     requires page { IsPage doc.store.now doc.list.now.items doc.tree.now }
-    ensures { IfOk result (λ value. value ≡ model_edits.present_value name.now (drop at (page_items doc.entry))) }
+    ensures { IfOk result (λ value.
+        value ≡ model_edits.present_value name.now (drop at (page_items doc.entry))) }
 {
     if at >= doc.list.len() {
         return Ok(None);
@@ -63,7 +64,7 @@ fn value_at(alloc: Global, doc: Doc<'_>, at: usize, name: &Text) -> Result<Optio
     Ok(value)
 }
 
-/// An operation at a place. The values take what its inserted items cite.
+/// An operation at a position. The values take those that its inserted items cite.
 fn op_at(
     alloc: Global,
     doc: Doc<'_>,
@@ -73,11 +74,16 @@ fn op_at(
 ) -> Result<Op, Memory>
     requires page { IsPage doc.store.now doc.list.now.items doc.tree.now }
     requires follows { new.old.after ≡ length doc.store.now }
-    requires within { at + words.passed op.now ≤ length doc.list.now.items }
+    requires within { at + words.items_passed op.now ≤ length doc.list.now.items }
     ensures follows { OnOk result (new.new.after ≡ length doc.entry.store.now) }
-    ensures cites { IfOk result (λ made. OperationCites (together doc.entry.store.now new.new) (with_position made None)) }
-    ensures means { IfOk result (λ made. operation_by_value (together doc.entry.store.now new.new) (with_position made None) ≡ words.op_on op.now (drop at (page_items doc.entry))) }
-    ensures values { OnOk result (together doc.entry.store.now new.new ≡ fill (together doc.entry.store.now new.old) (cited (words.inserted_by op.now))) }
+    ensures cites { IfOk result (λ made.
+        OperationCites (together doc.entry.store.now new.new) (with_position made None)) }
+    ensures means { IfOk result (λ made.
+        operation_by_value (together doc.entry.store.now new.new) (with_position made None)
+        ≡ words.op_on op.now (drop at (page_items doc.entry))) }
+    ensures values { OnOk result (
+        together doc.entry.store.now new.new
+        ≡ fill (together doc.entry.store.now new.old) (cited (words.inserted_by op.now))) }
 {
     match op {
         OpWords::Retain(count) => Ok(Op::Retain(*count)),
@@ -96,7 +102,8 @@ fn op_at(
     }
 }
 
-/// The operations of a list that is as long as they need. The values take what the inserted items cite.
+/// The operations of a list that is as long as they need. The values take those that the inserted
+/// items cite.
 fn ops_on(
     alloc: Global,
     doc: Doc<'_>,
@@ -107,11 +114,16 @@ fn ops_on(
     requires follows { new.old.after ≡ length doc.store.now }
     requires needs { model.needs ops.now ≡ length doc.list.now.items }
     ensures follows { OnOk result (new.new.after ≡ length doc.entry.store.now) }
-    ensures cites { IfOk result (λ made. TxCites (together doc.entry.store.now new.new) (unkept made)) }
-    ensures means { IfOk result (λ made. by_value (together doc.entry.store.now new.new) (unkept made) ≡ model.ops_on ops.now (page_items doc.entry)) }
-    ensures values { OnOk result (together doc.entry.store.now new.new ≡ fill (together doc.entry.store.now new.old) (cited (all_inserted (model.ops_on ops.now (page_items doc.entry))))) }
+    ensures cites { IfOk result (λ made.
+        TxCites (together doc.entry.store.now new.new) (unkept made)) }
+    ensures means { IfOk result (λ made.
+        by_value (together doc.entry.store.now new.new) (unkept made)
+        ≡ model.ops_on ops.now (page_items doc.entry)) }
+    ensures values { OnOk result (
+        together doc.entry.store.now new.new ≡ fill (together doc.entry.store.now new.old) (
+        cited (all_inserted (model.ops_on ops.now (page_items doc.entry))))) }
 {
-    // a list's length fits, and so does each place in it
+    // a list's length fits, and so does each position in it
     let _len = doc.list.len();
     let mut made = OpList::new(alloc);
     let mut at = 0;
@@ -123,15 +135,17 @@ fn ops_on(
     Ok(made)
 }
 
-/// The draft of operations that a line writes: what they remove, and the old values of the attributes that they set, are
-/// the list's.
+/// The draft of operations that a line writes. The items that they remove, and the old values of
+/// the attributes that they set, are the list's.
 ///
-/// `BadLength` comes exactly where the items that they pass and remove aren't as many as the list has. Lengths that add up
-/// to more than 2^60, those of inserted items among them, are a want of memory like any other.
+/// `BadLength` comes exactly where the items that they pass and remove aren't as many as the list
+/// has. Lengths that add up to more than 2^60, those of inserted items among them, are a want of
+/// memory like any other.
 pub fn applied_draft(alloc: Global, doc: Doc<'_>, ops: &[OpWords]) -> Result<Draft, ChangeStop>
     requires written { IsWritten (change.Apply ops.now) }
     requires page { IsPage doc.store.now doc.list.now.items doc.tree.now }
-    ensures { Drafts doc.entry.store.now (model.applied (page_items doc.entry) ops.now) result }
+    ensures { Drafts doc.entry.store.now (model.transaction_of_ops (page_items doc.entry) ops.now)
+        result }
 {
     let has = doc.list.len();
     let needs = needs(ops)?;

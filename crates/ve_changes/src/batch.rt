@@ -10,7 +10,7 @@ ghost use Rattle.ve_changes.specs.Costs.{steps_of_batch, steps_of_change, steps_
 use crate::batch_stop::stop_at;
 use crate::{BatchStop, ChangeStop, change_draft};
 use model_site_law::events_keep;
-use model_world::Change;
+use model_world::EditCommand;
 use model_world_law::layers_fit;
 use std::alloc::Global;
 use std::sync::ledger::Ledger;
@@ -25,11 +25,11 @@ pub struct Batch {
     pub entry: Entry,
 }
 
-/// Performs one change, and gives what it did as an entry. An `Err` changes nothing.
+/// Performs one change, and gives its transaction as an entry. An `Err` changes nothing.
 fn perform_one<L: Ledger>(
     alloc: Global,
     editor: &mut Editor,
-    change: &Change,
+    change: &EditCommand,
     steps: &mut Steps<L>,
 ) -> Result<Entry, ChangeStop>
     requires sound { Sound editor.old.items }
@@ -49,19 +49,20 @@ fn perform_one<L: Ledger>(
     }
 }
 
-/// Performs changes in turn, and puts what they did into an entry that has nothing yet. An `Err` may leave some of them
-/// performed.
+/// Performs changes in turn, and puts their transactions into an entry that has nothing yet. An
+/// `Err` may leave some of them performed.
 fn perform_each<L: Ledger>(
     alloc: Global,
     editor: &mut Editor,
     entry: &mut Entry,
-    changes: &[Change],
+    changes: &[EditCommand],
     steps: &mut Steps<L>,
 ) -> Result<(), BatchStop>
     requires sound { Sound editor.old.items }
     requires written { AllWritten changes.now }
     requires nothing { entry.old ≡ no_entry (length editor.old.store) }
-    ensures ok { OnOk result (IsMade editor.old (batch_on editor.old changes.now) editor.new entry.new) }
+    ensures ok { OnOk result (
+        IsMade editor.old (batch_on editor.old changes.now) editor.new entry.new) }
     ensures refused { IfErr result (IsBatchRefused (batch_on editor.old changes.now)) }
     ensures counted { steps.old ≤ steps.new }
     ensures steps { steps.new ≤ steps.old + steps_of_changes editor.old changes.now }
@@ -91,7 +92,7 @@ fn nothing_yet(alloc: Global, editor: &Editor) -> Entry
 fn perform_on<L: Ledger>(
     alloc: Global,
     mut editor: Editor,
-    changes: &[Change],
+    changes: &[EditCommand],
     steps: &mut Steps<L>,
 ) -> Result<Batch, BatchStop>
     requires sound { Sound editor.items }
@@ -108,14 +109,16 @@ fn perform_on<L: Ledger>(
     }
 }
 
-/// Performs changes on a copy of an editor, each on what those before it make. The editor itself stays as it is; with no
-/// changes the copy is as the editor, and the entry has no transaction.
+/// Performs changes on a copy of an editor, each on the result of those before it. The editor
+/// itself stays as it is. With no changes the copy is as the editor, and the entry has no
+/// transaction.
 ///
-/// It is refused where one of them is: at the first such place, as that change is refused on what those before it make.
+/// It is refused where one of them is, at the first such position: as that change is refused on the
+/// result of those before it.
 pub fn perform_all<L: Ledger>(
     alloc: Global,
     editor: &Editor,
-    changes: &[Change],
+    changes: &[EditCommand],
     steps: &mut Steps<L>,
 ) -> Result<Batch, BatchStop>
     requires sound { Sound editor.now.items }

@@ -29,7 +29,7 @@ impl From<Memory> for BatchStop {
     }
 }
 
-/// What stops the change at a place, as what stops all of them.
+/// The stop of the change at a position, as the stop of all of them.
 pub fn stop_at(at: usize, stop: ChangeStop) -> BatchStop
     ensures { result ≡ model.stop_at at stop }
 {

@@ -6,7 +6,7 @@ ghost use Rattle.model_edit.specs.Insert.{split};
 ghost use Rattle.model_edit.specs.Marking.{marking, unmarking};
 ghost use Rattle.model_edit.specs.Remove.{removal};
 ghost use Rattle.model_edit.specs.Wrap.{wrap};
-ghost use Rattle.model_world.specs.Edits.{built};
+ghost use Rattle.model_world.specs.Edits.{built_transaction};
 ghost use Rattle.ve_build_insert.specs.Typed.{text_meant, plain_text_meant};
 ghost use Rattle.ve_build_shape.specs.Setting.{attribute_spelled};
 ghost use Rattle.ve_tx.specs.Cites.{TxCites};
@@ -38,7 +38,7 @@ pub fn over_store(alloc: Global, doc: Doc<'_>, tx: Transaction) -> Draft
     Draft { tx, values }
 }
 
-/// A text put in with the marks of what stands to the left.
+/// A text put in with the marks of its left neighbour.
 pub fn text_like_left(
     alloc: Global,
     doc: Doc<'_>,
@@ -46,7 +46,8 @@ pub fn text_like_left(
     text: &str,
 ) -> Result<Draft, ChangeStop>
     requires page { IsPage doc.store.now doc.list.now.items doc.tree.now }
-    ensures { Drafts doc.entry.store.now (built (text_meant doc.entry at text.now)) result }
+    ensures { Drafts doc.entry.store.now (built_transaction (text_meant doc.entry at text.now))
+        result }
 {
     let mut values = NewValues::new(alloc, doc.store);
     let tx = text_insertion(alloc, doc, at, text, &mut values)?;
@@ -56,7 +57,8 @@ pub fn text_like_left(
 /// A text put in without marks.
 pub fn plain_text(alloc: Global, doc: Doc<'_>, at: usize, text: &str) -> Result<Draft, ChangeStop>
     requires page { IsPage doc.store.now doc.list.now.items doc.tree.now }
-    ensures { Drafts doc.entry.store.now (built (plain_text_meant doc.entry at text.now)) result }
+    ensures { Drafts doc.entry.store.now
+        (built_transaction (plain_text_meant doc.entry at text.now)) result }
 {
     let mut values = NewValues::new(alloc, doc.store);
     let tx = plain_text_insertion(alloc, doc, at, text, &mut values)?;
@@ -71,7 +73,8 @@ pub fn split_draft(
     depth: usize,
 ) -> Result<Draft, ChangeStop>
     requires page { IsPage doc.store.now doc.list.now.items doc.tree.now }
-    ensures { Drafts doc.entry.store.now (built (split (page_items doc.entry) at depth)) result }
+    ensures { Drafts doc.entry.store.now (built_transaction (split (page_items doc.entry) at depth))
+        result }
 {
     let mut values = NewValues::new(alloc, doc.store);
     let tx = split(alloc, doc, at, depth, &mut values)?;
@@ -86,7 +89,8 @@ pub fn removal_draft(
     to: usize,
 ) -> Result<Draft, ChangeStop>
     requires page { IsPage doc.store.now doc.list.now.items doc.tree.now }
-    ensures { Drafts doc.entry.store.now (built (removal (page_items doc.entry) from to)) result }
+    ensures { Drafts doc.entry.store.now
+        (built_transaction (removal (page_items doc.entry) from to)) result }
 {
     let tx = removal(alloc, doc, from, to)?;
     Ok(over_store(alloc, doc, tx))
@@ -101,7 +105,8 @@ pub fn marking_draft(
     mark: &Mark,
 ) -> Result<Draft, ChangeStop>
     requires page { IsPage doc.store.now doc.list.now.items doc.tree.now }
-    ensures { Drafts doc.entry.store.now (built (marking (page_items doc.entry) from to mark.now)) result }
+    ensures { Drafts doc.entry.store.now
+        (built_transaction (marking (page_items doc.entry) from to mark.now)) result }
 {
     let mut values = NewValues::new(alloc, doc.store);
     let tx = marking(alloc, doc, from, to, mark, &mut values)?;
@@ -117,7 +122,8 @@ pub fn unmarking_draft(
     mark: &Mark,
 ) -> Result<Draft, ChangeStop>
     requires page { IsPage doc.store.now doc.list.now.items doc.tree.now }
-    ensures { Drafts doc.entry.store.now (built (unmarking (page_items doc.entry) from to mark.now)) result }
+    ensures { Drafts doc.entry.store.now
+        (built_transaction (unmarking (page_items doc.entry) from to mark.now)) result }
 {
     let mut values = NewValues::new(alloc, doc.store);
     let tx = unmarking(alloc, doc, from, to, mark, &mut values)?;
@@ -133,7 +139,8 @@ pub fn wrap_draft(
     plan: &WrapPlan,
 ) -> Result<Draft, ChangeStop>
     requires page { IsPage doc.store.now doc.list.now.items doc.tree.now }
-    ensures { Drafts doc.entry.store.now (built (wrap (page_items doc.entry) from to plan.now)) result }
+    ensures { Drafts doc.entry.store.now
+        (built_transaction (wrap (page_items doc.entry) from to plan.now)) result }
 {
     let mut values = NewValues::new(alloc, doc.store);
     let tx = wrap(alloc, doc, from, to, plan, &mut values)?;
@@ -148,7 +155,8 @@ pub fn conversion_draft(
     kind: Kind,
 ) -> Result<Draft, ChangeStop>
     requires page { IsPage doc.store.now doc.list.now.items doc.tree.now }
-    ensures { Drafts doc.entry.store.now (built (convert (page_items doc.entry) at kind)) result }
+    ensures { Drafts doc.entry.store.now
+        (built_transaction (convert (page_items doc.entry) at kind)) result }
 {
     let tx = convert(alloc, doc, at, kind)?;
     Ok(over_store(alloc, doc, tx))
@@ -163,7 +171,9 @@ pub fn attribute_draft(
     to: Option<&str>,
 ) -> Result<Draft, ChangeStop>
     requires page { IsPage doc.store.now doc.list.now.items doc.tree.now }
-    ensures { Drafts doc.entry.store.now (built (attribute_spelled (page_items doc.entry) at name.now to.entry)) result }
+    ensures { Drafts doc.entry.store.now
+        (built_transaction (attribute_spelled (page_items doc.entry) at name.now to.entry))
+        result }
 {
     let tx = attribute(alloc, doc, at, name, to)?;
     Ok(over_store(alloc, doc, tx))

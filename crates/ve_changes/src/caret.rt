@@ -1,4 +1,5 @@
-// Where a caret stands after a text that was typed. A place that no `usize` counts is a want of memory like any other.
+// Where a caret stands after a text that was typed. A position that no `usize` counts is a want of
+// memory like any other.
 ghost use Rattle.std.specs.Prelude.{◌≡◌, ◌+◌, List, ◌∷◌, [], map, IfOk};
 ghost use Rattle.ve_base.specs.declared.value.Value.{Value};
 ghost use Rattle.model_change.specs.Join.{first};
@@ -43,7 +44,7 @@ fn more(first: Seen, items: &[Item]) -> Result<Seen, Memory>
     Ok(seen)
 }
 
-/// What an operation inserts is seen too.
+/// The state with one operation's inserted items seen.
 #[tactic(auto, using(crate::proofs::TypedCaretLemmas::sees_none))]
 fn after_op(seen: Seen, op: &Op) -> Result<Seen, Memory>
     ensures { IfOk result (SeesMore seen (inserted_of op.now)) }
@@ -58,7 +59,7 @@ fn after_op(seen: Seen, op: &Op) -> Result<Seen, Memory>
     }
 }
 
-/// What operations insert, seen in order.
+/// The inserted items of operations, seen in order.
 fn inserted(ops: &[Op]) -> Result<Seen, Memory>
     ensures { IfOk result (HasSeen (inserted_items ops.now)) }
 {
@@ -81,7 +82,11 @@ fn first_passed(ops: &[Op]) -> usize
 
 /// The offset just after the last character that a transaction inserts.
 pub fn after_inserted(tx: &Transaction) -> Result<usize, Memory>
-    ensures { IfOk result (λ at. (values : List Value) → at ≡ first (by_value values tx.now) + model.to_last_char (all_inserted (by_value values tx.now))) }
+    ensures { IfOk result (λ at.
+        (values : List Value)
+        → at
+        ≡ first (by_value values tx.now)
+        + model.to_last_char (all_inserted (by_value values tx.now))) }
 {
     let seen = inserted(tx.ops())?;
     match first_passed(tx.ops()).checked_add(seen.last) {
@@ -92,7 +97,8 @@ pub fn after_inserted(tx: &Transaction) -> Result<usize, Memory>
 
 /// The offset just after the last character that the last transaction of an entry inserts.
 pub fn after_text(entry: &Entry) -> Result<usize, Memory>
-    ensures { IfOk result (λ at. (values : List Value) → at ≡ model.after_text (map (by_value values) entry.now.txs)) }
+    ensures { IfOk result (λ at.
+        (values : List Value) → at ≡ model.after_text (map (by_value values) entry.now.txs)) }
 {
     match entry.txs.as_slice().last() {
         Some(tx) => after_inserted(tx),

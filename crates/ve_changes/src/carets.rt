@@ -1,4 +1,4 @@
-// Where a selection may stand, where its caret goes, and what is erased.
+// Where a selection may stand, where its caret goes, and which range is erased.
 ghost use Rattle.std.specs.Prelude.{◌≡◌, ◌≤◌, Ok, length, IfOk, IfErr};
 ghost use Rattle.model_items.specs.Offsets as offsets;
 ghost use Rattle.model_edit.specs.Next.{next};
@@ -16,7 +16,8 @@ use ve_base::Memory;
 use ve_offsets::{Doc, is_content, is_inside_leaf};
 use ve_select::{next_cluster, next_word};
 
-/// The model answers a selection and an erasure by what `may_select` and `erased_range` give, or by their refusal.
+/// The model answers a selection and an erasure by what `may_select` and `erased_range` give, or by
+/// their refusal.
 pub fn carets_are_asked()
     ensures select { SelectIsAsked }
     ensures erase { EraseIsAsked }
@@ -33,7 +34,8 @@ fn is_no_end(doc: Doc<'_>, at: usize) -> bool
     is_inside_leaf(doc, at)
 }
 
-/// The selection between two offsets of a page. An end past the list or inside a leaf is refused, the anchor first.
+/// The selection between two offsets of a page. An end past the list or inside a leaf is refused,
+/// the anchor first.
 pub fn may_select(doc: Doc<'_>, anchor: usize, focus: usize) -> Result<Selection, Refusal>
     requires doc { IsDoc doc }
     ensures means { result ≡ selection_between (page_items doc.entry) anchor focus }
@@ -57,7 +59,7 @@ fn holds_content(doc: Doc<'_>, at: usize) -> bool
     is_content(doc, at)
 }
 
-/// The next place by clusters or by words, if there is one.
+/// The next position by clusters or by words, if there is one.
 fn place_by(
     alloc: Global,
     doc: Doc<'_>,
@@ -75,8 +77,9 @@ fn place_by(
     }
 }
 
-/// Where a caret of a page goes, by one cluster or one word: a caret that stands at no content offset is refused, and so is
-/// one at the end of its content branch in that direction. A selection may end where it comes.
+/// The next position of a page's caret, by one cluster or one word. A caret that stands at no
+/// content offset is refused, and so is one at the end of its content branch in that direction. A
+/// selection may end where it comes.
 pub fn next_place(
     alloc: Global,
     doc: Doc<'_>,
@@ -86,9 +89,11 @@ pub fn next_place(
 ) -> Result<usize, ChangeStop>
     requires doc { IsDoc doc }
     requires within { at ≤ length doc.list.now.items }
-    ensures ok { IfOk result (λ place. model.next_place (page_items doc.entry) at dir by ≡ Ok place) }
+    ensures ok { IfOk result (λ place.
+        model.next_place (page_items doc.entry) at dir by ≡ Ok place) }
     ensures stands { IfOk result (EndStands (page_items doc.entry)) }
-    ensures refused { IfErr result (λ why. IsRefused why (model.next_place (page_items doc.entry) at dir by)) }
+    ensures refused { IfErr result (λ why.
+        IsRefused why (model.next_place (page_items doc.entry) at dir by)) }
 {
     if !holds_content(doc, at) {
         return Err(ChangeStop::Refused(Refusal::NotContent { at }));
@@ -99,8 +104,9 @@ pub fn next_place(
     }
 }
 
-/// What is erased of a page: the selection, or where it is collapsed from the caret to its next place, with the caret's
-/// refusals. The range may be turned: its anchor is where the caret stood.
+/// The range of a page to erase: the selection, or where it is collapsed from the caret to its next
+/// position, with the caret's refusals. The range may be turned: its anchor is where the caret
+/// stood.
 pub fn erased_range(
     alloc: Global,
     doc: Doc<'_>,
@@ -110,8 +116,10 @@ pub fn erased_range(
 ) -> Result<Selection, ChangeStop>
     requires doc { IsDoc doc }
     requires within { selection.focus ≤ length doc.list.now.items }
-    ensures ok { IfOk result (λ range. range_to_erase (page_items doc.entry) selection dir by ≡ Ok range) }
-    ensures refused { IfErr result (λ why. IsRefused why (range_to_erase (page_items doc.entry) selection dir by)) }
+    ensures ok { IfOk result (λ range.
+        range_to_erase (page_items doc.entry) selection dir by ≡ Ok range) }
+    ensures refused { IfErr result (λ why.
+        IsRefused why (range_to_erase (page_items doc.entry) selection dir by)) }
 {
     if selection.anchor != selection.focus {
         return Ok(selection);

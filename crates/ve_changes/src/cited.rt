@@ -1,4 +1,5 @@
-// Items by value, citing a store's values and those that are to follow it. What is empty isn't cited.
+// Items by value, citing a store's values and those that are to follow it. What is empty isn't
+// cited.
 ghost use Rattle.std.specs.Prelude.{◌≡◌, All, IfOk, OnOk, length};
 ghost use Rattle.model_items.specs.Plain.{plain, plain_list, value_at, head_in, marks_in, white_in, CitesHead, CitesMarks, CitesWhite, CitesWell};
 ghost use Rattle.model_change.specs.Store.{cited, cited_by, fill, head_cited, marks_cited, white_cited};
@@ -10,7 +11,7 @@ use ve_base::{Head, Marks, Memory, Text, TryCopy, Value, ValueId};
 use ve_items::{Item, Items};
 use ve_store::{NewValues, Store};
 
-/// The place of a head, if it says anything.
+/// The position of a head, if it says anything.
 fn head_id(
     alloc: Global,
     store: &Store,
@@ -20,8 +21,10 @@ fn head_id(
     requires follows { new.old.after ≡ length store.now }
     ensures follows { OnOk result (new.new.after ≡ length store.now) }
     ensures cites { IfOk result (CitesHead (together store.now new.new)) }
-    ensures means { IfOk result (λ id. head_in (value_at (together store.now new.new) id) ≡ head.now) }
-    ensures values { OnOk result (together store.now new.new ≡ fill (together store.now new.old) (head_cited head.now)) }
+    ensures means { IfOk result (λ id.
+        head_in (value_at (together store.now new.new) id) ≡ head.now) }
+    ensures values { OnOk result (
+        together store.now new.new ≡ fill (together store.now new.old) (head_cited head.now)) }
 {
     if head.is_empty() {
         return Ok(None);
@@ -31,7 +34,7 @@ fn head_id(
     Ok(Some(id))
 }
 
-/// The place of marks, if there are any.
+/// The position of marks, if there are any.
 fn marks_id(
     alloc: Global,
     store: &Store,
@@ -41,8 +44,11 @@ fn marks_id(
     requires follows { new.old.after ≡ length store.now }
     ensures follows { OnOk result (new.new.after ≡ length store.now) }
     ensures cites { IfOk result (CitesMarks (together store.now new.new)) }
-    ensures means { IfOk result (λ id. marks_in (value_at (together store.now new.new) id) ≡ marks.now) }
-    ensures values { OnOk result (together store.now new.new ≡ fill (together store.now new.old) (marks_cited marks.now)) }
+    ensures means { IfOk result (λ id.
+        marks_in (value_at (together store.now new.new) id) ≡ marks.now) }
+    ensures values { OnOk result (
+        together store.now new.new
+        ≡ fill (together store.now new.old) (marks_cited marks.now)) }
 {
     if marks.as_slice().is_empty() {
         return Ok(None);
@@ -52,7 +58,7 @@ fn marks_id(
     Ok(Some(id))
 }
 
-/// The place of whitespace, if there is any.
+/// The position of whitespace, if there is any.
 fn white_id(
     alloc: Global,
     store: &Store,
@@ -62,8 +68,11 @@ fn white_id(
     requires follows { new.old.after ≡ length store.now }
     ensures follows { OnOk result (new.new.after ≡ length store.now) }
     ensures cites { IfOk result (CitesWhite (together store.now new.new)) }
-    ensures means { IfOk result (λ id. white_in (value_at (together store.now new.new) id) ≡ white.now) }
-    ensures values { OnOk result (together store.now new.new ≡ fill (together store.now new.old) (white_cited white.now)) }
+    ensures means { IfOk result (λ id.
+        white_in (value_at (together store.now new.new) id) ≡ white.now) }
+    ensures values { OnOk result (
+        together store.now new.new
+        ≡ fill (together store.now new.old) (white_cited white.now)) }
 {
     if white.is_empty() {
         return Ok(None);
@@ -73,7 +82,8 @@ fn white_id(
     Ok(Some(id))
 }
 
-/// An item that cites what it is given by value. The values take its head, then its marks, then its whitespace.
+/// An item over the values, from one that is given by value. The values take its head, then its
+/// marks, then its whitespace.
 fn cited_item(
     alloc: Global,
     store: &Store,
@@ -84,7 +94,8 @@ fn cited_item(
     ensures follows { OnOk result (new.new.after ≡ length store.now) }
     ensures cites { IfOk result (CitesWell (together store.now new.new)) }
     ensures means { IfOk result (λ made. plain (together store.now new.new) made ≡ item.now) }
-    ensures values { OnOk result (together store.now new.new ≡ fill (together store.now new.old) (cited_by item.now)) }
+    ensures values { OnOk result (
+        together store.now new.new ≡ fill (together store.now new.old) (cited_by item.now)) }
 {
     match item {
         PlainItem::Char { ch, marks } => {
@@ -118,7 +129,8 @@ fn cited_item(
     }
 }
 
-/// Items that cite what they are given by value. The values take what each one cites, in the order of the items.
+/// Items over the values, from those that are given by value. The values take those of each item,
+/// in the order of the items.
 pub fn cited_items(
     alloc: Global,
     store: &Store,
@@ -129,7 +141,8 @@ pub fn cited_items(
     ensures follows { OnOk result (new.new.after ≡ length store.now) }
     ensures cites { IfOk result (All (CitesWell (together store.now new.new))) }
     ensures means { IfOk result (λ made. plain_list (together store.now new.new) made ≡ items.now) }
-    ensures values { OnOk result (together store.now new.new ≡ fill (together store.now new.old) (cited items.now)) }
+    ensures values { OnOk result (
+        together store.now new.new ≡ fill (together store.now new.old) (cited items.now)) }
 {
     let mut made = Items::new(alloc);
     for item in items {

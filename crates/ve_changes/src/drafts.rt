@@ -1,7 +1,7 @@
 // Changes as drafts.
 ghost use Rattle.std.specs.Prelude.{◌≡◌, IfOk, IfErr};
 ghost use Rattle.std.specs.Str.{chars};
-ghost use Rattle.model_world.specs.Edits.{built, change_of, text_typed};
+ghost use Rattle.model_world.specs.Edits.{built_transaction, change_of, text_typed};
 ghost use Rattle.model_world_law.specs.Fit.{IsWritten};
 ghost use Rattle.ve_build_shape.specs.Setting.{value_spelled};
 ghost use Rattle.ve_editor.specs.Page.{IsPage};
@@ -16,7 +16,7 @@ use crate::built::{
     text_like_left, unmarking_draft, wrap_draft,
 };
 use crate::pasted::pasted_draft;
-use model_world::{Change, TextMarks};
+use model_world::{EditCommand, TextMarks};
 use std::alloc::Global;
 use ve_base::Text;
 use ve_offsets::Doc;
@@ -31,7 +31,8 @@ fn typed(
     marks: TextMarks,
 ) -> Result<Draft, ChangeStop>
     requires page { IsPage doc.store.now doc.list.now.items doc.tree.now }
-    ensures { Drafts doc.entry.store.now (built (text_typed marks (page_items doc.entry) at text.now)) result }
+    ensures { Drafts doc.entry.store.now
+        (built_transaction (text_typed marks (page_items doc.entry) at text.now)) result }
 {
     match marks {
         TextMarks::Left => text_like_left(alloc, doc, at, text.as_str()),
@@ -39,7 +40,7 @@ fn typed(
     }
 }
 
-/// The value of an attribute as it is spelled, if there is one.
+/// The text of an attribute's value, if there is one.
 fn spelled(value: &Option<Text>) -> Option<&str>
     ensures { value_spelled result ≡ value.now }
 {
@@ -49,30 +50,32 @@ fn spelled(value: &Option<Text>) -> Option<&str>
     }
 }
 
-/// The draft that a change of a page is, over the page's store. Its values follow the store's, and are just those that the
-/// store takes. Nothing is performed.
+/// The draft that a change of a page is, over the page's store. Its values follow the store's, and
+/// are just those that the store takes. Nothing is performed.
 ///
-/// It is refused as the change's builder refuses, with the place, the range or the depth that the builder names; operations
-/// as they are written are refused with the lengths where these differ. It is asked that they are as a line that was read
-/// writes them, in normal form.
-pub fn change_draft(alloc: Global, doc: Doc<'_>, change: &Change) -> Result<Draft, ChangeStop>
+/// It is refused as the change's builder refuses, with the position, the range or the depth that
+/// the builder names. Operations as they are written are refused with the lengths where these
+/// differ. They have to be in normal form, as a line that was read writes them.
+pub fn change_draft(alloc: Global, doc: Doc<'_>, change: &EditCommand) -> Result<Draft, ChangeStop>
     requires written { IsWritten change.now }
     requires page { IsPage doc.store.now doc.list.now.items doc.tree.now }
-    ensures ok { IfOk result (IsDrafted doc.entry.store.now (change_of (page_items doc.entry) change.now)) }
-    ensures refused { IfErr result (λ why. IsRefused why (change_of (page_items doc.entry) change.now)) }
+    ensures ok { IfOk result (
+        IsDrafted doc.entry.store.now (change_of (page_items doc.entry) change.now)) }
+    ensures refused { IfErr result (λ why.
+        IsRefused why (change_of (page_items doc.entry) change.now)) }
 {
     match change {
-        Change::Text { at, text, marks } => typed(alloc, doc, *at, text, *marks),
-        Change::Remove { from, to } => removal_draft(alloc, doc, *from, *to),
-        Change::Split { at, depth } => split_draft(alloc, doc, *at, *depth),
-        Change::Mark { from, to, mark } => marking_draft(alloc, doc, *from, *to, mark),
-        Change::Unmark { from, to, mark } => unmarking_draft(alloc, doc, *from, *to, mark),
-        Change::Wrap { from, to, plan } => wrap_draft(alloc, doc, *from, *to, plan),
-        Change::Convert { at, kind } => conversion_draft(alloc, doc, *at, *kind),
-        Change::Attr { at, name, to } => {
+        EditCommand::Text { at, text, marks } => typed(alloc, doc, *at, text, *marks),
+        EditCommand::Remove { from, to } => removal_draft(alloc, doc, *from, *to),
+        EditCommand::Split { at, depth } => split_draft(alloc, doc, *at, *depth),
+        EditCommand::Mark { from, to, mark } => marking_draft(alloc, doc, *from, *to, mark),
+        EditCommand::Unmark { from, to, mark } => unmarking_draft(alloc, doc, *from, *to, mark),
+        EditCommand::Wrap { from, to, plan } => wrap_draft(alloc, doc, *from, *to, plan),
+        EditCommand::Convert { at, kind } => conversion_draft(alloc, doc, *at, *kind),
+        EditCommand::Attr { at, name, to } => {
             attribute_draft(alloc, doc, *at, name.as_str(), spelled(to))
         }
-        Change::Insert { at, html } => pasted_draft(alloc, doc, *at, html),
-        Change::Apply { ops } => applied_draft(alloc, doc, ops.as_slice()),
+        EditCommand::Insert { at, html } => pasted_draft(alloc, doc, *at, html),
+        EditCommand::Apply { ops } => applied_draft(alloc, doc, ops.as_slice()),
     }
 }

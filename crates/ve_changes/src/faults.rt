@@ -1,4 +1,4 @@
-// Why what a line asks for isn't done, and which refusal the fault of each builder is.
+// Why a line's request isn't done, and which refusal the fault of each builder is.
 use model_edit::{BuildFault, ListFault, TableFault};
 use model_site::EditFault;
 use model_world::Refusal;

@@ -1,18 +1,22 @@
-//! What a line changes on the page, one change or several together. It reads no line, and knows no site.
+//! The changes that a line makes on the page, one or several together. It reads no line, and knows
+//! no site. It knows which builder makes each change, and which refusal each fault is.
 //!
-//! - `change_draft` gives the draft that a change is over a page's store, or the refusal that answers it; `move_draft` the draft
-//!   of a row, a column or a list item that is moved. Each calls one builder and names its fault (`Stops`, `HtmlStops`,
-//!   `Drafts`, `Moves` in specs/). Nothing is performed.
-//! - `may_select`, `next_place` and `erased_range` say what may be selected, where a caret goes and what is erased (`Carets`).
-//!   They read the page alone.
-//! - `perform_all` performs changes, each on what those before it make, on a copy of an editor, as one entry: the model's
-//!   `batch_on`. Where one is refused nothing is changed, and its place is told (`Batches`, `Costs`).
-//! - `type_text` performs what typing is, and tells where the caret stands after the text; `after_inserted` tells that of one
-//!   transaction (`TypedCarets`).
+//! - `change_draft` gives the draft of a change over a page's store, or the refusal that answers
+//!   it. `move_draft` gives the draft of a row, a column or a list item that is moved. Each calls
+//!   one builder and names its fault (`Stops`, `HtmlStops`, `Drafts`, `Moves` in specs/). Nothing
+//!   is performed.
+//! - `may_select`, `next_place` and `erased_range` say what may be selected, where a caret goes and
+//!   which range is erased (`Carets`). They read the page alone.
+//! - `perform_all` performs changes on a copy of an editor, each on the result of those before it,
+//!   as one entry: the model's `batch_on`. Where one is refused nothing is changed, and its number
+//!   is told (`Batches`, `Costs`).
+//! - `type_text` performs typing, and tells where the caret stands after the text; `after_inserted`
+//!   tells that of one transaction (`TypedCarets`).
 //!
-//! What a change means stands in model_world's `Edits`, where a caret goes in its `Answers`. Laws: a move is answered by
-//! performing the transaction that `Moves` defines (`moves_are_asked`), and so carets (`carets_are_asked`). That a batch is whole
-//! or nothing is a law of model_world.
+//! The meaning of a change stands in model_world's `Edits`, the next position of a caret in its
+//! `Answers`. Laws: a move is answered by performing the transaction that `Moves` defines
+//! (`moves_are_asked`), and so carets (`carets_are_asked`). That a batch is whole or nothing is a
+//! law of model_world.
 #![tactic(auto)]
 
 mod applied;
@@ -37,6 +41,6 @@ pub use carets::{carets_are_asked, erased_range, may_select, next_place};
 pub use drafts::change_draft;
 pub use faults::ChangeStop;
 pub use laws::moves_are_asked;
-pub use model_world::{Change, Refusal, Request};
+pub use model_world::{EditCommand, Refusal, Request};
 pub use moves::{is_move, move_draft};
 pub use typed::{Typed, type_text};

@@ -34,7 +34,8 @@ pub fn is_move(request: &Request) -> bool
 
 fn row_in(alloc: Global, doc: Doc<'_>, at: usize, row: usize) -> Result<Draft, ChangeStop>
     requires page { IsPage doc.store.now doc.list.now.items doc.tree.now }
-    ensures { Drafts doc.entry.store.now (refused_as table_refusal (model_tables.row_in (page_items doc.entry) at row)) result }
+    ensures { Drafts doc.entry.store.now
+        (refused_as table_refusal (model_tables.row_in (page_items doc.entry) at row)) result }
 {
     let tx = ve_tables::row_in(alloc, doc, at, row)?;
     Ok(over_store(alloc, doc, tx))
@@ -42,7 +43,8 @@ fn row_in(alloc: Global, doc: Doc<'_>, at: usize, row: usize) -> Result<Draft, C
 
 fn row_out(alloc: Global, doc: Doc<'_>, at: usize, row: usize) -> Result<Draft, ChangeStop>
     requires page { IsPage doc.store.now doc.list.now.items doc.tree.now }
-    ensures { Drafts doc.entry.store.now (refused_as table_refusal (model_tables.row_out (page_items doc.entry) at row)) result }
+    ensures { Drafts doc.entry.store.now
+        (refused_as table_refusal (model_tables.row_out (page_items doc.entry) at row)) result }
 {
     let tx = ve_tables::row_out(alloc, doc, at, row)?;
     Ok(over_store(alloc, doc, tx))
@@ -50,7 +52,9 @@ fn row_out(alloc: Global, doc: Doc<'_>, at: usize, row: usize) -> Result<Draft, 
 
 fn col_in(alloc: Global, doc: Doc<'_>, at: usize, column: usize) -> Result<Draft, ChangeStop>
     requires page { IsPage doc.store.now doc.list.now.items doc.tree.now }
-    ensures { Drafts doc.entry.store.now (refused_as table_refusal (model_tables.col_in (page_items doc.entry) at column)) result }
+    ensures { Drafts doc.entry.store.now
+        (refused_as table_refusal (model_tables.col_in (page_items doc.entry) at column))
+        result }
 {
     let tx = ve_tables::col_in(alloc, doc, at, column)?;
     Ok(over_store(alloc, doc, tx))
@@ -58,7 +62,9 @@ fn col_in(alloc: Global, doc: Doc<'_>, at: usize, column: usize) -> Result<Draft
 
 fn col_out(alloc: Global, doc: Doc<'_>, at: usize, column: usize) -> Result<Draft, ChangeStop>
     requires page { IsPage doc.store.now doc.list.now.items doc.tree.now }
-    ensures { Drafts doc.entry.store.now (refused_as table_refusal (model_tables.col_out (page_items doc.entry) at column)) result }
+    ensures { Drafts doc.entry.store.now
+        (refused_as table_refusal (model_tables.col_out (page_items doc.entry) at column))
+        result }
 {
     let tx = ve_tables::col_out(alloc, doc, at, column)?;
     Ok(over_store(alloc, doc, tx))
@@ -66,7 +72,8 @@ fn col_out(alloc: Global, doc: Doc<'_>, at: usize, column: usize) -> Result<Draf
 
 fn indent(alloc: Global, doc: Doc<'_>, at: usize) -> Result<Draft, ChangeStop>
     requires page { IsPage doc.store.now doc.list.now.items doc.tree.now }
-    ensures { Drafts doc.entry.store.now (refused_as list_refusal (model_lists.indent (page_items doc.entry) at)) result }
+    ensures { Drafts doc.entry.store.now
+        (refused_as list_refusal (model_lists.indent (page_items doc.entry) at)) result }
 {
     let tx = ve_lists::indent(alloc, doc, at)?;
     Ok(over_store(alloc, doc, tx))
@@ -74,20 +81,24 @@ fn indent(alloc: Global, doc: Doc<'_>, at: usize) -> Result<Draft, ChangeStop>
 
 fn outdent(alloc: Global, doc: Doc<'_>, at: usize) -> Result<Draft, ChangeStop>
     requires page { IsPage doc.store.now doc.list.now.items doc.tree.now }
-    ensures { Drafts doc.entry.store.now (refused_as list_refusal (model_lists.outdent (page_items doc.entry) at)) result }
+    ensures { Drafts doc.entry.store.now
+        (refused_as list_refusal (model_lists.outdent (page_items doc.entry) at)) result }
 {
     let mut values = NewValues::new(alloc, doc.store);
     let tx = ve_lists::outdent(alloc, doc, at, &mut values)?;
     Ok(Draft { tx, values })
 }
 
-/// The draft that moves a row, a column or a list item of a page, over the page's store; its values are as those of
-/// `change_draft`. It is refused as the move's builder refuses, with the place or the number that the builder names.
+/// The draft that moves a row, a column or a list item of a page, over the page's store; its values
+/// are as those of `change_draft`. It is refused as the move's builder refuses, with the position
+/// or the number that the builder names.
 pub fn move_draft(alloc: Global, doc: Doc<'_>, request: &Request) -> Result<Draft, ChangeStop>
     requires moves { model.is_move request.now ≡ true }
     requires page { IsPage doc.store.now doc.list.now.items doc.tree.now }
-    ensures ok { IfOk result (IsDrafted doc.entry.store.now (model.moved_by (page_items doc.entry) request.now)) }
-    ensures refused { IfErr result (λ why. IsRefused why (model.moved_by (page_items doc.entry) request.now)) }
+    ensures ok { IfOk result (
+        IsDrafted doc.entry.store.now (model.moved_by (page_items doc.entry) request.now)) }
+    ensures refused { IfErr result (λ why.
+        IsRefused why (model.moved_by (page_items doc.entry) request.now)) }
 {
     match request {
         Request::RowIn { at, row } => row_in(alloc, doc, *at, *row),

@@ -14,8 +14,8 @@ use ve_read::fragment;
 use ve_store::NewValues;
 use ve_tx::Draft;
 
-/// A fragment put in, as it is where the nodes at the offset are open. The offset is judged first, then the spelling, then
-/// the marks, and then where the fragment may stand.
+/// A fragment put in, as it is where the nodes at the offset are open. The offset is judged first,
+/// then the spelling, then the marks, and then where the fragment may stand.
 pub fn pasted_draft(
     alloc: Global,
     doc: Doc<'_>,
@@ -23,7 +23,8 @@ pub fn pasted_draft(
     html: &Text,
 ) -> Result<Draft, ChangeStop>
     requires page { IsPage doc.store.now doc.list.now.items doc.tree.now }
-    ensures { Drafts doc.entry.store.now (fragment_inserted (page_items doc.entry) at html.now) result }
+    ensures { Drafts doc.entry.store.now (fragment_inserted (page_items doc.entry) at html.now)
+        result }
 {
     let Some(state) = open_at(doc, at) else {
         return Err(ChangeStop::Refused(Refusal::BadOffset { at }));

@@ -11,14 +11,14 @@ use crate::BatchStop;
 use crate::batch::{Batch, perform_all};
 use crate::caret::after_text;
 use model_edit::Selection;
-use model_world::{Change, ChangeList, TextMarks};
+use model_world::{EditCommand, EditCommandList, TextMarks};
 use std::alloc::Global;
 use std::sync::ledger::Ledger;
 use ve_base::{Memory, Steps, Text, TryCopy};
 use ve_editor::Editor;
 
-/// A text typed: the selection is removed, where there is one, and the text stands at its lower end with the marks to the
-/// left. The caret is to stand just after the text.
+/// A text typed: the selection is removed, where there is one, and the text stands at its lower end
+/// with the marks to the left. The caret is to stand just after the text.
 #[derive(Drop)]
 pub struct Typed {
     pub batch: Batch,
@@ -26,17 +26,17 @@ pub struct Typed {
 }
 
 /// The changes that typing a text is.
-fn typing(alloc: Global, selection: Selection, text: &Text) -> Result<ChangeList, Memory>
+fn typing(alloc: Global, selection: Selection, text: &Text) -> Result<EditCommandList, Memory>
     ensures { IfOk result (λ changes. changes ≡ model.typing selection text.now) }
 {
     let from = selection.anchor.min(selection.focus);
     let to = selection.anchor.max(selection.focus);
-    let mut changes = ChangeList::new(alloc);
+    let mut changes = EditCommandList::new(alloc);
     if selection.anchor != selection.focus {
-        changes.push(Change::Remove { from, to })?;
+        changes.push(EditCommand::Remove { from, to })?;
     }
     let text = text.copy(alloc)?;
-    changes.push(Change::Text {
+    changes.push(EditCommand::Text {
         at: from,
         text,
         marks: TextMarks::Left,
@@ -46,7 +46,10 @@ fn typing(alloc: Global, selection: Selection, text: &Text) -> Result<ChangeList
 
 /// A batch of typing, with the caret after the text.
 fn with_caret(batch: Batch) -> Result<Typed, Memory>
-    ensures { IfOk result (λ typed. (r : Replica) (text : _) → IsBatch r (batch_on r (model.typing r.selection text)) batch → IsTyped r text typed) }
+    ensures { IfOk result (λ typed.
+        (r : Replica) (text : _)
+        → IsBatch r (batch_on r (model.typing r.selection text)) batch
+        → IsTyped r text typed) }
 {
     match after_text(&batch.entry) {
         Ok(caret) => Ok(Typed { batch, caret }),
@@ -54,8 +57,9 @@ fn with_caret(batch: Batch) -> Result<Typed, Memory>
     }
 }
 
-/// Types a text on a copy of an editor: what is selected is removed, and the text stands at the lower end of it. The editor
-/// itself stays as it is, and so does the selection: the caret is told beside.
+/// Types a text on a copy of an editor: the selection is removed, and the text stands at the lower
+/// end of it. The editor itself stays as it is, and so does the selection: the caret is told
+/// beside.
 ///
 /// It is refused as `perform_all` refuses the changes that typing is.
 pub fn type_text<L: Ledger>(
@@ -66,9 +70,11 @@ pub fn type_text<L: Ledger>(
 ) -> Result<Typed, BatchStop>
     requires sound { Sound editor.now.items }
     ensures ok { IfOk result (IsTyped editor.now text.now) }
-    ensures refused { IfErr result (IsBatchRefused (batch_on editor.now (model.typing editor.now.selection text.now))) }
+    ensures refused { IfErr result (
+        IsBatchRefused (batch_on editor.now (model.typing editor.now.selection text.now))) }
     ensures counted { steps.old ≤ steps.new }
-    ensures steps { steps.new ≤ steps.old + steps_of_batch editor.now (model.typing editor.now.selection text.now) }
+    ensures steps { steps.new
+        ≤ steps.old + steps_of_batch editor.now (model.typing editor.now.selection text.now) }
 {
     let changes = typing(alloc, editor.selection(), text)?;
     match perform_all(alloc, editor, changes.as_slice(), steps) {

@@ -76,7 +76,7 @@ not_true_false : (b : Bool) → not b ≡ true → b ≡ false
 not_true_false true e = absurd cc
 not_true_false false e = refl
 
--- What a part of this source is as a block, whatever follows it.
+-- The part of this source as a block, whatever follows it.
 record InBlock (source : List ℕ) (w : Progress) (made : (Progress → Made) → Made) : Type 0 where
   piece : Piece
   owners : List Owner

@@ -16,7 +16,7 @@ use Rattle.ve_classify.specs.FirstPart.{has_part, later_of, first_source}
 use Rattle.ve_classify.specs.Siblings.{first_made, IsInline, ContentSplits}
 use Rattle.ve_classify.proofs.RunLemmas.{leaf_inline, fit_inline, content_inline, single_inline}
 
--- What a part of this source is in content, whatever follows it.
+-- The part of this source in content, whatever follows it.
 record Inline (source : List ℕ) (w : Progress) (made : (Progress → Made) → Made) : Type 0 where
   piece : Piece
   owners : List Owner

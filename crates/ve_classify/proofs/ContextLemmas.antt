@@ -1,4 +1,4 @@
--- What fits a kind, node by node, and the innermost kind that fits.
+-- Nodes that fit a kind, and the innermost kind that fits.
 use Rattle.std.proofs.Common.{◌≡◌, ℕ, zero, suc, ◌+◌, ◌<◌, ◌≤◌, Bool, true, false, not, ◌&&◌, ◌||◌, List, [], ◌∷◌, ◌++◌, length, drop, Option, Some, None, refl, sym, ap, ◌∙◌, subst, arith, if◌then◌else◌}
 use Rattle.std.specs.Prelude.{slice_get}
 use Rattle.model_spelling.specs.Grammar as g

@@ -20,7 +20,8 @@ use Rattle.ve_classify.proofs.GroupSteps.{asked_first}
 
 -- ---- a range of siblings
 
--- The rest of a range, from the number n on: what is asked of the whole is what is asked of the rest.
+-- The rest of a range, from the number n on: what is asked of the whole is what is asked of the
+-- rest.
 pub record Range (nodes : List Node) (n to : ℕ) (more : List ForestNode) (ask : Forest → Bool) (value : Bool) : Type 0 where
   pub forest : Forest
   pub at : ℕ

@@ -17,7 +17,7 @@ use Rattle.model_page.specs.ReferenceNodes.{RefNode, ref_of}
 use Rattle.model_page.specs.Convert.{marked_around, element_source, inside_of, leaf_made, group_made, element_made, made_of}
 use Rattle.ve_classify.specs.Runs.{then_parts, is_run, run_before}
 
--- ---- places
+-- ---- positions
 
 pub past_none : (w : Progress) → past w [] [] ≡ w
 past_none w =
@@ -43,7 +43,7 @@ step piece source rest owners c f w =
 
 -- ---- a part that stands in a run
 
--- What a part of this source is in a run, whatever follows it, in either parent.
+-- The part of this source in a run, whatever follows it, in either parent.
 pub record InRun (source : List ℕ) (w : Progress) (flow content : (Progress → Made) → Made) : Type 0 where
   piece : Piece
   owners : List Owner

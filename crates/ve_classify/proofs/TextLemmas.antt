@@ -1,4 +1,5 @@
--- Where a text may be cut: after a tag, and before one. What is read stands in its text, and so do the children of an element.
+-- Where a text may be cut: after a tag, and before one. What is read stands in its text, and so do
+-- the children of an element.
 use Rattle.std.proofs.Common.{◌≡◌, ℕ, zero, suc, ◌+◌, ◌<◌, ◌≤◌, Bool, true, false, not, ◌&&◌, List, [], ◌∷◌, ◌++◌, length, drop, get_or, refl, sym, ap, ◌∙◌, subst, arith, append_assoc, append-nil, IsUtf8, IsCharBoundary, if◌then◌else◌, codes}
 use Rattle.std.proofs.lemmas.List.{length-append, length-drop}
 use Rattle.std.proofs.Math.Seq.{drop-append_seam}

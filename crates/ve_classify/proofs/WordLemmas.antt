@@ -1,4 +1,5 @@
--- The words of a spelled value are those that it says, each decoded; and the words that are asked for are spelled without references.
+-- The words of a spelled value are those that it says, each decoded; and the words that are asked
+-- for are spelled without references.
 use Rattle.std.proofs.Common.{◌≡◌, ℕ, zero, suc, ◌+◌, ◌<◌, ◌≤◌, Bool, true, false, not, cond, ◌&&◌, ◌||◌, List, [], ◌∷◌, ◌++◌, length, drop, take, map, refl, sym, ap, ◌∙◌, subst, arith, lit<, inl, inr, ◌⊎◌, if◌then◌else◌}
 use Rattle.std.specs.Prelude.{◌==◌, codes, bytes_eq}
 use Rattle.std.specs.List.{list_any, prefix_len, slice_range}
@@ -14,7 +15,7 @@ use Rattle.ve_html_scan.proofs.Decoding.{amp_read, lt_read, gt_read, nbsp_read, 
 use Rattle.model_page.specs.Elements.{is_white_char, with_letter, words_of, is_transclusion}
 use Rattle.ve_classify.specs.declared.types.TypeTest.{TypeTest}
 use Rattle.ve_classify.specs.declared.types.TypeTest.TheVariants as ask
-use Rattle.ve_classify.specs.Values.{asked}
+use Rattle.ve_classify.specs.Values.{answer_of_test}
 
 nothing_decoded : decoded [] ≡ []
 unfolding decoded_from
@@ -280,7 +281,7 @@ equal_plain p [] o = ap (λ x. bytes_eq x p) nothing_decoded
 equal_plain [] (b ∷ bs) o = equal_none b bs (b == 38) refl
 equal_plain (c ∷ cs) (b ∷ bs) o = equal_at c cs b bs (b == 38) refl o (equal_plain cs bs (and_right (not (strange c)) (ordinary cs) o))
 
-asked_plain : (test : TypeTest) (w : List ℕ) → asked test (decoded w) ≡ asked test w
+asked_plain : (test : TypeTest) (w : List ℕ) → answer_of_test test (decoded w) ≡ answer_of_test test w
 asked_plain ask.Held w = begins_plain (codes "mw:") w refl
 asked_plain ask.Generator w =
     ap (λ x. x || begins_with (codes "mw:Extension/") (decoded w)) (equal_plain (codes "mw:Transclusion") w refl)
@@ -288,13 +289,13 @@ asked_plain ask.Generator w =
 asked_plain ask.Reference w = equal_plain (codes "mw:Extension/ref") w refl
 asked_plain ask.Transclusion w = equal_plain (codes "mw:Transclusion") w refl
 
-any_plain : (test : TypeTest) (ws : List (List ℕ)) → list_any (asked test) (map decoded ws) ≡ list_any (asked test) ws
+any_plain : (test : TypeTest) (ws : List (List ℕ)) → list_any (answer_of_test test) (map decoded ws) ≡ list_any (answer_of_test test) ws
 any_plain test [] = refl
-any_plain test (w ∷ ws) = ap (λ x. x || list_any (asked test) (map decoded ws)) (asked_plain test w) ∙ ap (λ x. asked test w || x) (any_plain test ws)
+any_plain test (w ∷ ws) = ap (λ x. x || list_any (answer_of_test test) (map decoded ws)) (asked_plain test w) ∙ ap (λ x. answer_of_test test w || x) (any_plain test ws)
 
 -- the words that are asked for may be looked for in the value as it is spelled
-pub spelled_words : (test : TypeTest) (v : List ℕ) → list_any (asked test) (words_of v) ≡ list_any (asked test) (words_of (decoded v))
-spelled_words test v = sym (ap (list_any (asked test)) (words_by (length v) v (omega arith)) ∙ any_plain test (words_of v))
+pub spelled_words : (test : TypeTest) (v : List ℕ) → list_any (answer_of_test test) (words_of v) ≡ list_any (answer_of_test test) (words_of (decoded v))
+spelled_words test v = sym (ap (list_any (answer_of_test test)) (words_by (length v) v (omega arith)) ∙ any_plain test (words_of v))
 
 -- ---- the loop over words
 

@@ -27,7 +27,8 @@ abbrev pub cited_in : Forest → Option (List ℕ)
 cited_in (Element name attrs children Nothing) = if is_citation name attrs then value_named (codes "data-mw") attrs else None
 cited_in _ = None
 
--- What is answered of the group at a node that ends before another, whatever siblings stand there: its `data-mw` as it is spelled.
+-- The answer for the group at a node that ends before another, whatever siblings stand there: its
+-- `data-mw` as it stands in the page.
 abbrev pub IsCited : List Node → ℕ → ℕ → Option (Bor (List ℕ)) → Type 0
 IsCited nodes n end result =
     (f group : Forest) (later : Parts) (at : ℕ) (more : List ForestNode) → Stands nodes n at f more → parts_of f ≡ Group group later

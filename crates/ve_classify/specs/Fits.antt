@@ -1,4 +1,5 @@
--- What the first part of siblings becomes, by the parent that it stands in. No group is a reference here.
+-- The fit of the first part of siblings, by the parent that it stands in. No group is a reference
+-- here.
 use Rattle.std.specs.Prelude.{◌≡◌, ℕ, ◌+◌, slice_get, Bool, true, false, not, ◌&&◌, ◌||◌, List, [], Option, Some, if◌then◌else◌}
 use Rattle.model_spelling.specs.Grammar as g
 use Rattle.model_spelling.specs.Forest.{Forest}
@@ -56,7 +57,8 @@ first_fit around (Group nodes later) = group_fit around nodes
 first_fit around (Single name attrs source later) = element_fit around name Ended
 first_fit around (Parent name attrs children later) = element_fit around name children
 
--- The fit of the part that begins at the number n: whatever siblings stand there, it is that of their first part.
+-- The fit of the part that begins at the number n: whatever siblings stand there, it is that of
+-- their first part.
 abbrev pub IsFit : List Node → ℕ → Around → Fit → Type 0
 IsFit nodes n around result =
     (f : Forest) (at : ℕ) (more : List ForestNode) → Stands nodes n at f more → has_node f ≡ true

@@ -8,7 +8,8 @@ use Rattle.model_page.specs.Parts.{Parts, Group, about_in, is_shared, parts_of}
 use Rattle.ve_html_tree.specs.declared.node.Node.{Node}
 use Rattle.ve_classify.specs.Standing.{Stands, has_node, rest_of, first_count}
 
--- Where the group of its nodes ends: whatever siblings stand at the number n, of which the first part is a group.
+-- Where the group of its nodes ends: whatever siblings stand at the number n, of which the first
+-- part is a group.
 abbrev pub IsGroupEnd : List Node → ℕ → ℕ → Type 0
 IsGroupEnd nodes n end =
     (f group : Forest) (later : Parts) (at : ℕ) (more : List ForestNode) → Stands nodes n at f more → parts_of f ≡ Group group later
@@ -22,7 +23,8 @@ IsSiblingAfter nodes n next =
     (f : Forest) (at : ℕ) (more : List ForestNode) → Stands nodes n at f more → has_node f ≡ true
     → next ≡ (if has_node (rest_of f) then Some (n + first_count f) else None)
 
--- the number of the element that joins a group of this `about`, where the siblings after the group stand at the number n
+-- the number of the element that joins a group of this `about`, where the siblings after the group
+-- stand at the number n
 abbrev pub element_joins : ℕ → List ℕ → Forest → Option ℕ
 element_joins n about f = if is_shared (Some about) (about_in f) then Some n else None
 

@@ -1,4 +1,5 @@
--- What the nodes of a text that was read give to a walk: siblings stand at the first of them, after each node, and in each element.
+-- The nodes of a text that was read, for a walk: siblings stand at the first of them, after each
+-- node, and in each element.
 use Rattle.std.specs.Prelude.{◌≡◌, ℕ, ◌+◌, true, List, []}
 use Rattle.model_spelling.specs.Grammar.{Attr}
 use Rattle.model_spelling.specs.Forest.{Forest, Element, is_forest}

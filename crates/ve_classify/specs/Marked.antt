@@ -28,7 +28,7 @@ first_marked around (Group nodes rest) at = None
 first_marked around (Single name attrs source rest) at = None
 first_marked around (Parent name attrs children rest) at = element_marked around name attrs children at (fit_of around name children)
 
--- the first such place is in the first part, or else in the later ones
+-- the first such position is in the first part, or else in the later ones
 abbrev pub MarksSplit : Type 0
 MarksSplit =
     (around : Around) (parts : Parts) (at : ℕ)

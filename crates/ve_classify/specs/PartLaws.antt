@@ -1,4 +1,4 @@
--- What a walk over the parts of a text goes by.
+-- Laws for a walk over the parts of a text.
 use Rattle.std.specs.Prelude.{◌≡◌, ℕ, ◌+◌, false, List, [], length, slice_get, Some, IsUtf8}
 use Rattle.model_spelling.specs.Grammar.{Attr, start_text}
 use Rattle.model_spelling.specs.Forest.{Forest, Nothing, Element, Spells}

@@ -12,7 +12,8 @@ abbrev pub IsAtTag : List ℕ → Type 0
 IsAtTag [] = Unit {0}
 IsAtTag (b ∷ bs) = b ≡ 60
 
--- The siblings stand at these nodes, and the text has their spelling there, before the end of their parent.
+-- The siblings stand at these nodes, and the text has their spelling there, before the end of their
+-- parent.
 pub record StandsIn (text : List ℕ) (nodes : List Node) (n at : ℕ) (f : Forest) (more : List ForestNode) : Type 0 where
   pub stands : Stands nodes n at f more
   pub following : List ℕ
@@ -48,7 +49,8 @@ abbrev pub IsPastPart : List Node → ℕ → ℕ → Type 0
 IsPastPart nodes n result =
     (f : Forest) (at : ℕ) (more : List ForestNode) → Stands nodes n at f more → has_node f ≡ true → result ≡ n + forest_size (part_nodes f)
 
--- what is asked of the first part of whatever siblings stand at a node, of which so many parts reach up to a node and a byte
+-- what is asked of the first part of whatever siblings stand at a node, of which so many parts
+-- reach up to a node and a byte
 abbrev pub IsPartEnd : List Node → ℕ → ℕ → ℕ → ℕ → ℕ → Type 0
 IsPartEnd nodes n to last end byte =
     (text : List ℕ) (f : Forest) (at m : ℕ) (more : List ForestNode) → StandsIn text nodes n at f more → PartsTo f n at to last m

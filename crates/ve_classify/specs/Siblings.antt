@@ -1,4 +1,5 @@
--- What siblings become, read from the first one on: content part by part, and in a flow or structural parent whitespace, blocks and runs.
+-- The conversion of siblings, read from the first one on: content part by part, and in a flow or
+-- structural parent whitespace, blocks and runs.
 use Rattle.std.specs.Prelude.{◌≡◌, ℕ, Bool, true, false, not, List, [], ◌∷◌, ◌++◌, chars, if◌then◌else◌}
 use Rattle.model_spelling.specs.Grammar.{Comment, token_text}
 use Rattle.ve_base.specs.declared.marks.Mark.{Mark}
@@ -15,7 +16,7 @@ use Rattle.model_page.specs.Convert.{inside_piece, words_before, group_made, lea
 use Rattle.ve_classify.specs.FirstPart.{has_part, later_of, first_source}
 use Rattle.ve_classify.specs.Runs.{then_parts, is_run, starts_block}
 
--- what all siblings become in their parent, from this place on
+-- what all siblings become in their parent, from this position on
 abbrev pub siblings : Around → Parts → Progress → Made
 siblings around parts w = inside_piece around w (made_of around parts w)
 
@@ -93,7 +94,8 @@ WhiteSplits =
 abbrev pub paragraph : Parts → Progress → Piece
 paragraph run w = node P empty_head [] true (source_span w (source_of run)) (made_of (Content []) run w).run []
 
--- In a flow parent a run of whitespace alone goes to what follows it, any other is a paragraph; and then comes what follows it.
+-- In a flow parent a run of whitespace alone goes to what follows it, any other is a paragraph; and
+-- then comes what follows it.
 abbrev pub RunsRead : Type 0
 RunsRead =
     (kind : Kind) (run rest : Parts) (w : Progress) (b : ℕ) (bs : List ℕ) → is_run run ≡ true → starts_block rest ≡ true → source_of run ≡ b ∷ bs

@@ -1,4 +1,4 @@
--- What stands first among the siblings of a flow parent: a run up to its end, or a block.
+-- The first unit of the siblings of a flow parent: a run up to its end, or a block.
 use Rattle.std.specs.Prelude.{◌≡◌, ℕ, zero, suc, ◌+◌, Bool, true, false, not, List, length}
 use Rattle.model_spelling.specs.Forest.{Forest, spelling}
 use Rattle.model_spelling.specs.ForestNodes.{ForestNode, forest_size}
@@ -25,7 +25,8 @@ abbrev pub LaterParts : ℕ → Parts → Parts → Type 0
 LaterParts zero p q = p ≡ q
 LaterParts (suc m) p q = (has_part p ≡ true) × LaterParts m (later_of p) q
 
--- The first parts of siblings, so many, are parts of a run, and end before the node `end` and the byte `byte`, where the siblings after them stand.
+-- The first parts of siblings, so many, are parts of a run, and end before the node `end` and the
+-- byte `byte`, where the siblings after them stand.
 pub record RunTo (text : List ℕ) (nodes : List Node) (n at : ℕ) (f : Forest) (more : List ForestNode) (end byte : ℕ) (white : Bool) : Type 0 where
   pub parts : ℕ
   pub run : PartsTo f n at end byte parts
@@ -40,7 +41,8 @@ pub record WholeRun (text : List ℕ) (nodes : List Node) (n at : ℕ) (f : Fore
   pub split : parts_of f ≡ then_parts (take_parts so_far.parts (parts_of f)) (parts_of so_far.run.after)
   pub next : starts_block (parts_of so_far.run.after) ≡ true
 
--- what is answered of whatever siblings stand at a node, the first of which is a part of a run, up to a node and a byte
+-- what is answered of whatever siblings stand at a node, the first of which is a part of a run, up
+-- to a node and a byte
 abbrev pub IsRunAt : List Node → ℕ → ℕ → ℕ → ℕ → ℕ → Bool → Type 0
 IsRunAt nodes n to last end byte white =
     (text : List ℕ) (f : Forest) (at : ℕ) (more : List ForestNode) → StandsIn text nodes n at f more → Whole f n at to last

@@ -17,8 +17,8 @@ spelled_value name [] = None
 spelled_value name (a ∷ attrs) = if bytes_eq a.name name then Some a.value else spelled_value name attrs
 
 -- what a test asks of a word
-abbrev pub asked : TypeTest → List ℕ → Bool
-asked ask.Held word = begins_with (codes "mw:") word
-asked ask.Generator word = is_generator word
-asked ask.Reference word = is_reference_type word
-asked ask.Transclusion word = is_transclusion word
+abbrev pub answer_of_test : TypeTest → List ℕ → Bool
+answer_of_test ask.Held word = begins_with (codes "mw:") word
+answer_of_test ask.Generator word = is_generator word
+answer_of_test ask.Reference word = is_reference_type word
+answer_of_test ask.Transclusion word = is_transclusion word

@@ -1,4 +1,4 @@
-// Where parts stand, and what becomes of them.
+// Surroundings of parts, and the fit of a part there.
 use ve_kinds::Kind;
 
 /// Where parts stand: in a flow parent, in a structural parent, or in content.
@@ -9,7 +9,7 @@ pub enum Around {
     Content,
 }
 
-/// What a part becomes.
+/// The fit of a text, a comment, an element or a group.
 #[derive(Clone, Copy, Debug, PartialEq, Eq)]
 pub enum Fit {
     /// Whitespace before the next item: a text in a structural parent.

@@ -16,7 +16,8 @@ fn is_citation(name: &str, attrs: AttrTokens<'_>) -> bool
         && !has_type(attrs, TypeTest::Transclusion)
 }
 
-/// The `data-mw`, as it is spelled, of the group from a node up to another, where it may be a reference.
+/// The `data-mw`, as it stands in the page, of the group from a node up to another, where it may be
+/// a reference.
 pub fn cited_mw<'a>(forest: &Forest<'a>, n: usize, end: usize) -> Option<&'a str>
     requires within { n < length forest.now }
     requires leads { LeadsOn forest.now }

@@ -47,7 +47,8 @@ fn stands_in(token: &Token<'_>, kind: Kind) -> bool
 
 fn fits_content(forest: &Forest<'_>) -> bool
     requires { LeadsOn forest.now }
-    ensures { OfSiblings forest.now 0 (length forest.now) (λ f. fragment.fits_content (parts_of f)) result }
+    ensures { OfSiblings forest.now 0 (length forest.now) (λ f. fragment.fits_content (parts_of f))
+        result }
 {
     let to = forest.len();
     let mut n = 0;
@@ -63,7 +64,8 @@ fn fits_content(forest: &Forest<'_>) -> bool
 
 fn fits_structural(forest: &Forest<'_>, kind: Kind) -> bool
     requires { LeadsOn forest.now }
-    ensures { OfSiblings forest.now 0 (length forest.now) (λ f. fragment.fits_structural kind (parts_of f)) result }
+    ensures { OfSiblings forest.now 0 (length forest.now)
+        (λ f. fragment.fits_structural kind (parts_of f)) result }
 {
     let to = forest.len();
     let mut n = 0;

@@ -1,4 +1,4 @@
-// What becomes of a part.
+// The fit of a text, a comment, an element or a group, by its parent.
 ghost use Rattle.std.specs.Prelude.{◌≡◌, ◌<◌, ◌≤◌, ◌+◌, length, true, None};
 ghost use Rattle.model_spelling.specs.Grammar as g;
 ghost use Rattle.model_page.specs.Parts.{Ended, parts_of};
@@ -18,7 +18,7 @@ use ve_kinds::{
     Kind, is_annotation_tag, is_inline_leaf, is_inline_tag, is_structural, kind_of_tag, may_hold,
 };
 
-/// What the elements of a group are asked for.
+/// A test of the elements of a group.
 #[derive(Clone, Copy, Debug, PartialEq, Eq)]
 pub enum GroupTest {
     /// A type of what a wiki generates.
@@ -45,7 +45,8 @@ fn passes(token: &Token<'_>, test: GroupTest) -> bool
 fn some_element(forest: &Forest<'_>, from: usize, to: usize, test: GroupTest) -> bool
     requires within { to ≤ length forest.now }
     requires leads { LeadsOn forest.now }
-    ensures { spec.OfSiblings forest.now from to (model.some_element (spec.element_passes test)) result }
+    ensures { spec.OfSiblings forest.now from to (model.some_element (spec.element_passes test))
+        result }
 {
     let mut n = from;
     while n < to {
@@ -58,8 +59,8 @@ fn some_element(forest: &Forest<'_>, from: usize, to: usize, test: GroupTest) ->
     false
 }
 
-/// Whether a token begins no inline content: it is a text of whitespace alone, or neither a text nor an element of an
-/// inline tag that isn't held.
+/// Whether a token begins no inline content. It is a text of whitespace alone, or neither a text
+/// nor an element of an inline tag that isn't kept whole.
 fn is_block(token: &Token<'_>) -> bool
     ensures { (k : g.Token) → ShowsToken token.now k → result ≡ spec.token_block k }
 {
@@ -116,7 +117,8 @@ fn first_child(forest: &Forest<'_>, n: usize) -> usize
 fn block_fit(forest: &Forest<'_>, n: usize, name: &str, parent: Kind) -> Fit
     requires within { n < length forest.now }
     requires leads { LeadsOn forest.now }
-    ensures fit { spec.OfChildren forest.now n (λ parts. spec.block_fit parent parts (kind_spelled name.now)) result }
+    ensures fit { spec.OfChildren forest.now n
+        (λ parts. spec.block_fit parent parts (kind_spelled name.now)) result }
     ensures none { kind_spelled name.now ≡ None → result ≡ spec.block_fit parent Ended None }
 {
     let first = first_child(forest, n);
@@ -135,7 +137,8 @@ fn block_fit(forest: &Forest<'_>, n: usize, name: &str, parent: Kind) -> Fit
     }
 }
 
-/// Whether elements of this tag stand within a line. Tags of kinds are told first, since most elements have one, and the others are many.
+/// Whether elements of this tag stand within a line. Tags of kinds are told first, since most
+/// elements have one, and the others are many.
 fn stands_in_line(name: &str) -> bool
     ensures { result ≡ is_one_of inline_tags name.now }
 {
@@ -145,12 +148,14 @@ fn stands_in_line(name: &str) -> bool
     is_inline_tag(name)
 }
 
-/// The fit of an element that isn't held.
+/// The fit of an element that isn't kept whole.
 fn element_fit(forest: &Forest<'_>, n: usize, name: &str, around: Around) -> Fit
     requires within { n < length forest.now }
     requires leads { LeadsOn forest.now }
-    ensures fit { spec.OfChildren forest.now n (spec.element_fit (spec.parent_of around) name.now) result }
-    ensures raw { is_raw name.now ≡ true → result ≡ spec.element_fit (spec.parent_of around) name.now Ended }
+    ensures fit { spec.OfChildren forest.now n (spec.element_fit (spec.parent_of around) name.now)
+        result }
+    ensures raw { is_raw name.now ≡ true
+        → result ≡ spec.element_fit (spec.parent_of around) name.now Ended }
 {
     let has_child = first_child(forest, n) < forest.node(n).next;
     match around {
@@ -217,8 +222,8 @@ fn words_fit(around: Around) -> Fit
     }
 }
 
-/// What the part becomes that begins at a node, where that isn't inside a group. A group that is a reference is taken as any
-/// other.
+/// The fit of what begins at a node, where that isn't inside a group. A group that is a reference
+/// is taken as any other.
 pub fn fit(forest: &Forest<'_>, n: usize, around: Around) -> Fit
     requires within { n < length forest.now }
     requires leads { LeadsOn forest.now }

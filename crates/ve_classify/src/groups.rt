@@ -11,9 +11,11 @@ use crate::values::{is_white_text, spelled_value};
 use ve_html_scan::{Token, decoded_same};
 use ve_html_tree::Forest;
 
-/// The value of `about`, as it is spelled, of an element that has one.
+/// The value of `about`, as it stands in the page, of an element that has one.
 pub fn about_of<'a>(token: &Token<'a>) -> Option<&'a str>
-    ensures { (k : g.Token) → ShowsToken token.now k → option_map (λ v. written.decoded v.now) result ≡ token_about k }
+    ensures { (k : g.Token)
+        → ShowsToken token.now k
+        → option_map (λ v. written.decoded v.now) result ≡ token_about k }
 {
     match *token {
         Token::StartTag { attrs, .. } => spelled_value(attrs, "about"),
@@ -23,7 +25,9 @@ pub fn about_of<'a>(token: &Token<'a>) -> Option<&'a str>
 
 /// Whether an element has an `about` that says the same.
 fn shares(token: &Token<'_>, about: &str) -> bool
-    ensures { (k : g.Token) → ShowsToken token.now k → result ≡ is_shared (Some (written.decoded about.now)) (token_about k) }
+    ensures { (k : g.Token)
+        → ShowsToken token.now k
+        → result ≡ is_shared (Some (written.decoded about.now)) (token_about k) }
 {
     match about_of(token) {
         Some(other) => decoded_same(about, other),
@@ -31,7 +35,8 @@ fn shares(token: &Token<'_>, about: &str) -> bool
     }
 }
 
-/// The number of the next sibling. Between a node and what follows its parent stands an end tag, so that they don't touch.
+/// The number of the next sibling. Between a node and what follows its parent stands an end tag, so
+/// that they don't touch.
 pub fn sibling_after(forest: &Forest<'_>, n: usize) -> Option<usize>
     requires within { n < length forest.now }
     requires leads { LeadsOn forest.now }
@@ -73,7 +78,8 @@ fn next_in_group(forest: &Forest<'_>, n: usize, about: &str) -> Option<usize>
     Some(next)
 }
 
-/// The number just past the group that begins at a node. A held element without `about` is a group by itself.
+/// The number just past the group that begins at a node. An element that is kept whole without
+/// `about` is a group by itself.
 pub fn group_end(forest: &Forest<'_>, n: usize) -> usize
     requires within { n < length forest.now }
     requires leads { LeadsOn forest.now }

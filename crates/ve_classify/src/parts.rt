@@ -38,7 +38,10 @@ fn part_end(forest: &Forest<'_>, n: usize) -> usize
 /// The byte where a part ends: where the next node begins, or that of the range's end.
 fn byte_at(forest: &Forest<'_>, end: usize, to: usize, byte: usize) -> usize
     requires { to ≤ length forest.now }
-    ensures inside { (x : Node) → slice_get forest.now end ≡ Some x → end < to → result ≡ x.span.from }
+    ensures inside { (x : Node)
+        → slice_get forest.now end ≡ Some x
+        → end < to
+        → result ≡ x.span.from }
     ensures last { to ≤ end → result ≡ byte }
 {
     if end < to {
@@ -48,7 +51,8 @@ fn byte_at(forest: &Forest<'_>, end: usize, to: usize, byte: usize) -> usize
     }
 }
 
-/// Where the first part of the siblings at a node ends, of which some number of parts reach up to a node and a byte.
+/// Where the first part of the siblings at a node ends, of which some number of parts reach up to a
+/// node and a byte.
 pub fn part_at(forest: &Forest<'_>, n: usize, to: usize, byte: usize) -> Part
     requires within { n < to }
     requires bound { to ≤ length forest.now }

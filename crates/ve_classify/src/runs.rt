@@ -14,7 +14,8 @@ pub struct RunPart {
     pub white: bool,
 }
 
-/// Whether the part that begins at a node is a part of a run in a flow parent, of whatever kind that is.
+/// Whether the part that begins at a node is a part of a run in a flow parent, of whatever kind
+/// that is.
 pub fn is_in_run(forest: &Forest<'_>, n: usize) -> bool
     requires within { n < length forest.now }
     requires leads { LeadsOn forest.now }
@@ -26,7 +27,8 @@ pub fn is_in_run(forest: &Forest<'_>, n: usize) -> bool
     }
 }
 
-/// The run that begins at a node of a flow parent, whose children end before the node `to` and that byte.
+/// The run that begins at a node of a flow parent, whose children end before the node `to` and that
+/// byte.
 pub fn run_at(forest: &Forest<'_>, n: usize, to: usize, byte: usize) -> RunPart
     requires within { n < to }
     requires bound { to ≤ length forest.now }

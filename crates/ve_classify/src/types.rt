@@ -4,9 +4,9 @@ ghost use Rattle.std.specs.List.{list_any, prefix_len};
 ghost use Rattle.model_spelling.specs.Grammar.{begins_with};
 ghost use Rattle.model_spelling.specs.Written as written;
 ghost use Rattle.model_page.specs.Elements.{is_white_char, words_of};
-ghost use Rattle.ve_classify.specs.Values.{asked};
+ghost use Rattle.ve_classify.specs.Values.{answer_of_test};
 
-/// What a word of `typeof` is asked for.
+/// A test of a word of `typeof`.
 #[derive(Clone, Copy, Debug, PartialEq, Eq)]
 pub enum TypeTest {
     /// It begins with `mw:`.
@@ -35,7 +35,7 @@ fn begins(word: &[u8], prefix: &[u8]) -> bool
 
 /// Whether a word passes the test.
 fn passes(word: &[u8], test: TypeTest) -> bool
-    ensures { result ≡ asked test word.now }
+    ensures { result ≡ answer_of_test test word.now }
 {
     match test {
         TypeTest::Held => begins(word, b"mw:"),
@@ -46,13 +46,14 @@ fn passes(word: &[u8], test: TypeTest) -> bool
     }
 }
 
-/// Where the word that begins at that place ends.
+/// Where the word that begins at that position ends.
 fn word_end(value: &[u8], from: usize) -> usize
     requires { from ≤ length value.now }
     ensures end { result ≡ from + prefix_len (λ c. not (is_white_char c)) (drop from value.now) }
     ensures more { from ≤ result }
     ensures bound { result ≤ length value.now }
-    ensures found { result < length value.now → is_white_char (slice_index value.now result) ≡ true }
+    ensures found { result < length value.now
+        → is_white_char (slice_index value.now result) ≡ true }
 {
     let mut at = from;
     while at < value.len() && !is_white_byte(value[at]) {
@@ -61,10 +62,10 @@ fn word_end(value: &[u8], from: usize) -> usize
     at
 }
 
-/// Whether some word of a value passes the test, read as it is spelled: no reference stands for whitespace or for a byte of
-/// a tested word, and no tested word has an `&`.
+/// Whether some word of a value passes the test. The value is read as it stands in the page: no
+/// reference stands for whitespace or for a byte of a tested word, and no tested word has an `&`.
 pub fn some_word(value: &[u8], test: TypeTest) -> bool
-    ensures { result ≡ list_any (asked test) (words_of (written.decoded value.now)) }
+    ensures { result ≡ list_any (answer_of_test test) (words_of (written.decoded value.now)) }
 {
     let mut from = 0;
     loop {

@@ -1,4 +1,4 @@
-// What the attributes of an element say.
+// Attributes of an element.
 ghost use Rattle.std.specs.Prelude.{◌≡◌, option_map};
 ghost use Rattle.model_spelling.specs.Grammar as g;
 ghost use Rattle.model_page.specs.Elements as page;
@@ -9,9 +9,10 @@ ghost use Rattle.ve_classify.specs.Values as spec;
 use crate::types::{TypeTest, is_white_byte, some_word};
 use ve_html_scan::{AttrTokens, Token};
 
-/// The value of the attribute of a name, as it is spelled.
+/// The value of the attribute of a name, as it stands in the page.
 pub fn spelled_value<'a>(attrs: AttrTokens<'a>, name: &str) -> Option<&'a str>
-    ensures { spec.OfAttrs attrs.entry (spec.spelled_value name.now) (option_map (λ v. v.now) result) }
+    ensures { spec.OfAttrs attrs.entry (spec.spelled_value name.now) (
+        option_map (λ v. v.now) result) }
 {
     for attr in attrs {
         if attr.name == name {
@@ -23,7 +24,7 @@ pub fn spelled_value<'a>(attrs: AttrTokens<'a>, name: &str) -> Option<&'a str>
 
 /// Whether some word of `typeof` passes the test.
 pub fn has_type(attrs: AttrTokens<'_>, test: TypeTest) -> bool
-    ensures { spec.OfAttrs attrs.entry (page.has_type (spec.asked test)) result }
+    ensures { spec.OfAttrs attrs.entry (page.has_type (spec.answer_of_test test)) result }
 {
     match spelled_value(attrs, "typeof") {
         Some(value) => some_word(value.as_bytes(), test),

@@ -1,4 +1,4 @@
--- What stands in a new cell of a table.
+-- The inside of a new cell of a table.
 use Rattle.std.proofs.Common.{◌≡◌, [], refl}
 use Rattle.ve_kinds.specs.declared.kind.Kind.TheVariants.{P}
 use Rattle.model_items.proofs.ExampleItems.{node}

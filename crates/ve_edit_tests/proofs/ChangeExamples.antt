@@ -10,6 +10,7 @@ use Rattle.model_change.specs.declared.tx_fault.TxFault.TheVariants.{Memory}
 abbrev identified : Head
 identified = record { tag = []; attrs = record { name = codes "id"; value = codes "x" } ∷ []; raw = []; reference = None; owner = false }
 
--- where a change that is refused for want of memory left the store grown, the head would stand in it
+-- where a change that is refused for want of memory left the store grown, the head would stand in
+-- it
 a_refused_change_leaves_no_head : OnErr {T = Unit {0}} {E = TxFault} (Err Memory) (◌≡◌ {A = List Value} (value.Head identified ∷ []) []) → ⊥
 a_refused_change_leaves_no_head kept = cc

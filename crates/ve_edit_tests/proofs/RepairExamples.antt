@@ -17,7 +17,8 @@ use Rattle.ve_repair.specs.declared.fault.RepairFault.TheVariants.{TooDeep}
 use Rattle.ve_repair.specs.Relink.{linked}
 use Rattle.ve_repair.specs.Repaired.{fault_of}
 
--- ---- the page without content: the root 0 and the internal list 1. A paragraph 2 stood before the list, and went.
+-- ---- the page without content: the root 0 and the internal list 1. A paragraph 2 stood before the
+-- list, and went.
 
 abbrev page : List Item
 page = Opening InternalList false None None None None ∷ Closing InternalList None ∷ []
@@ -63,14 +64,16 @@ paragraph_is_gone x there = by there.0 there.1 there.2
     by (suc zero) l found = let Q : NodePlace → Type 0 = λ y. y.number ≡ 2 → ⊥ in subst Q found (λ n. cc)
     by (suc (suc k)) l found = absurd (omega (arith, l))
 
--- The paragraph was a landmark, at 0. Where the landmarks followed a change from 2 on, in place of 0, it would stay one.
+-- The paragraph was a landmark, at 0. Where the landmarks followed a change from 2 on, in place of
+-- 0, it would stay one.
 a_changed_node_is_no_landmark : MayFollow slots (number 0) (record { nodes = number 2 ∷ []; gaps = 0 ∷ [] }) 2 3 1 → ⊥
 a_changed_node_is_no_landmark may =
     let follows = may (number 2) 0 (record { k = 0; among = omega arith; node_is = refl; from_is = refl }) in
     let begins = follows.stays (inl (omega arith)) (unvalued page) is_tree in
     paragraph_is_gone begins.place begins.listed begins.number_is
 
--- Where a sibling led one way alone, the internal list would have nothing before it when 2 comes to stand there.
+-- Where a sibling led one way alone, the internal list would have nothing before it when 2 comes to
+-- stand there.
 a_sibling_leads_both_ways : (linked 0 2 None (links_of slots)).before 1 ≡ Some 2
 a_sibling_leads_both_ways = refl
 

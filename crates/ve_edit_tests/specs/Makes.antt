@@ -1,4 +1,4 @@
--- What it means that a transaction was applied.
+-- Transactions that were applied.
 use Rattle.std.specs.Prelude.{◌≡◌, List, Ok}
 use Rattle.ve_base.specs.declared.value.Value.{Value}
 use Rattle.model_items.specs.declared.item.Item.{Item}

@@ -1,5 +1,5 @@
-// Transactions that are performed and taken back on lists of their own, a short one of all three operations and one of thirty
-// thousand.
+// Transactions that are performed and taken back on lists of their own, a short one of all three
+// operations and one of thirty thousand.
 ghost use Rattle.std.specs.Prelude.{All};
 ghost use Rattle.model_items.specs.Plain.{CitesWell};
 ghost use Rattle.ve_tx_samples.specs.NoValues.{TxCitesNothing};
@@ -11,7 +11,8 @@ use ve_store::Store;
 use ve_tx::Transaction;
 use ve_tx_samples::{page, page_line, transaction};
 
-/// A page, a transaction of it, and what that makes, each so many times; and what is retained at the page's end.
+/// A page, a transaction of it, and its result, each so many times; and the items retained at the
+/// page's end.
 #[derive(Clone, Copy)]
 struct Case {
     page: &'static str,
@@ -45,7 +46,7 @@ fn repeated(alloc: Global, text: &str, times: usize, end: &str) -> Result<String
     Ok(line)
 }
 
-/// The lines of a list after a transaction, and after what takes it back.
+/// The lines of a list after a transaction, and after its inverse.
 fn there_and_back(
     alloc: Global,
     tx: &Transaction,
@@ -73,7 +74,8 @@ fn made_and_back(alloc: Global, tx: &Transaction, text: &str) -> Result<(String,
     there_and_back(alloc, tx, &back, &mut list, &mut store)
 }
 
-/// Whether a transaction makes what it should of a case's page, which comes back when it is taken back.
+/// Whether a transaction makes what it should of a case's page, which comes back when it is taken
+/// back.
 fn is_as_said(alloc: Global, tx: &Transaction, case: &Case) -> Result<bool, Fail>
     requires { TxCitesNothing tx.now }
 {

@@ -1,4 +1,5 @@
-// What neither a clause nor a script says: that plans are copied where there is memory, and what refusals print.
+// Facts that neither a clause nor a script says: that plans are copied where there is memory, and
+// what refusals print.
 use model_edit::{BuildFault, Kinds, Shape, Shapes, TableFault};
 use std::alloc::Global;
 use std::fmt::Display;

@@ -1,4 +1,5 @@
-// What neither a clause nor a script says: that `intern` succeeds where there is memory, and what a fault prints.
+// Facts that neither a clause nor a script says: that `intern` succeeds where there is memory, and
+// what a fault prints.
 use std::alloc::Global;
 use std::test::Fail;
 use ve_base::{Memory, Text, Value, ValueId};

@@ -16,7 +16,8 @@ use Rattle.ve_tx.proofs.ValuesLemmas.{extends_by_fill}
 use Rattle.ve_editor.specs.Edited.{AllStand}
 use Rattle.ve_editor.proofs.OtherLemmas.{all_by_value-extended, all_cites-extended}
 
--- after k of them: what is left makes of the page now what all make of the first, and what is kept is what the model fills, over the store now
+-- After k of them: the rest makes of the page now what all make of the first. The kept transactions
+-- are those that the model fills, over the store now.
 pub record AdmittedSoFar (values : List Value) (old : Replica) (txs : List (List Operation)) (k : ℕ) (now : Replica) (kept : List (List Operation)) : Type 0 where
   pub page : all_performed (map (by_value values) (drop k txs)) now ≡ all_performed (map (by_value values) txs) old
   pub filled : map (by_value now.store) kept ++ all_filled (map (by_value values) (drop k txs)) now.items ≡ all_filled (map (by_value values) txs) old.items

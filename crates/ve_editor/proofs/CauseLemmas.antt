@@ -72,7 +72,8 @@ cause_of_list t r store items applies new grown =
 pub refused_as : (one other : Option EditCause) (why : EditFault) → one ≡ other → IsEditRefusal other why → IsEditRefusal one why
 refused_as one other why e h = subst (λ c. IsEditRefusal c why) (sym e) h
 
--- the law reads no value, and so says of the list that a change makes what it says of the transaction's
+-- the law reads no value, and so says of the list that a change makes what it says of the
+-- transaction's
 module _ (values : List Value) (tx : List Operation) (items made : List Item) (same : plain_list values made ≡ new_list values tx items) where
   verdict_same : uncited.verdict made ≡ verdict (new_list values tx items)
   verdict_same = sym (verdict_reads_no_values values [] made) ∙ ap verdict same

@@ -1,4 +1,5 @@
--- How many steps are counted on an empty paragraph: a character touches the root and the paragraph, which it makes longer, and its own text node.
+-- How many steps are counted on an empty paragraph: a character touches the root and the paragraph,
+-- which it makes longer, and its own text node.
 use Rattle.std.proofs.Common.{◌≡◌, ◌+◌, false, List, [], ◌∷◌, ◌++◌, None, refl}
 use Rattle.ve_base.specs.declared.head.Head.{Head}
 use Rattle.ve_kinds.specs.declared.kind.Kind.TheVariants.{P}

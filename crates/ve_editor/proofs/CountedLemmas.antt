@@ -23,7 +23,8 @@ and_more now after a b h = omega arith
 in_turn : (now copied after a b : ℕ) → copied ≤ now + a → after ≤ copied + b → after ≤ now + (a + b)
 in_turn now copied after a b h k = omega arith
 
--- The count stands at `now` before a transaction and at `after` past it; `all` bounds it to the end. The transaction is known under two names.
+-- The count stands at `now` before a transaction and at `after` past it; `all` bounds it to the
+-- end. The transaction is known under two names.
 module _ (t same : Transaction) (rest : List Transaction) (items : List PlainItem) (now after all : ℕ) (is : same ≡ t)
     (bound : now + steps_after (t ∷ rest) items ≤ all) (took : after ≤ now + steps_of same items) where
   took_one : after ≤ now + steps_of t items

@@ -1,4 +1,4 @@
--- What items cite stays as it is where values that they don't cite are cut off.
+-- Items stay as they are where values that they don't cite are cut off.
 use Rattle.std.proofs.Common.{◌≡◌, ◌≢◌, ℕ, zero, suc, if◌then◌else◌, List, [], ◌∷◌, ◌++◌, take, slice_get, All, Contains, Option, Some, None, refl, sym, ap, ◌∙◌, subst, arith, inl, inr}
 use Rattle.std.proofs.lemmas.Bool.{cases_Bool}
 use Rattle.std.proofs.lemmas.List.Elements.{All-nil, All-cons, All-head, All-tail, Contains-append_left, Contains-append_right}
@@ -20,7 +20,7 @@ use Rattle.model_change.specs.Store.{cited, cited_by, head_cited, marks_cited, w
 first_of : (v : Value) (vs : List Value) → Contains (v ∷ vs) v
 first_of v vs = (0, omega arith, refl)
 
--- a value that is kept stood at its place
+-- a value that is kept stood at its position
 taken_is : (values : List Value) (n i : ℕ) (v : Value) → slice_get (take n values) i ≡ Some v → slice_get values i ≡ Some v
 taken_is [] zero i v h = cc
 taken_is [] (suc n) i v h = cc
@@ -44,7 +44,7 @@ white_once [] some = absurd (some refl)
 white_once (c ∷ cs) some = refl
 
 module _ (values : List Value) (n : ℕ) (distinct : AreDistinct values) where
-  -- a value that is kept is kept at its place
+  -- a value that is kept is kept at its position
   still_at : (i : ℕ) (v : Value) → Contains (take n values) v → slice_get values i ≡ Some v → slice_get (take n values) i ≡ Some v
   still_at i v kept there =
       let at : slice_get (take n values) kept.0 ≡ Some v = slice_get-get_or (take n values) kept.0 v kept.1 ∙ ap Some kept.2 in

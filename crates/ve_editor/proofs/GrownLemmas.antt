@@ -90,7 +90,8 @@ applied_none (Some f) made new h = cc
 pub apply_ok : (t : Transaction) (items new : List PlainItem) → apply t items ≡ Ok new → Applies t items × (new ≡ edited t items)
 apply_ok t items new h = applied_none (fault t items) (edited t items) new h
 
--- A draft over a store, and over the store with its values in it, and over that with the heads that it changes.
+-- A draft over a store, and over the store with its values in it, and over that with the heads that
+-- it changes.
 module _ (store : List Value) (d : Draft) (draft : IsDraftOf store d) (distinct : AreDistinct store) (taken : List Value) (takes : taken ≡ fill store d.values.values) where
   pub values_taken : taken ≡ drafted_values store d
   values_taken =
@@ -113,7 +114,8 @@ module _ (store : List Value) (d : Draft) (draft : IsDraftOf store d) (distinct 
     pub taken_list : All (CitesWell taken) items
     taken_list = all-extended store taken taken_extends items cites
 
-    -- so what is said of the transaction and the list over the values that were taken in holds of the draft and the page
+    -- so what is said of the transaction and the list over the values that were taken in holds of
+    -- the draft and the page
     pub over_taken : {A : Type 0} (f : Transaction → List PlainItem → A) → f (by_value taken d.tx) (plain_list taken items) ≡ f (drafted store d) (plain_list store items)
     over_taken f = ap (λ t. f t (plain_list taken items)) taken_tx ∙ ap (f (drafted store d)) taken_items
 

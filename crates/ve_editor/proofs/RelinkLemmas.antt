@@ -1,4 +1,5 @@
--- What a repair of the tree asks and leaves, of every list of values: the new list has the same shapes over each.
+-- The conditions and the result of a repair of the tree, for every list of values: the new list has
+-- the same shapes over each.
 use Rattle.std.proofs.Common.{◌≡◌, ◌≤◌, ◌+◌, ◌*◌, ℕ, List, [], ◌∷◌, ◌++◌, length, map, take, drop, refl, sym, ap, ◌∙◌, subst}
 use Rattle.std.proofs.lemmas.List.{length-map, map-append, take-map, drop-map}
 use Rattle.ve_base.specs.declared.value.Value.{Value}

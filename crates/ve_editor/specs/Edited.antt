@@ -14,7 +14,7 @@ use Rattle.ve_tx.specs.Operation.{Operation, by_value}
 use Rattle.ve_tx.specs.declared.draft.Draft.{Draft}
 use Rattle.ve_tx.specs.declared.entry.Entry.{Entry as KeptEntry}
 
--- what a draft's items cite: the store's values, and after them its own
+-- the values that a draft's items cite: the store's, and after them its own
 abbrev pub drafted_values : List Value → Draft → List Value
 drafted_values store d = store ++ d.values.values
 
@@ -22,8 +22,8 @@ drafted_values store d = store ++ d.values.values
 abbrev pub drafted : List Value → Draft → Transaction
 drafted store d = by_value (drafted_values store d) d.tx
 
--- The draft is one over this store: its values follow the store, its items cite nothing else, and its values are just those by which the store
--- grows where it is filled with what the draft's inserted items cite.
+-- The draft is one over this store: its values follow the store, and its items cite nothing else.
+-- Filling the store with what the draft's inserted items cite makes it grow by just these values.
 pub record IsDraftOf (store : List Value) (d : Draft) : Type 0 where
   pub follows : d.values.after ≡ length store
   pub cites : TxCites (drafted_values store d) d.tx
@@ -42,7 +42,7 @@ abbrev pub AllStand : List Transaction → List PlainItem → Type 0
 AllStand [] items = Unit {0}
 AllStand (t ∷ ts) items = Applies t items × Lawful (edited t items) × AllStand ts (edited t items)
 
--- what takes transactions back, over the store that they cite
+-- the reversal of transactions, over the store that they cite
 abbrev pub reversal_over : List Value → List (List Operation) → List Transaction
 reversal_over store txs = reversal (map (by_value store) txs)
 

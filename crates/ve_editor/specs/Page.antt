@@ -1,4 +1,4 @@
--- A page under edit as the code keeps it, and what it is seen as.
+-- A page under edit as the code keeps it, and its view.
 use Rattle.std.specs.Prelude.{List, All}
 use Rattle.ve_base.specs.declared.value.Value.{Value}
 use Rattle.model_items.specs.declared.item.Item.{Item}
@@ -9,7 +9,8 @@ use Rattle.ve_tree.specs.IsTree.{unvalued}
 use Rattle.ve_tree.specs.TreeOf.{IsTreeOf}
 use Rattle.ve_tree.specs.declared.tree.Tree.{Tree}
 
--- Each value that an item cites is in the store and of the sort that the item asks for; the list is lawful, and the tree is the list's.
+-- Each value that an item cites is in the store and of the sort that the item asks for; the list is
+-- lawful, and the tree is the list's.
 pub record IsPage (store : List Value) (items : List Item) (linked : Tree) : Type 0 where
   pub cites : All (CitesWell store) items
   pub tree : IsTreeOf linked (unvalued items)

@@ -26,8 +26,8 @@ pub record FitsInto (list : ItemList) (change : Change) : Type 0 where
   pub within : LieBetween 0 (length list.items) change.splices.items
   pub room : come_count change.splices.items ≤ list.spare
 
--- Over the new values the list will be what the transaction makes of it over the old ones, and its items will cite them well;
--- and the tree is already that of the list as it will be.
+-- Over the new values the list will be what the transaction makes of it over the old ones, and its
+-- items will cite them well. The tree is already that of the list as it will be.
 pub record WillBe (t : Transaction) (old new : List Value) (list : ItemList) (linked : Tree) (change : Change) : Type 0 where
   pub items : plain_after new list.items change.splices.items ≡ edited t (plain_list old list.items)
   pub cites : All (CitesWell new) (spliced_by list.items change.splices.items)

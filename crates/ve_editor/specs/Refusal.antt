@@ -12,7 +12,8 @@ use Rattle.model_site.specs.Causes.{EditCause, edit_fault}
 use Rattle.model_site.specs.Refused.{law_cause, items_cause, store_cause}
 use Rattle.ve_lawful.specs.Uncited.{verdict}
 
--- It is the fault of the first cause. Want of memory may come where there is a cause and where there is none.
+-- It is the fault of the first cause. Want of memory may come where there is a cause and where
+-- there is none.
 abbrev pub IsEditRefusal : Option EditCause → EditFault → Type 0
 IsEditRefusal cause Memory = Unit {0}
 IsEditRefusal cause why = option_map edit_fault cause ≡ Some why

@@ -29,15 +29,25 @@ use ve_store::Store;
 use ve_tree::Tree;
 use ve_tx::{Draft, Entry, Parcel, Transaction, TxList};
 
-/// A page's list, the values that its items cite, the tree of the list, and what is selected. It is seen as a
-/// site's replica: the list by value, the store as its values, and the selection.
-#[derive(Drop)]
+/// A page's list, the values that its items cite, the tree of the list, and the selection. The view
+/// is a site's replica: the list by value, the store as its values, and the selection.
 pub struct Editor {
     list: Linear,
     store: Store,
     tree: Tree,
     selection: Selection,
     alloc: Global,
+}
+
+impl Drop for Editor {
+    fn drop(self) {
+        let Editor { list, store, tree, selection, alloc } = self;
+        drop(list);
+        drop(store);
+        drop(tree);
+        drop(selection);
+        drop(alloc);
+    }
 }
 
 impl Model for Editor {
@@ -58,8 +68,8 @@ impl Editor {
     ghost use Rattle.ve_editor.specs.Refusal.{IsEditRefusal};
     ghost use Rattle.ve_editor.specs.Counted.{steps_of, steps_after, steps_over};
 
-    /// An editor of a lawful list whose items cite values of the store, with the selection at the start. Its
-    /// tree is built, in at most eight steps for each node and sixteen more.
+    /// An editor of a lawful list whose items cite values of the store, with the selection at the
+    /// start. Its tree is built, in at most eight steps for each node and sixteen more.
     pub fn new<L: Ledger>(
         alloc: Global,
         list: Linear,
@@ -85,7 +95,8 @@ impl Editor {
         })
     }
 
-    /// An editor of equal list, store and selection. Its tree is built anew, in at most as many steps as `new` may take.
+    /// An editor of equal list, store and selection. Its tree is built anew, in at most as many
+    /// steps as `new` may take.
     pub fn copy<L: Ledger>(&self, steps: &mut Steps<L>) -> Result<Editor, Memory>
         ensures ok { IfOk result (λ copy. copy ≡ self.now) }
         ensures counted { steps.old ≤ steps.new }
@@ -111,7 +122,7 @@ impl Editor {
         }
     }
 
-    /// What is selected.
+    /// The selection.
     pub fn selection(&self) -> Selection
         ensures { result ≡ self.now.selection }
     {
@@ -125,31 +136,38 @@ impl Editor {
         self.selection = selection;
     }
 
-    /// Performs a draft, and gives what it did as an entry. The store takes the draft's values and the heads
-    /// that it changes; the selection moves with the items; and the entry keeps where the attributes stood
-    /// that it removes, so that it can be taken back.
+    /// Performs a draft, and gives its transaction as an entry. The store takes the draft's values
+    /// and the heads that it changes, and the selection moves with the items. The entry keeps where
+    /// the attributes stood that it removes, so that it can be taken back.
     ///
-    /// It is refused by the first of these causes: the draft doesn't apply to the list, as
-    /// `Transaction::change` says; the new list isn't lawful, at the first place that fails; it would have
-    /// over `MAX_ITEMS` items; the store would have over `MAX_VALUES` values. All memory is taken before
-    /// anything changes, and an `Err` changes nothing.
+    /// It is refused by the first of these causes. First, the draft doesn't apply to the list, as
+    /// `Transaction::change` says. Next, the new list isn't lawful, at the first position that
+    /// fails. Last, it would have over `MAX_ITEMS` items, or the store over `MAX_VALUES` values.
+    /// All memory is taken before anything changes, and an `Err` changes nothing.
     ///
-    /// Nodes are written, made or let go only where no cause refuses it: in at most eight steps for each node that the
-    /// transaction touches, and sixteen more. Nodes that stay keep their numbers, as `ready` and `relink` say.
+    /// Nodes are written, made or let go only where no cause refuses it: in at most eight steps for
+    /// each node that the transaction touches, and sixteen more. Nodes that stay keep their
+    /// numbers, as `ready` and `relink` say.
     pub fn perform<L: Ledger>(
         &mut self,
         draft: &Draft,
         steps: &mut Steps<L>,
     ) -> Result<Entry, EditFault>
         requires draft { IsDraftOf self.old.store draft.now }
-        ensures allowed { OnOk result (edit_cause (drafted self.old.store draft.now) self.old ≡ None) }
-        ensures page { OnOk result (self.new ≡ performed (drafted self.old.store draft.now) self.old) }
-        ensures entry { IfOk result (λ entry. entry_by_value self.new.store entry ≡ entry_of (drafted self.old.store draft.now ∷ []) self.old) }
+        ensures allowed { OnOk result (
+            edit_cause (drafted self.old.store draft.now) self.old ≡ None) }
+        ensures page { OnOk result (
+            self.new ≡ performed (drafted self.old.store draft.now) self.old) }
+        ensures entry { IfOk result (λ entry.
+            entry_by_value self.new.store entry
+            ≡ entry_of (drafted self.old.store draft.now ∷ []) self.old) }
         ensures cites { IfOk result (EntryCites self.new.store) }
-        ensures refused { IfErr result (IsEditRefusal (edit_cause (drafted self.old.store draft.now) self.old)) }
+        ensures refused { IfErr result (
+            IsEditRefusal (edit_cause (drafted self.old.store draft.now) self.old)) }
         ensures kept { OnErr result (self.new ≡ self.old) }
         ensures counted { steps.old ≤ steps.new }
-        ensures steps { steps.new ≤ steps.old + steps_of (drafted self.old.store draft.now) self.old.items }
+        ensures steps { steps.new
+            ≤ steps.old + steps_of (drafted self.old.store draft.now) self.old.items }
         ensures unstepped { IfErr result (λ why. why ≢ EditFault.Memory → steps.new ≡ steps.old) }
     {
         let before = self.store.len();
@@ -178,7 +196,8 @@ impl Editor {
         }
     }
 
-    /// Makes a transaction of a reversal, which applies and leaves a lawful list. An `Err` changes nothing.
+    /// Makes a transaction of a reversal, which applies and leaves a lawful list. An `Err` changes
+    /// nothing.
     fn put_back<L: Ledger>(&mut self, tx: &Transaction, steps: &mut Steps<L>) -> Result<(), Memory>
         requires cites { TxCites self.old.store tx.now }
         requires applies { Applies (by_value self.old.store tx.now) self.old.items }
@@ -186,7 +205,8 @@ impl Editor {
         ensures page { OnOk result (self.new ≡ put_back (by_value self.old.store tx.now) self.old) }
         ensures kept { OnErr result (self.new ≡ self.old) }
         ensures counted { steps.old ≤ steps.new }
-        ensures steps { steps.new ≤ steps.old + steps_of (by_value self.old.store tx.now) self.old.items }
+        ensures steps { steps.new
+            ≤ steps.old + steps_of (by_value self.old.store tx.now) self.old.items }
     {
         let before = self.store.len();
         match ready_back(
@@ -214,18 +234,22 @@ impl Editor {
         }
     }
 
-    /// Cuts the values of an entry off the store, where they are the last of it; before it was taken back the store had so many.
+    /// Cuts the values of an entry off the store, where they are the last of it; before it was
+    /// taken back the store had so many.
     fn cut_back(&mut self, entry: &Entry, was: usize)
         requires distinct { AreDistinct self.old.store }
         requires uncited { IsUncited (entry_by_value self.old.store entry.now) was self.old }
-        ensures { self.new ≡ record self.old { store = cut_back (entry_by_value self.old.store entry.now) was self.old.store } }
+        ensures { self.new ≡ record self.old {
+          store = cut_back (entry_by_value self.old.store entry.now) was self.old.store;
+        } }
     {
         if was == entry.store_after && entry.store_before < entry.store_after {
             self.store.truncate(entry.store_before);
         }
     }
 
-    /// Makes the transactions of a reversal, from the inverse of the last one to that of the first. An `Err` may leave some of them made.
+    /// Makes the transactions of a reversal, from the inverse of the last one to that of the first.
+    /// An `Err` may leave some of them made.
     fn put_all_back<L: Ledger>(
         &mut self,
         txs: &[Transaction],
@@ -233,9 +257,11 @@ impl Editor {
     ) -> Result<(), Memory>
         requires cites { All (TxCites self.old.store) txs.now }
         requires stands { AllStand (reversal_over self.old.store txs.now) self.old.items }
-        ensures page { OnOk result (self.new ≡ all_put_back (reversal_over self.old.store txs.now) self.old) }
+        ensures page { OnOk result (
+            self.new ≡ all_put_back (reversal_over self.old.store txs.now) self.old) }
         ensures counted { steps.old ≤ steps.new }
-        ensures steps { steps.new ≤ steps.old + steps_after (reversal_over self.old.store txs.now) self.old.items }
+        ensures steps { steps.new
+            ≤ steps.old + steps_after (reversal_over self.old.store txs.now) self.old.items }
     {
         for n in 0..txs.len() {
             let tx = &txs[txs.len() - 1 - n];
@@ -245,8 +271,8 @@ impl Editor {
         Ok(())
     }
 
-    /// Makes the reversal of transactions. That of one is made in place, and that of more on a copy, so that
-    /// want of memory in the second leaves nothing of the first.
+    /// Makes the reversal of transactions. That of one is made in place, and that of more on a
+    /// copy, so that want of memory in the second leaves nothing of the first.
     fn put_entry_back<L: Ledger>(
         &mut self,
         txs: &[Transaction],
@@ -254,10 +280,12 @@ impl Editor {
     ) -> Result<(), Memory>
         requires cites { All (TxCites self.old.store) txs.now }
         requires stands { AllStand (reversal_over self.old.store txs.now) self.old.items }
-        ensures page { OnOk result (self.new ≡ all_put_back (reversal_over self.old.store txs.now) self.old) }
+        ensures page { OnOk result (
+            self.new ≡ all_put_back (reversal_over self.old.store txs.now) self.old) }
         ensures kept { OnErr result (self.new ≡ self.old) }
         ensures counted { steps.old ≤ steps.new }
-        ensures steps { steps.new ≤ steps.old + steps_over (reversal_over self.old.store txs.now) self.old.items }
+        ensures steps { steps.new
+            ≤ steps.old + steps_over (reversal_over self.old.store txs.now) self.old.items }
     {
         if txs.len() == 1 {
             let back = txs[0].inverse(self.alloc)?;
@@ -269,8 +297,8 @@ impl Editor {
         Ok(())
     }
 
-    /// Performs a transaction that cites a list of values, applies and leaves a lawful list, and gives it as
-    /// an entry keeps it. An `Err` changes nothing.
+    /// Performs a transaction that cites a list of values, applies and leaves a lawful list, and
+    /// gives it as an entry keeps it. An `Err` changes nothing.
     fn perform_other<L: Ledger>(
         &mut self,
         tx: &Transaction,
@@ -281,11 +309,14 @@ impl Editor {
         requires applies { Applies (by_value values.now tx.now) self.old.items }
         requires lawful { Lawful (edited (by_value values.now tx.now) self.old.items) }
         ensures page { OnOk result (self.new ≡ performed (by_value values.now tx.now) self.old) }
-        ensures txs { IfOk result (λ txs. map (by_value self.new.store) txs ≡ filled (by_value values.now tx.now) self.old.items ∷ []) }
+        ensures txs { IfOk result (λ txs.
+            map (by_value self.new.store) txs
+            ≡ filled (by_value values.now tx.now) self.old.items ∷ []) }
         ensures cites { IfOk result (λ txs. All (TxCites self.new.store) txs) }
         ensures kept { OnErr result (self.new ≡ self.old) }
         ensures counted { steps.old ≤ steps.new }
-        ensures steps { steps.new ≤ steps.old + steps_of (by_value values.now tx.now) self.old.items }
+        ensures steps { steps.new
+            ≤ steps.old + steps_of (by_value values.now tx.now) self.old.items }
     {
         let stored = self.store.len();
         match ready_other(
@@ -315,8 +346,8 @@ impl Editor {
         }
     }
 
-    /// Performs transactions that cite a list of values, one after the other, and gives them as an entry
-    /// keeps them. An `Err` may leave some of them performed.
+    /// Performs transactions that cite a list of values, one after the other, and gives them as an
+    /// entry keeps them. An `Err` may leave some of them performed.
     fn perform_others<L: Ledger>(
         &mut self,
         txs: &[Transaction],
@@ -325,11 +356,15 @@ impl Editor {
     ) -> Result<TxList, Memory>
         requires cites { All (TxCites values.now) txs.now }
         requires stands { AllStand (map (by_value values.now) txs.now) self.old.items }
-        ensures page { OnOk result (self.new ≡ all_performed (map (by_value values.now) txs.now) self.old) }
-        ensures txs { IfOk result (λ kept. map (by_value self.new.store) kept ≡ all_filled (map (by_value values.now) txs.now) self.old.items) }
+        ensures page { OnOk result (
+            self.new ≡ all_performed (map (by_value values.now) txs.now) self.old) }
+        ensures txs { IfOk result (λ kept.
+            map (by_value self.new.store) kept
+            ≡ all_filled (map (by_value values.now) txs.now) self.old.items) }
         ensures cites { IfOk result (λ kept. All (TxCites self.new.store) kept) }
         ensures counted { steps.old ≤ steps.new }
-        ensures steps { steps.new ≤ steps.old + steps_after (map (by_value values.now) txs.now) self.old.items }
+        ensures steps { steps.new
+            ≤ steps.old + steps_after (map (by_value values.now) txs.now) self.old.items }
     {
         let mut kept = TxList::new(self.alloc);
         for tx in txs {
@@ -339,8 +374,8 @@ impl Editor {
         Ok(kept)
     }
 
-    /// The same, and an `Err` changes nothing. One transaction is performed in place, and more on a copy, so
-    /// that want of memory in the second leaves nothing of the first.
+    /// The same, and an `Err` changes nothing. One transaction is performed in place, and more on a
+    /// copy, so that want of memory in the second leaves nothing of the first.
     fn admit_all<L: Ledger>(
         &mut self,
         txs: &[Transaction],
@@ -349,12 +384,16 @@ impl Editor {
     ) -> Result<TxList, Memory>
         requires cites { All (TxCites values.now) txs.now }
         requires stands { AllStand (map (by_value values.now) txs.now) self.old.items }
-        ensures page { OnOk result (self.new ≡ all_performed (map (by_value values.now) txs.now) self.old) }
-        ensures txs { IfOk result (λ kept. map (by_value self.new.store) kept ≡ all_filled (map (by_value values.now) txs.now) self.old.items) }
+        ensures page { OnOk result (
+            self.new ≡ all_performed (map (by_value values.now) txs.now) self.old) }
+        ensures txs { IfOk result (λ kept.
+            map (by_value self.new.store) kept
+            ≡ all_filled (map (by_value values.now) txs.now) self.old.items) }
         ensures cites { IfOk result (λ kept. All (TxCites self.new.store) kept) }
         ensures kept { OnErr result (self.new ≡ self.old) }
         ensures counted { steps.old ≤ steps.new }
-        ensures steps { steps.new ≤ steps.old + steps_over (map (by_value values.now) txs.now) self.old.items }
+        ensures steps { steps.new
+            ≤ steps.old + steps_over (map (by_value values.now) txs.now) self.old.items }
     {
         if txs.len() == 1 {
             return self.perform_other(&txs[0], values, steps);
@@ -365,10 +404,11 @@ impl Editor {
         Ok(kept)
     }
 
-    /// Performs another's parcel, and gives it as an entry: the same transactions over this store, with the
-    /// positions of the attributes that they remove, and the lengths of the store before and after. It is
-    /// asked that each transaction applies to what those before it leave, and leaves a lawful list; the
-    /// limits of items and of values don't bind it. An `Err` changes nothing.
+    /// Performs another's parcel, and gives it as an entry. That has the same transactions over
+    /// this store, with the positions of the attributes that they remove, and the lengths of the
+    /// store before and after. Each transaction has to apply to the result of those before it, and
+    /// to leave a lawful list. The limits of items and of values don't bind it. An `Err` changes
+    /// nothing.
     pub fn admit<L: Ledger>(
         &mut self,
         parcel: &Parcel,
@@ -376,12 +416,16 @@ impl Editor {
     ) -> Result<Entry, Memory>
         requires cites { ParcelCites parcel.now }
         requires stands { AllStand (parcel_by_value parcel.now) self.old.items }
-        ensures page { OnOk result (self.new ≡ all_performed (parcel_by_value parcel.now) self.old) }
-        ensures entry { IfOk result (λ entry. entry_by_value self.new.store entry ≡ entry_of (parcel_by_value parcel.now) self.old) }
+        ensures page { OnOk result (
+            self.new ≡ all_performed (parcel_by_value parcel.now) self.old) }
+        ensures entry { IfOk result (λ entry.
+            entry_by_value self.new.store entry
+            ≡ entry_of (parcel_by_value parcel.now) self.old) }
         ensures cites { IfOk result (EntryCites self.new.store) }
         ensures kept { OnErr result (self.new ≡ self.old) }
         ensures counted { steps.old ≤ steps.new }
-        ensures steps { steps.new ≤ steps.old + steps_over (parcel_by_value parcel.now) self.old.items }
+        ensures steps { steps.new
+            ≤ steps.old + steps_over (parcel_by_value parcel.now) self.old.items }
     {
         let store_before = self.store.len();
         let txs = self.admit_all(parcel.entry.txs.as_slice(), parcel.values.as_slice(), steps)?;
@@ -392,18 +436,20 @@ impl Editor {
         })
     }
 
-    /// Takes an entry back: its reversals are made, the last transaction's first, and the store takes the
-    /// heads that they change. Where the entry's values were the last of the store, they are cut off it. It
-    /// is asked that the reversals apply one after the other and leave lawful lists, and that where values
-    /// are cut the list that is left cites none of them. An `Err` changes nothing.
+    /// Takes an entry back: its reversals are made, the last transaction's first, and the store
+    /// takes the heads that they change. Where the entry's values were the last of the store, they
+    /// are cut off it. The reversals have to apply one after the other and leave lawful lists.
+    /// Where values are cut, the list that is left may cite none of them. An `Err` changes nothing.
     pub fn revert<L: Ledger>(&mut self, entry: &Entry, steps: &mut Steps<L>) -> Result<(), Memory>
         requires cites { EntryCites self.old.store entry.now }
         requires stands { CanBeReverted (entry_by_value self.old.store entry.now) self.old }
         requires uncited { CutsUncited (entry_by_value self.old.store entry.now) self.old }
-        ensures page { OnOk result (self.new ≡ reverted (entry_by_value self.old.store entry.now) self.old) }
+        ensures page { OnOk result (
+            self.new ≡ reverted (entry_by_value self.old.store entry.now) self.old) }
         ensures kept { OnErr result (self.new ≡ self.old) }
         ensures counted { steps.old ≤ steps.new }
-        ensures steps { steps.new ≤ steps.old + steps_over (reversal_over self.old.store entry.now.txs) self.old.items }
+        ensures steps { steps.new
+            ≤ steps.old + steps_over (reversal_over self.old.store entry.now.txs) self.old.items }
     {
         let was = self.store.len();
         self.put_entry_back(entry.txs.as_slice(), steps)?;

@@ -1,5 +1,5 @@
-// A draft made ready to be performed, and a transaction to be taken back: all that may fail, before the list changes.
-// The tree becomes that of the new list last of all.
+// A draft made ready to be performed, and a transaction to be taken back: all that may fail, before
+// the list changes. The tree becomes that of the new list last of all.
 ghost use Rattle.std.specs.Prelude.{◌≡◌, ◌≢◌, ◌≤◌, ◌+◌, [], ◌∷◌, All, None, length, map, IfOk, IfErr, OnOk, OnErr};
 ghost use Rattle.model_items.specs.Law.{Lawful};
 ghost use Rattle.model_items.specs.Plain.{plain_list, CitesWell};
@@ -61,7 +61,8 @@ fn one_filled(
     requires list { All (CitesWell store.now) list.now.items }
     requires applies { AppliesTo store.now tx.now list.now.items }
     requires cites { TxCites store.now tx.now }
-    ensures txs { IfOk result (λ txs. map (by_value store.now) txs ≡ filled_on store.now tx.now list.now.items ∷ []) }
+    ensures txs { IfOk result (λ txs.
+        map (by_value store.now) txs ≡ filled_on store.now tx.now list.now.items ∷ []) }
     ensures cites { IfOk result (λ txs. All (TxCites store.now) txs) }
 {
     let filled = tx.filled(alloc, list, store)?;
@@ -81,7 +82,8 @@ fn entry_of(
     requires list { All (CitesWell store.now) list.now.items }
     requires applies { AppliesTo store.now tx.now list.now.items }
     requires cites { TxCites store.now tx.now }
-    ensures txs { IfOk result (λ entry. map (by_value store.now) entry.txs ≡ filled_on store.now tx.now list.now.items ∷ []) }
+    ensures txs { IfOk result (λ entry.
+        map (by_value store.now) entry.txs ≡ filled_on store.now tx.now list.now.items ∷ []) }
     ensures before { IfOk result (λ entry. entry.store_before ≡ store_before) }
     ensures after { IfOk result (λ entry. entry.store_after ≡ length store.now) }
     ensures cites { IfOk result (λ entry. All (TxCites store.now) entry.txs) }
@@ -94,8 +96,8 @@ fn entry_of(
     })
 }
 
-/// The entry of a transaction and its change. Then the tree is that of the list after the change, and nodes that stay
-/// keep their numbers; at an `Err` it is the tree of the list still.
+/// The entry of a transaction and its change. Then the tree is that of the list after the change,
+/// and nodes that stay keep their numbers; at an `Err` it is the tree of the list still.
 fn with_entry<L: Ledger>(
     alloc: Global,
     list: &Linear,
@@ -111,13 +113,16 @@ fn with_entry<L: Ledger>(
     requires applies { AppliesTo store.now tx.now list.now.items }
     requires cites { TxCites store.now tx.now }
     requires lawful { LawfulAfter tx.now list.now.items }
-    ensures txs { IfOk result (λ ready. map (by_value store.now) ready.entry.txs ≡ filled_on store.now tx.now list.now.items ∷ []) }
+    ensures txs { IfOk result (λ ready.
+        map (by_value store.now) ready.entry.txs
+        ≡ filled_on store.now tx.now list.now.items ∷ []) }
     ensures before { IfOk result (λ ready. ready.entry.store_before ≡ store_before) }
     ensures after { IfOk result (λ ready. ready.entry.store_after ≡ length store.now) }
     ensures cites { IfOk result (λ ready. All (TxCites store.now) ready.entry.txs) }
     ensures change { IfOk result (λ ready. ready.change ≡ change) }
     ensures tree { OnOk result (IsTreeOfAfter tree.new tx.now list.now.items) }
-    ensures numbers { OnOk result (KeepsNumbers tree.old.arena tree.new.arena tree.old.root tx.now list.now.items) }
+    ensures numbers { OnOk result (
+        KeepsNumbers tree.old.arena tree.new.arena tree.old.root tx.now list.now.items) }
     ensures kept { OnErr result (IsTreeOf tree.new (unvalued list.now.items)) }
     ensures counted { steps.old ≤ steps.new }
     ensures steps { IsWithinTouch steps.old steps.new tx.now list.now.items }
@@ -127,9 +132,10 @@ fn with_entry<L: Ledger>(
     Ok(Performing { entry, change })
 }
 
-/// Makes a draft ready to be performed on a page, or says why it is not performed. The store takes its values and
-/// the list room, and then the tree becomes that of the list after the change, in which nodes that stay keep their
-/// numbers; an `Err` leaves it the list's, and may leave values after those that were there.
+/// Makes a draft ready to be performed on a page, or says why it is not performed. The store takes
+/// its values and the list room. Then the tree becomes that of the list after the change, in which
+/// nodes that stay keep their numbers. An `Err` leaves it the list's, and may leave values after
+/// those that were there.
 pub fn ready<L: Ledger>(
     alloc: Global,
     list: &mut Linear,
@@ -141,13 +147,18 @@ pub fn ready<L: Ledger>(
     requires page { IsPage store.old list.old.items tree.old }
     requires draft { IsDraftOf store.old draft.now }
     ensures ok { IfOk result (MayPerform draft.now store.old store.new list.new tree.new) }
-    ensures numbers { OnOk result (KeepsNumbers tree.old.arena tree.new.arena tree.old.root draft.now.tx list.old.items) }
-    ensures refused { IfErr result (IsEditRefusal (edit_cause (drafted store.old draft.now) (page_of store.old list.old.items (between 0 0)))) }
+    ensures numbers { OnOk result (
+        KeepsNumbers tree.old.arena tree.new.arena tree.old.root draft.now.tx list.old.items) }
+    ensures refused { IfErr result (
+        IsEditRefusal (
+        edit_cause (drafted store.old draft.now) (
+        page_of store.old list.old.items (between 0 0)))) }
     ensures kept { OnErr result (IsTreeOf tree.new (unvalued list.old.items)) }
     ensures items { list.new.items ≡ list.old.items }
     ensures extends { Extends store.old store.new }
     ensures counted { steps.old ≤ steps.new }
-    ensures steps { steps.new ≤ steps.old + steps_of (drafted store.old draft.now) (plain_list store.old list.old.items) }
+    ensures steps { steps.new
+        ≤ steps.old + steps_of (drafted store.old draft.now) (plain_list store.old list.old.items) }
     ensures unstepped { IfErr result (λ why. why ≢ EditFault.Memory → steps.new ≡ steps.old) }
 {
     let before = store.len();
@@ -174,9 +185,10 @@ pub fn ready<L: Ledger>(
     }
 }
 
-/// Makes a transaction ready that applies to a page and leaves it lawful. The store takes the heads that it
-/// changes and the list room, and then the tree becomes that of the list after the change, in which nodes that stay
-/// keep their numbers; an `Err` leaves it the list's, and may leave values after those that were there.
+/// Makes a transaction ready that applies to a page and leaves it lawful. The store takes the heads
+/// that it changes and the list room. Then the tree becomes that of the list after the change, in
+/// which nodes that stay keep their numbers. An `Err` leaves it the list's, and may leave values
+/// after those that were there.
 pub fn ready_back<L: Ledger>(
     alloc: Global,
     list: &mut Linear,
@@ -189,14 +201,18 @@ pub fn ready_back<L: Ledger>(
     requires list { All (CitesWell store.old) list.old.items }
     requires cites { TxCites store.old tx.now }
     requires applies { AppliesTo store.old tx.now list.old.items }
-    requires lawful { Lawful (edited (by_value store.old tx.now) (plain_list store.old list.old.items)) }
-    ensures ok { IfOk result (IsReadyBack (by_value store.old tx.now) store.old store.new list.new tree.new) }
-    ensures numbers { OnOk result (KeepsNumbers tree.old.arena tree.new.arena tree.old.root tx.now list.old.items) }
+    requires lawful { Lawful (
+        edited (by_value store.old tx.now) (plain_list store.old list.old.items)) }
+    ensures ok { IfOk result (
+        IsReadyBack (by_value store.old tx.now) store.old store.new list.new tree.new) }
+    ensures numbers { OnOk result (
+        KeepsNumbers tree.old.arena tree.new.arena tree.old.root tx.now list.old.items) }
     ensures kept { OnErr result (IsTreeOf tree.new (unvalued list.old.items)) }
     ensures items { list.new.items ≡ list.old.items }
     ensures extends { Extends store.old store.new }
     ensures counted { steps.old ≤ steps.new }
-    ensures steps { steps.new ≤ steps.old + steps_of (by_value store.old tx.now) (plain_list store.old list.old.items) }
+    ensures steps { steps.new
+        ≤ steps.old + steps_of (by_value store.old tx.now) (plain_list store.old list.old.items) }
 {
     match tx.change(alloc, list, store) {
         Ok(change) => {
@@ -207,9 +223,9 @@ pub fn ready_back<L: Ledger>(
     }
 }
 
-/// Makes a transaction ready that cites a list of values, applies to a page and leaves it lawful. The store
-/// takes what it brings and the list room, and then the tree becomes that of the list after the change; an `Err`
-/// leaves it the list's, and may leave values after those that were there.
+/// Makes a transaction ready that cites a list of values, applies to a page and leaves it lawful.
+/// The store takes its values and the list room. Then the tree becomes that of the list after the
+/// change. An `Err` leaves it the list's, and may leave values after those that were there.
 pub fn ready_other<L: Ledger>(
     alloc: Global,
     list: &mut Linear,
@@ -223,13 +239,16 @@ pub fn ready_other<L: Ledger>(
     requires list { All (CitesWell store.old) list.old.items }
     requires cites { TxCites values.now tx.now }
     requires applies { Applies (by_value values.now tx.now) (plain_list store.old list.old.items) }
-    requires lawful { Lawful (edited (by_value values.now tx.now) (plain_list store.old list.old.items)) }
-    ensures ok { IfOk result (IsReadyOther (by_value values.now tx.now) store.old store.new list.new tree.new) }
+    requires lawful { Lawful (
+        edited (by_value values.now tx.now) (plain_list store.old list.old.items)) }
+    ensures ok { IfOk result (
+        IsReadyOther (by_value values.now tx.now) store.old store.new list.new tree.new) }
     ensures kept { OnErr result (IsTreeOf tree.new (unvalued list.old.items)) }
     ensures items { list.new.items ≡ list.old.items }
     ensures extends { Extends store.old store.new }
     ensures counted { steps.old ≤ steps.new }
-    ensures steps { steps.new ≤ steps.old + steps_of (by_value values.now tx.now) (plain_list store.old list.old.items) }
+    ensures steps { steps.new
+        ≤ steps.old + steps_of (by_value values.now tx.now) (plain_list store.old list.old.items) }
 {
     // its type keeps that it is in normal form, which `ops` tells
     let _ops = tx.ops();

@@ -1,4 +1,5 @@
-// A change of a page: the tree follows as the last step that may fail, and then the list, which takes no more memory.
+// A change of a page: the tree follows as the last step that may fail, and then the list, which
+// takes no more memory.
 ghost use Rattle.std.specs.Prelude.{◌≡◌, ◌≤◌, OnOk, OnErr};
 ghost use Rattle.ve_repair.specs.Change.{CanApply, LawfulAfter};
 ghost use Rattle.ve_repair.specs.Kept.{KeepsNumbers};
@@ -16,9 +17,9 @@ use ve_repair::relink;
 use ve_tree::Tree;
 use ve_tx::{Change, Transaction};
 
-/// Makes the tree of a list that of the list which a transaction gives, and which the list itself has still to become: so
-/// it is the last step that may fail. Nodes that stay keep their numbers. At want of memory it is the tree of the list
-/// still.
+/// Makes the tree of a list that of the list which a transaction gives. The list itself has still
+/// to become that: so this is the last step that may fail. Nodes that stay keep their numbers. At
+/// want of memory it is the tree of the list still.
 pub fn prepare<L: Ledger>(
     alloc: Global,
     list: &Linear,
@@ -30,7 +31,8 @@ pub fn prepare<L: Ledger>(
     requires applies { CanApply tx.now list.now.items }
     requires lawful { LawfulAfter tx.now list.now.items }
     ensures tree { OnOk result (IsTreeOfAfter tree.new tx.now list.now.items) }
-    ensures numbers { OnOk result (KeepsNumbers tree.old.arena tree.new.arena tree.old.root tx.now list.now.items) }
+    ensures numbers { OnOk result (
+        KeepsNumbers tree.old.arena tree.new.arena tree.old.root tx.now list.now.items) }
     ensures kept { OnErr result (IsTreeOf tree.new (unvalued list.now.items)) }
     ensures counted { steps.old ≤ steps.new }
     ensures steps { IsWithinTouch steps.old steps.new tx.now list.now.items }

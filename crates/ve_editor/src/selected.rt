@@ -1,4 +1,4 @@
-// What is selected after a change.
+// The selection after a change.
 ghost use Rattle.std.specs.Prelude.{◌≡◌, ◌<◌, ◌+◌, ◌^◌, true};
 ghost use Rattle.model_items.specs.Offsets as offsets;
 ghost use Rattle.model_items.specs.Plain.{plain_list};
@@ -14,7 +14,8 @@ use ve_tx::Transaction;
 /// Whether any number, past the list's end too, is an offset inside a leaf.
 fn is_inside(doc: Doc<'_>, at: usize) -> bool
     requires { IsDoc doc }
-    ensures means { (values : _) → result ≡ offsets.is_inside_leaf (plain_list values doc.entry.list.now.items) at }
+    ensures means { (values : _)
+        → result ≡ offsets.is_inside_leaf (plain_list values doc.entry.list.now.items) at }
     ensures fits { result ≡ true → at + 1 < 2 ^ 64 }
 {
     if at >= doc.list.len() {
@@ -26,15 +27,19 @@ fn is_inside(doc: Doc<'_>, at: usize) -> bool
 /// An offset, or where it is inside a leaf the one past the leaf's closing.
 fn past_leaf(doc: Doc<'_>, at: usize) -> usize
     requires { IsDoc doc }
-    ensures { (values : _) → result ≡ model.past_leaf (plain_list values doc.entry.list.now.items) at }
+    ensures { (values : _)
+        → result ≡ model.past_leaf (plain_list values doc.entry.list.now.items) at }
 {
     if is_inside(doc, at) { at + 1 } else { at }
 }
 
-/// What is selected on a page after a transaction that made it what it is.
+/// The selection on a page after the transaction that made it.
 pub fn moved(doc: Doc<'_>, tx: &Transaction, selection: Selection) -> Selection
     requires { IsDoc doc }
-    ensures { (values others : _) → result ≡ moved_selection (by_value others tx.now) (plain_list values doc.entry.list.now.items) selection }
+    ensures { (values others : _)
+        → result
+        ≡ moved_selection (by_value others tx.now) (plain_list values doc.entry.list.now.items)
+        selection }
 {
     let ends = translate_range(tx, selection);
     Selection {

@@ -8,7 +8,8 @@ use ve_base::{Memory, TryCopy, Value, ValueId};
 use ve_store::{NewValues, Store};
 use ve_tx::ValueList;
 
-/// Copies of values that follow a store. They are copied before the store takes the first one, since they are read beside it.
+/// Copies of values that follow a store. They are copied before the store takes the first one,
+/// since they are read beside it.
 fn copied(alloc: Global, store: &Store, new: &NewValues) -> Result<ValueList, Memory>
     requires { new.now.after ≡ length store.now }
     ensures { IfOk result (λ values. values ≡ new.now.values) }

@@ -1,4 +1,4 @@
-// Whether a page may become what a change makes of it.
+// Whether a page may become the result of a change.
 ghost use Rattle.std.specs.Prelude.{◌≡◌, ◌≤◌, ◌^◌, length, IfSome, IfNone, IfErr, OnOk, None, Some};
 ghost use Rattle.ve_lawful.specs.Uncited.{verdict};
 ghost use Rattle.ve_offsets.specs.Docs.{IsDoc};
@@ -19,8 +19,10 @@ use ve_tx::{Change, Transaction};
 /// How many items a list has after a change, where a `usize` names the number.
 fn length_after(list: &Linear, change: &Change) -> Option<usize>
     requires { LieBetween 0 (length list.now.items) change.now.splices.items }
-    ensures some { IfSome result (λ count. count ≡ length (spliced_by list.now.items change.now.splices.items)) }
-    ensures none { IfNone result (2 ^ 64 ≤ length (spliced_by list.now.items change.now.splices.items)) }
+    ensures some { IfSome result (λ count.
+        count ≡ length (spliced_by list.now.items change.now.splices.items)) }
+    ensures none { IfNone result (
+        2 ^ 64 ≤ length (spliced_by list.now.items change.now.splices.items)) }
 {
     let mut kept = list.len();
     let mut come = 0usize;
@@ -31,28 +33,39 @@ fn length_after(list: &Linear, change: &Change) -> Option<usize>
     kept.checked_add(come)
 }
 
-/// The law's verdict over what a page becomes by the change that a transaction is.
+/// The law's verdict on a page after the change of a transaction.
 fn law_after(doc: Doc<'_>, tx: &Transaction, change: &Change) -> Result<(), LawFault>
     requires doc { IsDoc doc }
     requires applies { CanApply tx.now doc.list.now.items }
-    requires made { MakesEdited doc.store.now doc.store.now tx.now doc.list.now.items change.now.splices.items }
-    ensures ok { OnOk result (verdict (spliced_by doc.entry.list.now.items change.now.splices.items) ≡ None) }
+    requires made { MakesEdited doc.store.now doc.store.now tx.now doc.list.now.items
+        change.now.splices.items }
+    ensures ok { OnOk result (
+        verdict (spliced_by doc.entry.list.now.items change.now.splices.items) ≡ None) }
     ensures lawful { OnOk result (LawfulAfter tx.now doc.entry.list.now.items) }
-    ensures err { IfErr result (λ fault. verdict (spliced_by doc.entry.list.now.items change.now.splices.items) ≡ Some fault) }
+    ensures err { IfErr result (λ fault.
+        verdict (spliced_by doc.entry.list.now.items change.now.splices.items) ≡ Some fault) }
 {
     check_change(doc, tx)
 }
 
-/// Whether a page may become what the change makes of it that a transaction is: the first cause why not, by the law, by
-/// the number of items and by the number of values. A length that no `usize` names is a want of memory like any other.
+/// Whether a page may become the result of a transaction's change. Else the first cause why not: by
+/// the law, by the number of items, or by the number of values. A length that no `usize` names is a
+/// want of memory like any other.
 pub fn may_become(doc: Doc<'_>, tx: &Transaction, change: &Change) -> Result<(), EditFault>
     requires doc { IsDoc doc }
     requires applies { CanApply tx.now doc.list.now.items }
-    requires made { MakesEdited doc.store.now doc.store.now tx.now doc.list.now.items change.now.splices.items }
+    requires made { MakesEdited doc.store.now doc.store.now tx.now doc.list.now.items
+        change.now.splices.items }
     requires within { LieBetween 0 (length doc.list.now.items) change.now.splices.items }
-    ensures ok { OnOk result (list_cause (spliced_by doc.entry.list.now.items change.now.splices.items) (length doc.entry.store.now) ≡ None) }
+    ensures ok { OnOk result (
+        list_cause (spliced_by doc.entry.list.now.items change.now.splices.items)
+        (length doc.entry.store.now)
+        ≡ None) }
     ensures lawful { OnOk result (LawfulAfter tx.now doc.entry.list.now.items) }
-    ensures err { IfErr result (IsEditRefusal (list_cause (spliced_by doc.entry.list.now.items change.now.splices.items) (length doc.entry.store.now))) }
+    ensures err { IfErr result (
+        IsEditRefusal (
+        list_cause (spliced_by doc.entry.list.now.items change.now.splices.items)
+        (length doc.entry.store.now))) }
 {
     let Some(count) = length_after(doc.list, change) else {
         return Err(EditFault::Memory);

@@ -10,7 +10,7 @@ use Rattle.model_change.specs.Transaction.{Retain, Replace, Attribute, Transacti
 use Rattle.model_edit.specs.Edits.{Edit, Change, retaining, merged, replacing, transaction_from, transaction_of}
 use Rattle.ve_tx.specs.Operation.{by_value, unkept}
 use Rattle.ve_tx.proofs.MakingLemmas.{All-drop, All-take}
-use Rattle.ve_edits.specs.Collected.{Collected, shown, AreCited, Makes}
+use Rattle.ve_edits.specs.Collected.{Collected, collected_transaction, AreCited, Makes}
 
 pub retaining-add : (m n : ℕ) (t : Transaction) → retaining m (retaining n t) ≡ retaining (m + n) t
 retaining-add zero n t = ap (λ k. retaining k t) (sym (zero-add n))
@@ -86,10 +86,10 @@ none_by_value values [] [] some a b = some refl refl
 none_by_value values [] (o ∷ is) some a b = cc
 none_by_value values (x ∷ xs) inserted some a b = cc
 
--- One edit more: the place is passed to, and the replace that is pending grows.
+-- One edit more: the position is passed to, and the replace that is pending grows.
 module _ (values : List Value) (items : List Item) (edits : List Edit) (old mid : Collected) (place count : ℕ) (inserted : List Item)
     (order : old.at ≤ place) (within : place + count ≤ length items)
-    (means : (t : Transaction) → shown values mid t ≡ shown values old (retaining (place - old.at) t))
+    (means : (t : Transaction) → collected_transaction values mid t ≡ collected_transaction values old (retaining (place - old.at) t))
     (cites : AreCited values old → AreCited values mid) where
   P : List PlainItem
   P = plain_list values items
@@ -120,8 +120,8 @@ module _ (values : List Value) (items : List Item) (edits : List Edit) (old mid 
         ap (transaction_of all) (append_assoc edits (Change place count I ∷ []) more)
         ∙ m.means (Change place count I ∷ more)
         ∙ sym (means (replacing (take count rest) I (transaction_from (place + count) (drop count rest) more)))
-        ∙ ap (λ v. shown values mid (replacing (take count rest) I (transaction_from (place + count) v more))) later
-        ∙ ap (λ v. shown values mid (replacing (take count v) I t)) rest_is
+        ∙ ap (λ v. collected_transaction values mid (replacing (take count rest) I (transaction_from (place + count) v more))) later
+        ∙ ap (λ v. collected_transaction values mid (replacing (take count v) I t)) rest_is
         ∙ ap (λ v. by_value values (unkept mid.ops) ++ retaining mid.retained v)
         (replacing-merged (plain_list values mid.removed) (plain_list values mid.inserted) (take count (drop place all)) I t)
         ∙ ap (λ v. by_value values (unkept mid.ops) ++ retaining mid.retained (replacing v (plain_list values mid.inserted ++ I) t)) (sym removed_is)
@@ -144,22 +144,22 @@ module _ (values : List Value) (items : List Item) (edits : List Edit) (old mid 
 
 -- All edits are collected: what is left of the list is passed, and what is pending is put down.
 pub finished : (values : List Value) (items : List Item) (edits : List Edit) (old mid : Collected) (ops : Transaction) → Makes values items edits old →
-    ((t : Transaction) → shown values mid t ≡ shown values old (retaining (length items - old.at) t)) → ops ≡ shown values mid [] →
+    ((t : Transaction) → collected_transaction values mid t ≡ collected_transaction values old (retaining (length items - old.at) t)) → ops ≡ collected_transaction values mid [] →
     ops ≡ transaction_of (plain_list values items) edits
 finished values items edits old mid ops m means settled =
     let all = plain_list values items in
     let e : length items - old.at ≡ length (drop old.at all) = omega (arith, length-drop old.at all, length-map items (plain values)) in
-    settled ∙ means [] ∙ ap (λ n. shown values old (retaining n [])) e ∙ sym (m.means []) ∙ ap (transaction_of all) (append-nil edits)
+    settled ∙ means [] ∙ ap (λ n. collected_transaction values old (retaining n [])) e ∙ sym (m.means []) ∙ ap (transaction_of all) (append-nil edits)
 
 pub settled : (before between now : Transaction) (n : ℕ) (r i : List PlainItem) → between ≡ before ++ retaining n [] → now ≡ between ++ replacing r i [] →
     now ≡ before ++ retaining n (replacing r i [])
 settled before between now n r i one two =
     two ∙ ap (λ v. v ++ replacing r i []) one ∙ append_assoc before (retaining n []) (replacing r i []) ∙ ap (λ v. before ++ v) (put_down n r i)
 
--- a replace that was pending is put down, and the place is passed to
+-- a replace that was pending is put down, and the position is passed to
 pub went_on : (values : List Value) (old set : Collected) (place : ℕ) (t : Transaction) → (old.removed ≡ [] → old.inserted ≡ [] → ⊥) → 0 < place - old.at →
-    by_value values (unkept set.ops) ≡ shown values old [] → set.removed ≡ [] → set.inserted ≡ [] →
-    shown values (record { at = place; ops = set.ops; retained = place - old.at; removed = set.removed; inserted = set.inserted }) t ≡ shown values old (retaining (place - old.at) t)
+    by_value values (unkept set.ops) ≡ collected_transaction values old [] → set.removed ≡ [] → set.inserted ≡ [] →
+    collected_transaction values (record { at = place; ops = set.ops; retained = place - old.at; removed = set.removed; inserted = set.inserted }) t ≡ collected_transaction values old (retaining (place - old.at) t)
 went_on values old set place t some gap down none_removed none_inserted =
     ap (λ v. by_value values (unkept set.ops) ++ retaining (place - old.at) (replacing (plain_list values v) (plain_list values set.inserted) t)) none_removed
     ∙ ap (λ v. by_value values (unkept set.ops) ++ retaining (place - old.at) (replacing [] (plain_list values v) t)) none_inserted
@@ -168,7 +168,7 @@ went_on values old set place t some gap down none_removed none_inserted =
 
 -- nothing was pending but a retain
 pub went_further : (values : List Value) (old : Collected) (place : ℕ) (t : Transaction) → old.removed ≡ [] → old.inserted ≡ [] →
-    shown values (record { at = place; ops = old.ops; retained = old.retained + (place - old.at); removed = old.removed; inserted = old.inserted }) t ≡ shown values old (retaining (place - old.at) t)
+    collected_transaction values (record { at = place; ops = old.ops; retained = old.retained + (place - old.at); removed = old.removed; inserted = old.inserted }) t ≡ collected_transaction values old (retaining (place - old.at) t)
 went_further values old place t none_removed none_inserted =
     ap (λ v. by_value values (unkept old.ops) ++ retaining (old.retained + (place - old.at)) (replacing (plain_list values v) (plain_list values old.inserted) t)) none_removed
     ∙ ap (λ v. by_value values (unkept old.ops) ++ retaining (old.retained + (place - old.at)) (replacing [] (plain_list values v) t)) none_inserted

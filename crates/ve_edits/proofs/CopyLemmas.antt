@@ -106,7 +106,8 @@ white_there values (Some id) p = by p.0 p.1 p.2 ∙ ap (λ v. fill values (white
     by [] there some = absurd (some refl)
     by (c ∷ cs) there some = there_filled values id.0 (value.White (c ∷ cs)) there
 
--- so the marks and the whitespace of an item of the list add nothing, also where nothing else is cited
+-- so the marks and the whitespace of an item of the list add nothing, also where nothing else is
+-- cited
 pub marks_filled : (values : List Value) (marks : Option ValueId) → CitesMarks values marks → values ≡ fill values (marks_cited (marks_in (value_at values marks)) ++ [])
 marks_filled values marks p = marks_there values marks p ∙ ap (fill values) (sym (append-nil (marks_cited (marks_in (value_at values marks)))))
 

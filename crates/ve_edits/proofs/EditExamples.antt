@@ -1,4 +1,4 @@
--- What collected edits show, which nodes are open round an offset, and what refuses.
+-- Collected edits, the nodes that are open round an offset, and refusals, at examples.
 use Rattle.std.proofs.Common.{◌≡◌, ℕ, List, [], ◌∷◌, None, Ok, Err, inl, inr, refl, false}
 use Rattle.ve_kinds.specs.declared.kind.Kind.{Kind}
 use Rattle.ve_kinds.specs.declared.kind.Kind.TheVariants.{Ul, Li, P}
@@ -11,7 +11,7 @@ use Rattle.model_edit.specs.Edits.{Change, transaction_of}
 use Rattle.model_edit.specs.declared.build_fault.BuildFault.{BuildFault}
 use Rattle.model_edit.specs.declared.build_fault.BuildFault.TheVariants as fault
 use Rattle.ve_tx.specs.declared.op.Op.TheVariants as op
-use Rattle.ve_edits.specs.Collected.{Collected, shown}
+use Rattle.ve_edits.specs.Collected.{Collected, collected_transaction}
 use Rattle.ve_edits.specs.Refused.{IsRefusal}
 use Rattle.ve_edits.specs.Round.{IsOpeningRound}
 
@@ -33,7 +33,7 @@ page =
 abbrev one_edit : Collected
 one_edit = record { at = 9; ops = []; retained = 8; removed = letter 98 ∷ []; inserted = letter 120 ∷ letter 121 ∷ [] }
 
-one_edit_shown : shown [] one_edit (Retain 4 ∷ []) ≡ transaction_of (plain_list [] page) (Change 8 1 (plain_list [] (letter 120 ∷ letter 121 ∷ [])) ∷ [])
+one_edit_shown : collected_transaction [] one_edit (Retain 4 ∷ []) ≡ transaction_of (plain_list [] page) (Change 8 1 (plain_list [] (letter 120 ∷ letter 121 ∷ [])) ∷ [])
 one_edit_shown = refl
 
 -- the closing of the paragraph goes, too: what is pending was put down, since an item lies between
@@ -47,10 +47,11 @@ two_edits = record {
 }
 
 two_edits_shown :
-    shown [] two_edits (Retain 2 ∷ []) ≡ transaction_of (plain_list [] page) (Change 8 1 (plain_list [] (letter 120 ∷ [])) ∷ Change 10 1 [] ∷ [])
+    collected_transaction [] two_edits (Retain 2 ∷ []) ≡ transaction_of (plain_list [] page) (Change 8 1 (plain_list [] (letter 120 ∷ [])) ∷ Change 10 1 [] ∷ [])
 two_edits_shown = refl
 
--- after the letter b the second paragraph is open, and round it the second list item, and round that the list
+-- after the letter b the second paragraph is open, and round it the second list item, and round
+-- that the list
 paragraph_round : IsOpeningRound [] page 9 7
 paragraph_round = record { item = opening P; kind = P; there = refl; opens = refl; openings = refl }
 
@@ -60,7 +61,7 @@ item_round = record { item = opening Li; kind = Li; there = refl; opens = refl; 
 list_round : IsOpeningRound [] page 6 0
 list_round = record { item = opening Ul; kind = Ul; there = refl; opens = refl; openings = refl }
 
--- a refusal is told by the fault of its name, with its places
+-- a refusal is told by the fault of its name, with its positions
 told : IsRefusal (fault.BadRange 3 2) (Err (BadRange 3 2))
 told = inr (BadRange 3 2, refl, refl)
 

@@ -1,4 +1,4 @@
--- What the one transaction of some edits inserts.
+-- The inserted items of the one transaction of some edits.
 use Rattle.std.proofs.Common.{◌≡◌, ℕ, zero, suc, ◌+◌, ◌-◌, List, [], ◌∷◌, ◌++◌, length, take, drop, refl, sym, ap, ◌∙◌, append_assoc}
 use Rattle.model_items.specs.declared.plain_item.PlainItem.{PlainItem}
 use Rattle.model_change.specs.Transaction.{Retain, Replace, Attribute, Transaction, all_inserted}

@@ -16,7 +16,7 @@ use Rattle.ve_tx.specs.declared.op.Op.{Op}
 use Rattle.ve_tx.specs.declared.op.Op.TheVariants as op
 use Rattle.ve_tx.specs.Cites.{OperationCites, TxCites}
 use Rattle.ve_tx.specs.Operation.{Operation, operation_by_value, by_value, unkept, with_position}
-use Rattle.ve_edits.specs.Collected.{Collected, shown, AreCited, Makes}
+use Rattle.ve_edits.specs.Collected.{Collected, collected_transaction, AreCited, Makes}
 use Rattle.ve_edits.proofs.BracketLemmas.{slice_get-plain}
 
 -- before an attribute operation what is pending may be put down
@@ -52,10 +52,11 @@ setting_is name from to x items is =
     let change : Option (List ℕ) → Option ℕ → AttrChange = λ f k. record { name = name; from = f; to = Some to; kept = k } in
     ap (λ f. change f (position_kept f (Some to) name None x)) same ∙ ap (change from) (set_keeps from to name x)
 
--- One attribute more is set: the place is passed to, what is pending is put down, and the operation comes after it.
+-- One attribute more is set: the position is passed to, what is pending is put down, and the
+-- operation comes after it.
 module _ (store : List Value) (items : List Item) (edits : List Edit) (old mid : Collected) (place : ℕ) (x : Item) (name : List ℕ) (from : Option (List ℕ)) (to : List ℕ)
     (order : old.at ≤ place) (there : slice_get items place ≡ Some x) (present : from ≡ present_value name (plain store x ∷ []))
-    (means : (t : Transaction) → shown store mid t ≡ shown store old (retaining (place - old.at) t)) where
+    (means : (t : Transaction) → collected_transaction store mid t ≡ collected_transaction store old (retaining (place - old.at) t)) where
   abbrev change : AttrChange
   change = record { name = name; from = from; to = Some to; kept = None }
 
@@ -66,7 +67,7 @@ module _ (store : List Value) (items : List Item) (edits : List Edit) (old mid :
       drop-drop (place - old.at) old.at (plain_list store items) ∙ ap (λ n. drop n (plain_list store items)) e
       ∙ cut (plain_list store items) place (plain store x) (slice_get-plain store items place x there)
 
-  pub set_after : (put ops : List Op) (after : Collected) → by_value store (unkept put) ≡ shown store mid [] → ops ≡ put ++ op.Attribute name from (Some to) ∷ [] →
+  pub set_after : (put ops : List Op) (after : Collected) → by_value store (unkept put) ≡ collected_transaction store mid [] → ops ≡ put ++ op.Attribute name from (Some to) ∷ [] →
       TxCites store (unkept put) → after ≡ record { at = place; ops = ops; retained = 0; removed = []; inserted = [] } →
       Makes store items edits old → Makes store items (edits ++ Set place name (Some to) ∷ []) after
   set_after put ops after down whole cited is m =
@@ -75,7 +76,7 @@ module _ (store : List Value) (items : List Item) (edits : List Edit) (old mid :
       let P = plain_list store items in
       let M : Collected → Type 0 = Makes store items (edits ++ Set place name (Some to) ∷ []) in
       let listed : unkept ops ≡ unkept put ++ here ∷ [] = ap unkept whole ∙ map-append (λ (o : Op). with_position o None) put (op.Attribute name from (Some to) ∷ []) in
-      let meant : by_value store (unkept ops) ≡ shown store mid [] ++ Attribute change ∷ [] =
+      let meant : by_value store (unkept ops) ≡ collected_transaction store mid [] ++ Attribute change ∷ [] =
       ap (by_value store) listed ∙ map-append (operation_by_value store) (unkept put) (here ∷ []) ∙ ap (λ (t : Transaction). t ++ Attribute change ∷ []) down in
       let inside = slice_get_within items place x there in
       subst M (sym is) (record {
@@ -89,9 +90,9 @@ module _ (store : List Value) (items : List Item) (edits : List Edit) (old mid :
             ap (transaction_of P) (append_assoc edits (Set place name (Some to) ∷ []) more)
             ∙ m.means (Set place name (Some to) ∷ more)
             ∙ sym (means (Attribute (setting name (Some to) rest) ∷ transaction_from place rest more))
-            ∙ ap (λ r. shown store mid (Attribute (setting name (Some to) r) ∷ transaction_from place rest more)) rest_is
-            ∙ ap (λ s. shown store mid (Attribute s ∷ transaction_from place rest more)) (setting_is name from to (plain store x) (drop (suc place) P) present)
-            ∙ ap (λ r. shown store mid (Attribute change ∷ transaction_from place r more)) later
+            ∙ ap (λ r. collected_transaction store mid (Attribute (setting name (Some to) r) ∷ transaction_from place rest more)) rest_is
+            ∙ ap (λ s. collected_transaction store mid (Attribute s ∷ transaction_from place rest more)) (setting_is name from to (plain store x) (drop (suc place) P) present)
+            ∙ ap (λ r. collected_transaction store mid (Attribute change ∷ transaction_from place r more)) later
             ∙ ap (λ (v : Transaction). base ++ v) (settled_before mid.retained (plain_list store mid.removed) (plain_list store mid.inserted) change t)
             ∙ sym (append_assoc base pending (Attribute change ∷ t))
             ∙ sym (append_assoc (base ++ pending) (Attribute change ∷ []) t)

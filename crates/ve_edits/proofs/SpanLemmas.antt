@@ -1,4 +1,4 @@
--- Ranges: what is inside a leaf, and places one after the other.
+-- Ranges: what is inside a leaf, and positions one after the other.
 use Rattle.std.proofs.Common.{◌≡◌, ◌≤◌, ◌<◌, ℕ, zero, suc, ◌+◌, ◌-◌, Bool, true, false, cond, ◌||◌, IsTrue, ◌↔◌, Some, List, [], ◌∷◌, ◌++◌, length, map, filter, take, drop, slice_get, refl, sym, ap, ◌∙◌, subst, arith, inl, inr}
 use Rattle.std.specs.List.{range_with_len, list_any}
 use Rattle.std.proofs.lemmas.Bool.{cases_Bool}
@@ -80,7 +80,7 @@ decided false Structural h = refl
 pub inside_leaf : (values : List Value) (items : List Item) (o : ℕ) (b : Bool) → (IsTrue b ↔ (class_at (unvalued items) o ≡ Inside)) → b ≡ is_inside_leaf (plain_list values items) o
 inside_leaf values items o b h = decided b (class_at (unvalued items) o) h ∙ sym (ap is_leaf (kind_round values items o) ∙ leaf_is (node_at (unvalued items) o).kind)
 
--- one place more
+-- one position more
 range_snoc : (a n : ℕ) → range_with_len a (suc n) ≡ range_with_len a n ++ (a + n) ∷ []
 range_snoc a zero = let e : a ≡ a + 0 = omega arith in ap (λ k. k ∷ []) e
 range_snoc a (suc n) = let e : a + 1 + n ≡ a + suc n = omega arith in ap (λ l. a ∷ l) (range_snoc (a + 1) n ∙ ap (λ k. range_with_len (a + 1) n ++ k ∷ []) e)

@@ -1,4 +1,4 @@
--- Edits at rising places, as they are collected into operations.
+-- Edits at rising positions, as they are collected into operations.
 use Rattle.std.specs.Prelude.{◌≡◌, ◌≤◌, ℕ, Some, List, [], ◌∷◌, ◌++◌, length, drop, All}
 use Rattle.ve_base.specs.declared.value.Value.{Value}
 use Rattle.model_items.specs.declared.item.Item.{Item}
@@ -11,7 +11,8 @@ use Rattle.ve_tx.specs.Operation.{Operation, by_value, unkept}
 use Rattle.ve_tx.specs.Cites.{TxCites}
 use Rattle.ve_tx.specs.Making.{Extends}
 
--- operations, and what is to follow them: a retain, and a replace that may still grow; `at` is the place just past the last edit
+-- operations, and what is to follow them: a retain, and a replace that may still grow; `at` is the
+-- position just past the last edit
 pub record Collected : Type 0 where
   pub at : ℕ
   pub ops : List Op
@@ -20,8 +21,8 @@ pub record Collected : Type 0 where
   pub inserted : List Item
 
 -- the transaction that they begin, where `t` follows
-abbrev pub shown : List Value → Collected → Transaction → Transaction
-shown values c t =
+abbrev pub collected_transaction : List Value → Collected → Transaction → Transaction
+collected_transaction values c t =
     by_value values (unkept c.ops) ++ retaining c.retained (replacing (plain_list values c.removed) (plain_list values c.inserted) t)
 
 -- all of their items cite values of the list
@@ -30,10 +31,11 @@ pub record AreCited (values : List Value) (c : Collected) : Type 0 where
   pub removed : All (CitesWell values) c.removed
   pub inserted : All (CitesWell values) c.inserted
 
--- So far these edits of the items are collected: whatever edits follow, the transaction is what is collected and then the edits of what is left of the list.
+-- So far these edits of the items are collected: whatever edits follow, the transaction is what is
+-- collected and then the edits of what is left of the list.
 pub record Makes (values : List Value) (items : List Item) (edits : List Edit) (c : Collected) : Type 0 where
   pub within : c.at ≤ length items
-  pub means : (more : List Edit) → transaction_of (plain_list values items) (edits ++ more) ≡ shown values c (transaction_from c.at (drop c.at (plain_list values items)) more)
+  pub means : (more : List Edit) → transaction_of (plain_list values items) (edits ++ more) ≡ collected_transaction values c (transaction_from c.at (drop c.at (plain_list values items)) more)
   pub cited : AreCited values c
 
 -- One edit more is collected, the items of the list and the inserted ones citing well.
@@ -62,7 +64,8 @@ ReplaceCites old removed inserted new =
     (values : List Value) → TxCites values (unkept old) → All (CitesWell values) removed → All (CitesWell values) inserted →
     TxCites values (unkept new)
 
--- The transaction is that of these edits of a list, over every list of values that its items cite; the edits are given of the list by value.
+-- The transaction is that of these edits of a list, over every list of values that its items cite;
+-- the edits are given of the list by value.
 abbrev pub IsTransactionOf : List Item → (List PlainItem → List Edit) → List Operation → Type 0
 IsTransactionOf items edits tx =
     (values : List Value) → All (CitesWell values) items → by_value values tx ≡ transaction_of (plain_list values items) (edits (plain_list values items))
@@ -71,6 +74,7 @@ IsTransactionOf items edits tx =
 abbrev pub CitesAsItems : List Item → List Operation → Type 0
 CitesAsItems items tx = (values : List Value) → All (CitesWell values) items → TxCites values tx
 
--- What is collected is the same over a list of values that has more after it. So values may be put in between two edits.
+-- Collected edits are the same over a list of values that has more after it. So values may be put
+-- in between two edits.
 abbrev pub ValuesMayGrow : Type 0
 ValuesMayGrow = (old new : List Value) (items : List Item) (edits : List Edit) (c : Collected) → Extends old new → All (CitesWell old) items → Makes old items edits c → Makes new items edits c

@@ -6,7 +6,8 @@ use Rattle.model_items.specs.declared.item.Item.{Item}
 use Rattle.model_items.specs.Plain.{plain, plain_list, CitesWell}
 use Rattle.model_items.specs.Offsets.{opens_at, openings_at}
 
--- The innermost node that is open at the offset begins at the place; the others are those that are open there.
+-- The innermost node that is open at the offset begins at the position; the others are those that
+-- are open there.
 pub record IsOpeningRound (values : List Value) (items : List Item) (o place : ℕ) : Type 0 where
   pub item : Item
   pub kind : Kind

@@ -23,7 +23,8 @@ fn value_of(alloc: Global, attrs: &[Attr], name: &Text) -> Result<Option<Text>, 
     Ok(None)
 }
 
-/// A copy of the value that the attribute of this name has in an item; `None` where the item has no such attribute.
+/// A copy of the value that the attribute of this name has in an item; `None` where the item has no
+/// such attribute.
 pub fn present_value(
     alloc: Global,
     store: &Store,

@@ -19,17 +19,19 @@ pub fn same_kind(one: Kind, other: Kind) -> bool
     one == other
 }
 
-/// Where the innermost node round an offset begins, and just past where it ends; for the root 0 and the length.
+/// Where the innermost node round an offset begins, and just past where it ends; for the root 0 and
+/// the length.
 pub fn range_round(doc: Doc<'_>, o: usize) -> (usize, usize)
     requires doc { IsDoc doc }
     requires within { o ≤ length doc.list.now.items }
-    ensures { let place = node_at (unvalued doc.entry.list.now.items) o in result ≡ (place.from, place.to) }
+    ensures { let place = node_at (unvalued doc.entry.list.now.items) o in result
+        ≡ (place.from, place.to) }
 {
     doc.tree.range_of(doc.tree.node_at(o))
 }
 
-/// Where the innermost node that is open at an offset begins. From there on, the next call gives the next one further
-/// out.
+/// Where the innermost node that is open at an offset begins. From there on, the next call gives
+/// the next one further out.
 pub fn opening_round(doc: Doc<'_>, o: usize) -> usize
     requires doc { IsDoc doc }
     requires within { o ≤ length doc.list.now.items }
@@ -40,11 +42,13 @@ pub fn opening_round(doc: Doc<'_>, o: usize) -> usize
     from
 }
 
-/// The place of the other bracket of the node that the item opens or closes; a character is its own.
+/// The position of the other bracket of the node that the item opens or closes; a character is its
+/// own.
 pub fn partner(doc: Doc<'_>, at: usize) -> usize
     requires doc { IsDoc doc }
     requires within { at < length doc.list.now.items }
-    ensures { (values : _) → result ≡ model.partner (plain_list values doc.entry.list.now.items) at }
+    ensures { (values : _)
+        → result ≡ model.partner (plain_list values doc.entry.list.now.items) at }
 {
     match doc.list.get(at) {
         Item::Char { .. } => at,
@@ -61,7 +65,7 @@ pub fn partner(doc: Doc<'_>, at: usize) -> usize
     }
 }
 
-/// Whether a place is not in a range.
+/// Whether a position is not in a range.
 fn is_outside(place: usize, from: usize, to: usize) -> bool
     ensures { result ≡ not (nat_le from place && nat_lt place to) }
 {
@@ -71,11 +75,12 @@ fn is_outside(place: usize, from: usize, to: usize) -> bool
     place >= to
 }
 
-/// Whether the partner of the item at a place is not in a range.
+/// Whether the partner of the item at a position is not in a range.
 pub fn is_unmatched(doc: Doc<'_>, from: usize, to: usize, at: usize) -> bool
     requires doc { IsDoc doc }
     requires within { at < length doc.list.now.items }
-    ensures { (values : _) → result ≡ model.is_unmatched (plain_list values doc.entry.list.now.items) from to at }
+    ensures { (values : _)
+        → result ≡ model.is_unmatched (plain_list values doc.entry.list.now.items) from to at }
 {
     is_outside(partner(doc, at), from, to)
 }

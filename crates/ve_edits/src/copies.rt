@@ -78,8 +78,11 @@ fn copied_head(
     requires follows { new.old.after ≡ length store.now }
     requires cites { CitesHead (together store.now new.old) head }
     ensures cites { IfOk result (CitesHead (together store.now new.new)) }
-    ensures head { IfOk result (λ id. head_at store.now new.new id ≡ head_copied (head_at store.now new.old head)) }
-    ensures values { OnOk result (IsFilledWithHead store.now new.old new.new (head_copied (head_at store.now new.old head))) }
+    ensures head { IfOk result (λ id.
+        head_at store.now new.new id ≡ head_copied (head_at store.now new.old head)) }
+    ensures values { OnOk result (
+        IsFilledWithHead store.now new.old new.new (
+        head_copied (head_at store.now new.old head))) }
     ensures grows { Grows new.old new.new }
     ensures err { OnErr result (new.new ≡ new.old) }
 {
@@ -91,8 +94,8 @@ fn copied_head(
     Ok(copied)
 }
 
-/// An opening of the same kind with the same attributes but for `id`, and nothing else. A character or a closing is its
-/// own copy. `new` takes the head where it is new; an `Err` changes nothing.
+/// An opening of the same kind with the same attributes but for `id`, and nothing else. A character
+/// or a closing is its own copy. `new` takes the head where it is new; an `Err` changes nothing.
 pub fn copy_of(
     alloc: Global,
     store: &Store,
@@ -101,9 +104,12 @@ pub fn copy_of(
 ) -> Result<Item, Memory>
     requires follows { new.old.after ≡ length store.now }
     requires cites { CitesWell (together store.now new.old) item }
-    ensures means { IfOk result (λ copy. plain (together store.now new.new) copy ≡ model.copy_of (plain (together store.now new.old) item)) }
+    ensures means { IfOk result (λ copy.
+        plain (together store.now new.new) copy
+        ≡ model.copy_of (plain (together store.now new.old) item)) }
     ensures cites { IfOk result (CitesWell (together store.now new.new)) }
-    ensures values { IfOk result (λ copy. IsFilledFor store.now new.old new.new (plain (together store.now new.new) copy ∷ [])) }
+    ensures values { IfOk result (λ copy.
+        IsFilledFor store.now new.old new.new (plain (together store.now new.new) copy ∷ [])) }
     ensures grows { Grows new.old new.new }
     ensures err { OnErr result (new.new ≡ new.old) }
 {

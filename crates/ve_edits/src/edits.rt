@@ -1,11 +1,11 @@
-// Edits at rising places, collected into one transaction.
+// Edits at rising positions, collected into one transaction.
 ghost use Rattle.std.specs.Prelude.{◌≡◌, ◌≤◌, ◌<◌, ◌+◌, ◌-◌, ◌++◌, [], length, All, IfOk, OnOk, IsTrue, ◌↔◌};
 ghost use Rattle.std.specs.Str.{chars};
 ghost use Rattle.model_items.specs.Plain.{CitesWell};
 ghost use Rattle.model_edit.specs.Edits.{retaining};
 ghost use Rattle.ve_tx.specs.Cites.{TxCites};
 ghost use Rattle.ve_tx.specs.Operation.{by_value, unkept};
-ghost use Rattle.ve_edits.specs.Collected.{shown, AreCited, Makes, MakesOneMore, SetsOneMore, IsCollected, IsReplacePut, ReplaceCites};
+ghost use Rattle.ve_edits.specs.Collected.{collected_transaction, AreCited, Makes, MakesOneMore, SetsOneMore, IsCollected, IsReplacePut, ReplaceCites};
 
 use crate::attributes::present_value;
 use std::alloc::Global;
@@ -16,8 +16,8 @@ use ve_items::{Item, Items, Linear};
 use ve_store::Store;
 use ve_tx::{Op, OpList, Transaction, copy_range};
 
-/// Edits at rising places of a list. What they make is operations, and after them a retain and a replace to which the
-/// next edit may still add.
+/// Edits at rising positions of a list. What they make is operations, and after them a retain and a
+/// replace to which the next edit may still add.
 #[derive(Drop)]
 pub struct Edits {
     at: usize,
@@ -41,8 +41,12 @@ impl Model for Edits {
 
 /// Puts a retain after operations; one of nothing is left out.
 fn put_retain(ops: &mut OpList, count: usize) -> Result<(), Memory>
-    ensures means { OnOk result ((values : _) → by_value values (unkept ops.new) ≡ by_value values (unkept ops.old) ++ retaining count []) }
-    ensures cites { OnOk result ((values : _) → TxCites values (unkept ops.old) → TxCites values (unkept ops.new)) }
+    ensures means { OnOk result (
+        (values : _)
+        → by_value values (unkept ops.new)
+        ≡ by_value values (unkept ops.old) ++ retaining count []) }
+    ensures cites { OnOk result (
+        (values : _) → TxCites values (unkept ops.old) → TxCites values (unkept ops.new)) }
 {
     if count == 0 {
         return Ok(());
@@ -84,14 +88,18 @@ impl Edits {
         !self.removed.as_slice().is_empty() || !self.inserted.as_slice().is_empty()
     }
 
-    /// Puts what is to follow the operations after them.
+    /// Puts the waiting operation after the others.
     fn settle(&mut self) -> Result<(), Memory>
-        ensures means { OnOk result ((values : _) → by_value values (unkept self.new.ops) ≡ shown values self.old []) }
+        ensures means { OnOk result (
+            (values : _)
+            → by_value values (unkept self.new.ops)
+            ≡ collected_transaction values self.old []) }
         ensures at { OnOk result (self.new.at ≡ self.old.at) }
         ensures retained { OnOk result (self.new.retained ≡ 0) }
         ensures removed { OnOk result (self.new.removed ≡ []) }
         ensures inserted { OnOk result (self.new.inserted ≡ []) }
-        ensures cites { OnOk result ((values : _) → AreCited values self.old → AreCited values self.new) }
+        ensures cites { OnOk result (
+            (values : _) → AreCited values self.old → AreCited values self.new) }
     {
         let removed = mem::replace(&mut self.removed, Items::new(self.alloc));
         let inserted = mem::replace(&mut self.inserted, Items::new(self.alloc));
@@ -101,12 +109,16 @@ impl Edits {
         Ok(())
     }
 
-    /// Goes on to a place.
+    /// Goes on to a position.
     fn pass(&mut self, place: usize) -> Result<(), Memory>
         requires { self.old.at ≤ place }
         ensures at { OnOk result (self.new.at ≡ place) }
-        ensures means { OnOk result ((values : _) (t : _) → shown values self.new t ≡ shown values self.old (retaining (place - self.old.at) t)) }
-        ensures cites { OnOk result ((values : _) → AreCited values self.old → AreCited values self.new) }
+        ensures means { OnOk result (
+            (values : _) (t : _)
+            → collected_transaction values self.new t
+            ≡ collected_transaction values self.old (retaining (place - self.old.at) t)) }
+        ensures cites { OnOk result (
+            (values : _) → AreCited values self.old → AreCited values self.new) }
     {
         let gap = place - self.at;
         if gap == 0 {
@@ -123,7 +135,8 @@ impl Edits {
         Ok(())
     }
 
-    /// Puts items in the place of `count` items from `at` on. Edits come in the order of their places.
+    /// Puts items in the place of `count` items from `at` on. Edits come in the order of their
+    /// positions.
     pub fn change(
         &mut self,
         list: &Linear,
@@ -134,7 +147,8 @@ impl Edits {
         requires order { self.old.at ≤ at }
         requires within { at + count ≤ length list.now.items }
         ensures at { OnOk result (self.new.at ≡ at + count) }
-        ensures makes { OnOk result (MakesOneMore list.now.items at count inserted.now self.old self.new) }
+        ensures makes { OnOk result (
+            MakesOneMore list.now.items at count inserted.now self.old self.new) }
     {
         let len = list.len();
         prove!(at <= len);
@@ -146,8 +160,8 @@ impl Edits {
         Ok(())
     }
 
-    /// Sets an attribute of the opening at a place to a value. The store has what the list's items cite. Edits come in the
-    /// order of their places.
+    /// Sets an attribute of the opening at a position to a value. The store has the values that the
+    /// list's items cite. Edits come in the order of their positions.
     pub fn set(
         &mut self,
         list: &Linear,
@@ -160,7 +174,8 @@ impl Edits {
         requires within { at < length list.now.items }
         requires cites { All (CitesWell store.now) list.now.items }
         ensures at { OnOk result (self.new.at ≡ at) }
-        ensures makes { OnOk result (SetsOneMore store.now list.now.items at (chars name.now) to self.old self.new) }
+        ensures makes { OnOk result (
+            SetsOneMore store.now list.now.items at (chars name.now) to self.old self.new) }
     {
         let name = Text::from_str(self.alloc, name)?;
         let from = present_value(self.alloc, store, list.get(at), &name)?;
@@ -171,12 +186,15 @@ impl Edits {
         Ok(())
     }
 
-    /// The transaction that the edits of the list are. One whose lengths add up to more than 2^60 is a want of memory
-    /// like any other.
+    /// The transaction that the edits of the list are. One whose lengths add up to more than 2^60
+    /// is a want of memory like any other.
     pub fn transaction(self, list: &Linear) -> Result<Transaction, Memory>
         requires { self.at ≤ length list.now.items }
         ensures means { IfOk result (IsCollected list.now.items self) }
-        ensures cites { IfOk result (λ tx. (values : _) (edits : _) → Makes values list.now.items edits self → TxCites values tx) }
+        ensures cites { IfOk result (λ tx.
+            (values : _) (edits : _)
+            → Makes values list.now.items edits self
+            → TxCites values tx) }
     {
         let mut rest = self;
         rest.pass(list.len())?;

@@ -1,4 +1,4 @@
-// What is proved of collected edits for whoever builds with them.
+// The law of collected edits, for whoever builds with them.
 ghost use Rattle.ve_edits.specs.Collected.{ValuesMayGrow};
 
 /// Collected edits are the same over a list of values that has more after it.

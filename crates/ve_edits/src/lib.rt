@@ -1,15 +1,17 @@
-//! What all builders of edits share: edits of a page's list at rising places, collected into the one transaction that
-//! they are; the copy of an opening, whose head new values may take; and what builders ask of a page: the other bracket of
-//! a node, the nodes that are open at an offset, the value of an attribute, and whether a range may be edited.
+//! The base of all builders of edits. Edits of a page's list at rising positions are collected into
+//! the one transaction that they are; an opening is copied, and new values may take the copy's
+//! head. Builders also find here the other bracket of a node, the nodes that are open at an offset,
+//! the value of an attribute, and whether a range may be edited.
 //!
-//! It gives transactions and writes nothing. A page is lent as a `Doc`: brackets are found by the tree, and a range by its
-//! items. It doesn't know which edits a user's command is; that is what the crates above it say.
+//! It gives transactions and writes nothing. A page is borrowed as a `Doc`: brackets are found by
+//! the tree, and a range by its items. It doesn't know which edits a user's command is; that is
+//! what the crates above it say.
 //!
-//! Definitions, in reading order: `Collected` (edits as they are collected, `Makes`), `Round` (the innermost open node at
-//! an offset), `Filled` (how the values that follow a store grow), `Refused` (how a builder refuses). What the transaction
-//! of some edits is, what a copy is, and what is refused, is said in `model_edit`; partners and open nodes are
-//! `model_items`'s. Law: `values_may_grow` (what is collected is the same over a longer list of values, so values may be
-//! put in between two edits).
+//! Definitions, in reading order: `Collected` (edits as they are collected, `Makes`), `Round` (the
+//! innermost open node at an offset), `Filled` (how the values that follow a store grow), `Refused`
+//! (how a builder refuses). The transaction of some edits, a copy and the refusals are defined in
+//! `model_edit`; partners and open nodes are `model_items`'s. Law: `values_may_grow` (collected
+//! edits are the same over a longer list of values, so values may be put in between two edits).
 #![tactic(auto)]
 
 mod attributes;

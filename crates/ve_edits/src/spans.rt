@@ -14,7 +14,8 @@ use ve_offsets::{Doc, is_inside_leaf};
 fn inside_leaf(doc: Doc<'_>, o: usize) -> bool
     requires doc { IsDoc doc }
     requires within { o ≤ length doc.list.now.items }
-    ensures { (values : _) → result ≡ model.is_inside_leaf (plain_list values doc.entry.list.now.items) o }
+    ensures { (values : _)
+        → result ≡ model.is_inside_leaf (plain_list values doc.entry.list.now.items) o }
 {
     is_inside_leaf(doc, o)
 }
@@ -22,7 +23,8 @@ fn inside_leaf(doc: Doc<'_>, o: usize) -> bool
 /// Whether a range is none of the list, or has an end inside a leaf.
 pub fn is_bad_span(doc: Doc<'_>, from: usize, to: usize) -> bool
     requires doc { IsDoc doc }
-    ensures bad { (values : _) → result ≡ model.is_bad_span (plain_list values doc.entry.list.now.items) from to }
+    ensures bad { (values : _)
+        → result ≡ model.is_bad_span (plain_list values doc.entry.list.now.items) from to }
     ensures order { result ≡ false → from < to }
     ensures within { result ≡ false → to ≤ length doc.entry.list.now.items }
 {
@@ -67,7 +69,10 @@ pub fn is_internal_item(item: Item) -> bool
 /// Whether a range holds a bracket of the internal list or of one of its items.
 pub fn has_internal(doc: Doc<'_>, from: usize, to: usize) -> bool
     requires within { to ≤ length doc.list.now.items }
-    ensures { (values : _) → result ≡ model.some_in_range is_internal_bracket (plain_list values doc.entry.list.now.items) from to }
+    ensures { (values : _)
+        → result
+        ≡ model.some_in_range is_internal_bracket (plain_list values doc.entry.list.now.items)
+        from to }
 {
     for at in from..to {
         if is_internal_item(doc.list.get(at)) {

@@ -1,4 +1,4 @@
--- What is drawn, and which line it gives.
+-- Draws, and the line that each gives.
 use Rattle.std.proofs.Common.{◌≡◌, ◌≢◌, ◌<◌, ◌≤◌, ℕ, ◌+◌, ◌*◌, ◌%◌, ◌==◌, nat_lt, Bool, true, false, if◌then◌else◌, refl, sym, ap, ◌∙◌, lt-ltb, le-ltb, eq-eqb, ne_eqb, arith}
 use Rattle.std.proofs.Math.Nat.{add-mod, mod-mod}
 use Rattle.ve_gen.specs.Generated.{next_state, drawn, line_of, edit_line, state_after_edit, text_line, remove_line, split_line, mark_line, undo_line}

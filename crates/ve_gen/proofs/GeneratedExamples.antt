@@ -1,4 +1,5 @@
--- The generated script at examples, which compute. The values are from a program in another language.
+-- The generated script at examples, which compute. The values are from a program in another
+-- language.
 use Rattle.std.proofs.Common.{◌≡◌, [], ◌∷◌, codes, refl}
 use Rattle.std.specs.Fmt.{digits}
 use Rattle.ve_gen.specs.Generated.{next_state, drawn, letters, line_of, edit_line, edit_lines, state_after_edit}

@@ -1,4 +1,5 @@
--- The generated script: it opens a page, makes edits at places that are drawn, and asks for the page.
+-- The generated script: it opens a page, makes edits at positions that are drawn, and asks for the
+-- page.
 use Rattle.std.specs.Prelude.{ℕ, zero, suc, ◌+◌, ◌*◌, ◌/◌, ◌%◌, ◌^◌, ◌==◌, nat_lt, List, [], ◌∷◌, ◌++◌, map, flat_map, codes, decimal, if◌then◌else◌}
 use Rattle.std.specs.List.{range_with_len}
 use Rattle.model_script.specs.Lines.{with_newlines}
@@ -52,7 +53,7 @@ mark_line from to =
 abbrev pub undo_line : List ℕ
 undo_line = codes "{\"do\":\"undo\"}"
 
--- Which edit it is, from 0 to 7, at a place; a removal is of some items more than one.
+-- Which edit it is, from 0 to 7, at a position; a removal is of some items more than one.
 unfoldable pub line_of : (choice at more : ℕ) → List ℕ
 line_of choice at more =
     if nat_lt choice 4 then text_line at
@@ -61,7 +62,8 @@ line_of choice at more =
     else if choice == 6 then mark_line at (at + 5)
     else undo_line
 
--- An edit's first draw chooses it, the second its place, and the third, which only a removal takes, how many items go.
+-- An edit's first draw chooses it, the second its position, and the third, which only a removal
+-- takes, how many items go.
 unfoldable pub edit_line : (state : ℕ) → List ℕ
 edit_line state =
     let first = next_state state in

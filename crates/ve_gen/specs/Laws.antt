@@ -1,4 +1,4 @@
--- What holds of each generated script.
+-- Laws of each generated script.
 use Rattle.std.specs.Prelude.{◌≡◌, ℕ, ◌+◌, length}
 use Rattle.model_script.specs.Lines.{lines_of}
 use Rattle.ve_gen.specs.Generated.{script, script_lines}

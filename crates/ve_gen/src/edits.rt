@@ -62,7 +62,7 @@ fn push_mark(from: u64, to: u64, out: &mut Bytes) -> Result<(), Memory>
     out.push(b"}")
 }
 
-/// Appends the line of an edit, by what was drawn for it.
+/// Appends the line of an edit, by its draws.
 fn push_line(choice: u64, at: u64, more: u64, out: &mut Bytes) -> Result<(), Memory>
     requires place { at ≤ 4000 }
     requires more { more < 30 }

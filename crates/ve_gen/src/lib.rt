@@ -1,9 +1,9 @@
-//! A script that is made from a number: it opens a page of 200 paragraphs, makes edits at places that are drawn by
-//! chance, and asks for the page. The same number and count of edits give the same bytes.
+//! A generated script, made from a number: it opens a page of 200 paragraphs, makes edits at random
+//! positions, and asks for the page. The same number and count of edits give the same bytes.
 //!
-//! [`Lines`] gives it line by line, into a buffer that is lent for each line, and [`script`] whole. What the script is
-//! stands in specs/Generated.antt, in reading order: draws, the page, the lines. That its lines are lines, and how many
-//! there are, are laws (specs/Laws.antt).
+//! [`Lines`] gives it line by line, into a buffer that is borrowed for each line, and [`script`]
+//! whole. The script is defined in specs/Generated.antt, in reading order: draws, the page, the
+//! lines. That its lines are lines, and how many there are, are laws (specs/Laws.antt).
 #![tactic(auto)]
 
 mod edits;

@@ -7,7 +7,7 @@ use crate::opening::{push_html, push_open};
 use std::marker::Model;
 use ve_base::{Bytes, Memory};
 
-/// What comes next.
+/// The next line.
 #[derive(Clone, Copy)]
 enum Stage {
     /// The line that opens the page, and all that follows it.
@@ -50,9 +50,11 @@ impl Lines {
         }
     }
 
-    /// Puts the next line, without its newline, in place of what stood in the buffer. It answers whether there was one.
+    /// Writes the next line, without its newline, over the buffer. It answers whether there was
+    /// one.
     pub fn next(&mut self, line: &mut Bytes) -> Result<bool, Memory>
-        ensures { IfOk result (λ some. MatchBool some (self.old ≡ line.new ∷ self.new) (self.old ≡ [])) }
+        ensures { IfOk result (λ some.
+            MatchBool some (self.old ≡ line.new ∷ self.new) (self.old ≡ [])) }
     {
         line.clear();
         match self.stage {

@@ -20,7 +20,8 @@ fn push_lines(alloc: Global, lines: &mut Lines, out: &mut Bytes) -> Result<(), M
     Ok(())
 }
 
-/// Appends the script from this start, with so many edits, each line with its newline. After an `Err` nothing was appended.
+/// Appends the script from this start, with so many edits, each line with its newline. After an
+/// `Err` nothing was appended.
 pub fn script(alloc: Global, start: u64, edits: u32, out: &mut Bytes) -> Result<(), Memory>
     ensures ok { OnOk result (out.new ≡ out.old ++ script start edits) }
     ensures err { OnErr result (out.new ≡ out.old) }

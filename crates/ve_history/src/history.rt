@@ -7,14 +7,21 @@ use std::marker::Model;
 use ve_base::Memory;
 use ve_tx::{Entry, EntryList, Parcel};
 
-/// The entries that are done and can be undone, and the parcels that were undone and can be redone. `spare` is how many more either stack takes
-/// without memory.
-#[derive(Drop)]
+/// The entries that are done and can be undone, and the parcels that were undone and can be redone.
+/// `spare` is how many more either stack takes without memory.
 pub struct History {
     done: Vec<Entry>,
     // the last one undone at the end, so that it is taken off without moving the others
     undone: Vec<Parcel>,
     spare: usize,
+}
+
+impl Drop for History {
+    fn drop(self) {
+        let History { done, undone, spare: _ } = self;
+        drop(done);
+        drop(undone);
+    }
 }
 
 impl Model for History {
@@ -59,8 +66,8 @@ impl History {
         Ok(())
     }
 
-    /// Puts a new entry on the first stack; nothing can be redone then. It succeeds within the spare room, of which it takes one, and an `Err`
-    /// changes nothing.
+    /// Puts a new entry on the first stack; nothing can be redone then. It succeeds within the
+    /// spare room, of which it takes one. An `Err` changes nothing.
     pub fn push(&mut self, entry: Entry) -> Result<(), Memory>
         ensures done { OnOk result (self.new.done ≡ self.old.done ++ entry ∷ []) }
         ensures undone { OnOk result (self.new.undone ≡ []) }
@@ -90,8 +97,8 @@ impl History {
         self.undone.as_slice().last()
     }
 
-    /// Takes the last entry off the first stack and puts its parcel on the second. It succeeds within the spare room, and an `Err` changes
-    /// nothing.
+    /// Takes the last entry off the first stack and puts its parcel on the second. It succeeds
+    /// within the spare room, and an `Err` changes nothing.
     pub fn move_down(&mut self, undone: Parcel) -> Result<(), Memory>
         requires { self.old.done ≢ [] }
         ensures done { OnOk result (self.new.done ≡ without_last self.old.done) }
@@ -108,8 +115,8 @@ impl History {
         Ok(())
     }
 
-    /// Takes the last parcel off the second stack and puts its entry, done again, on the first. It succeeds within the spare room, and an `Err`
-    /// changes nothing.
+    /// Takes the last parcel off the second stack and puts its entry, done again, on the first. It
+    /// succeeds within the spare room, and an `Err` changes nothing.
     pub fn move_up(&mut self, redone: Entry) -> Result<(), Memory>
         requires { self.old.undone ≢ [] }
         ensures done { OnOk result (self.new.done ≡ self.old.done ++ redone ∷ []) }
@@ -133,7 +140,8 @@ impl History {
         self.done.as_slice()
     }
 
-    /// Puts a list in the place of the entries that are done, and hands these back. It takes no memory, and keeps no spare room.
+    /// Puts a list in the place of the entries that are done, and hands these back. It takes no
+    /// memory, and keeps no spare room.
     pub fn replace_done(&mut self, done: EntryList) -> EntryList
         ensures handed { result ≡ self.old.done }
         ensures done { self.new.done ≡ done }

@@ -1,10 +1,13 @@
-//! What one editor can undo and redo: a stack of entries that were done, and a stack of parcels that were undone. An undone entry is kept as a
-//! parcel, with its own values, since an undo may cut these values off the store.
+//! The history of one editor: a stack of entries that were done, and a stack of parcels that were
+//! undone. An undone entry is kept as a parcel, with its own values, since an undo may cut these
+//! values off the store.
 //!
-//! It moves entries and parcels, and makes none: what an undo does to a list is not its matter. Definitions: `Stacks` is what a history is seen
-//! as, `without_last` takes the top off the first stack.
+//! It moves entries and parcels, and makes none: what an undo does to a list is not its matter.
+//! Definitions: `Stacks` is the view of a history, `without_last` takes the top off the first
+//! stack.
 //!
-//! Room is taken first: a push or a move succeeds where there is spare room, so a change can be made and noted as one.
+//! Room is taken first: a push or a move succeeds where there is spare room, so a change can be
+//! made and noted as one.
 #![tactic(auto)]
 
 mod history;

@@ -71,7 +71,7 @@ stands t at a rest s e =
       len = omega (arith, l4, length-drop (at + 1 + length a.name + 2 + length a.value) t);
     }
 
--- the places that the iterator finds
+-- the positions that the iterator finds
 pub record Found (b : List ℕ) (at name_to value_to : ℕ) (a : Attr) (rest : List ℕ) : Type 0 where
   pub name_to_is : name_to ≡ at + 1 + length a.name
   pub value_to_is : value_to ≡ name_to + 2 + length a.value

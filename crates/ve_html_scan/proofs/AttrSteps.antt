@@ -45,7 +45,7 @@ close_void tag at t lt e l n = close_slash tag at t lt e ∙ slash_is tag at t l
 
 -- ---- names
 
--- how long the name is that begins after the space at place
+-- how long the name is that begins after the space at position
 abbrev pub name_len : ℕ → List ℕ → ℕ
 name_len place t = prefix_len is_name_byte (drop (place + 1) t)
 
@@ -132,7 +132,7 @@ void_text at t lt e f =
     let l : at < length t = omega arith in
     drop_more t at 0 l ∙ ap (λ (b : ℕ). b ∷ drop (at + 1) t) e ∙ ap (λ (r : List ℕ). 47 ∷ r) (plain_text (at + 1) t lt f) ∙ ap (λ (k : ℕ). 47 ∷ (62 ∷ drop k t)) n
 
--- what stands between two places
+-- what stands between two positions
 pub between_is : (t xs : List ℕ) (at to : ℕ) → at ≤ to → to ≤ length t → drop at t ≡ xs ++ drop to t → slice_range t at to ≡ xs
 between_is t xs at to le lt e =
     let len : length xs ≡ to - at = omega (arith, ap length e, length-drop at t, length-drop to t, length-append xs (drop to t)) in

@@ -30,7 +30,8 @@ value_len_is t name_to mark n a e m q v =
 
 -- ---- the loop that reads attributes
 
--- what was read before the byte at, where room more may come, and the names are those of what was read
+-- what was read before the byte at, where room more may come, and the names are those of what was
+-- read
 pub record SoFar (names : List (List ℕ)) (t : List ℕ) (tag from at room : ℕ) : Type 0 where
   pub before : List Attr
   pub read : attrs_at room tag before at (drop at t) ≡ attrs_at 256 tag [] from (drop from t)
@@ -98,7 +99,7 @@ run_passes f q at to (b ∷ bs) e =
 
 -- ---- one attribute more
 
--- the attribute whose parts are at these places
+-- the attribute whose parts are at these positions
 abbrev pub attr_here : List ℕ → ℕ → ℕ → ℕ → ℕ → Attr
 attr_here t at n q to = record { name = take n (drop (at + 1) t); value = take (to - (at + n + 3)) (drop (at + n + 3) t); quote = q }
 

@@ -44,7 +44,7 @@ last_past : (at : ℕ) (t : List ℕ) → length t ≤ at → last_place ends_bo
 unfolding last_place
 last_past at t le = at_drop_all (last_place ends_body at) t at le
 
--- no place from that byte on ends a body
+-- no position from that byte on ends a body
 abbrev pub NoneFrom : ℕ → List ℕ → Type 0
 NoneFrom at t = last_place ends_body at (drop at t) ≡ None
 
@@ -78,7 +78,7 @@ pub ruleset last_steps = (none_at_end, none_before, last_here, last_none)
 pub tag_inside : (b : List ℕ) (tag : ℕ) → first_place starts_body 0 b ≡ Some tag → tag + 1 ≤ length b
 tag_inside b tag e = let f = first_found starts_body 0 b tag e in omega (arith, f.is, f.inside)
 
--- what stands at the first place is a start tag
+-- what stands at the first position is a start tag
 reads_start : (b : List ℕ) (tag : ℕ) → first_place starts_body 0 b ≡ Some tag → tag_at tag (drop (tag + 1) b) ≡ start_at tag (drop (tag + 1) b)
 reads_start b tag e =
     let f = first_found starts_body 0 b tag e in

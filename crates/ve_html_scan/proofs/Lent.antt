@@ -1,4 +1,4 @@
--- Where a text may be cut, and what is lent from it.
+-- Where a text may be cut, and what is borrowed from it.
 use Rattle.std.specs.List.{list_all}
 use Rattle.std.specs.Prelude.{nat_le}
 use Rattle.std.proofs.lemmas.List.{drop-take}
@@ -61,7 +61,7 @@ cut_after_close t b to same utf8 close some le =
     let n : to - 1 + 1 ≡ to = omega arith in
     subst (IsCharBoundary t) n (after_byte t (to - 1) 62 utf8 (omega (arith, ap length same)) (ap (λ (x : List ℕ). get_or x (to - 1) 0) (sym same) ∙ close) (omega arith))
 
--- ---- the tokens, lent from a text t whose bytes are b
+-- ---- the tokens, borrowed from a text t whose bytes are b
 
 pub end_lent : (t b : List ℕ) (tag to : ℕ) (name : Bor (List ℕ)) → b ≡ t → IsUtf8 t → end_at tag (drop (tag + 2) b) ≡ Ok (End (slice_range b (tag + 2) to), to + 1)
     → tag + 2 ≤ to → to < length b → get_or b to 0 ≡ 62 → name.now ≡ slice_range t (tag + 2) to

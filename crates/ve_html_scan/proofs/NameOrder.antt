@@ -21,7 +21,7 @@ use Rattle.model_spelling.specs.Grammar.{name_same}
 use Rattle.ve_kinds.specs.Tags.{is_one_of}
 use Rattle.ve_html_scan.specs.Names.{texts, CanBeSearched}
 
--- how a name that is lent stands to another
+-- how a name that is borrowed stands to another
 abbrev pub against : List ℕ → Bor (List ℕ) → Ordering
 against x n = slice_cmp nat_cmp n.now x
 
@@ -80,7 +80,7 @@ searched_more names name i s le parted x =
 
 -- ---- putting a name where it belongs
 
--- the names from place on in the first len, and the one after them
+-- the names from position on in the first len, and the one after them
 turned : {X : Type 0} (xs : List X) (len place : ℕ) (x : X) → place ≤ len → len < length xs → mid_of place (len + 1 - place) (set xs len x) ≡ drop place (take len xs) ++ x ∷ []
 turned xs len place x le lt =
     let more_is : take (len + 1) (set xs len x) ≡ take len xs ++ x ∷ [] = take_more_set xs len x lt in

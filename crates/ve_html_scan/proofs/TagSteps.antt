@@ -43,7 +43,7 @@ pub end_other : (tag n : ℕ) (t : List ℕ) → tag + 2 < length t → is_lette
     → end_at tag (drop (tag + 2) t) ≡ Err (byte_fault (tag + 2 + n) (get_or t (tag + 2 + n) 0) (fault tag BadTag))
 end_other tag n t lt l e h ne = end_judged tag n t lt l e h ∙ rw (ne_eqb _ _ ne) refl
 
--- the name as it is lent
+-- the name as it is borrowed
 name_is : (at n : ℕ) (t : List ℕ) → slice_range t at (at + n) ≡ take n (drop at t)
 name_is at n t = let e : at + n - at ≡ n = omega arith in rw e refl
 

@@ -5,7 +5,7 @@ use Rattle.std.specs.List.Sorted.{IsNonDecreasingBy}
 use Rattle.std.specs.Cmp.Lexicographic.{slice_cmp}
 use Rattle.std.specs.Ordering.{nat_cmp, ordering_index}
 
--- the names that are lent
+-- the names that are borrowed
 abbrev pub texts : List (Bor (List ℕ)) → List (List ℕ)
 texts names = map (λ (n : Bor (List ℕ)). n.now) names
 

@@ -1,4 +1,4 @@
--- What a token that is lent from a text says.
+-- Borrowed tokens of a text, and what they say.
 use Rattle.std.specs.Prelude.{true, IsNone, IsSomeAnd, [], ◌∷◌, ◌≡◌, ℕ, ◌+◌, List, ◌++◌, Bool, drop, Option, Some, None, Result, Ok, Err, ◌<◌, length, IsCharBoundary, if◌then◌else◌}
 use Rattle.std.specs.List.{flat_map, list_all}
 use Rattle.model_spelling.specs.declared.scan_fault.ScanFault.{ScanFault}
@@ -9,7 +9,7 @@ use Rattle.ve_html_scan.specs.declared.token.Token.{Token}
 use Rattle.ve_html_scan.specs.declared.token.Token.TheVariants as lent
 use Rattle.model_spelling.specs.Grammar as g
 use Rattle.model_spelling.specs.Reading as reading
-use Rattle.model_spelling.specs.Reading.{Mode, Between, After, Failed, Step, token_at, attrs_from}
+use Rattle.model_spelling.specs.Reading.{ScanMode, Between, After, Failed, Step, token_at, attrs_from}
 use Rattle.ve_kinds.specs.Tags.{is_raw}
 use Rattle.ve_html_scan.specs.Parts.{close_text}
 
@@ -32,7 +32,7 @@ pub record ShowsAttr (at : ℕ) (t : AttrToken) (a : g.Attr) : Type 0 where
   pub from : t.span.from ≡ at + 1
   pub to : t.span.to ≡ at + length (g.attr_text a)
 
--- what is given where these attributes are still to come: the first of them, and then the others are
+-- the answers where these attributes are still to come: the first of them, and then the others
 abbrev pub GivesAttr : List g.Attr → Bool → ℕ → Option AttrToken → AttrTokens → Type 0
 GivesAttr [] slash at result after = IsNone result × ShowsAttrs after [] slash × (after.at ≡ at)
 GivesAttr (a ∷ attrs) slash at result after =
@@ -52,15 +52,15 @@ ShowsToken (lent.Raw text span) (g.Raw t) = text.now ≡ t
 ShowsToken (lent.Comment text span) (g.Comment t) = text.now ≡ t
 ShowsToken _ _ = ⊥
 
--- what a scanner waits for after a token
-abbrev pub mode_after_lent : Token → Mode
+-- the mode of a scanner after a token
+abbrev pub mode_after_lent : Token → ScanMode
 mode_after_lent (lent.StartTag name attrs span) = if is_raw name.now then After name.now else Between
 mode_after_lent (lent.EndTag name span) = Between
 mode_after_lent (lent.Chars text span) = Between
 mode_after_lent (lent.Raw text span) = Between
 mode_after_lent (lent.Comment text span) = Between
 
--- The token t, lent from the text from the byte at on, is what reading gives there.
+-- The token t, borrowed from the text from the byte at on, is what reading gives there.
 pub record IsFound (text : List ℕ) (at : ℕ) (read : Step) (t : Token) : Type 0 where
   pub token : g.Token
   pub is : read ≡ Ok (Some (token, (token_span t).to))
@@ -70,7 +70,7 @@ pub record IsFound (text : List ℕ) (at : ℕ) (read : Step) (t : Token) : Type
   pub mode : mode_after_lent t ≡ reading.mode_after token
   pub boundary : IsCharBoundary text (token_span t).to
 
--- What is answered for a text from the byte at is what reading gives.
+-- The answer for a text from the byte at is what reading gives.
 abbrev pub Gives : List ℕ → ℕ → Result (Option Token) ScanFault → Step → Type 0
 Gives text at (Ok None) read = read ≡ Ok None
 Gives text at (Ok (Some t)) read = IsFound text at read t
@@ -82,7 +82,7 @@ Gives text at (Err f) read = read ≡ Err f
 pub record ScannerState : Type 0 where
   pub text : List ℕ
   pub at : ℕ
-  pub mode : Mode
+  pub mode : ScanMode
 
 -- where a scanner stands after it gave this answer
 abbrev pub scanner_after : Result (Option Token) ScanFault → ScannerState → ScannerState
@@ -90,6 +90,6 @@ scanner_after (Ok None) p = p
 scanner_after (Ok (Some t)) p = record { text = p.text; at = (token_span t).to; mode = mode_after_lent t }
 scanner_after (Err f) p = record { text = p.text; at = p.at; mode = Failed f }
 
--- what comes next from this place
+-- the next step from this position
 abbrev pub next_of : ScannerState → Step
 next_of p = token_at p.mode p.at (drop p.at p.text)

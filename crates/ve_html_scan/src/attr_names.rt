@@ -8,7 +8,8 @@ ghost use Rattle.ve_kinds.specs.Tags.{is_one_of};
 use std::marker::Model;
 use ve_base::MAX_ATTRIBUTES;
 
-/// Names of a tag's attributes, each once. They are kept in the order of their bytes, so that a name is looked for by few comparisons.
+/// Names of a tag's attributes, each once. They are kept in the order of their bytes, so that a
+/// name is looked for by few comparisons.
 #[derive(Drop)]
 pub struct AttrNames<'a> {
     sorted: [&'a [u8]; MAX_ATTRIBUTES],
@@ -27,7 +28,7 @@ impl<'a> Model for AttrNames<'a> {
     ghost invariant = { λ names. (names.len ≤ max_attributes) × CanBeSearched (take names.len names.sorted) };
 }
 
-/// Puts a name before those from that place on, where the first `len` are names.
+/// Puts a name before those from that position on, where the first `len` are names.
 fn put_name<'a>(names: &mut [&'a [u8]], len: usize, place: usize, name: &'a [u8])
     requires place { place ≤ len }
     requires room { len < length names.old }
@@ -65,7 +66,8 @@ impl<'a> AttrNames<'a> {
     pub fn insert(&mut self, name: &'a [u8]) -> bool
         requires { length self.old < max_attributes }
         ensures added { result ≡ not (is_one_of self.old name.now) }
-        ensures known { (x : List ℕ) → is_one_of self.new x ≡ (name_same name.now x || is_one_of self.old x) }
+        ensures known { (x : List ℕ)
+            → is_one_of self.new x ≡ (name_same name.now x || is_one_of self.old x) }
         ensures len { length self.new ≡ (if result then length self.old + 1 else length self.old) }
     {
         let len = self.len;

@@ -1,4 +1,4 @@
-//! The attributes of a start tag, lent one after the other.
+//! The attributes of a start tag, borrowed one after the other.
 
 ghost use Rattle.std.specs.Prelude.{◌≡◌, ◌-◌, length};
 ghost use Rattle.std.specs.Iterator.{at_most};
@@ -8,7 +8,8 @@ use crate::attrs::is_quote;
 use crate::runs::{name_end, next_place_of};
 use crate::token::Span;
 
-/// An attribute as it is spelled, without its quotes. Its bytes run from the name's first to the quote after the value.
+/// An attribute as it is spelled, without its quotes. Its bytes run from the name's first to the
+/// quote after the value.
 #[derive(Clone, Copy, Debug)]
 pub struct AttrToken<'a> {
     pub name: &'a str,
@@ -16,7 +17,8 @@ pub struct AttrToken<'a> {
     pub span: Span,
 }
 
-/// The attributes of a start tag that are still to come. They are read again from the tag when they are asked for.
+/// The attributes of a start tag that are still to come. They are read again from the tag when they
+/// are asked for.
 #[derive(Clone, Copy, Debug)]
 pub struct AttrTokens<'a> {
     /// The text up to the tag's end.

@@ -1,4 +1,4 @@
-//! Attributes of a start tag. `tag` is the place of its `<`.
+//! Attributes of a start tag. `tag` is the position of its `<`.
 
 ghost use Rattle.std.specs.Prelude.{◌≡◌, ◌≤◌, ◌<◌, ◌+◌, ◌-◌, ◌++◌, ◌==◌, ◌||◌, ℕ, List, [], not, length, drop, slice_range, slice_index, IfOk};
 ghost use Rattle.std.specs.List.{flat_map, prefix_len};
@@ -16,9 +16,11 @@ use model_spelling::{ScanFault, ScanWhat};
 #[tactic(auto, using(crate::proofs::AttrSteps::head_steps))]
 fn attr_name(bytes: &[u8], tag: usize, place: usize) -> Result<usize, ScanFault>
     requires { place < length bytes.now }
-    ensures read { Finds (head_view bytes.now place) result (head_at tag place (drop (place + 1) bytes.now)) }
+    ensures read { Finds (head_view bytes.now place) result (
+        head_at tag place (drop (place + 1) bytes.now)) }
     ensures bound { IfOk result (λ to. (place + 1 < to) × (to + 1 < length bytes.now)) }
-    ensures end { IfOk result (λ to. to ≡ place + 1 + prefix_len is_name_byte (drop (place + 1) bytes.now)) }
+    ensures end { IfOk result (λ to.
+        to ≡ place + 1 + prefix_len is_name_byte (drop (place + 1) bytes.now)) }
     ensures equals { IfOk result (λ to. slice_index bytes.now to ≡ 61) }
     ensures mark { IfOk result (λ to. IsQuote (slice_index bytes.now (to + 1))) }
 {
@@ -47,19 +49,21 @@ fn attr_name(bytes: &[u8], tag: usize, place: usize) -> Result<usize, ScanFault>
     Ok(to)
 }
 
-/// Where the value ends that begins at that place, just after its quote.
+/// Where the value ends that begins at that position, just after its quote.
 fn attr_value(bytes: &[u8], tag: usize, from: usize) -> Result<usize, ScanFault>
     requires bound { from ≤ length bytes.now }
     requires quote { 0 < from }
-    ensures read { result ≡ value_end tag (slice_index bytes.now (from - 1)) from (drop from bytes.now) }
+    ensures read { result
+        ≡ value_end tag (slice_index bytes.now (from - 1)) from (drop from bytes.now) }
     ensures bound { IfOk result (λ to. (from ≤ to) × (to < length bytes.now)) }
-    ensures close { IfOk result (λ to. slice_index bytes.now to ≡ slice_index bytes.now (from - 1)) }
+    ensures close { IfOk result (λ to.
+        slice_index bytes.now to ≡ slice_index bytes.now (from - 1)) }
 {
     let unclosed = fault_at(tag, ScanWhat::UnclosedTag);
     characters_end(bytes, from, bytes[from - 1], Some(unclosed))
 }
 
-/// The end of a start tag: whether there is a `/`, and the place after the `>`.
+/// The end of a start tag: whether there is a `/`, and the position after the `>`.
 #[tactic(auto, using(crate::proofs::AttrSteps::close_steps))]
 pub fn tag_end(bytes: &[u8], tag: usize, void: bool, at: usize) -> Result<(bool, usize), ScanFault>
     requires { at ≤ length bytes.now }
@@ -96,7 +100,8 @@ pub fn is_quote(b: u8) -> bool
     b == b'"' || b == b'\''
 }
 
-/// Where the attributes end that begin at that place, just after the tag's name. `names` is room for their names.
+/// Where the attributes end that begin at that position, just after the tag's name. `names` is room
+/// for their names.
 pub fn attrs_end<'a>(
     bytes: &'a [u8],
     tag: usize,
@@ -104,11 +109,14 @@ pub fn attrs_end<'a>(
     names: &mut AttrNames<'a>,
 ) -> Result<usize, ScanFault>
     requires { from ≤ length bytes.now }
-    ensures read { Finds (λ to. (attrs_from tag from bytes.now, to)) result (attrs_at max_attributes tag [] from (drop from bytes.now)) }
+    ensures read { Finds (λ to. (attrs_from tag from bytes.now, to)) result (
+        attrs_at max_attributes tag [] from (drop from bytes.now)) }
     ensures bound { IfOk result (λ to. (from ≤ to) × (to ≤ length bytes.now)) }
     ensures first { IfOk result (λ to. from < to → slice_index bytes.now from < 128) }
     ensures spelled { IfOk result (λ to. AreSpelled (attrs_from tag from bytes.now)) }
-    ensures text { IfOk result (λ to. drop from bytes.now ≡ flat_map attr_text (attrs_from tag from bytes.now) ++ drop to bytes.now) }
+    ensures text { IfOk result (λ to.
+        drop from bytes.now
+        ≡ flat_map attr_text (attrs_from tag from bytes.now) ++ drop to bytes.now) }
 {
     names.clear();
     let mut at = from;

@@ -39,7 +39,7 @@ fn first_body(page: &[u8]) -> Option<usize>
     None
 }
 
-/// Where the last `</body>` stands, from a place on. It is looked for from the end.
+/// Where the last `</body>` stands, from a position on. It is looked for from the end.
 #[tactic(auto, using(crate::proofs::Bodies::last_steps))]
 fn last_body_end(page: &[u8], from: usize) -> Option<usize>
     requires { from ≤ length page.now }
@@ -55,11 +55,12 @@ fn last_body_end(page: &[u8], from: usize) -> Option<usize>
     None
 }
 
-/// The bytes of a page's body. A page that begins with `<!doctype` has it between its first body start tag
-/// and the last `</body>` after that; every other page is all body.
+/// The bytes of a page's body. A page that begins with `<!doctype` has it between its first body
+/// start tag and the last `</body>` after that; every other page is all body.
 pub fn body_of(text: &str) -> Result<Span, ScanFault>
     ensures read { Finds (λ s. (s.from, s.to)) result (body_at text.now) }
-    ensures cuts { IfOk result (λ s. IsCharBoundary text.now s.from × IsCharBoundary text.now s.to × (s.from ≤ s.to)) }
+    ensures cuts { IfOk result (λ s.
+        IsCharBoundary text.now s.from × IsCharBoundary text.now s.to × (s.from ≤ s.to)) }
 {
     let page = text.as_bytes();
     if !is_whole_page(page) {

@@ -1,4 +1,4 @@
-//! What a spelled text or value says.
+//! Decoding of an escaped text or value.
 
 ghost use Rattle.std.specs.Prelude.{◌≡◌, ◌≤◌, ◌<◌, ◌-◌, ◌++◌, ◌∷◌, [], length, drop, slice_index, IsCharBoundary, IsUtf8, IfOk, IfSome, IfNone, bytes_eq, encode_utf8_all};
 ghost use Rattle.std.specs.Str.{chars};
@@ -20,7 +20,8 @@ struct Reference {
 #[tactic(auto, using(crate::proofs::Decoding::prefix_steps))]
 fn first_reference(text: &[u8]) -> Reference
     requires { slice_index text.now 0 ≡ 38 }
-    ensures decoded { written.decoded text.now ≡ result.meaning.now ++ written.decoded (drop result.len text.now) }
+    ensures decoded { written.decoded text.now
+        ≡ result.meaning.now ++ written.decoded (drop result.len text.now) }
     ensures some { 0 < result.len }
     ensures inside { result.len ≤ length text.now }
     ensures ascii { slice_index text.now (result.len - 1) < 128 }
@@ -68,18 +69,19 @@ fn first_reference(text: &[u8]) -> Reference
     }
 }
 
-/// What stands at a place says, and where it ends.
+/// One decoded piece of a text, and the position where its spelling ends.
 #[derive(Clone, Copy)]
 struct Piece<'a> {
     text: &'a str,
     to: usize,
 }
 
-/// The reference at that place, or the text up to the next `&`.
+/// The reference at that position, or the text up to the next `&`.
 fn piece_at<'a>(spelled: &'a str, at: usize) -> Piece<'a>
     requires inside { at < length spelled.now }
     requires boundary { IsCharBoundary spelled.now at }
-    ensures decoded { written.decoded (drop at spelled.now) ≡ result.text.now ++ written.decoded (drop result.to spelled.now) }
+    ensures decoded { written.decoded (drop at spelled.now)
+        ≡ result.text.now ++ written.decoded (drop result.to spelled.now) }
     ensures boundary { IsCharBoundary spelled.now result.to }
     ensures more { at < result.to }
     ensures bound { result.to ≤ length spelled.now }
@@ -100,7 +102,8 @@ fn piece_at<'a>(spelled: &'a str, at: usize) -> Piece<'a>
     }
 }
 
-/// A text or value of a page with its six references replaced by their characters. An `&` that starts none of them stays.
+/// A text or value of a page with its six references replaced by their characters. An `&` that
+/// starts none of them stays.
 pub fn decoded(alloc: Global, spelled: &str) -> Result<Text, Memory>
     ensures chars { IfOk result (λ text. text ≡ chars (written.decoded spelled.now)) }
     ensures bytes { IfOk result (λ text. encode_utf8_all text ≡ written.decoded spelled.now) }
@@ -115,7 +118,7 @@ pub fn decoded(alloc: Global, spelled: &str) -> Result<Text, Memory>
     Ok(text)
 }
 
-/// What a spelled text or value says, byte by byte: the bytes that are still to come.
+/// The decoding of an escaped text or value, byte by byte: the bytes that are still to come.
 #[derive(Drop)]
 struct Decoding<'a> {
     spelled: &'a str,
@@ -167,7 +170,7 @@ impl<'a> Decoding<'a> {
     }
 }
 
-/// Whether two spelled texts or values say the same. It takes no memory.
+/// Whether two escaped texts or values decode to the same. It takes no memory.
 pub fn decoded_same(one: &str, other: &str) -> bool
     ensures { result ≡ bytes_eq (written.decoded one.now) (written.decoded other.now) }
 {

@@ -12,7 +12,8 @@ pub fn fault_at(at: usize, what: ScanWhat) -> ScanFault
     ScanFault { at, what }
 }
 
-/// The fault of a byte that no spelling allows at its place: its own, or the one of what it stands in.
+/// The fault of a byte that no spelling allows at its position: its own, or the one of what it
+/// stands in.
 pub fn refusal(at: usize, b: u8, otherwise: ScanFault) -> ScanFault
     ensures { result ≡ byte_fault at b otherwise }
 {

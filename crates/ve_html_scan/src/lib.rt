@@ -1,14 +1,16 @@
-//! Tokens of a page, lent from its text. It knows how texts and tags are spelled, as `model_spelling` says;
-//! which elements are open is known to `ve_html_tree` alone. Nothing is copied, and no call but `decoded`
-//! takes memory.
+//! Tokens of a page, borrowed from its text. It knows how texts and tags are written, as
+//! `model_spelling` says. Which elements are open is known to `ve_html_tree` alone. Nothing is
+//! copied, and no call but `decoded` takes memory.
 //!
-//! - `Scanner`: the next token, or the first fault, which it then repeats (`ScannerState`, `Gives` and `next_of` in `Shown`);
+//! - `Scanner`: the next token, or the first fault, which it then repeats (`ScannerState`, `Gives`
+//!   and `next_of` in `Shown`);
 //! - `AttrTokens`: the attributes of a start tag, one after the other (`AttrsStep` in `Shown`);
-//! - `body_of`: where the body of a page stands; `decoded`: a text or value with its references replaced;
-//!   `decoded_same`: whether two say the same.
+//! - `body_of`: where the body of a page stands; `decoded`: a text or value with its references
+//!   replaced; `decoded_same`: whether two say the same.
 //!
-//! `Parts`, `Names` and `Scanned` in specs/ serve the private functions over bytes. There are no laws here:
-//! each contract is an equation with the definitions of `model_spelling`, whose laws say what these mean.
+//! `Parts`, `Names` and `Scanned` in specs/ serve the private functions over bytes. There are no
+//! laws here: each contract is an equation with the definitions of `model_spelling`, whose laws say
+//! what these mean.
 #![tactic(auto)]
 
 mod attr_names;

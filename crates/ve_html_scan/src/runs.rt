@@ -1,4 +1,5 @@
-//! How far names, characters and raw text go. Each function reads from a place in the bytes of a text.
+//! How far names, characters and raw text go. Each function reads from a position in the bytes of a
+//! text.
 
 ghost use Rattle.std.specs.Prelude.{◌≡◌, ◌≤◌, ◌<◌, ◌+◌, length, drop, slice_index, nat_eq, not, ◌==◌, true, IsTrue, IsSome, IfOk};
 ghost use Rattle.std.specs.List.{prefix_len, common_prefix_len};
@@ -30,7 +31,7 @@ pub fn is_byte_of_name(b: u8) -> bool
     b.is_ascii_alphanumeric() || b == b'-' || b == b'_' || b == b'.' || b == b':'
 }
 
-/// Where the name that begins at that place ends.
+/// Where the name that begins at that position ends.
 pub fn name_end(bytes: &[u8], from: usize) -> usize
     requires { from ≤ length bytes.now }
     ensures end { result ≡ from + prefix_len is_name_byte (drop from bytes.now) }
@@ -43,7 +44,7 @@ pub fn name_end(bytes: &[u8], from: usize) -> usize
     at
 }
 
-/// Where the first such byte from that place on stands; else the end.
+/// Where the first such byte from that position on stands; else the end.
 pub fn next_place_of(bytes: &[u8], from: usize, byte: u8) -> usize
     requires { from ≤ length bytes.now }
     ensures end { result ≡ from + prefix_len (λ b. not (b == byte)) (drop from bytes.now) }
@@ -57,7 +58,7 @@ pub fn next_place_of(bytes: &[u8], from: usize, byte: u8) -> usize
     at
 }
 
-/// The bytes from that place on.
+/// The bytes from that position on.
 pub fn rest(bytes: &[u8], from: usize) -> &[u8]
     requires { from ≤ length bytes.now }
     ensures value { result.now ≡ drop from bytes.now }
@@ -116,8 +117,8 @@ fn begins_reference(text: &[u8]) -> bool
         || begins(text, b"&apos;")
 }
 
-/// The fault of the `&` at that place, which starts no reference. `unclosed` is the fault of a text that ends
-/// inside of one, where it isn't the `&`'s own.
+/// The fault of the `&` at that position, which starts no reference. `unclosed` is the fault of a
+/// text that ends inside of one, where it isn't the `&`'s own.
 #[tactic(auto, using(crate::proofs::Steps::reference_steps))]
 fn reference_refusal(bytes: &[u8], at: usize, unclosed: Option<ScanFault>) -> ScanFault
     requires { at ≤ length bytes.now }
@@ -168,14 +169,14 @@ pub fn characters_end(
     }
 }
 
-/// What ends a comment, and the raw text of the element of that name.
+/// The end of a comment, or of the raw text of the element of that name.
 #[derive(Clone, Copy)]
 pub enum Close<'a> {
     Comment,
     Raw(&'a [u8]),
 }
 
-/// Whether the closing stands at that place.
+/// Whether the closing stands at that position.
 #[tactic(auto, using(crate::proofs::Steps::close_steps))]
 fn closes(bytes: &[u8], at: usize, close: Close<'_>) -> bool
     requires { at ≤ length bytes.now }
@@ -207,9 +208,12 @@ pub fn closing_at(
     unclosed: ScanFault,
 ) -> Result<usize, ScanFault>
     requires { from ≤ length bytes.now }
-    ensures read { result ≡ verbatim_end (closing_text close.entry) unclosed from (drop from bytes.now) }
-    ensures bound { IfOk result (λ to. (from ≤ to) × (to + length (closing_text close.entry) ≤ length bytes.now)) }
-    ensures found { IfOk result (λ to. begins_with (closing_text close.entry) (drop to bytes.now) ≡ true) }
+    ensures read { result
+        ≡ verbatim_end (closing_text close.entry) unclosed from (drop from bytes.now) }
+    ensures bound { IfOk result (λ to.
+        (from ≤ to) × (to + length (closing_text close.entry) ≤ length bytes.now)) }
+    ensures found { IfOk result (λ to.
+        begins_with (closing_text close.entry) (drop to bytes.now) ≡ true) }
 {
     let mut at = from;
     while at < bytes.len() {

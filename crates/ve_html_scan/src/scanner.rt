@@ -16,9 +16,9 @@ use model_spelling::{ScanFault, ScanWhat};
 use std::marker::Model;
 use ve_kinds::is_raw_name;
 
-/// What a scanner waits for.
+/// The mode of a scanner: what it waits for.
 #[derive(Clone, Copy)]
-pub enum Mode<'a> {
+pub enum ScanMode<'a> {
     Between,
     /// The raw text of the element of that name.
     After(&'a str),
@@ -132,16 +132,16 @@ fn token_between<'a>(
 fn next_token<'a>(
     text: &'a str,
     at: usize,
-    mode: Mode<'a>,
+    mode: ScanMode<'a>,
     names: &mut AttrNames<'a>,
 ) -> Result<Option<Token<'a>>, ScanFault>
     requires { IsCharBoundary text.now at }
     ensures { Gives text.now at result (token_at (shown_mode mode.entry) at (drop at text.now)) }
 {
     match mode {
-        Mode::Failed(fault) => Err(fault),
-        Mode::Between => token_between(text, at, names),
-        Mode::After(name) => {
+        ScanMode::Failed(fault) => Err(fault),
+        ScanMode::Between => token_between(text, at, names),
+        ScanMode::After(name) => {
             let to = closing_at(
                 text.as_bytes(),
                 at,
@@ -159,18 +159,18 @@ fn next_token<'a>(
     }
 }
 
-fn mode_past<'a>(token: &Token<'a>) -> Mode<'a>
+fn mode_past<'a>(token: &Token<'a>) -> ScanMode<'a>
     ensures { shown_mode result ≡ mode_after_lent token.now }
 {
     match *token {
         Token::StartTag { name, .. } => {
             if is_raw_name(name.as_bytes()) {
-                Mode::After(name)
+                ScanMode::After(name)
             } else {
-                Mode::Between
+                ScanMode::Between
             }
         }
-        _ => Mode::Between,
+        _ => ScanMode::Between,
     }
 }
 
@@ -179,7 +179,7 @@ fn mode_past<'a>(token: &Token<'a>) -> Mode<'a>
 pub struct Scanner<'a> {
     text: &'a str,
     at: usize,
-    mode: Mode<'a>,
+    mode: ScanMode<'a>,
     /// Room for the names of a start tag's attributes.
     names: AttrNames<'a>,
 }
@@ -204,14 +204,15 @@ impl<'a> Scanner<'a> {
         Scanner {
             text,
             at: 0,
-            mode: Mode::Between,
+            mode: ScanMode::Between,
             names: AttrNames::new(),
         }
     }
 
     /// The next token; none at the end. After a fault each later call answers it again.
     pub fn next(&mut self) -> Result<Option<Token<'a>>, ScanFault>
-        // The token is what reading the rest of the text gives, and its parts are lent from there.
+        // The token is what reading the rest of the text gives, and its parts are borrowed from
+        // there.
         ensures read { Gives self.old.text self.old.at result (next_of self.old) }
         // The scanner stands after the token, or at its fault.
         ensures place { self.new ≡ scanner_after result self.old }
@@ -224,7 +225,7 @@ impl<'a> Scanner<'a> {
                 Ok(Some(token))
             }
             Err(fault) => {
-                self.mode = Mode::Failed(fault);
+                self.mode = ScanMode::Failed(fault);
                 Err(fault)
             }
         }

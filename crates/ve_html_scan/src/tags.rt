@@ -1,4 +1,4 @@
-//! Tokens that begin with `<`. `tag` is the place of that byte.
+//! Tokens that begin with `<`. `tag` is the position of that byte.
 
 ghost use Rattle.std.specs.Prelude.{◌≡◌, ◌≤◌, ◌<◌, ◌+◌, ◌-◌, length, drop, slice_range, slice_index, true, IfOk};
 ghost use Rattle.model_spelling.specs.Grammar.{is_barred, begins_with, is_letter, End, Comment, comment_close};
@@ -17,7 +17,8 @@ use ve_kinds::is_void_name;
 #[tactic(auto, using(crate::proofs::TagSteps::end_steps))]
 pub fn end_tag(bytes: &[u8], tag: usize) -> Result<usize, ScanFault>
     requires { tag + 2 ≤ length bytes.now }
-    ensures read { Finds (λ to. (End (slice_range bytes.now (tag + 2) to), to + 1)) result (end_at tag (drop (tag + 2) bytes.now)) }
+    ensures read { Finds (λ to. (End (slice_range bytes.now (tag + 2) to), to + 1)) result
+        (end_at tag (drop (tag + 2) bytes.now)) }
     ensures bound { IfOk result (λ to. (tag + 2 ≤ to) × (to < length bytes.now)) }
     ensures close { IfOk result (λ to. slice_index bytes.now to ≡ 62) }
     ensures letter { IfOk result (λ to. slice_index bytes.now (tag + 2) < 128) }
@@ -53,7 +54,8 @@ fn is_doctype_word(text: &[u8]) -> bool
 #[tactic(auto, using(crate::proofs::TagSteps::comment_steps))]
 fn comment(bytes: &[u8], tag: usize) -> Result<usize, ScanFault>
     requires { tag + 4 ≤ length bytes.now }
-    ensures read { Finds (λ to. (Comment (slice_range bytes.now (tag + 4) to), to + 3)) result (comment_at tag (drop (tag + 4) bytes.now)) }
+    ensures read { Finds (λ to. (Comment (slice_range bytes.now (tag + 4) to), to + 3)) result
+        (comment_at tag (drop (tag + 4) bytes.now)) }
     ensures bound { IfOk result (λ to. (tag + 4 ≤ to) × (to + 3 ≤ length bytes.now)) }
     ensures close { IfOk result (λ to. begins_with comment_close (drop to bytes.now) ≡ true) }
 {
@@ -69,7 +71,8 @@ fn comment(bytes: &[u8], tag: usize) -> Result<usize, ScanFault>
 #[tactic(auto, using(crate::proofs::TagSteps::markup_steps))]
 pub fn markup(bytes: &[u8], tag: usize) -> Result<usize, ScanFault>
     requires { tag + 2 ≤ length bytes.now }
-    ensures read { Finds (λ to. (Comment (slice_range bytes.now (tag + 4) to), to + 3)) result (markup_at tag (drop (tag + 2) bytes.now)) }
+    ensures read { Finds (λ to. (Comment (slice_range bytes.now (tag + 4) to), to + 3)) result
+        (markup_at tag (drop (tag + 2) bytes.now)) }
     ensures bound { IfOk result (λ to. (tag + 4 ≤ to) × (to + 3 ≤ length bytes.now)) }
     ensures dash { IfOk result (λ to. slice_index bytes.now (tag + 3) ≡ 45) }
     ensures close { IfOk result (λ to. begins_with comment_close (drop to bytes.now) ≡ true) }
@@ -109,12 +112,15 @@ pub fn start_tag<'a>(
     names: &mut AttrNames<'a>,
 ) -> Result<StartPlaces, ScanFault>
     requires { tag + 1 ≤ length bytes.now }
-    ensures read { Finds (start_view bytes.now tag) result (start_at tag (drop (tag + 1) bytes.now)) }
-    ensures bound { IfOk result (λ p. (tag + 1 ≤ p.name_to) × (p.name_to < p.to) × (p.to ≤ length bytes.now)) }
+    ensures read { Finds (start_view bytes.now tag) result (
+        start_at tag (drop (tag + 1) bytes.now)) }
+    ensures bound { IfOk result (λ p.
+        (tag + 1 ≤ p.name_to) × (p.name_to < p.to) × (p.to ≤ length bytes.now)) }
     ensures first { IfOk result (λ p. slice_index bytes.now p.name_to < 128) }
     ensures close { IfOk result (λ p. slice_index bytes.now (p.to - 1) ≡ 62) }
     ensures spelled { IfOk result (λ p. AreSpelled (attrs_from tag p.name_to bytes.now)) }
-    ensures source { IfOk result (λ p. slice_range bytes.now p.name_to p.to ≡ after_name bytes.now tag p) }
+    ensures source { IfOk result (λ p.
+        slice_range bytes.now p.name_to p.to ≡ after_name bytes.now tag p) }
 {
     let from = tag + 1;
     let name_to = name_end(bytes, from);

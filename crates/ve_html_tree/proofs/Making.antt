@@ -9,16 +9,16 @@ use Rattle.model_spelling.specs.ForestNodes.{ForestNode, forest_size, single_nod
 use Rattle.model_spelling.proofs.AttrReading.{and_left, and_right}
 use Rattle.model_spelling.proofs.ForestLaws.{placed, tokens_in, length_forest_nodes, raw_not_void}
 use Rattle.model_spelling.proofs.Back.{element_parts, raw_parts}
-use Rattle.ve_html_tree.specs.Building.{Built, building, node_begun, closed_node, closed_at, around, closed_innermost, taken}
+use Rattle.ve_html_tree.specs.Building.{Built, building, node_begun, closed_node, closed_at, around, closed_innermost, built_with}
 
 -- what these tokens make
 abbrev pub taken_all : List Placed → Built → Built
 taken_all [] b = b
-taken_all (t ∷ ts) b = taken_all ts (taken t.token t.from t.to b)
+taken_all (t ∷ ts) b = taken_all ts (built_with t.token t.from t.to b)
 
 taken_then : (xs ys : List Placed) (b : Built) → taken_all (xs ++ ys) b ≡ taken_all ys (taken_all xs b)
 taken_then [] ys b = refl
-taken_then (x ∷ xs) ys b = taken_then xs ys (taken x.token x.from x.to b)
+taken_then (x ∷ xs) ys b = taken_then xs ys (built_with x.token x.from x.to b)
 
 -- ---- nodes that follow one another
 
@@ -64,11 +64,11 @@ void_row name attrs slash at n = rw (add-zero (at + length (start_text name attr
 -- ---- start tags
 
 opened_void : (name : List ℕ) (attrs : List Attr) (slash : Bool) (from to : ℕ) (rs : List ForestNode) (ks : List ℕ) → is_void name ≡ true
-    → taken (Start name attrs slash) from to (building rs ks) ≡ building (rs ++ (node_begun (Start name attrs slash) from to (length rs + 1) ∷ [])) ks
+    → built_with (Start name attrs slash) from to (building rs ks) ≡ building (rs ++ (node_begun (Start name attrs slash) from to (length rs + 1) ∷ [])) ks
 opened_void name attrs slash from to rs ks v = rw v refl
 
 opened_element : (name : List ℕ) (attrs : List Attr) (slash : Bool) (from to : ℕ) (rs : List ForestNode) (ks : List ℕ) → is_void name ≡ false
-    → taken (Start name attrs slash) from to (building rs ks) ≡ building (rs ++ (node_begun (Start name attrs slash) from to (around ks) ∷ [])) (length rs ∷ ks)
+    → built_with (Start name attrs slash) from to (building rs ks) ≡ building (rs ++ (node_begun (Start name attrs slash) from to (around ks) ∷ [])) (length rs ∷ ks)
 opened_element name attrs slash from to rs ks v = rw v refl
 
 -- the tokens of a forest, that may be spelled, make its nodes
@@ -102,7 +102,7 @@ makes (RawElement name attrs [] f) (suc room) at rs ks e =
     let to : ℕ = from + length (end_text name) in
     let r : ForestNode = node_begun (Start name attrs false) at from (around ks) in
     let n : length rs + 1 ≡ length rs + 1 + 0 = omega arith in
-    ap (λ (b : Built). taken_all (tokens_in to f) (taken (End name) from to b)) (opened_element name attrs false at from rs ks (raw_not_void name p.raw))
+    ap (λ (b : Built). taken_all (tokens_in to f) (built_with (End name) from to b)) (opened_element name attrs false at from rs ks (raw_not_void name p.raw))
     ∙ ap (λ (l : List ForestNode). taken_all (tokens_in to f) (closed_innermost from to l (length rs ∷ ks))) (sym (append-nil (rs ++ (r ∷ []))))
     ∙ ap (taken_all (tokens_in to f)) (closing rs [] r from to (length rs + 1) ks n)
     ∙ makes f (suc room) to (rs ++ end_row from to (length rs + 1) r []) ks p.rest_is
@@ -118,7 +118,7 @@ makes (RawElement name attrs (b ∷ bs) f) (suc room) at rs ks e =
     let number : length (rs ++ (r ∷ [])) ≡ length rs + 1 = length-append rs (r ∷ []) in
     let same : inner ≡ leaf_is = ap (λ (k : ℕ). node_begun (Raw (b ∷ bs)) from end (k + 1)) number ∙ raw_row (b ∷ bs) from (length rs + 1) in
     let n : length rs + 2 ≡ length rs + 1 + 1 = omega arith in
-    ap (λ (x : Built). taken_all (tokens_in to f) (taken (End name) end to (taken (Raw (b ∷ bs)) from end x))) (opened_element name attrs false at from rs ks (raw_not_void name p.raw))
+    ap (λ (x : Built). taken_all (tokens_in to f) (built_with (End name) end to (built_with (Raw (b ∷ bs)) from end x))) (opened_element name attrs false at from rs ks (raw_not_void name p.raw))
     ∙ ap (taken_all (tokens_in to f)) (closing rs (inner ∷ []) r end to (length rs + 2) ks n)
     ∙ makes f (suc room) to (rs ++ end_row end to (length rs + 2) r (inner ∷ [])) ks p.rest_is
     ∙ after rs (end_row end to (length rs + 2) r (inner ∷ [])) (length rs + 2) to f ks refl
@@ -138,7 +138,7 @@ makes (Element name attrs children f) (suc room) at rs ks e =
     let m : next ≡ length rs + length (end_row end to next r inner) = omega (arith, many) in
     ap (taken_all (tokens_in from children ++ (placed (End name) end ∷ tokens_in to f))) (opened_element name attrs false at from rs ks p.not_void)
     ∙ taken_then (tokens_in from children) (placed (End name) end ∷ tokens_in to f) (building (rs ++ (r ∷ [])) (length rs ∷ ks))
-    ∙ ap (λ (b : Built). taken_all (tokens_in to f) (taken (End name) end to b)) (makes children room from (rs ++ (r ∷ [])) (length rs ∷ ks) p.children_are)
+    ∙ ap (λ (b : Built). taken_all (tokens_in to f) (built_with (End name) end to b)) (makes children room from (rs ++ (r ∷ [])) (length rs ∷ ks) p.children_are)
     ∙ ap (λ (k : ℕ). taken_all (tokens_in to f) (closed_innermost end to ((rs ++ (r ∷ [])) ++ forest_nodes k from children) (length rs ∷ ks))) number
     ∙ ap (taken_all (tokens_in to f)) (closing rs inner r end to next ks n)
     ∙ makes f (suc room) to (rs ++ end_row end to next r inner) ks p.rest_is

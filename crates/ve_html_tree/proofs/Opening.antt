@@ -1,4 +1,4 @@
--- What start and end tags make of the open elements.
+-- Start and end tags: their effect on the open elements.
 use Rattle.std.proofs.Common.{◌≡◌, ◌≢◌, ℕ, ◌-◌, Bool, true, false, cond, List, [], ◌∷◌, ◌++◌, map, length, get_or, Result, Ok, Err, OnOk, IfErr, refl, sym, ap, ◌∙◌, subst}
 use Rattle.std.proofs.lemmas.Bool.{ne_eqb}
 use Rattle.model_spelling.specs.Grammar.{name_same}
@@ -12,7 +12,7 @@ use Rattle.ve_html_tree.specs.declared.fault.HtmlFault.{HtmlFault}
 use Rattle.ve_html_tree.specs.declared.fault.HtmlFault.TheVariants as faults
 use Rattle.ve_html_tree.specs.Nodes.{node_of, ended_at}
 use Rattle.ve_html_tree.specs.Opened.{start_name, open_at, open_node_numbers_from, open_node_numbers, opens, AreLinked}
-use Rattle.ve_html_tree.specs.Seen.{IsFirstFault, met, StepsTo}
+use Rattle.ve_html_tree.specs.Seen.{IsFirstFault, fault_met, StepsTo}
 use Rattle.ve_html_tree.proofs.Links.{length_opens, leaf_numbers, leaf_opens, leaf_links, within, opened_numbers, opened_opens, opened_links, without, shown_node, first_opens, closed_numbers, closed_opens, closed_links}
 
 -- ---- start tags
@@ -30,7 +30,7 @@ pub void_goes : {A : Type 0} (r : Result A HtmlFault) (ns ms : List Node) (x : N
     → OnOk r (ms ≡ ns ++ x ∷ []) → IfErr r (λ e. e ≡ faults.Memory) → StepsTo r (opens ms o) (after_start name at (opens ns o))
 void_goes (Ok y) ns ms x o name at l ne v is m =
     start_void name at (opens ns o) (room_for ns o ne) v ∙ ap (λ (os : List OpenElement). Ok os) (sym (ap (λ (l2 : List Node). opens l2 o) is ∙ leaf_opens ns x o l))
-void_goes (Err f) ns ms x o name at l ne v is m = subst (λ (e : HtmlFault). IsFirstFault e (met (after_start name at (opens ns o)))) (sym m) tt
+void_goes (Err f) ns ms x o name at l ne v is m = subst (λ (e : HtmlFault). IsFirstFault e (fault_met (after_start name at (opens ns o)))) (sym m) tt
 
 pub void_numbers : {A : Type 0} (r : Result A HtmlFault) (ns ms : List Node) (x : Node) (o : Opened) (b : Bool) → AreLinked ns o → b ≡ true → OnOk r (ms ≡ ns ++ x ∷ []) → OnOk r (open_node_numbers ms o ≡ cond b (open_node_numbers ns o) (length ns ∷ open_node_numbers ns o))
 void_numbers (Ok y) ns ms x o b l v is = rw v (ap (λ (l2 : List Node). open_node_numbers l2 o) is ∙ leaf_numbers ns x o l)

@@ -22,10 +22,10 @@ use Rattle.model_spelling.proofs.TokenRuns.{same_step}
 use Rattle.ve_html_scan.specs.Shown.{ScannerState, next_of, scanner_after, token_span, IsFound, ShowsToken}
 use Rattle.ve_html_scan.specs.declared.token.Token.{Token}
 use Rattle.ve_html_scan.specs.declared.token.Token.TheVariants as lent
-use Rattle.ve_html_tree.specs.Seen.{IsFirstFault, met}
+use Rattle.ve_html_tree.specs.Seen.{IsFirstFault, fault_met}
 use Rattle.ve_html_tree.specs.declared.open.Opened.{Opened}
 use Rattle.ve_html_tree.specs.Opened.{open_at, opens, open_node_numbers, AreLinked}
-use Rattle.ve_html_tree.specs.Building.{Built, building, taken}
+use Rattle.ve_html_tree.specs.Building.{Built, building, built_with}
 use Rattle.ve_html_tree.specs.Nodes.{HasRoom, ShowNodes}
 use Rattle.ve_html_tree.specs.declared.node.Node.{Node}
 use Rattle.ve_html_tree.specs.declared.fault.HtmlFault.{HtmlFault}
@@ -38,7 +38,7 @@ use Rattle.ve_html_tree.proofs.Making.{taken_all, makes}
 abbrev pub state_after : g.Token → ℕ → ScannerState → ScannerState
 state_after token to p = record { text = p.text; at = to; mode = mode_after token }
 
--- the token t comes from the place p
+-- the token t comes from the position p
 pub record Comes (p : ScannerState) (t : Placed) : Type 0 where
   pub is : next_of p ≡ Ok (Some (t.token, t.to))
   pub from : t.from ≡ p.at
@@ -73,11 +73,12 @@ stop_at_fault n p f e = ap (tokens_by p.at (on n p)) e
 abbrev pub fault_with : Tokens → List OpenElement → Option ForestFault
 fault_with ts os = fault_in ts.fault os ts.tokens
 
--- what is read from a place, where n is enough
+-- what is read from a position, where n is enough
 abbrev pub from_place : ℕ → ScannerState → Tokens
 from_place n p = tokens_from n p.mode p.at (drop p.at p.text)
 
--- The nodes show nodes of a forest, which the tokens that are left make those of the text; the first fault from here on, with these elements open, is that of the text.
+-- The nodes show nodes of a forest, which the tokens that are left make those of the text. The
+-- first fault from here on, with these elements open, is that of the text.
 pub record SoFar (text : List ℕ) (p : ScannerState) (nodes : List Node) (opened : Opened) : Type 0 where
   pub count : ℕ
   pub enough : length p.text - p.at < count
@@ -151,11 +152,11 @@ goes_by text p ns os t s c = sym (ap (λ (ts : Tokens). fault_with ts (opens ns 
 same_fault : (g f : ForestFault) → Some g ≡ Some f → g ≡ f
 same_fault g f e = cc
 
-met_err : (r : Result (List OpenElement) ForestFault) (f : ForestFault) → met r ≡ Some f → r ≡ Err f
+met_err : (r : Result (List OpenElement) ForestFault) (f : ForestFault) → fault_met r ≡ Some f → r ≡ Err f
 met_err (Ok x) f e = absurd cc
 met_err (Err g) f e = ap (λ (x : ForestFault). Err x) (same_fault g f e)
 
-stops_by : (text : List ℕ) (p : ScannerState) (ns : List Node) (os : Opened) (t : Placed) (f : ForestFault) → SoFar text p ns os → Comes p t → met (after_token t.token t.from (opens ns os)) ≡ Some f → fault_of text ≡ Some f
+stops_by : (text : List ℕ) (p : ScannerState) (ns : List Node) (os : Opened) (t : Placed) (f : ForestFault) → SoFar text p ns os → Comes p t → fault_met (after_token t.token t.from (opens ns os)) ≡ Some f → fault_of text ≡ Some f
 stops_by text p ns os t f s c m =
     sym (goes_by text p ns os t s c)
     ∙ ap (λ (r : Result (List OpenElement) ForestFault). or_fault r (λ more. fault_with (from_place (one_left p s.count t s.enough c).0 (state_after t.token t.to p)) more)) (met_err (after_token t.token t.from (opens ns os)) f m)
@@ -169,17 +170,17 @@ fault_by (faults.TooDeep at) read first h e = h (TooDeep at) e
 fault_by faults.Memory read first h e = tt
 
 -- a token that has a fault
-pub stops : (text : List ℕ) (p : ScannerState) (ns : List Node) (os : Opened) (t : Token) (e : HtmlFault) → SoFar text p ns os → (f : IsFound p.text p.at (next_of p) t) → IsFirstFault e (met (after_token f.token (token_span t).from (opens ns os))) → IsFirstFault e (fault_of text)
+pub stops : (text : List ℕ) (p : ScannerState) (ns : List Node) (os : Opened) (t : Token) (e : HtmlFault) → SoFar text p ns os → (f : IsFound p.text p.at (next_of p) t) → IsFirstFault e (fault_met (after_token f.token (token_span t).from (opens ns os))) → IsFirstFault e (fault_of text)
 stops text p ns os t e s f h =
-    fault_by e (met (after_token f.token (token_span t).from (opens ns os))) (fault_of text) (λ x m. stops_by text p ns os (found_placed p t f) x s (found_comes p t f) m) h
+    fault_by e (fault_met (after_token f.token (token_span t).from (opens ns os))) (fault_of text) (λ x m. stops_by text p ns os (found_placed p t f) x s (found_comes p t f) m) h
 
 -- ---- going on
 
 on_by : (text : List ℕ) (p : ScannerState) (ns : List Node) (os : Opened) (t : Placed) (ms : List Node) (more : Opened) → (s : SoFar text p ns os) → Comes p t → after_token t.token t.from (opens ns os) ≡ Ok (opens ms more)
-    → ShowNodes ms (taken t.token t.from t.to (building s.made_nodes (open_node_numbers ns os))).nodes → (taken t.token t.from t.to (building s.made_nodes (open_node_numbers ns os))).open_ ≡ open_node_numbers ms more → AreLinked ms more → SoFar text (state_after t.token t.to p) ms more
+    → ShowNodes ms (built_with t.token t.from t.to (building s.made_nodes (open_node_numbers ns os))).nodes → (built_with t.token t.from t.to (building s.made_nodes (open_node_numbers ns os))).open_ ≡ open_node_numbers ms more → AreLinked ms more → SoFar text (state_after t.token t.to p) ms more
 on_by text p ns os t ms more s c a shows ks linked =
     let k = one_left p s.count t s.enough c in
-    let made : Built = taken t.token t.from t.to (building s.made_nodes (open_node_numbers ns os)) in record {
+    let made : Built = built_with t.token t.from t.to (building s.made_nodes (open_node_numbers ns os)) in record {
       count = k.0;
       enough = omega (arith, s.enough, k.1, c.some, c.within);
       made_nodes = made.nodes;
@@ -191,8 +192,8 @@ on_by text p ns os t ms more s c a shows ks linked =
     }
 
 pub goes_on : (text : List ℕ) (p q : ScannerState) (ns : List Node) (os : Opened) (t : Token) (ms : List Node) (more : Opened) → (s : SoFar text p ns os) → (f : IsFound p.text p.at (next_of p) t) → q ≡ scanner_after (Ok (Some t)) p
-    → after_token f.token (token_span t).from (opens ns os) ≡ Ok (opens ms more) → ShowNodes ms (taken f.token (token_span t).from (token_span t).to (building s.made_nodes (open_node_numbers ns os))).nodes
-    → (taken f.token (token_span t).from (token_span t).to (building s.made_nodes (open_node_numbers ns os))).open_ ≡ open_node_numbers ms more → AreLinked ms more → SoFar text q ms more
+    → after_token f.token (token_span t).from (opens ns os) ≡ Ok (opens ms more) → ShowNodes ms (built_with f.token (token_span t).from (token_span t).to (building s.made_nodes (open_node_numbers ns os))).nodes
+    → (built_with f.token (token_span t).from (token_span t).to (building s.made_nodes (open_node_numbers ns os))).open_ ≡ open_node_numbers ms more → AreLinked ms more → SoFar text q ms more
 goes_on text p q ns os t ms more s f e a shows ks linked =
     let to = (token_span t).to in
     let stands : q ≡ state_after f.token to p = e ∙ ap (λ (m : Mode). record { text = p.text; at = to; mode = m }) f.mode in

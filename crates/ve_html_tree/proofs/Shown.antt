@@ -1,18 +1,18 @@
--- What the nodes show, as nodes are appended and ended.
+-- Nodes of the forest that are shown, as nodes are appended and ended.
 use Rattle.ve_kinds.specs.Tags.{is_void}
 use Rattle.ve_html_tree.specs.declared.open.Opened.{Opened}
 use Rattle.ve_html_tree.specs.Opened.{open_node_numbers_from, open_node_numbers, opens, LinkedFrom, AreLinked}
 use Rattle.ve_html_tree.proofs.Links.{leaf_numbers, leaf_opens, leaf_links}
 use Rattle.std.proofs.Common.{IfErr}
 use Rattle.model_spelling.specs.Faults.{ForestFault}
-use Rattle.ve_html_tree.specs.Seen.{IsFirstFault, met, StepsTo}
+use Rattle.ve_html_tree.specs.Seen.{IsFirstFault, fault_met, StepsTo}
 use Rattle.ve_html_tree.specs.declared.fault.HtmlFault.{HtmlFault}
 use Rattle.ve_html_tree.specs.declared.fault.HtmlFault.TheVariants as faults
 use Rattle.std.proofs.Common.{Bor, cond, Bool, Result, Ok, Err, OnOk}
 use Rattle.model_spelling.specs.Faults.{OpenElement, after_token}
 use Rattle.ve_html_scan.specs.declared.attr_tokens.AttrTokens.{AttrTokens}
 use Rattle.ve_html_scan.specs.declared.token.Span.{Span}
-use Rattle.ve_html_tree.specs.Building.{Built, building, taken, around}
+use Rattle.ve_html_tree.specs.Building.{Built, building, built_with, around}
 use Rattle.std.proofs.Common.{◌≡◌, ℕ, zero, suc, ◌+◌, List, [], ◌∷◌, ◌++◌, length, refl, sym, ap, ◌∙◌, arith, subst}
 use Rattle.model_spelling.specs.Grammar as g
 use Rattle.model_spelling.specs.ForestNodes.{ForestNode}
@@ -106,7 +106,7 @@ abbrev pub link_of : Bool → ℕ → ℕ → ℕ
 link_of v n around = cond v (n + 1) around
 
 start_by : (name : Bor (List ℕ)) (attrs : AttrTokens) (span : Span) (k : g.Token) (from to : ℕ) (rs : List ForestNode) (ks : List ℕ) → ShowsToken (lent.StartTag name attrs span) k
-    → (rs ++ node_begun k from to (link_of (is_void name.now) (length rs) (around ks)) ∷ [] ≡ (taken k from to (building rs ks)).nodes) × ((taken k from to (building rs ks)).open_ ≡ cond (is_void name.now) ks (length rs ∷ ks))
+    → (rs ++ node_begun k from to (link_of (is_void name.now) (length rs) (around ks)) ∷ [] ≡ (built_with k from to (building rs ks)).nodes) × ((built_with k from to (building rs ks)).open_ ≡ cond (is_void name.now) ks (length rs ∷ ks))
 start_by name attrs span (g.Start m attributes slash) from to rs ks h =
     (ap (λ (x : List ℕ). rs ++ node_begun (g.Start m attributes slash) from to (link_of (is_void x) (length rs) (around ks)) ∷ []) h.0, ap (λ (x : List ℕ). cond (is_void x) ks (length rs ∷ ks)) (sym h.0))
 start_by name attrs span (g.End m) from to rs ks h = absurd h
@@ -115,22 +115,22 @@ start_by name attrs span (g.Raw x) from to rs ks h = absurd h
 start_by name attrs span (g.Comment x) from to rs ks h = absurd h
 
 module _ {A E : Type 0} (r : Result A E) (new old : List Node) (t : Token) (name : Bor (List ℕ)) (attrs : AttrTokens) (span : Span) (k : g.Token) (rs : List ForestNode) (o : Opened) (is : t ≡ lent.StartTag name attrs span) (h : ShowsToken t k) (s : ShowNodes old rs) where
-  start_taken : (rs ++ row_at k t (link_of (is_void name.now) (length rs) (around (open_node_numbers old o))) ∷ [] ≡ (taken k (token_span t).from (token_span t).to (building rs (open_node_numbers old o))).nodes)
-      × ((taken k (token_span t).from (token_span t).to (building rs (open_node_numbers old o))).open_ ≡ cond (is_void name.now) (open_node_numbers old o) (length rs ∷ open_node_numbers old o))
+  start_taken : (rs ++ row_at k t (link_of (is_void name.now) (length rs) (around (open_node_numbers old o))) ∷ [] ≡ (built_with k (token_span t).from (token_span t).to (building rs (open_node_numbers old o))).nodes)
+      × ((built_with k (token_span t).from (token_span t).to (building rs (open_node_numbers old o))).open_ ≡ cond (is_void name.now) (open_node_numbers old o) (length rs ∷ open_node_numbers old o))
   start_taken = start_by name attrs span k (token_span t).from (token_span t).to rs (open_node_numbers old o) (subst (λ (x : Token). ShowsToken x k) is h)
 
-  pub start_rows : AreLinked old o → HasText t k → OnOk r (new ≡ old ++ node_of t (link_of (is_void name.now) (length old) o.innermost) ∷ []) → OnOk r (ShowNodes new (taken k (token_span t).from (token_span t).to (building rs (open_node_numbers old o))).nodes)
+  pub start_rows : AreLinked old o → HasText t k → OnOk r (new ≡ old ++ node_of t (link_of (is_void name.now) (length old) o.innermost) ∷ []) → OnOk r (ShowNodes new (built_with k (token_span t).from (token_span t).to (building rs (open_node_numbers old o))).nodes)
   start_rows l w e =
       let link : link_of (is_void name.now) (length old) o.innermost ≡ link_of (is_void name.now) (length rs) (around (open_node_numbers old o)) =
       ap (λ (n : ℕ). link_of (is_void name.now) n o.innermost) (length_shows old rs s) ∙ ap (link_of (is_void name.now) (length rs)) (sym (around_by old (length old) o.count o.innermost l)) in
       subst (λ (l2 : List ForestNode). OnOk r (ShowNodes new l2)) (ap (λ (n : ℕ). rs ++ row_at k t n ∷ []) link ∙ start_taken.0) (pushed_shows r new old t k rs (link_of (is_void name.now) (length old) o.innermost) e w h s)
 
-  pub start_numbers : (ks : List ℕ) → OnOk r (ks ≡ cond (is_void name.now) (open_node_numbers old o) (length old ∷ open_node_numbers old o)) → OnOk r ((taken k (token_span t).from (token_span t).to (building rs (open_node_numbers old o))).open_ ≡ ks)
+  pub start_numbers : (ks : List ℕ) → OnOk r (ks ≡ cond (is_void name.now) (open_node_numbers old o) (length old ∷ open_node_numbers old o)) → OnOk r ((built_with k (token_span t).from (token_span t).to (building rs (open_node_numbers old o))).open_ ≡ ks)
   start_numbers ks e = on_ok r e (λ x. start_taken.1 ∙ ap (λ (n : ℕ). cond (is_void name.now) (open_node_numbers old o) (n ∷ open_node_numbers old o)) (sym (length_shows old rs s)) ∙ sym x)
 
 -- ---- what an end tag does
 
-end_by : (name : Bor (List ℕ)) (span : Span) (k : g.Token) (from to : ℕ) (rs : List ForestNode) (j : ℕ) (ks : List ℕ) → ShowsToken (lent.EndTag name span) k → taken k from to (building rs (j ∷ ks)) ≡ building (closed_at j from to (length rs) rs) ks
+end_by : (name : Bor (List ℕ)) (span : Span) (k : g.Token) (from to : ℕ) (rs : List ForestNode) (j : ℕ) (ks : List ℕ) → ShowsToken (lent.EndTag name span) k → built_with k from to (building rs (j ∷ ks)) ≡ building (closed_at j from to (length rs) rs) ks
 end_by name span (g.Start m attributes slash) from to rs j ks h = absurd h
 end_by name span (g.End m) from to rs j ks h = refl
 end_by name span (g.Chars x) from to rs j ks h = absurd h
@@ -138,17 +138,17 @@ end_by name span (g.Raw x) from to rs j ks h = absurd h
 end_by name span (g.Comment x) from to rs j ks h = absurd h
 
 module _ {A E : Type 0} (r : Result A E) (t : Token) (name : Bor (List ℕ)) (span : Span) (k : g.Token) (rs : List ForestNode) (ks more : List ℕ) (j : ℕ) (is : t ≡ lent.EndTag name span) (h : ShowsToken t k) (first : OnOk r (ks ≡ j ∷ more)) where
-  end_taken : ks ≡ j ∷ more → taken k (token_span t).from (token_span t).to (building rs ks) ≡ building (closed_at j span.from span.to (length rs) rs) more
+  end_taken : ks ≡ j ∷ more → built_with k (token_span t).from (token_span t).to (building rs ks) ≡ building (closed_at j span.from span.to (length rs) rs) more
   end_taken e =
-      ap (λ (l : List ℕ). taken k (token_span t).from (token_span t).to (building rs l)) e
-      ∙ ap (λ (x : Token). taken k (token_span x).from (token_span x).to (building rs (j ∷ more))) is
+      ap (λ (l : List ℕ). built_with k (token_span t).from (token_span t).to (building rs l)) e
+      ∙ ap (λ (x : Token). built_with k (token_span x).from (token_span x).to (building rs (j ∷ more))) is
       ∙ end_by name span k span.from span.to rs j more (subst (λ (x : Token). ShowsToken x k) is h)
 
-  pub end_rows : (new old : List Node) → ShowNodes old rs → OnOk r (new ≡ ended_at j span.from span.to (length old) old) → OnOk r (ShowNodes new (taken k (token_span t).from (token_span t).to (building rs ks)).nodes)
+  pub end_rows : (new old : List Node) → ShowNodes old rs → OnOk r (new ≡ ended_at j span.from span.to (length old) old) → OnOk r (ShowNodes new (built_with k (token_span t).from (token_span t).to (building rs ks)).nodes)
   end_rows new old s e =
       on_ok r (on_ok2 (ks ≡ j ∷ more) (ShowNodes new (closed_at j span.from span.to (length rs) rs)) r first (ended_shows r new old rs j span.from span.to e s)) (λ p. subst (λ (b : Built). ShowNodes new b.nodes) (sym (end_taken p.0)) p.1)
 
-  pub end_numbers : OnOk r ((taken k (token_span t).from (token_span t).to (building rs ks)).open_ ≡ more)
+  pub end_numbers : OnOk r ((built_with k (token_span t).from (token_span t).to (building rs ks)).open_ ≡ more)
   end_numbers = on_ok r first (λ e. ap (λ (b : Built). b.open_) (end_taken e))
 
 -- ---- what another token does
@@ -162,7 +162,7 @@ IsLeaf (lent.Raw text span) = Unit {0}
 IsLeaf (lent.Comment text span) = Unit {0}
 
 leaf_taken : (t : Token) (k : g.Token) (from to : ℕ) (rs : List ForestNode) (ks : List ℕ) (os : List OpenElement) → IsLeaf t → ShowsToken t k
-    → (after_token k from os ≡ Ok os) × ((taken k from to (building rs ks)).nodes ≡ rs ++ node_begun k from to (length rs + 1) ∷ []) × ((taken k from to (building rs ks)).open_ ≡ ks)
+    → (after_token k from os ≡ Ok os) × ((built_with k from to (building rs ks)).nodes ≡ rs ++ node_begun k from to (length rs + 1) ∷ []) × ((built_with k from to (building rs ks)).open_ ≡ ks)
 leaf_taken (lent.StartTag name attrs span) k from to rs ks os l h = absurd l
 leaf_taken (lent.EndTag name span) k from to rs ks os l h = absurd l
 leaf_taken (lent.Chars text span) (g.Start m attributes slash) from to rs ks os l h = absurd h
@@ -190,7 +190,7 @@ leaf_is (lent.Comment text span) start end = tt
 
 leaf_fault : {A : Type 0} (r : Result A HtmlFault) (os more : List OpenElement) (read : Result (List OpenElement) ForestFault) → read ≡ Ok os → OnOk r (more ≡ os) → IfErr r (λ e. e ≡ faults.Memory) → StepsTo r more read
 leaf_fault (Ok x) os more read e same m = e ∙ ap (λ (l : List OpenElement). Ok l) (sym same)
-leaf_fault (Err f) os more read e same m = subst (λ (x : HtmlFault). IsFirstFault x (met read)) (sym m) tt
+leaf_fault (Err f) os more read e same m = subst (λ (x : HtmlFault). IsFirstFault x (fault_met read)) (sym m) tt
 
 module _ {A : Type 0} (r : Result A HtmlFault) (new old : List Node) (t : Token) (o : Opened) (next : ℕ) (leaf : IsLeaf t) (l : AreLinked old o) (e : OnOk r (new ≡ old ++ node_of t next ∷ [])) where
   pub leaf_goes : (k : g.Token) → ShowsToken t k → IfErr r (λ e. e ≡ faults.Memory) → StepsTo r (opens new o) (after_token k (token_span t).from (opens old o))
@@ -198,12 +198,12 @@ module _ {A : Type 0} (r : Result A HtmlFault) (new old : List Node) (t : Token)
       leaf_fault r (opens old o) (opens new o) (after_token k (token_span t).from (opens old o)) (leaf_taken t k (token_span t).from (token_span t).to [] [] (opens old o) leaf h).0
       (on_ok r e (λ x. ap (λ (ns : List Node). opens ns o) x ∙ leaf_opens old (node_of t next) o l)) m
 
-  pub leaf_rows : (k : g.Token) (rs : List ForestNode) → next ≡ length old + 1 → ShowsToken t k → HasText t k → ShowNodes old rs → OnOk r (ShowNodes new (taken k (token_span t).from (token_span t).to (building rs (open_node_numbers old o))).nodes)
+  pub leaf_rows : (k : g.Token) (rs : List ForestNode) → next ≡ length old + 1 → ShowsToken t k → HasText t k → ShowNodes old rs → OnOk r (ShowNodes new (built_with k (token_span t).from (token_span t).to (building rs (open_node_numbers old o))).nodes)
   leaf_rows k rs n h w s =
       let link : next ≡ length rs + 1 = omega (arith, n, length_shows old rs s) in
       subst (λ (l2 : List ForestNode). OnOk r (ShowNodes new l2)) (ap (λ (i : ℕ). rs ++ row_at k t i ∷ []) link ∙ sym (leaf_taken t k (token_span t).from (token_span t).to rs (open_node_numbers old o) [] leaf h).1) (pushed_shows r new old t k rs next e w h s)
 
-  pub leaf_built : (k : g.Token) (rs : List ForestNode) → ShowsToken t k → OnOk r ((taken k (token_span t).from (token_span t).to (building rs (open_node_numbers old o))).open_ ≡ open_node_numbers new o)
+  pub leaf_built : (k : g.Token) (rs : List ForestNode) → ShowsToken t k → OnOk r ((built_with k (token_span t).from (token_span t).to (building rs (open_node_numbers old o))).open_ ≡ open_node_numbers new o)
   leaf_built k rs h = on_ok r e (λ x. (leaf_taken t k (token_span t).from (token_span t).to rs (open_node_numbers old o) [] leaf h).2 ∙ sym (leaf_numbers old (node_of t next) o l) ∙ ap (λ (ns : List Node). open_node_numbers ns o) (sym x))
 
   pub leaf_linked : OnOk r (AreLinked new o)

@@ -1,4 +1,5 @@
--- What the tokens that were read have made: nodes of a forest, of which those of the open elements have no end yet.
+-- The nodes that the tokens so far have made: those of a forest, of which those of the open
+-- elements have no end yet.
 use Rattle.std.specs.Prelude.{ℕ, zero, suc, ◌+◌, ◌-◌, List, [], ◌∷◌, ◌++◌, length, if◌then◌else◌}
 use Rattle.model_spelling.specs.Grammar.{Token, Start, End, Chars, Raw, Comment}
 use Rattle.ve_kinds.specs.Tags.{is_void}
@@ -44,12 +45,13 @@ abbrev pub around : List ℕ → ℕ
 around [] = 0
 around (k ∷ ks) = k
 
--- What a token from these bytes makes of it. Until an element is closed, its node's `next` is the number of the element around it.
-abbrev pub taken : Token → ℕ → ℕ → Built → Built
-taken (Start name attrs slash) from to b =
+-- The nodes after one more token, from these bytes. Until an element is closed, its node's `next`
+-- is the number of the element around it.
+abbrev pub built_with : Token → ℕ → ℕ → Built → Built
+built_with (Start name attrs slash) from to b =
     let next = if is_void name then length b.nodes + 1 else around b.open_ in
     building (b.nodes ++ node_begun (Start name attrs slash) from to next ∷ []) (if is_void name then b.open_ else length b.nodes ∷ b.open_)
-taken (End name) from to b = closed_innermost from to b.nodes b.open_
-taken (Chars text) from to b = pushed (Chars text) from to b
-taken (Raw text) from to b = pushed (Raw text) from to b
-taken (Comment text) from to b = pushed (Comment text) from to b
+built_with (End name) from to b = closed_innermost from to b.nodes b.open_
+built_with (Chars text) from to b = pushed (Chars text) from to b
+built_with (Raw text) from to b = pushed (Raw text) from to b
+built_with (Comment text) from to b = pushed (Comment text) from to b

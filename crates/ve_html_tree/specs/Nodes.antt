@@ -29,7 +29,8 @@ HasRoom (lent.Comment text span) = span.from + 7 ≤ span.to
 abbrev pub HasText : Token → g.Token → Type 0
 HasText t k = (token_span t).to ≡ (token_span t).from + length (token_text k)
 
--- A node shows one of a forest: it lends its first token with that token's bytes, and has the bytes of the whole node, those of its content, and the number past its subtree.
+-- A node shows one of a forest. It borrows its first token with that token's bytes. It has the
+-- bytes of the whole node, those of its content, and the number past its subtree.
 pub record ShowsNode (n : Node) (r : ForestNode) : Type 0 where
   pub token : ShowsToken n.token r.token
   pub token_from : (token_span n.token).from ≡ r.from

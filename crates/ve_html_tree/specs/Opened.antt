@@ -1,4 +1,5 @@
--- The open elements, as the nodes link them: until an element is closed, its node's `next` is the number of the node of the element around it.
+-- The open elements, as the nodes link them: until an element is closed, its node's `next` is the
+-- number of the node of the element around it.
 use Rattle.std.specs.Prelude.{◌≡◌, ◌<◌, ℕ, zero, suc, List, [], ◌∷◌, map, length, slice_index, slice_index_or, ◌+◌, if◌then◌else◌}
 use Rattle.model_spelling.specs.Faults as g
 use Rattle.ve_html_scan.specs.declared.token.Token.{Token}
@@ -40,7 +41,8 @@ IsInnermostClosed nodes opened nodes_after opened_after = open_node_numbers node
 abbrev pub opens : List Node → Opened → List g.OpenElement
 opens nodes o = map (open_at nodes) (open_node_numbers nodes o)
 
--- Each number is below the one before it, the first of them below bound; the outermost element's link is 0.
+-- Each number is below the one before it, the first of them below bound; the outermost element's
+-- link is 0.
 abbrev pub LinkedFrom : List Node → ℕ → ℕ → ℕ → Type 0
 LinkedFrom nodes bound zero k = k ≡ 0
 LinkedFrom nodes bound (suc count) k = (k < bound) × LinkedFrom nodes k count (next_at nodes k)
@@ -50,7 +52,8 @@ AreLinked nodes o = LinkedFrom nodes (length nodes) o.count o.innermost
 
 -- ---- after a start tag
 
--- what the node of a start tag with this name links to: past itself where the element is void, else to the element around it
+-- the link of the node of a start tag with this name: past itself where the element is void, else
+-- to the element around it
 abbrev pub start_link : List ℕ → List Node → Opened → ℕ
 start_link name nodes opened = if is_void name then length nodes + 1 else opened.innermost
 

@@ -1,4 +1,5 @@
--- What taking a token means, for every token of the grammar that it shows and every list of nodes of a forest that the nodes show.
+-- Taking a token, for every token of the grammar that it shows and every list of nodes of a forest
+-- that the nodes show.
 use Rattle.std.specs.Prelude.{◌≡◌, ℕ, List, Result, OnOk}
 use Rattle.model_spelling.specs.Grammar as g
 use Rattle.model_spelling.specs.Faults.{after_start, after_end, after_token}
@@ -8,14 +9,15 @@ use Rattle.ve_html_scan.specs.declared.token.Token.{Token}
 use Rattle.ve_html_tree.specs.declared.fault.HtmlFault.{HtmlFault}
 use Rattle.ve_html_tree.specs.declared.node.Node.{Node}
 use Rattle.ve_html_tree.specs.declared.open.Opened.{Opened}
-use Rattle.ve_html_tree.specs.Building.{Built, building, taken}
+use Rattle.ve_html_tree.specs.Building.{Built, building, built_with}
 use Rattle.ve_html_tree.specs.Nodes.{HasText, ShowNodes}
 use Rattle.ve_html_tree.specs.Opened.{opens, open_node_numbers}
 use Rattle.ve_html_tree.specs.Seen.{StepsTo}
 
--- the nodes of the forest after the token k, which t shows, where these were there before and those of these numbers are open
+-- the nodes of the forest after the token k, which t shows, where these were there before and those
+-- of these numbers are open
 abbrev pub built_after : Token → g.Token → List ForestNode → List ℕ → Built
-built_after t k made numbers = taken k (token_span t).from (token_span t).to (building made numbers)
+built_after t k made numbers = built_with k (token_span t).from (token_span t).to (building made numbers)
 
 -- It went on to the elements that are open after the token, or it met the token's fault.
 abbrev pub TakesFaults : {A : Type 0} → Result A HtmlFault → Token → List Node → Opened → List Node → Opened → Type 0
@@ -36,7 +38,8 @@ TakesNumbers result t old opened new opened_after =
 
 -- ---- one tag
 
--- A start tag with this name at the byte at: it went on to the elements that are open after it, or it met its fault.
+-- A start tag with this name at the byte at: it went on to the elements that are open after it, or
+-- it met its fault.
 abbrev pub StartsElement : {A : Type 0} → Result A HtmlFault → List ℕ → ℕ → List Node → Opened → List Node → Opened → Type 0
 StartsElement result name at old opened new opened_after = StepsTo result (opens new opened_after) (after_start name at (opens old opened))
 

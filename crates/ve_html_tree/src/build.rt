@@ -9,7 +9,7 @@ use crate::open::{Opened, close_element, open_element};
 use crate::{HtmlFault, Node};
 use ve_html_scan::Token;
 
-/// What a token does to the nodes and to the open elements.
+/// Takes a token: its effect on the nodes and on the open elements.
 pub fn take_token<'a>(
     nodes: &mut Vec<Node<'a>>,
     opened: &mut Opened,
@@ -17,9 +17,11 @@ pub fn take_token<'a>(
 ) -> Result<(), HtmlFault>
     requires room { HasRoom token.now }
     requires linked { AreLinked nodes.old.items opened.old }
-    ensures faults { TakesFaults result token.now nodes.old.items opened.old nodes.new.items opened.new }
+    ensures faults { TakesFaults result token.now nodes.old.items opened.old nodes.new.items
+        opened.new }
     ensures nodes { TakesNodes result token.now nodes.old.items opened.old nodes.new.items }
-    ensures numbers { TakesNumbers result token.now nodes.old.items opened.old nodes.new.items opened.new }
+    ensures numbers { TakesNumbers result token.now nodes.old.items opened.old nodes.new.items
+        opened.new }
     ensures linked { OnOk result (AreLinked nodes.new.items opened.new) }
 {
     match *token {

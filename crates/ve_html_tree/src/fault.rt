@@ -1,4 +1,4 @@
-// What is wrong with a text that no forest spells.
+// Faults of a text that no forest spells.
 ghost use Rattle.std.specs.Prelude.{◌≡◌};
 ghost use Rattle.ve_html_tree.specs.declared.fault.HtmlFault.TheVariants.{Memory};
 

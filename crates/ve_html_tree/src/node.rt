@@ -8,7 +8,8 @@ use crate::HtmlFault;
 use std::marker::Model;
 use ve_html_scan::{Span, Token};
 
-/// A node: its first token, the bytes of the whole node and of its content, and the number just past its subtree.
+/// A node: its first token, the bytes of the whole node and of its content, and the number just
+/// past its subtree.
 #[derive(Clone, Copy, Debug)]
 pub struct Node<'a> {
     pub token: Token<'a>,
@@ -17,7 +18,8 @@ pub struct Node<'a> {
     pub next: usize,
 }
 
-/// The nodes of a text in the order of their starts. A node's children are those between it and its `next`.
+/// The nodes of a text in the order of their starts. A node's children are those between it and its
+/// `next`.
 #[derive(Drop)]
 pub struct Forest<'a> {
     pub(crate) nodes: Vec<Node<'a>>,
@@ -90,7 +92,8 @@ pub fn push_node<'a>(
 /// Ends the element of that number by its end tag.
 pub fn end_node(nodes: &mut Vec<Node<'_>>, number: usize, end: Span)
     requires { number < length nodes.old.items }
-    ensures { nodes.new.items ≡ ended_at number end.from end.to (length nodes.old.items) nodes.old.items }
+    ensures { nodes.new.items
+        ≡ ended_at number end.from end.to (length nodes.old.items) nodes.old.items }
 {
     let next = nodes.len();
     let node = &mut nodes[number];

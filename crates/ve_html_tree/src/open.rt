@@ -14,9 +14,9 @@ use ve_base::MAX_OPEN_ELEMENTS;
 use ve_html_scan::{Span, Token};
 use ve_kinds::is_void_name;
 
-/// The elements that are open: how many, and the number of the innermost one's node. Until an element is
-/// closed, its node's `next` is the number of the node of the element around it; so the nodes are all the
-/// memory that reading takes.
+/// The elements that are open: how many, and the number of the innermost one's node. Until an
+/// element is closed, its node's `next` is the number of the node of the element around it. So the
+/// nodes are all the memory that reading takes.
 #[derive(Clone, Copy)]
 pub struct Opened {
     pub count: usize,
@@ -33,9 +33,16 @@ pub fn open_element<'a>(
     requires name { start_name token.now ≡ name.now }
     requires room { HasRoom token.now }
     requires linked { AreLinked nodes.old.items opened.old }
-    ensures faults { StartsElement result name.now (token_span token.now).from nodes.old.items opened.old nodes.new.items opened.new }
-    ensures nodes { OnOk result (nodes.new.items ≡ nodes.old.items ++ node_of token.now (start_link name.now nodes.old.items opened.old) ∷ []) }
-    ensures numbers { OnOk result (open_node_numbers nodes.new.items opened.new ≡ numbers_after_start name.now nodes.old.items opened.old) }
+    ensures faults { StartsElement result name.now (token_span token.now).from nodes.old.items
+        opened.old nodes.new.items opened.new }
+    ensures nodes { OnOk result (
+        nodes.new.items
+        ≡ nodes.old.items
+        ++ node_of token.now (start_link name.now nodes.old.items opened.old)
+        ∷ []) }
+    ensures numbers { OnOk result (
+        open_node_numbers nodes.new.items opened.new
+        ≡ numbers_after_start name.now nodes.old.items opened.old) }
     ensures linked { OnOk result (AreLinked nodes.new.items opened.new) }
 {
     let number = nodes.len();
@@ -77,9 +84,14 @@ pub fn close_element<'a>(
     end: Span,
 ) -> Result<(), HtmlFault>
     requires { AreLinked nodes.old.items opened.old }
-    ensures faults { EndsElement result name.now end.from nodes.old.items opened.old nodes.new.items opened.new }
-    ensures nodes { OnOk result (nodes.new.items ≡ ended_at opened.old.innermost end.from end.to (length nodes.old.items) nodes.old.items) }
-    ensures numbers { OnOk result (IsInnermostClosed nodes.old.items opened.old nodes.new.items opened.new) }
+    ensures faults { EndsElement result name.now end.from nodes.old.items opened.old nodes.new.items
+        opened.new }
+    ensures nodes { OnOk result (
+        nodes.new.items
+        ≡ ended_at opened.old.innermost end.from end.to (length nodes.old.items)
+        nodes.old.items) }
+    ensures numbers { OnOk result (
+        IsInnermostClosed nodes.old.items opened.old nodes.new.items opened.new) }
     ensures linked { OnOk result (AreLinked nodes.new.items opened.new) }
 {
     if opened.count == 0 || is_void_name(name.as_bytes()) {

@@ -12,10 +12,14 @@ use crate::{Forest, HtmlFault};
 use std::alloc::Global;
 use ve_html_scan::Scanner;
 
-/// Reads a text: the forest that spells it, or its first fault. Elements that are open are counted and not recursed into.
+/// Reads a text: the forest that spells it, or its first fault. Elements that are open are counted
+/// and not recursed into.
 pub fn read<'a>(alloc: Global, text: &'a str) -> Result<Forest<'a>, HtmlFault>
     // A forest spells the text, and the nodes show its nodes.
-    ensures found { IfOk result (λ nodes. (f : spelled.Forest) × spelled.Spells text.now f × ShowNodes nodes (forest_nodes 0 0 f)) }
+    ensures found { IfOk result (λ nodes.
+        (f : spelled.Forest)
+        × spelled.Spells text.now f
+        × ShowNodes nodes (forest_nodes 0 0 f)) }
     // No forest spells it, and this is the first fault.
     ensures fault { IfErr result (λ e. IsFirstFault e (fault_of text.now)) }
 {

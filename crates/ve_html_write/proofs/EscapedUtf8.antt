@@ -1,4 +1,4 @@
--- What is escaped is UTF-8 where the text is.
+-- Escaped text is UTF-8 where the text is.
 use Rattle.std.proofs.Common.{◌≡◌, ◌≢◌, ℕ, ◌+◌, ◌/◌, ◌%◌, ◌<◌, ◌≤◌, Bool, true, false, ◌&&◌, List, [], ◌∷◌, ◌++◌, refl, sym, ap, ◌∙◌, subst, arith, if◌then◌else◌, codes, inl, inr, ◌⊎◌, IsUtf8}
 use Rattle.std.specs.Prelude.{◌==◌, encode_utf8_all, nat_lt}
 use Rattle.std.specs.List.{list_all}

@@ -8,7 +8,7 @@ use Rattle.model_spelling.specs.Written.{escaped, canon_attr, attr_bytes}
 abbrev pub attr_written : Attr → List ℕ
 attr_written a = attr_text (canon_attr (attr_bytes a))
 
--- What stands in the bytes from one place to another is written as spelled, in a value or in a text.
+-- The bytes from one position to another are written as escaped, in a value or in a text.
 abbrev pub IsSpelledAs : Bool → List ℕ → ℕ → ℕ → List ℕ → Type 0
 IsSpelledAs in_value bytes from to spelled = escaped in_value (drop from bytes) ≡ spelled ++ escaped in_value (drop to bytes)
 

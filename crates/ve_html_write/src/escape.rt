@@ -13,14 +13,17 @@ struct Reference {
     len: usize,
 }
 
-/// The reference for the character that begins at that byte; `None` where the byte is written as it is.
+/// The reference for the character that begins at that byte; `None` where the byte is written as it
+/// is.
 #[tactic(auto, using(crate::proofs::Escaping::reference_steps))]
 fn reference_at(bytes: &[u8], at: usize, in_value: bool) -> Option<Reference>
     requires { at < length bytes.now }
-    ensures some { IfSome result (λ r. IsSpelledAs in_value bytes.now at (at + r.len) r.spelled.now) }
+    ensures some { IfSome result (λ r.
+        IsSpelledAs in_value bytes.now at (at + r.len) r.spelled.now) }
     ensures more { IfSome result (λ r. 0 < r.len) }
     ensures bound { IfSome result (λ r. at + r.len ≤ length bytes.now) }
-    ensures none { IfNone result (IsSpelledAs in_value bytes.now at (at + 1) (slice_index bytes.now at ∷ [])) }
+    ensures none { IfNone result (
+        IsSpelledAs in_value bytes.now at (at + 1) (slice_index bytes.now at ∷ [])) }
 {
     let (spelled, len): (&'static [u8], usize) = match bytes[at] {
         b'&' => (b"&amp;", 1),
@@ -58,14 +61,14 @@ fn run_end(bytes: &[u8], from: usize, in_value: bool) -> usize
     at
 }
 
-/// How what stands at a place is written, and where it ends.
+/// How what stands at a position is written, and where it ends.
 #[derive(Clone, Copy)]
 struct Piece<'a> {
     spelled: &'a [u8],
     to: usize,
 }
 
-/// The reference at that place, or the bytes up to the next one, which are written as they are.
+/// The reference at that position, or the bytes up to the next one, which are written as they are.
 #[tactic(auto, using(crate::proofs::Escaping::run_from))]
 fn piece_at(bytes: &[u8], at: usize, in_value: bool) -> Piece<'_>
     requires { at < length bytes.now }
@@ -86,7 +89,8 @@ fn piece_at(bytes: &[u8], at: usize, in_value: bool) -> Piece<'_>
     }
 }
 
-/// Appends the characters of a text, or of a value, as they are written. An `Err` leaves a prefix of them appended.
+/// Appends the characters of a text, or of a value, as they are written. An `Err` leaves a prefix
+/// of them appended.
 #[tactic(auto, using(crate::proofs::Escaping::piece_written))]
 pub fn push_escaped(out: &mut Bytes, bytes: &[u8], in_value: bool) -> Result<(), Memory>
     ensures ok { OnOk result (out.new ≡ out.old ++ escaped in_value bytes.now) }

@@ -1,12 +1,14 @@
-//! Texts and tags in the canonical spelling (WHATWG HTML, "Serializing HTML fragments", but that `<` and `>`
-//! are references in values too). It knows texts, names and attributes; which text or tag comes next is its
-//! caller's matter.
+//! Texts and tags in the canonical spelling (WHATWG HTML, "Serializing HTML fragments", but that
+//! `<` and `>` are references in values too). It knows texts, names and attributes; which text or
+//! tag comes next is its caller's matter.
 //!
-//! - `put_text`: the characters of a text; `put_start`, `put_end`: the tags of an element. Each appends whole, or not at all;
-//! - `push_escaped` appends the characters of a text or a value without a piece of its own, so an `Err`
-//!   leaves a prefix of them (`Tags` in specs/); `push_attr` appends an attribute so;
+//! - `put_text`: the characters of a text; `put_start`, `put_end`: the tags of an element. Each
+//!   appends whole, or not at all;
+//! - `push_escaped` appends the characters of a text or a value directly, without a copy. So an
+//!   `Err` leaves a prefix of them (`Tags` in specs/). `push_attr` appends an attribute so;
 //! - where the bytes were UTF-8, they still are after each call that succeeds;
-//! - their meaning is `escaped` and `start_tag` in `Written` of `model_spelling`, and `end_text` in its `Grammar`.
+//! - their meaning is `escaped` and `start_tag` in `Written` of `model_spelling`, and `end_text` in
+//!   its `Grammar`.
 //!
 //! There are no laws here: that what is written is read back is a law of `model_spelling`.
 #![tactic(auto)]

@@ -8,7 +8,8 @@ use crate::escape::push_escaped;
 use std::alloc::Global;
 use ve_base::{Attrs, Bytes, Memory};
 
-/// Appends a space, the name, and the value in double quotes. After an `Err` a part may have been appended.
+/// Appends a space, the name, and the value in double quotes. After an `Err` a part may have been
+/// appended.
 pub fn push_attr(out: &mut Bytes, name: &str, value: &str) -> Result<(), Memory>
     ensures ok { OnOk result (out.new ≡ out.old ++ attr_text (canon_attr (name.now, value.now))) }
     ensures utf8 { OnOk result (IsUtf8 out.old → IsUtf8 out.new) }
@@ -45,8 +46,8 @@ fn end_bytes(alloc: Global, tag: &str) -> Result<Bytes, Memory>
     Ok(bytes)
 }
 
-/// Appends a start tag: the name, and the attributes in their order, whose values have `&`, U+00A0, `<`, `>` and `"` as references.
-/// A void element has no `/`. An `Err` changes nothing.
+/// Appends a start tag: the name, and the attributes in their order, whose values have `&`, U+00A0,
+/// `<`, `>` and `"` as references. A void element has no `/`. An `Err` changes nothing.
 pub fn put_start(alloc: Global, out: &mut Bytes, tag: &str, attrs: &Attrs) -> Result<(), Memory>
     ensures ok { OnOk result (out.new ≡ out.old ++ start_tag tag.now attrs.now) }
     ensures err { OnErr result (out.new ≡ out.old) }

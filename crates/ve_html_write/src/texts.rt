@@ -7,7 +7,8 @@ use crate::escape::push_escaped;
 use std::alloc::Global;
 use ve_base::{Bytes, Memory};
 
-/// Appends the characters of a text, where `&`, U+00A0, `<` and `>` are written as references. An `Err` changes nothing.
+/// Appends the characters of a text, where `&`, U+00A0, `<` and `>` are written as references. An
+/// `Err` changes nothing.
 pub fn put_text(alloc: Global, out: &mut Bytes, text: &str) -> Result<(), Memory>
     ensures ok { OnOk result (out.new ≡ out.old ++ escaped false text.now) }
     ensures err { OnErr result (out.new ≡ out.old) }

@@ -39,7 +39,7 @@ one_item at inside (Char c marks) = refl
 one_item at inside (Closing kind pre) = refl
 one_item at inside (Opening kind head marks pre origin generated) = append_nil_own _
 
--- places after a first item
+-- positions after a first item
 place_after : (at n : ℕ) → suc at + n ≡ at + suc n
 place_after at n = omega arith
 
@@ -95,7 +95,7 @@ body_more_from at key (Opening kind head marks pre origin generated ∷ items) x
     cases true here there e f p h = ap Some p
     cases false here there e f p h = h
 
--- the place of a key's body in a list with one more item
+-- the position of a key's body in a list with one more item
 pub body_more : (key : RefKey) (items : List PlainItem) (x : PlainItem) →
     place_of_body (body_of key (items ++ x ∷ [])) ≡ option_or (place_of_body (body_of key items)) (place_if (opens_body key x) (length items))
 body_more key items x = body_more_from 0 key items x ∙ ap (λ n. option_or (place_of_body (body_of key items)) (place_if (opens_body key x) n)) (let e : 0 + length items ≡ length items = omega arith in e)

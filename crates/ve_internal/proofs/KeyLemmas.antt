@@ -142,7 +142,7 @@ count_more g refs r = ap (group_count g) (keys_more [] refs r) ∙ cases (list_a
     cases true = refl
     cases false = count_push g (keys_after [] refs) r.key
 
--- ---- first places
+-- ---- first positions
 
 first_joined : (xs ys : List RefAt) → first_of_refs (xs ++ ys) ≡ option_or (first_of_refs xs) (first_of_refs ys)
 first_joined [] ys = refl

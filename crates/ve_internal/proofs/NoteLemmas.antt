@@ -1,4 +1,4 @@
--- What the notes of a list are with one more item, and the rows that they give.
+-- The notes of a list with one more item, and the rows that they give.
 use Rattle.std.proofs.Common.{◌≡◌, ℕ, zero, suc, ◌+◌, ◌<◌, Bool, true, false, ◌&&◌, cond, List, [], ◌∷◌, ◌++◌, length, map, refl, sym, ap, subst, ◌∙◌, true≢false, is_some, arith, ◌-◌, ◌≤◌, take, drop, length-take-le, append_assoc, append-nil, length-append}
 use Rattle.std.specs.Prelude.{Option, Some, None, slice_get, filter, if◌then◌else◌, ◌==◌, unwrap_or, IsSome}
 use Rattle.std.specs.List.{list_any, slice_range}
@@ -183,7 +183,7 @@ noted_body old new items head marks pre origin generated key e refs keys groups 
     x : PlainItem
     x = Opening InternalItem head marks pre origin generated
 
--- the first place of a body is kept
+-- the first position of a body is kept
 pub body_kept : {S : Type 0} (bodies : IndexMap RefKey ℕ S) (key : RefKey) (at : ℕ) → is_some (get ref_key_same bodies key) ≡ true → NotesBody bodies bodies key at
 body_kept bodies key at there k = cases (get ref_key_same bodies k) (ref_key_same key k) refl refl
   where

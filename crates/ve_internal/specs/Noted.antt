@@ -1,4 +1,5 @@
--- What is noted of the references of a list, as the code keeps it. These serve private functions; that the table is the model's is said by the model alone.
+-- Notes of the references of a list, as the code keeps them. They serve private functions; that the
+-- table is the model's is said by the model alone.
 use Rattle.std.specs.Prelude.{◌≡◌, ℕ, suc, Bool, false, ◌&&◌, if◌then◌else◌, List, [], ◌∷◌, ◌++◌, length, map, filter, Option, Some, None, Result, unwrap_or, IfOk, IsSome, ◌==◌, slice_get}
 use Rattle.std.specs.Option.{option_or}
 use Rattle.indexmap.specs.IndexMap.{IndexMap, get}
@@ -24,7 +25,8 @@ place_if owner at = if owner then Some at else None
 abbrev pub seen_again : Seen → ℕ → Bool → Seen
 seen_again seen at owner = record { number = seen.number; first = seen.first; owner = option_or seen.owner (place_if owner at) }
 
--- what is known of a key after one more reference, where so many keys of its group came before it if it is new
+-- what is known of a key after one more reference, where so many keys of its group came before it
+-- if it is new
 abbrev pub seen_next : Option Seen → ℕ → ℕ → Bool → Seen
 seen_next None count at owner = record { number = suc count; first = at; owner = place_if owner at }
 seen_next (Some seen) count at owner = seen_again seen at owner
@@ -40,7 +42,7 @@ first_place test refs = first_of_refs (filter test refs)
 abbrev pub is_owner_of : RefKey → RefAt → Bool
 is_owner_of key r = has_key key r && r.owner
 
--- what is known of a key where its first reference stands at a place
+-- what is known of a key where its first reference stands at a position
 abbrev pub seen_from : RefKey → List RefAt → Option ℕ → Option Seen
 seen_from key refs None = None
 seen_from key refs (Some first) =
@@ -68,20 +70,21 @@ SeesKey keys old new cited owner result =
     let before = get ref_key_same keys cited.key.now in
     IfOk result (λ seen. (seen ≡ seen_next before (counted old cited.key.now.group) cited.at owner) × counts_if before old new cited.key.now.group)
 
--- the first place of a body is kept
+-- the first position of a body is kept
 abbrev pub NotesBody : {S : Type 0} → IndexMap RefKey ℕ S → IndexMap RefKey ℕ S → RefKey → ℕ → Type 0
 NotesBody old new key at = (k : RefKey) → get ref_key_same new k ≡ option_or (get ref_key_same old k) (place_if (ref_key_same key k) at)
 
 -- ---- references
 
--- a reference by its place and key alone
+-- a reference by its position and key alone
 abbrev pub bare_ref : RefAt → RefAt
 bare_ref r = record { at = r.at; key = r.key; owner = false; inside = false }
 
 abbrev pub cited_ref : Cited → RefAt
 cited_ref c = record { at = c.at; key = c.key.now; owner = false; inside = false }
 
--- The notes say what these references are, what is known of each key, and how many keys are of each group.
+-- The notes say what these references are, what is known of each key, and how many keys are of each
+-- group.
 pub record HasRefs (notes : Notes) (refs : List RefAt) : Type 0 where
   pub cited : map cited_ref notes.refs.items ≡ map bare_ref refs
   pub seen : (key : RefKey) → get ref_key_same notes.keys key ≡ seen_in key refs
@@ -103,7 +106,7 @@ pub record HasNoted (notes : Notes) (items : List PlainItem) : Type 0 where
   pub refs : HasRefs notes (refs_of items)
   pub bodies : HasBodies notes items
 
--- so many items more, the first of which stands at a place
+-- so many items more, the first of which stands at a position
 abbrev pub NotesItems : Notes → Notes → ℕ → List PlainItem → Type 0
 NotesItems old new at more = (items : List PlainItem) → length items ≡ at → HasNoted old items → HasNoted new (items ++ more)
 

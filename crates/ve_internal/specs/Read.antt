@@ -1,4 +1,4 @@
--- What a `data-mw` says, as texts.
+-- The texts of a `data-mw` that was read.
 use Rattle.std.specs.Prelude.{ℕ, List, Option, Some, None, option_map, codes, IsUtf8}
 use Rattle.std.specs.Borrow.{Bor}
 use Rattle.std.specs.Str.{chars}
@@ -25,9 +25,9 @@ BodyIsUtf8 (Some r) = TextIsUtf8 r.html
 
 -- ---- as the code asks
 
--- the value that is lent, if there is one
-abbrev pub seen : Option (Bor Value) → Option Data
-seen value = option_map (λ (v : Bor Value). view v.now) value
+-- the value that is borrowed, if there is one
+abbrev pub seen_value : Option (Bor Value) → Option Data
+seen_value value = option_map (λ (v : Bor Value). view v.now) value
 
 abbrev pub or_no_members : Option Members → Members
 or_no_members None = no_members

@@ -16,7 +16,8 @@ use ve_base::{Memory, Text};
 /// The members of an editable `data-mw`.
 fn editable_members(alloc: Global, mw: &str) -> Result<Map<String, Value>, Memory>
     requires { IsSome (model.reference_of mw.now) }
-    ensures members { IfOk result (λ m. members_view m.entries ≡ model.members_of (json.read mw.now)) }
+    ensures members { IfOk result (λ m.
+        members_view m.entries ≡ model.members_of (json.read mw.now)) }
     ensures whole { IfOk result (λ m. written.members_have_float (members_view m.entries) ≡ false) }
 {
     let Some(value) = read_json(alloc, mw)? else {
@@ -35,8 +36,11 @@ fn put_member(
     name: &str,
     value: Value,
 ) -> Result<Option<Value>, Memory>
-    ensures before { IfOk result (λ old. option_map view old ≡ get_member name.now (members_view members.old.entries)) }
-    ensures put { OnOk result (members_view members.new.entries ≡ put name.now (view value) (members_view members.old.entries)) }
+    ensures before { IfOk result (λ old.
+        option_map view old ≡ get_member name.now (members_view members.old.entries)) }
+    ensures put { OnOk result (
+        members_view members.new.entries
+        ≡ put name.now (view value) (members_view members.old.entries)) }
 {
     let name = String::from_str(alloc, name)?;
     Ok(members.insert(name, value)?)
@@ -76,11 +80,13 @@ fn with_html(
     members: Map<String, Value>,
     html: &str,
 ) -> Result<Map<String, Value>, Memory>
-    ensures { IfOk result (λ m. members_view m.entries ≡ model.with_body (Some html.now) (members_view members.entries)) }
+    ensures { IfOk result (λ m.
+        members_view m.entries
+        ≡ model.with_body (Some html.now) (members_view members.entries)) }
 {
     let mut members = members;
     let html = String::from_str(alloc, html)?;
-    // The place of the body is kept while its members change.
+    // The position of the body is kept while its members change.
     let old = put_member(alloc, &mut members, "body", Value::Null)?;
     let mut body = members_or_new(alloc, old);
     let _ = put_member(alloc, &mut body, "html", Value::String(html))?;
@@ -93,7 +99,9 @@ fn with_body(
     members: Map<String, Value>,
     body: Option<&str>,
 ) -> Result<Map<String, Value>, Memory>
-    ensures { IfOk result (λ m. members_view m.entries ≡ model.with_body (option_map (λ b. b.now) body.entry) (members_view members.entries)) }
+    ensures { IfOk result (λ m.
+        members_view m.entries
+        ≡ model.with_body (option_map (λ b. b.now) body.entry) (members_view members.entries)) }
 {
     match body {
         Some(html) => with_html(alloc, members, html),
@@ -104,18 +112,22 @@ fn with_body(
 /// The compact JSON of an object without floats.
 fn spelled(alloc: Global, members: Map<String, Value>) -> Result<Text, Memory>
     requires { written.members_have_float (members_view members.entries) ≡ false }
-    ensures text { IfOk result (λ t. t ≡ chars (written.compact_text (object (members_view members.entries)))) }
-    ensures bytes { IfOk result (λ t. encode_utf8_all t ≡ written.compact_text (object (members_view members.entries))) }
+    ensures text { IfOk result (λ t.
+        t ≡ chars (written.compact_text (object (members_view members.entries)))) }
+    ensures bytes { IfOk result (λ t.
+        encode_utf8_all t ≡ written.compact_text (object (members_view members.entries))) }
 {
     Ok(Text::from_string(Value::Object(members).to_string(alloc)?))
 }
 
-/// An editable `data-mw` with this text of the body, or without a body, as compact JSON whose members stand in the order of
-/// their names' bytes. All other members stay, those of the body too.
+/// An editable `data-mw` with this text of the body, or without a body, as compact JSON whose
+/// members stand in the order of their names' bytes. All other members stay, those of the body too.
 pub fn compose(alloc: Global, mw: &str, body: Option<&str>) -> Result<Text, Memory>
     requires { IsSome (model.reference_of mw.now) }
-    ensures text { IfOk result (λ t. t ≡ chars (model.composed_mw mw.now (option_map (λ b. b.now) body.entry))) }
-    ensures bytes { IfOk result (λ t. encode_utf8_all t ≡ model.composed_mw mw.now (option_map (λ b. b.now) body.entry)) }
+    ensures text { IfOk result (λ t.
+        t ≡ chars (model.composed_mw mw.now (option_map (λ b. b.now) body.entry))) }
+    ensures bytes { IfOk result (λ t.
+        encode_utf8_all t ≡ model.composed_mw mw.now (option_map (λ b. b.now) body.entry)) }
 {
     let members = editable_members(alloc, mw)?;
     let members = with_body(alloc, members, body)?;

@@ -1,4 +1,5 @@
-// The key of a reference, and its group alone, as keys of hash tables. Both are lent, so that nothing is copied for a look-up.
+// The key of a reference, and its group alone, as keys of hash tables. Both are borrowed, so that
+// nothing is copied for a look-up.
 ghost use Rattle.std.specs.Prelude.{◌≡◌, ◌↔◌, IsTrue, fold};
 ghost use Rattle.ve_store.specs.HashInput.{text_input};
 ghost use Rattle.ve_internal.specs.Keys.{ref_key_input};

@@ -1,13 +1,16 @@
-//! The `data-mw` of references, and the table of the references of a list. It knows JSON as `serde_json` reads it, and no page.
+//! The `data-mw` of references, and the table of the references of a list. It knows JSON as
+//! `serde_json` reads it, and no page.
 //!
-//! - `reference_of` gives group, name and body of a `data-mw` that is editable, as model_page's `reference_of` says; `RefRead`
-//!   holds them as texts (`Read` in specs/).
-//! - `compose` gives an editable `data-mw` with another body, or without one: model_page's `composed_mw`. Its members stand in
-//!   the order of their names, and no number of it is a float, so its text is settled.
-//! - `table` gives a row for each reference of a list, in order: which body it names, whether it carries it, and its number.
-//!   Keys are found by their hashes and lent from the store (`Keys`). `Noted` serves private functions.
+//! - `reference_of` gives group, name and body of a `data-mw` that is editable, as model_page's
+//!   `reference_of` says; `RefRead` holds them as texts (`Read` in specs/).
+//! - `compose` gives an editable `data-mw` with another body, or without one: model_page's
+//!   `composed_mw`. Its members stand in the order of their names, and no number of it is a float,
+//!   so its text is settled.
+//! - `table` gives a row for each reference of a list, in order: which body it names, whether it
+//!   carries it, and its number. Keys are found by their hashes and borrowed from the store
+//!   (`Keys`). `Noted` serves private functions.
 //!
-//! There are no laws here: what these definitions mean is said by the laws of model_page_law.
+//! There are no laws here: those of model_page_law speak of these definitions.
 #![tactic(auto)]
 
 mod composed;

@@ -8,7 +8,7 @@ ghost use Rattle.model_spelling.specs.Forest as spelled;
 ghost use Rattle.model_spelling.specs.Parsed.{forest_of};
 ghost use Rattle.ve_html_tree.specs.Seen.{IsFirstFault};
 ghost use Rattle.model_page.specs.DataMw as model;
-ghost use Rattle.ve_internal.specs.Read.{or_no_members, seen};
+ghost use Rattle.ve_internal.specs.Read.{or_no_members, seen_value};
 
 use crate::floats::members_have_float;
 use serde_json::{Map, Value};
@@ -51,14 +51,17 @@ pub fn whole_object(value: Value) -> Option<Map<String, Value>>
 
 /// The member of a name, where there is one.
 pub fn member_of<'a>(members: &'a Map<String, Value>, name: &str) -> Option<&'a Value>
-    ensures { option_map (λ v. view v.now) result ≡ get_member name.now (members_view members.now.entries) }
+    ensures { option_map (λ v. view v.now) result
+        ≡ get_member name.now (members_view members.now.entries) }
 {
     members.get(name)
 }
 
 /// The members, where they are an object or absent.
 pub fn members_or_none<'a>(value: Option<&'a Value>) -> Option<Option<&'a Map<String, Value>>>
-    ensures { option_map (λ ms. or_no_members (option_map (λ m. members_view m.now.entries) ms)) result ≡ model.members_or_none (seen value.entry) }
+    ensures { option_map (λ ms. or_no_members (option_map (λ m. members_view m.now.entries) ms))
+        result
+        ≡ model.members_or_none (seen_value value.entry) }
 {
     match value {
         None => Some(None),
@@ -69,7 +72,8 @@ pub fn members_or_none<'a>(value: Option<&'a Value>) -> Option<Option<&'a Map<St
 
 /// The member of a name of members that may be absent.
 pub fn attribute<'a>(members: Option<&'a Map<String, Value>>, name: &str) -> Option<&'a Value>
-    ensures { seen result ≡ get_member name.now (or_no_members (option_map (λ m. members_view m.now.entries) members.entry)) }
+    ensures { seen_value result ≡ get_member name.now (
+        or_no_members (option_map (λ m. members_view m.now.entries) members.entry)) }
 {
     match members {
         None => None,
@@ -79,7 +83,7 @@ pub fn attribute<'a>(members: Option<&'a Map<String, Value>>, name: &str) -> Opt
 
 /// The text, where it is a text or absent; an absent one counts as empty.
 pub fn text_or_empty<'a>(value: Option<&'a Value>) -> Option<&'a str>
-    ensures { option_map (λ t. t.now) result ≡ model.text_or_empty (seen value.entry) }
+    ensures { option_map (λ t. t.now) result ≡ model.text_or_empty (seen_value value.entry) }
 {
     match value {
         None => Some(""),
@@ -110,7 +114,8 @@ fn is_spelled(alloc: Global, text: &str) -> Result<bool, Memory>
 
 /// A text that some forest spells.
 fn if_spelled<'a>(alloc: Global, value: Option<&'a Value>) -> Result<Option<&'a str>, Memory>
-    ensures { IfOk result (λ t. option_map (λ t. t.now) t ≡ model.if_spelled (seen value.entry)) }
+    ensures { IfOk result (λ t.
+        option_map (λ t. t.now) t ≡ model.if_spelled (seen_value value.entry)) }
 {
     match value {
         Some(Value::String(text)) => {
@@ -129,7 +134,8 @@ pub fn html_or_none<'a>(
     alloc: Global,
     body: Option<&'a Value>,
 ) -> Result<Option<Option<&'a str>>, Memory>
-    ensures { IfOk result (λ t. option_map (option_map (λ t. t.now)) t ≡ model.html_or_none (seen body.entry)) }
+    ensures { IfOk result (λ t.
+        option_map (option_map (λ t. t.now)) t ≡ model.html_or_none (seen_value body.entry)) }
 {
     match body {
         None => Ok(Some(None)),

@@ -1,4 +1,4 @@
-// What is noted of the references of a list, item by item.
+// Notes of the references of a list, taken item by item.
 ghost use Rattle.std.specs.Prelude.{◌≡◌, ◌+◌, ◌^◌, ◌<◌, ◌∷◌, [], suc, length, All, IfOk, OnOk};
 ghost use Rattle.indexmap.specs.IndexMap.{get};
 ghost use Rattle.model_items.specs.Same.{ref_key_same, text_same};
@@ -14,7 +14,8 @@ use ve_items::Linear;
 use ve_kinds::Kind;
 use ve_store::Store;
 
-/// What is known of a key: its place among the keys of its group, from 1, and where its first reference and its first owner stand.
+/// The notes of a key: its number among the keys of its group, from 1, and where its first
+/// reference and its first owner stand.
 #[derive(Clone, Copy)]
 pub struct Seen {
     pub number: u32,
@@ -22,14 +23,15 @@ pub struct Seen {
     pub owner: Option<usize>,
 }
 
-/// A reference: its place, and its key in the store.
+/// A reference: its position, and its key in the store.
 #[derive(Clone, Copy)]
 pub struct Cited<'a> {
     pub at: usize,
     pub key: &'a RefKey,
 }
 
-/// The references in order, what is known of each key, how many keys a group has, and where the first body of a key opens.
+/// The references in order, the notes of each key, how many keys a group has, and where the first
+/// body of a key opens.
 #[derive(Drop)]
 pub struct Notes<'a> {
     pub refs: Vec<Cited<'a>>,
@@ -38,7 +40,8 @@ pub struct Notes<'a> {
     pub bodies: IndexMap<LentKey<'a>, usize>,
 }
 
-/// Counts a new key of a group, and answers its number. A count that no `u32` holds is a want of memory like any other.
+/// Counts a new key of a group, and answers its number. A count that no `u32` holds is a want of
+/// memory like any other.
 fn count_in<'a>(groups: &mut IndexMap<LentGroup<'a>, u32>, group: &'a Text) -> Result<u32, Memory>
     ensures number { IfOk result (λ number. number ≡ suc (counted groups.old group.now)) }
     ensures counts { OnOk result (Counts groups.old groups.new group.now) }
@@ -87,7 +90,7 @@ impl Seen {
     }
 }
 
-/// What is known of a key after one more reference to it.
+/// The notes of a key after one more reference to it.
 fn see<'a>(
     keys: &IndexMap<LentKey<'a>, Seen>,
     groups: &mut IndexMap<LentGroup<'a>, u32>,
@@ -135,7 +138,8 @@ impl<'a> Notes<'a> {
     }
 
     fn note_reference(&mut self, cited: Cited<'a>, owner: bool) -> Result<(), Memory>
-        ensures { OnOk result (NotesReference self.old self.new cited.entry.at cited.entry.key.now owner) }
+        ensures { OnOk result (
+            NotesReference self.old self.new cited.entry.at cited.entry.key.now owner) }
     {
         let seen = see(&self.keys, &mut self.groups, cited, owner)?;
         self.keys.insert(LentKey { key: cited.key }, seen)?;
@@ -152,7 +156,8 @@ impl<'a> Notes<'a> {
         head: Option<ValueId>,
     ) -> Result<(), Memory>
         requires { CitesHead store.now head }
-        ensures { OnOk result (NotesOpening self.old self.new at kind (head_in (value_at store.now head))) }
+        ensures { OnOk result (
+            NotesOpening self.old self.new at kind (head_in (value_at store.now head))) }
     {
         let Some(id) = head else {
             return Ok(());
@@ -202,7 +207,7 @@ impl<'a> Notes<'a> {
     }
 }
 
-/// What is noted of a list. It goes over lent pieces.
+/// The notes of a list. It goes over borrowed pieces.
 pub fn notes_of<'a>(alloc: Global, list: &Linear, store: &'a Store) -> Result<Notes<'a>, Memory>
     requires { All (CitesWell store.now) list.now.items }
     ensures { IfOk result (λ notes. HasNoted notes (plain_list store.now list.now.items)) }

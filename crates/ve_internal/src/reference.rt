@@ -1,4 +1,4 @@
-// What an editable `data-mw` says.
+// The reading of an editable `data-mw`.
 ghost use Rattle.std.specs.Prelude.{◌≡◌, IfOk, IfSome, option_map};
 ghost use Rattle.std.specs.Str.{chars};
 ghost use Rattle.serde_json.specs.View.{members_view};
@@ -12,7 +12,8 @@ use serde_json::{Map, Value};
 use std::alloc::Global;
 use ve_base::{Memory, Text};
 
-/// What an editable `data-mw` says of a reference. An owner has a body; a reuse has a name and no body.
+/// The reference that an editable `data-mw` describes. An owner has a body; a reuse has a name and
+/// no body.
 #[derive(Drop)]
 pub struct RefRead {
     /// The group, which may be empty.
@@ -37,10 +38,12 @@ fn unless_empty<'a>(text: &'a str) -> Option<&'a str>
     if text.is_empty() { None } else { Some(text) }
 }
 
-/// What the members of a `data-mw` say.
+/// The reference that the members of a `data-mw` describe.
 fn reference_in(alloc: Global, members: &Map<String, Value>) -> Result<Option<RefRead>, Memory>
-    ensures reference { IfOk result (λ r. r ≡ option_map as_texts (in_members (members_view members.now.entries))) }
-    ensures body { IfOk result (λ r. IfSome r (λ _. BodyIsUtf8 (in_members (members_view members.now.entries)))) }
+    ensures reference { IfOk result (λ r.
+        r ≡ option_map as_texts (in_members (members_view members.now.entries))) }
+    ensures body { IfOk result (λ r.
+        IfSome r (λ _. BodyIsUtf8 (in_members (members_view members.now.entries)))) }
 {
     let Some(attrs) = members_or_none(member_of(members, "attrs")) else {
         return Ok(None);
@@ -64,8 +67,9 @@ fn reference_in(alloc: Global, members: &Map<String, Value>) -> Result<Option<Re
     Ok(Some(RefRead { group, name, html }))
 }
 
-/// What a `data-mw` says of a reference; none where it isn't editable: where it isn't JSON, isn't an object, has a number
-/// that is no integer of 64 bits, or has members that say neither an owner nor a reuse. The text of the body is UTF-8.
+/// The reference that a `data-mw` describes; none where it isn't editable. It isn't where it isn't
+/// JSON, isn't an object, has a number that is no integer of 64 bits, or has members of neither an
+/// owner nor a reuse. The text of the body is UTF-8.
 pub fn reference_of(alloc: Global, mw: &str) -> Result<Option<RefRead>, Memory>
     ensures reference { IfOk result (λ r. r ≡ option_map as_texts (model.reference_of mw.now)) }
     ensures body { IfOk result (λ r. IfSome r (λ _. BodyIsUtf8 (model.reference_of mw.now))) }

@@ -9,7 +9,7 @@ use Rattle.ve_items.specs.Substitution.{spliced, spliced_block, parted}
 use Rattle.ve_items.proofs.Sizes.{size_is}
 use Rattle.ve_items.proofs.Pieces.{spliced_before, spliced_after, block_is_spliced, length_spliced}
 
--- the blocks with items put in at a place, in one block more
+-- the blocks with items put in at a position, in one block more
 pub record IsPartedAt (blocks new : List (List Item)) (at : ℕ) (items : List Item) : Type 0 where
   pub rule : AreBlocks new
   pub joined_is : joined new ≡ spliced (joined blocks) at 0 items
@@ -99,7 +99,7 @@ rule_two (a ∷ b ∷ blocks) (suc zero) x y lt may rule =
 rule_two (a ∷ b ∷ blocks) (suc (suc k)) x y lt may rule =
     (rule.0, rule.1, rule_two (b ∷ blocks) (suc k) x y (omega (arith, lt)) (may_below a (b ∷ blocks) (suc k) (length x) (length y) may) rule.2)
 
--- items put in at a place in the first of the two, and in the second
+-- items put in at a position in the first of the two, and in the second
 pub first_is : {A : Type 0} (blocks : List (List A)) (k : ℕ) (x y : List A) (offset : ℕ) (items : List A) → k < length blocks →
     spliced_block (two blocks k x y) k offset 0 items ≡ two blocks k (spliced x offset 0 items) y
 first_is blocks k x y offset items lt =
@@ -117,7 +117,7 @@ joined_parted blocks k at lt =
     ∙ ap (λ b. joined (slice_set blocks k b)) (take-append-drop at (get_or blocks k []))
     ∙ ap joined (set-get_or blocks k [])
 
--- items put in at a place of a block, in its first half and in its second, and in the second
+-- items put in at a position of a block, in its first half and in its second, and in the second
 pub half_spliced : {A : Type 0} (block items : List A) (half offset : ℕ) → offset ≤ half → half ≤ length block → spliced (take half block) offset 0 items ++ drop half block ≡ spliced block offset 0 items
 half_spliced block items half offset le within =
     sym (spliced_before (take half block) (drop half block) items offset 0 (omega (arith, le, within, length-take half block)))
@@ -131,7 +131,7 @@ rest_spliced block items half offset le within =
     ∙ ap (λ n. spliced (take half block ++ drop half block) n 0 items) place
     ∙ ap (λ l. spliced l offset 0 items) (take-append-drop half block)
 
--- the whole of it, for a place in the first half
+-- the whole of it, for a position in the first half
 pub in_first : (blocks : List (List Item)) (at k offset half : ℕ) (items : List Item) → MayPart blocks at (length items) k offset → half ≡ length (get_or blocks k []) / 2 → offset ≤ half →
     AreBlocks blocks → IsPartedAt blocks (two blocks k (spliced (take half (get_or blocks k [])) offset 0 items) (drop half (get_or blocks k []))) at items
 in_first blocks at k offset half items may is le rule = record {

@@ -1,4 +1,4 @@
--- A place in a list, and the same place in one of its blocks.
+-- A position in a list, and the same position in one of its blocks.
 use Rattle.std.proofs.Common.{◌≡◌, ◌+◌, ◌-◌, ◌<◌, ◌≤◌, ℕ, List, [], ◌++◌, Some, length, take, drop, get_or, sym, ap, ◌∙◌, take-append-drop, arith, length-append, length-drop}
 use Rattle.std.specs.List.{slice_get}
 use Rattle.std.proofs.lemmas.List.{drop_more, drop-drop, take-append-le, drop-append-le, get_or_append_left, get_or-append-add, length-take-le}
@@ -70,7 +70,7 @@ range_length items block from offset many le =
     let same : many ≡ from + length (take many (drop offset block)) - from = omega arith in
     ap (λ n. take n (drop from items)) same
 
--- a range that ends after a place, and doesn't begin before the place's block
+-- a range that ends after a position, and doesn't begin before the position's block
 pub range_to : {A : Type 0} (blocks : List (List A)) (block : List A) (at k offset many : ℕ) → StandsAt blocks at k offset → slice_get blocks k ≡ Some block → 0 < many → many ≤ offset + 1 →
     take many (drop (offset + 1 - many) block) ≡ take many (drop (at + 1 - many) (joined blocks))
 range_to blocks block at k offset many h is some le =

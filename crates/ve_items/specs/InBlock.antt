@@ -1,15 +1,15 @@
--- Places in one block of a list.
+-- Positions in one block of a list.
 use Rattle.std.specs.Prelude.{ℕ, ◌≡◌, ◌+◌, ◌-◌, ◌/◌, ◌<◌, ◌≤◌, List, [], length, take, slice_index_or}
 use Rattle.ve_base.specs.Limits.{max_block}
 use Rattle.ve_items.specs.Blocks.{joined}
 
--- the item at a place, as a block and a place in that block
+-- the item at a position, as a block and a position in that block
 pub record StandsAt {A : Type 0} (blocks : List (List A)) (at block offset : ℕ) : Type 0 where
   pub among : block < length blocks
   pub inside : offset < length (slice_index_or blocks block [])
   pub place : length (joined (take block blocks)) + offset ≡ at
 
--- a place in a block, or at its end
+-- a position in a block, or at its end
 pub record TouchesAt {A : Type 0} (blocks : List (List A)) (at block offset : ℕ) : Type 0 where
   pub among : block < length blocks
   pub inside : offset ≤ length (slice_index_or blocks block [])
@@ -29,7 +29,8 @@ pub record MayChange {A : Type 0} (blocks : List (List A)) (at removed more bloc
   pub inside : offset + removed ≤ length (slice_index_or blocks block [])
   pub size : MayHave blocks block (length (slice_index_or blocks block []) - removed + more)
 
--- two blocks of so many items may take the place of one: they stay apart from one another and from its neighbours
+-- two blocks of so many items may take the place of one: they stay apart from one another and from
+-- its neighbours
 pub record MayHaveTwo {A : Type 0} (blocks : List (List A)) (block first second : ℕ) : Type 0 where
   pub some_first : 0 < first
   pub small_first : first ≤ max_block
@@ -39,7 +40,8 @@ pub record MayHaveTwo {A : Type 0} (blocks : List (List A)) (block first second 
   pub apart_before : 0 < block → max_block < length (slice_index_or blocks (block - 1) []) + first
   pub apart_after : block + 1 < length blocks → max_block < second + length (slice_index_or blocks (block + 1) [])
 
--- a place in a block whose halves may take its place, when the one with the place in it has so many items more
+-- a position in a block whose halves may take its place, when the one with the position in it has
+-- so many items more
 pub record MayPart {A : Type 0} (blocks : List (List A)) (at more block offset : ℕ) : Type 0 where
   pub among : block < length blocks
   pub place : length (joined (take block blocks)) + offset ≡ at

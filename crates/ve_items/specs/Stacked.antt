@@ -4,7 +4,7 @@ use Rattle.model_items.specs.declared.item.Item.{Item}
 use Rattle.ve_items.specs.Blocks.{joined}
 use Rattle.ve_items.specs.Substitution.{without}
 
--- what a stack is seen as
+-- the view of a stack
 pub record Pile : Type 0 where
   pub blocks : List (List Item)
   -- how many blocks it has room for
@@ -22,7 +22,8 @@ top blocks = slice_index_or blocks (length blocks - 1) []
 abbrev pub all_blocks : (before after : Pile) → ℕ → ℕ
 all_blocks before after pool = length before.blocks + length after.blocks + pool
 
--- the items before a place and after it are as they were, without so many that began `offset` items after it
+-- the items before a position and after it are as they were, without so many that began `offset`
+-- items after it
 abbrev pub AreTakenOut : {A : Type 0} → (before after new_before new_after : List (List A)) → (offset removed : ℕ) → Type 0
 AreTakenOut before after new_before new_after offset removed =
     joined new_before ++ from_top new_after ≡ joined before ++ without (from_top after) offset removed

@@ -70,7 +70,7 @@ impl Block {
         self.items.truncate(len);
     }
 
-    /// Takes so many items out from a place on.
+    /// Takes so many items out from a position on.
     pub fn cut_out(&mut self, at: usize, many: usize)
         requires { at + many ≤ length self.old }
         ensures { self.new ≡ take at self.old ++ drop (at + many) self.old }
@@ -85,7 +85,7 @@ impl Block {
         self.items.truncate(len - many);
     }
 
-    /// Puts items in from a place on. It takes no memory.
+    /// Puts items in from a position on. It takes no memory.
     fn put_in(&mut self, at: usize, items: &[Item])
         requires within { at ≤ length self.old }
         requires fits { length self.old + length items.now ≤ max_block }

@@ -11,7 +11,7 @@ use crate::stack::Stack;
 use crate::table::Table;
 use model_items::Item;
 
-/// Takes items out from a place on. It takes no memory.
+/// Takes items out from a position on. It takes no memory.
 pub fn remove(
     before: &mut Table,
     after: &mut Stack,
@@ -32,7 +32,8 @@ pub fn remove(
     ensures count { length before.new.blocks ≤ length before.old.blocks }
     ensures room_before { before.new.room ≡ before.old.room }
     ensures room_after { after.new.room ≡ after.old.room }
-    ensures kept { length before.new.blocks + vec_len pool.new ≡ length before.old.blocks + vec_len pool.old }
+    ensures kept { length before.new.blocks + vec_len pool.new
+        ≡ length before.old.blocks + vec_len pool.old }
     ensures capacity { vec_capacity pool.old ≤ vec_capacity pool.new }
 {
     if removed == 0 {
@@ -78,7 +79,7 @@ fn insert_in_half(
     }
 }
 
-/// Puts items in at a place, in blocks of the pool. It takes no memory.
+/// Puts items in at a position, in blocks of the pool. It takes no memory.
 pub fn insert(
     before: &mut Table,
     after: &mut Stack,
@@ -90,18 +91,22 @@ pub fn insert(
     requires closed { after.old.blocks ≡ [] }
     requires within { at ≤ length (joined before.old.blocks) }
     requires fits { length (joined before.old.blocks) + length items.now < 2 ^ 64 }
-    requires room_before { 0 < length items.now → length before.old.blocks + more_blocks (length items.now) ≤ before.old.room }
+    requires room_before { 0 < length items.now
+        → length before.old.blocks + more_blocks (length items.now) ≤ before.old.room }
     requires room_after { length before.old.blocks ≤ after.old.room }
     requires pool { 0 < length items.now → more_blocks (length items.now) ≤ vec_len pool.old }
     requires capacity { length before.old.blocks + vec_len pool.old ≤ vec_capacity pool.old }
     ensures rule { AreBlocks before.new.blocks }
     ensures closed { after.new.blocks ≡ [] }
-    ensures items { joined before.new.blocks ≡ take at (joined before.old.blocks) ++ items.now ++ drop at (joined before.old.blocks) }
-    ensures count { length before.new.blocks ≤ length before.old.blocks + more_blocks (length items.now) }
+    ensures items { joined before.new.blocks
+        ≡ take at (joined before.old.blocks) ++ items.now ++ drop at (joined before.old.blocks) }
+    ensures count { length before.new.blocks
+        ≤ length before.old.blocks + more_blocks (length items.now) }
     ensures none { length items.now ≡ 0 → length before.new.blocks ≤ length before.old.blocks }
     ensures room_before { before.new.room ≡ before.old.room }
     ensures room_after { after.new.room ≡ after.old.room }
-    ensures kept { length before.new.blocks + vec_len pool.new ≡ length before.old.blocks + vec_len pool.old }
+    ensures kept { length before.new.blocks + vec_len pool.new
+        ≡ length before.old.blocks + vec_len pool.old }
     ensures capacity { vec_capacity pool.old ≤ vec_capacity pool.new }
 {
     if items.is_empty() {

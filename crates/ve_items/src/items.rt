@@ -1,4 +1,4 @@
-// A plain list of items, as it is lent to a splice or copied out of a page.
+// A plain list of items, as it is borrowed by a splice or copied out of a page.
 ghost use Rattle.std.specs.Prelude.{◌≡◌, ◌++◌, [], ◌∷◌, IfOk, OnOk, OnErr};
 
 use model_items::Item;
@@ -7,9 +7,15 @@ use std::marker::Model;
 use ve_base::Memory;
 
 /// A list of items, seen as the list of its members.
-#[derive(Drop)]
 pub struct Items {
     list: Vec<Item>,
+}
+
+impl Drop for Items {
+    fn drop(self) {
+        let Items { list } = self;
+        drop(list);
+    }
 }
 
 impl Model for Items {

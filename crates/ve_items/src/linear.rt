@@ -14,23 +14,33 @@ use std::alloc::Global;
 use std::marker::Model;
 use ve_base::Memory;
 
-/// The items of a page in their order, seen as their list, the blocks in which they are kept, and a
-/// number, `spare`: splices of that many items together take no memory. Places and lengths count items.
+/// The items of a page in their order. Its view is their list, the blocks in which they are kept,
+/// and a number, `spare`: splices of that many items together take no memory. Positions and lengths
+/// count items.
 ///
 /// A block holds 1 to `MAX_BLOCK` items, and two neighbours hold more than that together. A splice
-/// within one block moves the items of that block alone, where every rule of the blocks stays; where a
-/// block is full, half of it goes into a block of its own; another splice moves the items of the blocks
-/// that it touches and the table of blocks from there on. Blocks are
-/// made with `FILLED_BLOCK` items, so that later ones find room. Those that get empty stay with the list.
-#[derive(Drop)]
+/// within one block moves the items of that block alone, where every rule of the blocks stays.
+/// Where a block is full, half of it goes into a block of its own. Another splice moves the items
+/// of the blocks that it touches, and the table of blocks from there on. Blocks are made with
+/// `FILLED_BLOCK` items, so that later ones find room. Those that get empty stay with the list.
 pub struct Linear {
     table: Table,
-    // where a splice sets the blocks after its place aside, empty else
+    // where a splice sets the blocks after its position aside, empty else
     aside: Stack,
     // memory for the blocks that a splice puts in
     pool: Vec<Block>,
     spare: usize,
     alloc: Global,
+}
+
+impl Drop for Linear {
+    fn drop(self) {
+        let Linear { table, aside, pool, spare: _, alloc } = self;
+        drop(table);
+        drop(aside);
+        drop(pool);
+        drop(alloc);
+    }
 }
 
 impl Model for Linear {
@@ -85,7 +95,7 @@ impl Linear {
         self.table.len()
     }
 
-    /// Lends a block, counted from the prefix.
+    /// Lends a block, counted from the first.
     pub fn block(&self, k: usize) -> &[Item]
         requires { k < length self.now.blocks }
         ensures { slice_get self.now.blocks k ≡ Some result.now }
@@ -93,7 +103,7 @@ impl Linear {
         self.table.block(k)
     }
 
-    /// The item at a place. It is found by a search over the ends of the blocks.
+    /// The item at a position. It is found by a search over the ends of the blocks.
     pub fn get(&self, at: usize) -> Item
         requires { at < length self.now.items }
         ensures { slice_get self.now.items at ≡ Some result }
@@ -102,8 +112,8 @@ impl Linear {
         self.table.block(k)[offset]
     }
 
-    /// Lends the items from one place up to another, as far as the first one's block goes. So a walk
-    /// over a range takes piece after piece.
+    /// Lends the items from one position up to another, as far as the first one's block goes. So a
+    /// walk over a range takes piece after piece.
     pub fn piece(&self, from: usize, to: usize) -> &[Item]
         requires order { from < to }
         requires within { to ≤ length self.now.items }
@@ -117,8 +127,8 @@ impl Linear {
         &block[offset..end]
     }
 
-    /// Lends the items that end at a place, from another place on, as far back as the last one's block
-    /// goes. So a walk from a range's end takes piece after piece.
+    /// Lends the items that end at a position, from another position on, as far back as the last
+    /// one's block goes. So a walk from a range's end takes piece after piece.
     pub fn last_piece(&self, from: usize, to: usize) -> &[Item]
         requires order { from < to }
         requires within { to ≤ length self.now.items }
@@ -132,7 +142,7 @@ impl Linear {
         &block[end - end.min(to - from)..end]
     }
 
-    /// A copy of the items from one place up to another.
+    /// A copy of the items from one position up to another.
     pub fn slice(&self, alloc: Global, from: usize, to: usize) -> Result<Items, Memory>
         requires order { from ≤ to }
         requires within { to ≤ length self.now.items }
@@ -160,8 +170,8 @@ impl Linear {
         Ok(copy)
     }
 
-    /// Takes the memory that splices of so many items together may need, however they are parted: room
-    /// in the table of blocks and empty blocks. An `Err` changes nothing.
+    /// Takes the memory that splices of so many items together may need, however they are parted:
+    /// room in the table of blocks and empty blocks. An `Err` changes nothing.
     pub fn reserve(&mut self, more: usize) -> Result<(), Memory>
         ensures items { self.new.items ≡ self.old.items }
         ensures blocks { self.new.blocks ≡ self.old.blocks }
@@ -184,9 +194,9 @@ impl Linear {
         Ok(())
     }
 
-    /// Puts items in the place of the `removed` items from `at` on. It succeeds where `spare` has room
-    /// for them, and uses up so much of it; where `spare` has less, it takes memory, and all of `spare`
-    /// is used up. An `Err` changes nothing.
+    /// Replaces the `removed` items from `at` on by others. Where `spare` has room for them, it
+    /// succeeds and uses up so much of `spare`. Else it may take memory, and all of `spare` is used
+    /// up. An `Err` changes nothing.
     pub fn splice(&mut self, at: usize, removed: usize, items: &[Item]) -> Result<(), Memory>
         requires { at + removed ≤ length self.old.items }
         ensures ok { OnOk result (self.new.items ≡ spliced self.old.items at removed items.now) }
@@ -220,8 +230,8 @@ impl Linear {
         Ok(())
     }
 
-    /// Appends items, as a splice at the end does. Who reads a page in pieces of `FILLED_BLOCK` items
-    /// gets a block for each piece, and needs no list beside this one.
+    /// Appends items, as a splice at the end does. Who reads a page in pieces of `FILLED_BLOCK`
+    /// items gets a block for each piece, and needs no list beside this one.
     pub fn extend(&mut self, items: &[Item]) -> Result<(), Memory>
         ensures ok { OnOk result (self.new.items ≡ self.old.items ++ items.now) }
         ensures spare { OnOk result (self.new.spare ≡ self.old.spare - length items.now) }

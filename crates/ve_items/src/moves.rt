@@ -1,4 +1,4 @@
-// How blocks move between the stack before a place and the stack after it, whose top is nearest.
+// How blocks move between the stack before a position and the stack after it, whose top is nearest.
 ghost use Rattle.std.specs.Prelude.{◌≡◌, ◌≤◌, ◌<◌, ◌+◌, ◌/◌, ◌^◌, ◌++◌, ◌∷◌, [], length, take, drop, vec_len, vec_capacity};
 ghost use Rattle.std.specs.List.{All};
 ghost use Rattle.ve_items.specs.Blocks.{joined, IsBlock, AreBlocks};
@@ -12,8 +12,8 @@ use crate::table::Table;
 use model_items::Item;
 use ve_base::{FILLED_BLOCK, MAX_BLOCK};
 
-/// Puts a block after those before the place: into the last one where both fit into one. The block
-/// that is empty then goes to the pool.
+/// Puts a block after those before the position: into the last one where both fit into one. The
+/// block that is empty then goes to the pool.
 pub fn put(before: &mut Table, pool: &mut Vec<Block>, block: Block)
     requires rule { AreBlocks before.old.blocks }
     requires size { IsBlock block }
@@ -24,7 +24,8 @@ pub fn put(before: &mut Table, pool: &mut Vec<Block>, block: Block)
     ensures items { joined before.new.blocks ≡ joined before.old.blocks ++ block }
     ensures count { length before.new.blocks ≤ length before.old.blocks + 1 }
     ensures room { before.new.room ≡ before.old.room }
-    ensures kept { length before.new.blocks + vec_len pool.new ≡ length before.old.blocks + vec_len pool.old + 1 }
+    ensures kept { length before.new.blocks + vec_len pool.new
+        ≡ length before.old.blocks + vec_len pool.old + 1 }
     ensures capacity { vec_capacity pool.old ≤ vec_capacity pool.new }
 {
     let Some(mut last) = before.pop() else {
@@ -52,8 +53,8 @@ fn give_back(pool: &mut Vec<Block>, block: Block)
     prove!(kept);
 }
 
-/// Moves blocks from before the place to after it, until at most `at` items stand before it. Gives
-/// how many of the first block after it stand before `at`.
+/// Moves blocks from before the position to after it, until at most `at` items stand before it.
+/// Gives how many of the first block after it stand before `at`.
 pub fn seek(before: &mut Table, after: &mut Stack, at: usize) -> usize
     requires rule { AreBlocks before.old.blocks }
     requires closed { after.old.blocks ≡ [] }
@@ -61,7 +62,8 @@ pub fn seek(before: &mut Table, after: &mut Stack, at: usize) -> usize
     requires within { at ≤ length (joined before.old.blocks) }
     ensures rule { AreBlocks before.new.blocks }
     ensures sizes { All IsBlock after.new.blocks }
-    ensures items { joined before.new.blocks ++ from_top after.new.blocks ≡ joined before.old.blocks }
+    ensures items { joined before.new.blocks ++ from_top after.new.blocks
+        ≡ joined before.old.blocks }
     ensures place { length (joined before.new.blocks) + result ≡ at }
     ensures inside { result ≤ length (top after.new.blocks) }
     ensures count { length before.new.blocks + length after.new.blocks ≡ length before.old.blocks }
@@ -77,20 +79,23 @@ pub fn seek(before: &mut Table, after: &mut Stack, at: usize) -> usize
     at - before.items()
 }
 
-/// Puts the blocks after the place after those before it.
+/// Puts the blocks after the position after those before it.
 pub fn gather(before: &mut Table, after: &mut Stack, pool: &mut Vec<Block>)
     requires rule { AreBlocks before.old.blocks }
     requires sizes { All IsBlock after.old.blocks }
     requires room { length before.old.blocks + length after.old.blocks ≤ before.old.room }
     requires pool { all_blocks before.old after.old (vec_len pool.old) ≤ vec_capacity pool.old }
-    requires fits { length (joined before.old.blocks) + length (from_top after.old.blocks) < 2 ^ 64 }
+    requires fits { length (joined before.old.blocks) + length (from_top after.old.blocks)
+        < 2 ^ 64 }
     ensures rule { AreBlocks before.new.blocks }
     ensures closed { after.new.blocks ≡ [] }
-    ensures items { joined before.new.blocks ≡ joined before.old.blocks ++ from_top after.old.blocks }
+    ensures items { joined before.new.blocks
+        ≡ joined before.old.blocks ++ from_top after.old.blocks }
     ensures count { length before.new.blocks ≤ length before.old.blocks + length after.old.blocks }
     ensures room_before { before.new.room ≡ before.old.room }
     ensures room_after { after.new.room ≡ after.old.room }
-    ensures kept { length before.new.blocks + vec_len pool.new ≡ all_blocks before.old after.old (vec_len pool.old) }
+    ensures kept { length before.new.blocks + vec_len pool.new
+        ≡ all_blocks before.old after.old (vec_len pool.old) }
     ensures capacity { vec_capacity pool.old ≤ vec_capacity pool.new }
 {
     while let Some(block) = after.pop() {
@@ -98,7 +103,7 @@ pub fn gather(before: &mut Table, after: &mut Stack, pool: &mut Vec<Block>)
     }
 }
 
-/// Cuts the first block after the place, so that its first items stand before the place.
+/// Cuts the first block after the position, so that its first items stand before the position.
 pub fn cut(before: &mut Table, after: &mut Stack, pool: &mut Vec<Block>, offset: usize)
     requires rule { AreBlocks before.old.blocks }
     requires sizes { All IsBlock after.old.blocks }
@@ -107,17 +112,21 @@ pub fn cut(before: &mut Table, after: &mut Stack, pool: &mut Vec<Block>, offset:
     requires room_after { length after.old.blocks ≤ after.old.room }
     requires pool { 0 < vec_len pool.old }
     requires capacity { all_blocks before.old after.old (vec_len pool.old) ≤ vec_capacity pool.old }
-    requires fits { length (joined before.old.blocks) + length (from_top after.old.blocks) < 2 ^ 64 }
+    requires fits { length (joined before.old.blocks) + length (from_top after.old.blocks)
+        < 2 ^ 64 }
     ensures rule { AreBlocks before.new.blocks }
     ensures sizes { All IsBlock after.new.blocks }
-    ensures items_before { joined before.new.blocks ≡ joined before.old.blocks ++ take offset (from_top after.old.blocks) }
+    ensures items_before { joined before.new.blocks
+        ≡ joined before.old.blocks ++ take offset (from_top after.old.blocks) }
     ensures items_after { from_top after.new.blocks ≡ drop offset (from_top after.old.blocks) }
-    ensures count { length before.new.blocks + length after.new.blocks ≤ length before.old.blocks + length after.old.blocks + 1 }
+    ensures count { length before.new.blocks + length after.new.blocks
+        ≤ length before.old.blocks + length after.old.blocks + 1 }
     ensures count_after { length after.new.blocks ≤ length after.old.blocks }
     ensures room_before { before.new.room ≡ before.old.room }
     ensures room_after { after.new.room ≡ after.old.room }
     ensures pool { vec_len pool.old ≤ vec_len pool.new + 1 }
-    ensures kept { all_blocks before.new after.new (vec_len pool.new) ≡ all_blocks before.old after.old (vec_len pool.old) }
+    ensures kept { all_blocks before.new after.new (vec_len pool.new)
+        ≡ all_blocks before.old after.old (vec_len pool.old) }
     ensures capacity { vec_capacity pool.old ≤ vec_capacity pool.new }
 {
     if offset == 0 {
@@ -140,7 +149,7 @@ pub fn cut(before: &mut Table, after: &mut Stack, pool: &mut Vec<Block>, offset:
     }
 }
 
-/// Puts items after those before the place, in blocks of the pool.
+/// Puts items after those before the position, in blocks of the pool.
 pub fn fill(before: &mut Table, pool: &mut Vec<Block>, items: &[Item])
     requires rule { AreBlocks before.old.blocks }
     requires room { length before.old.blocks + filled_blocks (length items.now) ≤ before.old.room }
@@ -149,9 +158,11 @@ pub fn fill(before: &mut Table, pool: &mut Vec<Block>, items: &[Item])
     requires fits { length (joined before.old.blocks) + length items.now < 2 ^ 64 }
     ensures rule { AreBlocks before.new.blocks }
     ensures items { joined before.new.blocks ≡ joined before.old.blocks ++ items.now }
-    ensures count { length before.new.blocks ≤ length before.old.blocks + filled_blocks (length items.now) }
+    ensures count { length before.new.blocks
+        ≤ length before.old.blocks + filled_blocks (length items.now) }
     ensures room { before.new.room ≡ before.old.room }
-    ensures kept { length before.new.blocks + vec_len pool.new ≡ length before.old.blocks + vec_len pool.old }
+    ensures kept { length before.new.blocks + vec_len pool.new
+        ≡ length before.old.blocks + vec_len pool.old }
     ensures capacity { vec_capacity pool.old ≤ vec_capacity pool.new }
 {
     let mut done = 0;
@@ -167,8 +178,8 @@ pub fn fill(before: &mut Table, pool: &mut Vec<Block>, items: &[Item])
     }
 }
 
-/// Takes items out that begin `offset` items after the place. What stands before them in the first
-/// block stands before the place then.
+/// Takes items out that begin `offset` items after the position. What stands before them in the
+/// first block stands before the position then.
 pub fn take_out(
     before: &mut Table,
     after: &mut Stack,
@@ -182,14 +193,18 @@ pub fn take_out(
     requires within { offset + removed ≤ length (from_top after.old.blocks) }
     requires room { length before.old.blocks + length after.old.blocks ≤ before.old.room }
     requires pool { all_blocks before.old after.old (vec_len pool.old) ≤ vec_capacity pool.old }
-    requires fits { length (joined before.old.blocks) + length (from_top after.old.blocks) < 2 ^ 64 }
+    requires fits { length (joined before.old.blocks) + length (from_top after.old.blocks)
+        < 2 ^ 64 }
     ensures rule { AreBlocks before.new.blocks }
     ensures sizes { All IsBlock after.new.blocks }
-    ensures items { AreTakenOut before.old.blocks after.old.blocks before.new.blocks after.new.blocks offset removed }
-    ensures count { length before.new.blocks + length after.new.blocks ≤ length before.old.blocks + length after.old.blocks }
+    ensures items { AreTakenOut before.old.blocks after.old.blocks before.new.blocks
+        after.new.blocks offset removed }
+    ensures count { length before.new.blocks + length after.new.blocks
+        ≤ length before.old.blocks + length after.old.blocks }
     ensures room_before { before.new.room ≡ before.old.room }
     ensures room_after { after.new.room ≡ after.old.room }
-    ensures kept { all_blocks before.new after.new (vec_len pool.new) ≡ all_blocks before.old after.old (vec_len pool.old) }
+    ensures kept { all_blocks before.new after.new (vec_len pool.new)
+        ≡ all_blocks before.old after.old (vec_len pool.old) }
     ensures capacity { vec_capacity pool.old ≤ vec_capacity pool.new }
 {
     let mut offset = offset;

@@ -8,8 +8,8 @@ use crate::table::Table;
 use std::alloc::Global;
 use ve_base::{FILLED_BLOCK, MAX_BLOCK, Memory};
 
-/// Takes memory until a pool has so many blocks, and room for so many others to come back to it. The blocks that it
-/// gets stay, whatever the result.
+/// Takes memory until a pool has so many blocks, and room for so many others to come back to it.
+/// The blocks that it gets stay, whatever the result.
 fn stock(pool: &mut Vec<Block>, alloc: Global, blocks: usize, others: usize) -> Result<(), Memory>
     requires fits { blocks + others < 2 ^ 64 }
     requires kept { others + vec_len pool.old ≤ vec_capacity pool.old }
@@ -26,7 +26,8 @@ fn stock(pool: &mut Vec<Block>, alloc: Global, blocks: usize, others: usize) -> 
     Ok(())
 }
 
-/// Takes the memory that one splice of so many items may need, where `spare` doesn't hold it. An `Err` changes no item.
+/// Takes the memory that one splice of so many items may need, where `spare` doesn't hold it. An
+/// `Err` changes no item.
 pub fn take_for_one(
     table: &mut Table,
     aside: &mut Stack,
@@ -38,7 +39,8 @@ pub fn take_for_one(
     requires { IsReady table.old aside.old (vec_len pool.old) (vec_capacity pool.old) spare }
     ensures blocks { table.new.blocks ≡ table.old.blocks }
     ensures ready { IsReady table.new aside.new (vec_len pool.new) (vec_capacity pool.new) spare }
-    ensures ok { OnOk result (CanTake table.new aside.new (vec_len pool.new) (vec_capacity pool.new) many) }
+    ensures ok { OnOk result (
+        CanTake table.new aside.new (vec_len pool.new) (vec_capacity pool.new) many) }
     ensures fits { many ≤ spare → IsOk result }
 {
     if many <= spare {
@@ -65,7 +67,8 @@ pub fn take_for_all(
     requires { IsReady table.old aside.old (vec_len pool.old) (vec_capacity pool.old) spare }
     ensures blocks { table.new.blocks ≡ table.old.blocks }
     ensures ready { IsReady table.new aside.new (vec_len pool.new) (vec_capacity pool.new) spare }
-    ensures ok { OnOk result (IsReady table.new aside.new (vec_len pool.new) (vec_capacity pool.new) many) }
+    ensures ok { OnOk result (
+        IsReady table.new aside.new (vec_len pool.new) (vec_capacity pool.new) many) }
 {
     let items = table.items();
     if many > usize::MAX - items {

@@ -24,8 +24,8 @@ fn same_origin(one: Option<u32>, other: Option<u32>) -> bool
     }
 }
 
-/// Whether two items are equal. Items that cite one store of distinct values are equal where they cite equal places, so no
-/// value is read.
+/// Whether two items are equal. Items that cite one store of distinct values are equal where they
+/// cite equal positions, so no value is read.
 pub fn same_item(one: Item, other: Item) -> bool
     ensures { IsTrue result ↔ (one ≡ other) }
 {

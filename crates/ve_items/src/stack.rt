@@ -58,7 +58,8 @@ impl Stack {
     /// Takes room for so many blocks more. An `Err` changes nothing.
     pub fn reserve(&mut self, more: usize) -> Result<(), Memory>
         ensures blocks { self.new.blocks ≡ self.old.blocks }
-        ensures ok { OnOk result (self.new.room ≡ max self.old.room (length self.old.blocks + more)) }
+        ensures ok { OnOk result (
+            self.new.room ≡ max self.old.room (length self.old.blocks + more)) }
         ensures err { OnErr result (self.new ≡ self.old) }
     {
         self.blocks.reserve(more)?;
@@ -85,7 +86,8 @@ impl Stack {
         self.blocks.pop()
     }
 
-    /// Parts a block: it keeps its first items, and a block that is put in after it gets the others. It takes no memory.
+    /// Parts a block: it keeps its first items, and a block that is put in after it gets the
+    /// others. It takes no memory.
     pub fn part(&mut self, k: usize, at: usize, second: Block)
         requires among { k < length self.old.blocks }
         requires within { at ≤ length (slice_index_or self.old.blocks k []) }
@@ -106,7 +108,8 @@ impl Stack {
     pub fn splice(&mut self, k: usize, at: usize, removed: usize, items: &[Item])
         requires among { k < length self.old.blocks }
         requires within { at + removed ≤ length (slice_index_or self.old.blocks k []) }
-        requires fits { length (slice_index_or self.old.blocks k []) - removed + length items.now ≤ max_block }
+        requires fits { length (slice_index_or self.old.blocks k []) - removed + length items.now
+            ≤ max_block }
         ensures blocks { self.new.blocks ≡ spliced_block self.old.blocks k at removed items.now }
         ensures room { self.new.room ≡ self.old.room }
     {

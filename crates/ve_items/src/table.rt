@@ -15,7 +15,7 @@ use ve_base::{MAX_BLOCK, Memory};
 use ve_lengths::Lengths;
 
 /// Blocks in their order, seen as the list of them and the number of blocks that there is room for.
-/// A place is found by the sizes of the blocks.
+/// A position is found by the sizes of the blocks.
 #[derive(Drop)]
 pub struct Table {
     stack: Stack,
@@ -70,7 +70,8 @@ impl Table {
     /// Takes room for so many blocks more. An `Err` changes nothing.
     pub fn reserve(&mut self, more: usize) -> Result<(), Memory>
         ensures blocks { self.new.blocks ≡ self.old.blocks }
-        ensures ok { OnOk result (self.new.room ≡ max self.old.room (length self.old.blocks + more)) }
+        ensures ok { OnOk result (
+            self.new.room ≡ max self.old.room (length self.old.blocks + more)) }
         ensures err { OnErr result (self.new ≡ self.old) }
     {
         self.sizes.reserve(more)?;
@@ -99,7 +100,7 @@ impl Table {
         Some(block)
     }
 
-    /// The block with the item at a place, and the item's place in it.
+    /// The block with the item at a position, and the item's position in it.
     pub fn find(&self, at: usize) -> (usize, usize)
         requires { at < length (joined self.now.blocks) }
         ensures { StandsAt self.now.blocks at result.0 result.1 }
@@ -115,7 +116,8 @@ impl Table {
         self.sizes.get(k)
     }
 
-    /// The block with the item at a place, or at the list's end the last block, and the place in it.
+    /// The block with the item at a position, or at the list's end the last block, and the position
+    /// in it.
     fn touched(&self, at: usize) -> Option<(usize, usize)>
         requires { at ≤ length (joined self.now.blocks) }
         ensures { IfSome result (λ place. TouchesAt self.now.blocks at place.0 place.1) }
@@ -127,10 +129,12 @@ impl Table {
         Some((last, self.size(last)))
     }
 
-    /// The block and the place in it where a range can be replaced by so many items while no other block changes, if there is one.
+    /// The block and the position in it where a range can be replaced by so many items while no
+    /// other block changes, if there is one.
     pub fn place_for(&self, at: usize, removed: usize, more: usize) -> Option<(usize, usize)>
         requires { at + removed ≤ length (joined self.now.blocks) }
-        ensures place { IfSome result (λ place. MayChange self.now.blocks at removed more place.0 place.1) }
+        ensures place { IfSome result (λ place.
+            MayChange self.now.blocks at removed more place.0 place.1) }
         ensures fits { IsSome result → length (joined self.now.blocks) + more < 2 ^ 64 }
     {
         let (k, offset) = self.touched(at)?;
@@ -160,11 +164,13 @@ impl Table {
             && (last || self.size(k + 1) > MAX_BLOCK - size)
     }
 
-    /// Puts items in the place of the `removed` ones from `at` on in one block. It takes no memory, and no other block changes.
+    /// Puts items in the place of the `removed` ones from `at` on in one block. It takes no memory,
+    /// and no other block changes.
     pub fn splice(&mut self, k: usize, at: usize, removed: usize, items: &[Item])
         requires among { k < length self.old.blocks }
         requires within { at + removed ≤ length (slice_index_or self.old.blocks k []) }
-        requires small { length (slice_index_or self.old.blocks k []) - removed + length items.now ≤ max_block }
+        requires small { length (slice_index_or self.old.blocks k []) - removed + length items.now
+            ≤ max_block }
         requires fits { length (joined self.old.blocks) + length items.now < 2 ^ 64 }
         ensures blocks { self.new.blocks ≡ spliced_block self.old.blocks k at removed items.now }
         ensures room { self.new.room ≡ self.old.room }
@@ -174,8 +180,8 @@ impl Table {
         self.stack.splice(k, at, removed, items);
     }
 
-    /// The block and the place in it where so many items can be put in while its second half goes into a block of its
-    /// own, and no other block changes, if there is one.
+    /// The block, and the position in it, where `more` items can be put in if its second half goes
+    /// into a block of its own. No other block changes. None where there is no such block.
     pub fn place_to_part(&self, at: usize, more: usize) -> Option<(usize, usize)>
         requires { at ≤ length (joined self.now.blocks) }
         ensures { IfSome result (λ place. MayPart self.now.blocks at more place.0 place.1) }
@@ -209,7 +215,8 @@ impl Table {
             && (k + 1 == count || self.size(k + 1) > MAX_BLOCK - second)
     }
 
-    /// Parts a block: it keeps its first items, and a block that is put in after it gets the others. It takes no memory.
+    /// Parts a block: it keeps its first items, and a block that is put in after it gets the
+    /// others. It takes no memory.
     pub fn part(&mut self, k: usize, at: usize, second: Block)
         requires among { k < length self.old.blocks }
         requires within { at ≤ length (slice_index_or self.old.blocks k []) }

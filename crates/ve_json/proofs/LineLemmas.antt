@@ -1,4 +1,4 @@
--- What a line asks, by the words of commands.
+-- The command of a line, by the words of commands.
 use Rattle.std.proofs.Common.{◌≡◌, ℕ, List, map, Option, Some, None, option_map, option_and_then, Result, Ok, Err, refl, sym, ap, ◌∙◌}
 use Rattle.serde_json.specs.Data.{Data, null, boolean, number, string, array, object, Members}
 use Rattle.serde_json.specs.Find.{as_object, as_str, get_member}
@@ -7,7 +7,7 @@ use Rattle.model_world.specs.declared.refusal.Refusal.{Refusal}
 use Rattle.model_world.specs.Commands as model
 use Rattle.model_world.specs.Commands.{commands, or_bad_command, read_by}
 use Rattle.model_world.specs.Changes.{changes, change_in, change_with, if_well_formed}
-use Rattle.model_world.specs.declared.change.Change.{Change}
+use Rattle.model_world.specs.declared.edit_command.EditCommand.{EditCommand}
 use Rattle.ve_json.specs.declared.command_words.ChangeWord.{ChangeWord}
 use Rattle.model_world.specs.Members.{Reader}
 use Rattle.model_world.specs.Names.{field_name}
@@ -70,25 +70,25 @@ change_words_are_changes : changes ≡ map (λ (row : List ℕ × ChangeWord). (
 change_words_are_changes = refl
 
 change_of : (members : Members) (o : Option ChangeWord) →
-    option_and_then (λ (read : Reader Change). if_well_formed (read members)) (option_map change_read o) ≡ option_and_then (λ word. if_well_formed (change_read word members)) o
+    option_and_then (λ (read : Reader EditCommand). if_well_formed (read members)) (option_map change_read o) ≡ option_and_then (λ word. if_well_formed (change_read word members)) o
 change_of members None = refl
 change_of members (Some word) = refl
 
 change_text : (rows : List (List ℕ × ChangeWord)) (members : Members) (o : Option (List ℕ)) →
-    option_and_then (λ (read : Reader Change). if_well_formed (read members)) (option_and_then (meant_by (map (λ (row : List ℕ × ChangeWord). (row.0, change_read row.1)) rows)) o)
+    option_and_then (λ (read : Reader EditCommand). if_well_formed (read members)) (option_and_then (meant_by (map (λ (row : List ℕ × ChangeWord). (row.0, change_read row.1)) rows)) o)
     ≡ option_and_then (λ word. if_well_formed (change_read word members)) (option_and_then (meant_by rows) o)
 change_text rows members None = refl
-change_text rows members (Some text) = ap (option_and_then (λ (read : Reader Change). if_well_formed (read members))) (meant_by-map change_read rows text) ∙ change_of members (meant_by rows text)
+change_text rows members (Some text) = ap (option_and_then (λ (read : Reader EditCommand). if_well_formed (read members))) (meant_by-map change_read rows text) ∙ change_of members (meant_by rows text)
 
 change_member : (rows : List (List ℕ × ChangeWord)) (members : Members) (o : Option Data) →
-    option_and_then (λ (read : Reader Change). if_well_formed (read members)) (option_and_then (word_in (map (λ (row : List ℕ × ChangeWord). (row.0, change_read row.1)) rows)) o)
+    option_and_then (λ (read : Reader EditCommand). if_well_formed (read members)) (option_and_then (word_in (map (λ (row : List ℕ × ChangeWord). (row.0, change_read row.1)) rows)) o)
     ≡ option_and_then (λ word. if_well_formed (change_read word members)) (option_and_then (word_in rows) o)
 change_member rows members None = refl
 change_member rows members (Some json) = change_text rows members (as_str json)
 
 change_of_members : (members : Members) → change_with members ≡ change_by_word members
 change_of_members members =
-    ap (λ (table : List (List ℕ × Reader Change)). option_and_then (λ (read : Reader Change). if_well_formed (read members)) (option_and_then (word_in table) (get_member (field_name field.Do) members))) change_words_are_changes
+    ap (λ (table : List (List ℕ × Reader EditCommand)). option_and_then (λ (read : Reader EditCommand). if_well_formed (read members)) (option_and_then (word_in table) (get_member (field_name field.Do) members))) change_words_are_changes
     ∙ change_member change_words members (get_member (field_name field.Do) members)
 
 -- the change of an object is that of its members

@@ -6,14 +6,14 @@ use Rattle.serde_json.specs.View.{view, items_of, items_view}
 use Rattle.serde_json.specs.declared.value.Value.{Value}
 use Rattle.std.proofs.lemmas.List.{at_drop_more}
 use Rattle.model_items.specs.declared.plain_item.PlainItem.{PlainItem}
-use Rattle.model_world.specs.Values.{listed, all_read, list_in}
+use Rattle.model_world.specs.Values.{json_values, all_read, list_in}
 use Rattle.model_world.specs.ItemWords.{items_in, one_list}
 
-listed_items : (ds : List Data) → listed (items_of ds) ≡ ds
+listed_items : (ds : List Data) → json_values (items_of ds) ≡ ds
 listed_items [] = refl
 listed_items (d ∷ ds) = ap (λ l. d ∷ l) (listed_items ds)
 
-pub listed_values : (vs : List Value) → listed (items_view vs) ≡ map view vs
+pub listed_values : (vs : List Value) → json_values (items_view vs) ≡ map view vs
 listed_values vs = listed_items (map view vs)
 
 -- what was read, and what the rest is read as
@@ -37,20 +37,20 @@ pub one_unread : {A : Type 0} (so_far : List A) (read : Data → Option A) (v : 
     read_on so_far read (v ∷ vs) ≡ None
 one_unread so_far read v vs e = ap (λ o. option_map (λ xs. so_far ++ xs) (option_and_then (λ y. option_map (λ xs. y ∷ xs) (all_read read (map view vs))) o)) e
 
-by_items : {A : Type 0} (read : Data → Option A) (o : Option Items) (l : List Data) → Some l ≡ option_map listed o → option_and_then (λ items. all_read read (listed items)) o ≡ all_read read l
+by_items : {A : Type 0} (read : Data → Option A) (o : Option Items) (l : List Data) → Some l ≡ option_map json_values o → option_and_then (λ items. all_read read (json_values items)) o ≡ all_read read l
 by_items read None l e = cc e
 by_items read (Some items) l e = ap (all_read read) (sym (cc e))
 
 -- a list is read by its values
-pub read_by_values : {A : Type 0} (read : Data → Option A) (json : Data) (l : List Data) → Some l ≡ option_map listed (as_array json) → list_in read json ≡ all_read read l
+pub read_by_values : {A : Type 0} (read : Data → Option A) (json : Data) (l : List Data) → Some l ≡ option_map json_values (as_array json) → list_in read json ≡ all_read read l
 read_by_values read json l e = by_items read (as_array json) l e
 
-no_items_read : {A : Type 0} (read : Data → Option A) (o : Option Items) → None ≡ option_map listed o → option_and_then (λ items. all_read read (listed items)) o ≡ None
+no_items_read : {A : Type 0} (read : Data → Option A) (o : Option Items) → None ≡ option_map json_values o → option_and_then (λ items. all_read read (json_values items)) o ≡ None
 no_items_read read None e = refl
 no_items_read read (Some items) e = cc e
 
 -- what is no list isn't read
-pub no_list_read : {A : Type 0} (read : Data → Option A) (json : Data) → None ≡ option_map listed (as_array json) → list_in read json ≡ None
+pub no_list_read : {A : Type 0} (read : Data → Option A) (json : Data) → None ≡ option_map json_values (as_array json) → list_in read json ≡ None
 no_list_read read json e = no_items_read read (as_array json) e
 
 -- one more value is read

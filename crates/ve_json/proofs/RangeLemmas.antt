@@ -1,4 +1,4 @@
--- The items before a place.
+-- The items before a position.
 use Rattle.std.proofs.Common.{◌≡◌, ℕ, zero, suc, ◌+◌, ◌-◌, ◌<◌, ◌≤◌, List, [], ◌∷◌, length, take, drop, nat_lt, false, slice_get, slice_range, Some, option_map, refl, ap, ◌∙◌, arith}
 use Rattle.std.proofs.lemmas.List.{drop-take, length-map, length-take-le}
 use Rattle.std.proofs.lemmas.Option.{slice_get-map}
@@ -22,7 +22,7 @@ item_before values items to at item before got =
 pub length_before : (values : List Value) (items : List Item) (to : ℕ) → to ≤ length items → length (plain_before to values items) ≡ to
 length_before values items to within = length-take-le to (plain_list values items) (omega (arith, within, length-map items (plain values)))
 
--- from a place on they are a range
+-- from a position on they are a range
 pub drop_before : {A : Type 0} (xs : List A) (from to : ℕ) → from ≤ to → drop from (take to xs) ≡ slice_range xs from to
 drop_before xs from to order =
     let all : to ≡ from + (to - from) = omega (arith, order) in

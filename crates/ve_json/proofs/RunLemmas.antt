@@ -12,7 +12,7 @@ use Rattle.model_items.specs.declared.plain_item.PlainItem.{PlainItem}
 use Rattle.model_items.specs.declared.plain_item.PlainItem.TheVariants.{Char, Opening, Closing}
 use Rattle.model_items.specs.Same.{marks_same}
 use Rattle.model_items.proofs.SameLemmas.{Means-marks_same}
-use Rattle.model_world.specs.Shown.{Shown, Together, Apart, all_shown, char_shown, json_items, run_shown, shown}
+use Rattle.model_world.specs.Shown.{Shown, Together, Apart, all_shown, char_shown, json_items, run_shown, as_shown}
 use Rattle.model_edit.specs.Insert.{text_pieces}
 use Rattle.ve_json.specs.Runs.{AddsFirst, IsMarkedRun, bracket_json, char_with, plain_before}
 use Rattle.ve_json.proofs.RangeLemmas.{item_before, length_before}
@@ -55,10 +55,10 @@ run_on items marks at end text item ch run got is =
 -- ---- a run is shown as one
 
 -- what is shown together is of the marks of the first item
-first_marks : (items : List PlainItem) (marks : List Mark) (text : List ℕ) (later : List Data) → shown items ≡ Together marks text later →
+first_marks : (items : List PlainItem) (marks : List Mark) (text : List ℕ) (later : List Data) → as_shown items ≡ Together marks text later →
     (c : ℕ) × slice_get items 0 ≡ Some (Char c marks)
 first_marks [] marks text later e = absurd (cc)
-first_marks (Char c others ∷ items) marks text later e = along (shown items) e
+first_marks (Char c others ∷ items) marks text later e = along (as_shown items) e
   where
     joined : (b : Bool) (there : List Mark) (t : List ℕ) (l : List Data) → marks_same others there ≡ b →
         (if b then Together there (c ∷ t) l else Together others (c ∷ []) (run_shown there t ∷ l)) ≡ Together marks text later → others ≡ marks
@@ -73,10 +73,10 @@ first_marks (Closing kind pre ∷ items) marks text later e = absurd (cc)
 
 -- a character before items that don't begin with one of its marks
 last_shown : (marks : List Mark) (c : ℕ) (rest : List PlainItem) → option_and_then (char_with marks) (slice_get rest 0) ≡ None →
-    char_shown c marks (shown rest) ≡ Together marks (c ∷ []) (all_shown (shown rest))
-last_shown marks c rest stops = along (shown rest) refl
+    char_shown c marks (as_shown rest) ≡ Together marks (c ∷ []) (all_shown (as_shown rest))
+last_shown marks c rest stops = along (as_shown rest) refl
   where
-    apart : (b : Bool) (there : List Mark) (t : List ℕ) (l : List Data) → marks_same marks there ≡ b → shown rest ≡ Together there t l →
+    apart : (b : Bool) (there : List Mark) (t : List ℕ) (l : List Data) → marks_same marks there ≡ b → as_shown rest ≡ Together there t l →
         (if b then Together there (c ∷ t) l else Together marks (c ∷ []) (run_shown there t ∷ l)) ≡ Together marks (c ∷ []) (run_shown there t ∷ l)
     apart false there t l same is = refl
     apart true there t l same is =
@@ -87,16 +87,16 @@ last_shown marks c rest stops = along (shown rest) refl
         ∙ ap (λ b. if b then Some first.0 else None) (ap (λ m. marks_same m marks) (sym equal) ∙ marks_itself marks) in
         absurd (none_some (sym stops ∙ with_it))
 
-    along : (s : Shown) → shown rest ≡ s → char_shown c marks s ≡ Together marks (c ∷ []) (all_shown s)
+    along : (s : Shown) → as_shown rest ≡ s → char_shown c marks s ≡ Together marks (c ∷ []) (all_shown s)
     along (Together there t l) is = apart (marks_same marks there) there t l refl is
     along (Apart l) is = refl
 
 run_is_shown : (marks : List Mark) (c : ℕ) (text : List ℕ) (rest : List PlainItem) → option_and_then (char_with marks) (slice_get rest 0) ≡ None →
-    shown (text_pieces marks (c ∷ text) ++ rest) ≡ Together marks (c ∷ text) (all_shown (shown rest))
+    as_shown (text_pieces marks (c ∷ text) ++ rest) ≡ Together marks (c ∷ text) (all_shown (as_shown rest))
 run_is_shown marks c [] rest stops = last_shown marks c rest stops
 run_is_shown marks c (d ∷ text) rest stops =
     ap (char_shown c marks) (run_is_shown marks d text rest stops)
-    ∙ ap (λ b. if b then Together marks (c ∷ d ∷ text) (all_shown (shown rest)) else Together marks (c ∷ []) (run_shown marks (d ∷ text) ∷ all_shown (shown rest))) (marks_itself marks)
+    ∙ ap (λ b. if b then Together marks (c ∷ d ∷ text) (all_shown (as_shown rest)) else Together marks (c ∷ []) (run_shown marks (d ∷ text) ∷ all_shown (as_shown rest))) (marks_itself marks)
 
 -- ---- what is added first
 
@@ -123,17 +123,17 @@ run_first items marks at end (d ∷ text) old new c run got adds = record {
   first = run_shown marks (d ∷ text);
   on = omega (arith, run.count);
   within = run.within;
-  all = ap (λ l. all_shown (shown l)) run.run ∙ ap all_shown (run_is_shown marks d text (drop end items) (ap (option_and_then (char_with marks)) (first_of_rest items end) ∙ run.stops));
+  all = ap (λ l. all_shown (as_shown l)) run.run ∙ ap all_shown (run_is_shown marks d text (drop end items) (ap (option_and_then (char_with marks)) (first_of_rest items end) ∙ run.stops));
   text_is = adds;
 }
 
 bracket_first : (items : List PlainItem) (at : ℕ) (item : PlainItem) (value : Data) (old new : List ℕ) → at < length items → slice_get items at ≡ Some item →
-    ((later : List PlainItem) → all_shown (shown (item ∷ later)) ≡ value ∷ all_shown (shown later)) → new ≡ old ++ compact_text value → AddsFirst items at (suc at) old new
+    ((later : List PlainItem) → all_shown (as_shown (item ∷ later)) ≡ value ∷ all_shown (as_shown later)) → new ≡ old ++ compact_text value → AddsFirst items at (suc at) old new
 bracket_first items at item value old new lies got alone adds = record {
   first = value;
   on = omega arith;
   within = omega (arith, lies);
-  all = ap (λ l. all_shown (shown l)) (drop_one items at item got) ∙ alone (drop (suc at) items);
+  all = ap (λ l. all_shown (as_shown l)) (drop_one items at item got) ∙ alone (drop (suc at) items);
   text_is = adds;
 }
 
@@ -158,9 +158,9 @@ bracket_added values items to at item old new lies within got is adds = along it
 
 -- and what comes after it
 pub added : (items : List PlainItem) (at end : ℕ) (later : Bool) (before old new : List ℕ) → AddsFirst items at end old new → old ≡ before ++ (if later then 44 ∷ [] else []) →
-    new ++ items_text true (json_items (all_shown (shown (drop end items)))) ≡ before ++ items_text later (json_items (all_shown (shown (drop at items))))
+    new ++ items_text true (json_items (all_shown (as_shown (drop end items)))) ≡ before ++ items_text later (json_items (all_shown (as_shown (drop at items))))
 added items at end later before old new adds comma =
-    let rest = items_text true (json_items (all_shown (shown (drop end items)))) in
+    let rest = items_text true (json_items (all_shown (as_shown (drop end items)))) in
     let text = compact_text adds.first in
     let mark : List ℕ = if later then 44 ∷ [] else [] in
     ap (λ s. s ++ rest) (adds.text_is ∙ ap (λ s. s ++ text) comma)

@@ -16,8 +16,8 @@ use Rattle.model_items.specs.Same.{text_same}
 use Rattle.model_items.proofs.SameLemmas.{Means-text_same}
 use Rattle.model_world.specs.Attributes.{are_apart, attr_in}
 use Rattle.model_world.specs.Values.{all_read, such_that}
-use Rattle.model_world.specs.declared.change.OpWords.{OpWords}
-use Rattle.model_world.specs.declared.change.OpWords.TheVariants.{Retain, Remove, Attr as Setting}
+use Rattle.model_world.specs.declared.edit_command.OpWords.{OpWords}
+use Rattle.model_world.specs.declared.edit_command.OpWords.TheVariants.{Retain, Remove, Attr as Setting}
 use Rattle.model_world.specs.Operations.{word_may_precede}
 use Rattle.serde_json.specs.View.{view}
 use Rattle.serde_json.specs.declared.value.Value.{Value}

@@ -1,16 +1,17 @@
--- The commands by their words alone, and what reads the members of each: together they are the tables of `model_world`.
+-- The commands by their words alone, and what reads the members of each: together they are the
+-- tables of `model_world`.
 use Rattle.std.specs.Prelude.{ℕ, List, [], ◌∷◌, ◌++◌, map, codes, Option, Some, None, option_and_then, Result, Err}
 use Rattle.serde_json.specs.Data.{Data, object, Members}
 use Rattle.serde_json.specs.Find.{get_member}
-use Rattle.model_world.specs.declared.change.Change.{Change}
-use Rattle.model_world.specs.declared.change.Change.TheVariants as change
+use Rattle.model_world.specs.declared.edit_command.EditCommand.{EditCommand}
+use Rattle.model_world.specs.declared.edit_command.EditCommand.TheVariants as change
 use Rattle.model_world.specs.declared.command.Request.{Request}
 use Rattle.model_world.specs.declared.command.Request.TheVariants as request
 use Rattle.model_world.specs.declared.field.Field.{Field}
 use Rattle.model_world.specs.declared.field.Field.TheVariants as field
 use Rattle.model_world.specs.declared.command.Command.{Command}
 use Rattle.model_world.specs.Values.{word_in}
-use Rattle.model_world.specs.Members.{Reader, made}
+use Rattle.model_world.specs.Members.{Reader, map_reader}
 use Rattle.model_world.specs.Changes as changes
 use Rattle.model_world.specs.Commands as commands
 use Rattle.ve_json.specs.declared.command_words.ChangeWord.{ChangeWord}
@@ -40,7 +41,7 @@ change_words =
     ∷ (codes "apply", a_change.Apply)
     ∷ []
 
-abbrev pub change_read : ChangeWord → Reader Change
+abbrev pub change_read : ChangeWord → Reader EditCommand
 change_read a_change.Text = changes.text_read
 change_read a_change.Insert = changes.insert_read
 change_read a_change.Remove = changes.remove_read
@@ -53,7 +54,7 @@ change_read a_change.Attr = changes.attr_read
 change_read a_change.Apply = changes.apply_read
 
 -- the change that `do` names
-abbrev pub change_by_word : Members → Option Change
+abbrev pub change_by_word : Members → Option EditCommand
 change_by_word members =
     option_and_then (λ word. changes.if_well_formed (change_read word members)) (option_and_then (word_in change_words) (get_member (codes "do") members))
 
@@ -123,7 +124,7 @@ table_read a_table.ColIn = commands.table_read field.Column (λ at column. reque
 table_read a_table.ColOut = commands.table_read field.Column (λ at column. request.ColOut at column)
 
 abbrev pub request_read : RequestWord → Reader Request
-request_read (a_request.Change word) = made (λ change. request.Edit change) (change_read word)
+request_read (a_request.Change word) = map_reader (λ change. request.Edit change) (change_read word)
 request_read (a_request.Bare word) = commands.alone (bare_request word)
 request_read (a_request.Place word) = place_read word
 request_read (a_request.Table word) = table_read word

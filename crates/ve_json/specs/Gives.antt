@@ -1,4 +1,4 @@
--- What a reader gives is what is meant; want of memory says nothing of it.
+-- A reader gives the model's value; want of memory says nothing of it.
 use Rattle.std.specs.Prelude.{◌≡◌, Option, Some, None, Result, Ok, Err}
 use Rattle.model_world.specs.declared.field.Field.{Field}
 use Rattle.ve_json.specs.declared.fault.ValueFault.{ValueFault}
@@ -33,10 +33,10 @@ made_of f (Ok x) = Ok (f x)
 made_of f (Err why) = Err why
 
 -- a value that isn't well formed makes its member a bad one
-abbrev pub named : {A : Type 0} → Field → Result A ValueFault → Result A BadMember
-named field (Ok x) = Ok x
-named field (Err unread.IllFormed) = Err (bad.Named field)
-named field (Err unread.Memory) = Err bad.Memory
+abbrev pub or_bad_member : {A : Type 0} → Field → Result A ValueFault → Result A BadMember
+or_bad_member field (Ok x) = Ok x
+or_bad_member field (Err unread.IllFormed) = Err (bad.Named field)
+or_bad_member field (Err unread.Memory) = Err bad.Memory
 
 -- a bad member is named in the refusal of its line
 abbrev pub refusal_of : BadMember → CommandFault

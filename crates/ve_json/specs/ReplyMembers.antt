@@ -1,4 +1,5 @@
--- The members of an object round one that always stands there: those before it end in a comma, and those after it begin with one.
+-- The members of an object round one that always stands there: those before it end in a comma, and
+-- those after it begin with one.
 use Rattle.std.specs.Prelude.{ℕ, Bool, true, false, List, [], ◌∷◌, ◌++◌, codes, encode_utf8_all, Option, Some, None, option_map}
 use Rattle.json.specs.Print.{quoted}
 use Rattle.serde_json.specs.Data.{Data, boolean, string}

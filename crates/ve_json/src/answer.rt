@@ -1,4 +1,4 @@
-// What a script's lines are answered.
+// Answers to a script's lines.
 ghost use Rattle.std.specs.Prelude.{All, ◌≡◌, ◌≤◌, ◌++◌, ◌∷◌, [], length, slice_range, OnErr, OnOk};
 ghost use Rattle.model_items.specs.Plain.{plain_list, CitesWell};
 ghost use Rattle.model_world.specs.Shown.{items_shown, json_text};
@@ -26,14 +26,14 @@ use ve_items::Linear;
 use ve_kinds::Kind;
 use ve_store::Store;
 
-/// The answer to a line: `model_world`'s reply, but that the items of a page are lent.
+/// The answer to a line: `model_world`'s reply, but that the items of a page are borrowed.
 #[derive(Drop)]
 pub enum Answer<'a> {
     /// How many items the list has now.
     Length(usize),
     /// The page, written out.
     Page(Text),
-    /// The items of a list from one place up to another. They cite values of the store.
+    /// The items of a list from one position up to another. They cite values of the store.
     Items {
         list: &'a Linear,
         store: &'a Store,
@@ -42,7 +42,7 @@ pub enum Answer<'a> {
     },
     /// The root and all in it.
     Tree(TreeWords),
-    /// The innermost node, its range, and what the offset is.
+    /// The innermost node, its range, and the offset's class.
     At {
         kind: Kind,
         from: usize,
@@ -58,7 +58,8 @@ pub enum Answer<'a> {
     },
     /// How many entries were sent.
     Sent(usize),
-    /// How many of the submission's entries were accepted, of how many, and the ranges in conflict, the committed one first.
+    /// How many of the submission's entries were accepted, of how many, and the ranges in conflict,
+    /// the committed one first.
     Served {
         accepted: usize,
         total: usize,
@@ -95,7 +96,8 @@ fn push_count(
     numbers: Numbers,
     out: &mut Spelling,
 ) -> Result<(), Memory>
-    ensures ok { OnOk result (out.new.text ≡ out.old.text ++ with_numbers word.now (number_list numbers)) }
+    ensures ok { OnOk result (
+        out.new.text ≡ out.old.text ++ with_numbers word.now (number_list numbers)) }
     ensures before { out.new.before ≡ out.old.before }
 {
     let words = Words {
@@ -115,7 +117,7 @@ fn push_page(page: &Text, out: &mut Spelling) -> Result<(), Memory>
     push_quoted(page.as_str(), out)
 }
 
-/// Appends the items of a list from one place up to another.
+/// Appends the items of a list from one position up to another.
 fn push_data(
     alloc: Global,
     list: &Linear,
@@ -126,14 +128,19 @@ fn push_data(
     requires cites { All (CitesWell store.now) list.now.items }
     requires order { range.0 ≤ range.1 }
     requires within { range.1 ≤ length list.now.items }
-    ensures ok { OnOk result (out.new.text ≡ out.old.text ++ model.ok_json (items_shown (slice_range (plain_list store.now list.now.items) range.0 range.1))) }
+    ensures ok { OnOk result (
+        out.new.text
+        ≡ out.old.text
+        ++ model.ok_json (
+        items_shown (
+        slice_range (plain_list store.now list.now.items) range.0 range.1))) }
     ensures before { out.new.before ≡ out.old.before }
 {
     out.push(b"ok ")?;
     push_items(alloc, list, store, range, out)
 }
 
-/// Appends what an offset is in.
+/// Appends the node round an offset and the offset's class.
 fn push_at(
     alloc: Global,
     kind: Kind,
@@ -141,7 +148,8 @@ fn push_at(
     class: OffsetClass,
     out: &mut Spelling,
 ) -> Result<(), Memory>
-    ensures ok { OnOk result (out.new.text ≡ out.old.text ++ model.reply_text (reply.At kind range.0 range.1 class)) }
+    ensures ok { OnOk result (
+        out.new.text ≡ out.old.text ++ model.reply_text (reply.At kind range.0 range.1 class)) }
     ensures before { out.new.before ≡ out.old.before }
 {
     let words = Words {
@@ -178,7 +186,8 @@ fn push_served(
     clash: Option<((usize, usize), (usize, usize))>,
     out: &mut Spelling,
 ) -> Result<(), Memory>
-    ensures ok { OnOk result (out.new.text ≡ out.old.text ++ model.reply_text (reply.Served accepted total clash)) }
+    ensures ok { OnOk result (
+        out.new.text ≡ out.old.text ++ model.reply_text (reply.Served accepted total clash)) }
     ensures before { out.new.before ≡ out.old.before }
 {
     push_count(alloc, "ok", Numbers::One(accepted), out)?;
@@ -193,7 +202,8 @@ fn push_took(
     dropped: usize,
     out: &mut Spelling,
 ) -> Result<(), Memory>
-    ensures ok { OnOk result (out.new.text ≡ out.old.text ++ model.reply_text (reply.TookForeign entries dropped)) }
+    ensures ok { OnOk result (
+        out.new.text ≡ out.old.text ++ model.reply_text (reply.TookForeign entries dropped)) }
     ensures before { out.new.before ≡ out.old.before }
 {
     push_count(alloc, "ok foreign", Numbers::One(entries), out)?;
@@ -208,7 +218,8 @@ fn push_grid(
     cells: &[GridCell],
     out: &mut Spelling,
 ) -> Result<(), Memory>
-    ensures ok { OnOk result (out.new.text ≡ out.old.text ++ model.reply_text (reply.Grid rows columns cells.now)) }
+    ensures ok { OnOk result (
+        out.new.text ≡ out.old.text ++ model.reply_text (reply.Grid rows columns cells.now)) }
     ensures before { out.new.before ≡ out.old.before }
 {
     push_count(alloc, "ok", Numbers::Two(rows, columns), out)?;
@@ -232,7 +243,8 @@ fn push_batch_refusal(
     refusal: Refusal,
     out: &mut Spelling,
 ) -> Result<(), Memory>
-    ensures ok { OnOk result (out.new.text ≡ out.old.text ++ model.reply_text (reply.NoBatch at refusal)) }
+    ensures ok { OnOk result (
+        out.new.text ≡ out.old.text ++ model.reply_text (reply.NoBatch at refusal)) }
     ensures before { out.new.before ≡ out.old.before }
 {
     push_count(alloc, "no batch", Numbers::One(at), out)?;
@@ -242,7 +254,8 @@ fn push_batch_refusal(
 
 /// Appends `ok` and references.
 fn push_rows(alloc: Global, rows: &[RefRow], out: &mut Spelling) -> Result<(), Memory>
-    ensures ok { OnOk result (out.new.text ≡ out.old.text ++ model.reply_text (reply.Refs rows.now)) }
+    ensures ok { OnOk result (
+        out.new.text ≡ out.old.text ++ model.reply_text (reply.Refs rows.now)) }
     ensures before { out.new.before ≡ out.old.before }
 {
     out.push(b"ok ")?;
@@ -251,17 +264,19 @@ fn push_rows(alloc: Global, rows: &[RefRow], out: &mut Spelling) -> Result<(), M
 
 /// Appends `ok` and the words of a tree.
 fn push_words_of_tree(alloc: Global, words: &[TreeWord], out: &mut Spelling) -> Result<(), Memory>
-    ensures ok { OnOk result (out.new.text ≡ out.old.text ++ model.reply_text (reply.Tree words.now)) }
+    ensures ok { OnOk result (
+        out.new.text ≡ out.old.text ++ model.reply_text (reply.Tree words.now)) }
     ensures before { out.new.before ≡ out.old.before }
 {
     out.push(b"ok")?;
     push_tree(alloc, words, out)
 }
 
-/// Appends the text of an answer. After an `Err` some of it may stand after what stood there.
+/// Appends the text of an answer. An `Err` may leave a part appended.
 fn push_answer(alloc: Global, answer: &Answer<'_>, out: &mut Spelling) -> Result<(), Memory>
     requires { AnswerCites answer.now }
-    ensures ok { OnOk result (out.new.text ≡ out.old.text ++ model.reply_text (reply_of answer.now)) }
+    ensures ok { OnOk result (
+        out.new.text ≡ out.old.text ++ model.reply_text (reply_of answer.now)) }
     ensures before { out.new.before ≡ out.old.before }
 {
     match answer {
@@ -304,10 +319,11 @@ fn push_answer(alloc: Global, answer: &Answer<'_>, out: &mut Spelling) -> Result
     }
 }
 
-/// Appends the answer and a newline. After an `Err` some of it may stand after what stood there.
+/// Appends the answer and a newline. An `Err` may leave a part appended.
 fn push_line(alloc: Global, answer: &Answer<'_>, out: &mut Spelling) -> Result<(), Memory>
     requires { AnswerCites answer.now }
-    ensures ok { OnOk result (out.new.text ≡ out.old.text ++ (model.reply_text (reply_of answer.now) ++ 10 ∷ [])) }
+    ensures ok { OnOk result (
+        out.new.text ≡ out.old.text ++ (model.reply_text (reply_of answer.now) ++ 10 ∷ [])) }
     ensures before { out.new.before ≡ out.old.before }
 {
     push_answer(alloc, answer, out)?;
@@ -317,7 +333,8 @@ fn push_line(alloc: Global, answer: &Answer<'_>, out: &mut Spelling) -> Result<(
 /// Appends the text of an answer and a newline. An `Err` changes nothing.
 pub fn reply_text(alloc: Global, answer: &Answer<'_>, out: &mut Bytes) -> Result<(), Memory>
     requires { AnswerCites answer.now }
-    ensures ok { OnOk result (out.new ≡ out.old ++ (model.reply_text (reply_of answer.now) ++ 10 ∷ [])) }
+    ensures ok { OnOk result (
+        out.new ≡ out.old ++ (model.reply_text (reply_of answer.now) ++ 10 ∷ [])) }
     ensures err { OnErr result (out.new ≡ out.old) }
 {
     let mut spelling = Spelling::after(replace(out, Bytes::new(alloc)));

@@ -67,7 +67,9 @@ fn attr_in(alloc: Global, json: &Value) -> Result<Attr, ValueFault>
 
 /// The attributes that values are read as, where their names are distinct.
 fn attrs_of(alloc: Global, list: &[Value]) -> Result<Attrs, ValueFault>
-    ensures { Reads result (values.such_that attributes.are_apart (values.all_read attributes.attr_in (map view list.now))) }
+    ensures { Reads result (
+        values.such_that attributes.are_apart (
+        values.all_read attributes.attr_in (map view list.now))) }
 {
     let mut attrs = Attrs::new(alloc);
     for json in list {
@@ -178,7 +180,8 @@ pub fn kinds_in(alloc: Global, json: &Value) -> Result<Kinds, ValueFault>
     Ok(kinds)
 }
 
-/// The attributes among the members of an item or of a node to be put round others; none where they are absent.
+/// The attributes among the members of an item or of a node to be put round others; none where they
+/// are absent.
 pub fn attrs_among(alloc: Global, members: &Map<String, Value>) -> Result<Attrs, ValueFault>
     ensures { Reads result (values.member_or (codes "attrs") [] attributes.free_attrs_in (members_view members.now.entries)) }
 {

@@ -1,4 +1,5 @@
-// Openings and closings as JSON. Members stand in the order of their names, each but the first only where it isn't empty.
+// Openings and closings as JSON. Members stand in the order of their names, each but the first only
+// where it isn't empty.
 ghost use Rattle.json.specs.Print.{quoted};
 ghost use Rattle.std.specs.Prelude.{◌≡◌, ◌++◌, ◌∷◌, [], codes, option_map, OnOk};
 ghost use Rattle.model_world.specs.Names as names;
@@ -16,7 +17,7 @@ use std::alloc::Global;
 use ve_base::{Attr, Head, Mark, Memory, RefKey};
 use ve_kinds::Kind;
 
-/// What an opening says, lent by its page.
+/// The parts of an opening, borrowed from its page.
 #[derive(Clone, Copy)]
 pub struct OpeningParts<'v> {
     pub kind: Kind,
@@ -76,7 +77,8 @@ fn push_generated(generated: bool, out: &mut Spelling) -> Result<(), Memory>
 
 /// Appends a comma and a text, where that isn't empty.
 fn push_text(name: &str, text: &str, out: &mut Spelling) -> Result<(), Memory>
-    ensures ok { OnOk result (out.new.text ≡ out.old.text ++ comma_and_member name.now (some_string text.now)) }
+    ensures ok { OnOk result (
+        out.new.text ≡ out.old.text ++ comma_and_member name.now (some_string text.now)) }
     ensures before { out.new.before ≡ out.old.before }
 {
     if text.is_empty() {
@@ -130,7 +132,9 @@ fn push_reference(alloc: Global, key: &Option<RefKey>, out: &mut Spelling) -> Re
 
 /// Appends the member that names the kind.
 fn push_kind(name: &str, kind: Kind, out: &mut Spelling) -> Result<(), Memory>
-    ensures ok { OnOk result (out.new.text ≡ out.old.text ++ member_text name.now (json_text (names.kind_name kind))) }
+    ensures ok { OnOk result (
+        out.new.text
+        ≡ out.old.text ++ member_text name.now (json_text (names.kind_name kind))) }
     ensures before { out.new.before ≡ out.old.before }
 {
     push_name(name, out)?;
@@ -139,7 +143,10 @@ fn push_kind(name: &str, kind: Kind, out: &mut Spelling) -> Result<(), Memory>
 
 /// Appends the members of an opening that stand after its kind.
 fn push_later(alloc: Global, opening: OpeningParts<'_>, out: &mut Spelling) -> Result<(), Memory>
-    ensures ok { OnOk result (out.new.text ≡ out.old.text ++ later_text opening.entry.head.now opening.entry.pre.now opening.entry.origin) }
+    ensures ok { OnOk result (
+        out.new.text
+        ≡ out.old.text
+        ++ later_text opening.entry.head.now opening.entry.pre.now opening.entry.origin) }
     ensures before { out.new.before ≡ out.old.before }
 {
     push_origin(alloc, opening.origin, out)?;

@@ -3,7 +3,7 @@ ghost use Rattle.std.specs.Prelude.{◌≡◌};
 ghost use Rattle.serde_json.specs.View.{view, members_view};
 ghost use Rattle.model_world.specs.Changes as changes;
 ghost use Rattle.model_world.specs.Commands as commands;
-ghost use Rattle.model_world.specs.Members.{needed};
+ghost use Rattle.model_world.specs.Members.{required_member};
 ghost use Rattle.model_world.specs.Values as values;
 ghost use Rattle.ve_json.specs.Gives.{Gives, Reads};
 ghost use Rattle.ve_json.specs.CommandWords.{change_by_word, change_read};
@@ -16,7 +16,7 @@ use crate::command_words::{ChangeWord, change_word};
 use crate::fault::{BadMember, ValueFault};
 use crate::members::{found, named};
 use crate::values::{member, values_in};
-use model_world::{Change, ChangeList, Field};
+use model_world::{EditCommand, EditCommandList, Field};
 use serde_json::{Map, Value};
 use std::alloc::Global;
 use ve_base::MAX_BATCH;
@@ -26,7 +26,7 @@ pub fn change_members(
     alloc: Global,
     word: ChangeWord,
     members: &Map<String, Value>,
-) -> Result<Change, BadMember>
+) -> Result<EditCommand, BadMember>
     ensures { Gives result (change_read word (members_view members.now.entries)) }
 {
     match word {
@@ -44,7 +44,7 @@ pub fn change_members(
 }
 
 /// The change, where its members were well formed.
-fn well_formed(read: Result<Change, BadMember>) -> Result<Change, ValueFault>
+fn well_formed(read: Result<EditCommand, BadMember>) -> Result<EditCommand, ValueFault>
     ensures { (meant : _) → Gives read meant → Reads result (changes.if_well_formed meant) }
 {
     match read {
@@ -55,7 +55,7 @@ fn well_formed(read: Result<Change, BadMember>) -> Result<Change, ValueFault>
 }
 
 /// The change of a batch that has these members.
-fn change_with(alloc: Global, members: &Map<String, Value>) -> Result<Change, ValueFault>
+fn change_with(alloc: Global, members: &Map<String, Value>) -> Result<EditCommand, ValueFault>
     ensures { Reads result (change_by_word (members_view members.now.entries)) }
 {
     let word = member(members, "do")
@@ -66,7 +66,7 @@ fn change_with(alloc: Global, members: &Map<String, Value>) -> Result<Change, Va
 }
 
 /// A change of a batch, where it is well formed.
-fn change_in(alloc: Global, json: &Value) -> Result<Change, ValueFault>
+fn change_in(alloc: Global, json: &Value) -> Result<EditCommand, ValueFault>
     ensures { Reads result (changes.change_in (view json.now)) }
 {
     let Some(members) = json.as_object() else {
@@ -76,11 +76,12 @@ fn change_in(alloc: Global, json: &Value) -> Result<Change, ValueFault>
 }
 
 /// The changes of a batch: 1 to 1,000.
-fn batch_in(alloc: Global, json: &Value) -> Result<ChangeList, ValueFault>
-    ensures { Reads result (values.such_that commands.is_batch (values.list_in changes.change_in (view json.now))) }
+fn batch_in(alloc: Global, json: &Value) -> Result<EditCommandList, ValueFault>
+    ensures { Reads result (
+        values.such_that commands.is_batch (values.list_in changes.change_in (view json.now))) }
 {
     let list = values_in(json).ok_or(ValueFault::IllFormed)?;
-    let mut changes = ChangeList::new(alloc);
+    let mut changes = EditCommandList::new(alloc);
     for json in list {
         let change = change_in(alloc, json)?;
         changes.push(change)?;
@@ -97,8 +98,11 @@ pub fn batch(
     alloc: Global,
     members: &Map<String, Value>,
     field: Field,
-) -> Result<ChangeList, BadMember>
-    ensures { Gives result (needed field (λ json. values.such_that commands.is_batch (values.list_in changes.change_in json)) (members_view members.now.entries)) }
+) -> Result<EditCommandList, BadMember>
+    ensures { Gives result (
+        required_member field
+        (λ json. values.such_that commands.is_batch (values.list_in changes.change_in json))
+        (members_view members.now.entries)) }
 {
     named(field, batch_in(alloc, found(members, field)?))
 }

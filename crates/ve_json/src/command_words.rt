@@ -32,7 +32,7 @@ pub enum BareWord {
     Take,
 }
 
-/// The word of a command that has a place alone.
+/// The word of a command that has a position alone.
 #[derive(Clone, Copy, Debug, PartialEq, Eq)]
 pub enum PlaceWord {
     At,
@@ -41,7 +41,7 @@ pub enum PlaceWord {
     Outdent,
 }
 
-/// The word of a command that has a table's place and a row or a column of it.
+/// The word of a command that has a table's position and a row or a column of it.
 #[derive(Clone, Copy, Debug, PartialEq, Eq)]
 pub enum TableWord {
     RowIn,

@@ -68,8 +68,8 @@ fn marks_among(alloc: Global, members: &Map<String, Value>) -> Result<Marks, Val
     }
 }
 
-/// Whether marks, or whitespace before it, may stand with an opening: marks with inline leaves alone, and whitespace
-/// with everything else.
+/// Whether marks, or whitespace before it, may stand with an opening: marks with inline leaves
+/// alone, and whitespace with everything else.
 fn may_open(kind: Kind, marks: &Marks, pre: &Text) -> bool
     ensures { result ≡ words.may_open kind marks.now pre.now }
 {
@@ -158,7 +158,9 @@ fn push_text(alloc: Global, marks: &Marks, text: &str, items: &mut PlainList) ->
 
 /// Appends the items that a value is read as: those of a text, of a text with marks, or a bracket.
 fn push_items(alloc: Global, json: &Value, items: &mut PlainList) -> Result<(), ValueFault>
-    ensures ok { OnOk result (option_map (λ more. items.old ++ more) (words.items_in (view json.now)) ≡ Some items.new) }
+    ensures ok { OnOk result (
+        option_map (λ more. items.old ++ more) (words.items_in (view json.now))
+        ≡ Some items.new) }
     ensures err { IsErrOf result ValueFault.IllFormed → words.items_in (view json.now) ≡ None }
 {
     match json {

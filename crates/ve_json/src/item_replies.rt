@@ -17,7 +17,7 @@ use ve_items::{Item, Linear};
 use ve_node_text::{head_of, marks_of, white_of};
 use ve_store::{Store, same_mark};
 
-/// Characters of one list of marks, and the place past them.
+/// Characters of one list of marks, and the position past them.
 #[derive(Drop)]
 pub struct MarkedRun {
     pub text: Text,
@@ -39,12 +39,13 @@ fn equal_marks(one: &[Mark], other: &[Mark]) -> bool
     true
 }
 
-/// Whether the marks that two items cite are equal. Of one place no value is read.
+/// Whether the marks that two items cite are equal. Of one position no value is read.
 #[tactic(auto, using(crate::proofs::RunLemmas::marks_itself))]
 fn same_marks(store: &Store, one: Option<ValueId>, other: Option<ValueId>) -> bool
     requires one { CitesMarks store.now one }
     requires other { CitesMarks store.now other }
-    ensures { result ≡ marks_same (marks_in (value_at store.now one)) (marks_in (value_at store.now other)) }
+    ensures { result
+        ≡ marks_same (marks_in (value_at store.now one)) (marks_in (value_at store.now other)) }
 {
     if let (Some(first), Some(second)) = (one, other) {
         if first.0 == second.0 {
@@ -83,7 +84,9 @@ fn run_at(
     requires marks { CitesMarks store.now cited }
     requires order { range.0 ≤ range.1 }
     requires within { range.1 ≤ length list.now.items }
-    ensures { IfOk result (λ run. IsMarkedRun (plain_before range.1 store.now list.now.items) (marks_in (value_at store.now cited)) range.0 run.end run.text) }
+    ensures { IfOk result (λ run.
+        IsMarkedRun (plain_before range.1 store.now list.now.items)
+        (marks_in (value_at store.now cited)) range.0 run.end run.text) }
 {
     let (at, to) = range;
     let mut text = Text::new(alloc);
@@ -98,7 +101,8 @@ fn run_at(
 
 /// Appends a run: its text, with its marks where there are some.
 fn push_run(alloc: Global, text: &Text, marks: &[Mark], out: &mut Spelling) -> Result<(), Memory>
-    ensures ok { OnOk result (out.new.text ≡ out.old.text ++ compact_text (run_shown marks.now text.now)) }
+    ensures ok { OnOk result (
+        out.new.text ≡ out.old.text ++ compact_text (run_shown marks.now text.now)) }
     ensures before { out.new.before ≡ out.old.before }
 {
     if marks.is_empty() {
@@ -148,7 +152,8 @@ fn push_bracket(
     }
 }
 
-/// Appends what is shown first of the items of a range, and gives the place past it.
+/// Appends the run or the item that is shown first of the items of a range, and gives the position
+/// past it.
 fn push_first(
     alloc: Global,
     list: &Linear,
@@ -161,7 +166,9 @@ fn push_first(
     requires some { range.0 < range.1 }
     requires within { range.1 ≤ length list.now.items }
     requires none { none.now ≡ empty_head }
-    ensures ok { IfOk result (λ end. AddsFirst (plain_before range.1 store.now list.now.items) range.0 end out.old.text out.new.text) }
+    ensures ok { IfOk result (λ end.
+        AddsFirst (plain_before range.1 store.now list.now.items) range.0 end out.old.text
+        out.new.text) }
     ensures before { out.new.before ≡ out.old.before }
 {
     let at = range.0;
@@ -185,7 +192,7 @@ fn push_first(
     }
 }
 
-/// Appends the items of a list from one place up to another.
+/// Appends the items of a list from one position up to another.
 pub fn push_items(
     alloc: Global,
     list: &Linear,
@@ -196,7 +203,12 @@ pub fn push_items(
     requires cites { All (CitesWell store.now) list.now.items }
     requires order { range.0 ≤ range.1 }
     requires within { range.1 ≤ length list.now.items }
-    ensures ok { OnOk result (out.new.text ≡ out.old.text ++ compact_text (items_shown (slice_range (plain_list store.now list.now.items) range.0 range.1))) }
+    ensures ok { OnOk result (
+        out.new.text
+        ≡ out.old.text
+        ++ compact_text (
+        items_shown (
+        slice_range (plain_list store.now list.now.items) range.0 range.1))) }
     ensures before { out.new.before ≡ out.old.before }
 {
     let (from, to) = range;

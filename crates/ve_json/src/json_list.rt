@@ -1,4 +1,4 @@
-// What is spelled as JSON, and lists of it.
+// Values that are serialised as JSON, and lists of them.
 ghost use Rattle.std.specs.Prelude.{◌≡◌, ◌++◌, ◌∷◌, map, OnOk};
 ghost use Rattle.serde_json.specs.Data.{Data};
 ghost use Rattle.serde_json.specs.Written.{comma_if, compact_text};
@@ -8,12 +8,12 @@ use crate::spelling::Spelling;
 use std::alloc::Global;
 use ve_base::Memory;
 
-/// What is spelled as JSON.
+/// A value that is serialised as JSON.
 pub trait Json {
-    /// The JSON that it is spelled as.
+    /// Its JSON.
     ghost shown: { Self → Data };
 
-    /// Appends it as JSON with no space. After an `Err` some of it may stand after what stood there.
+    /// Appends it as JSON with no space. An `Err` may leave a part appended.
     fn push_json(&self, alloc: Global, out: &mut Spelling) -> Result<(), Memory>
         ensures ok { OnOk result (out.new.text ≡ out.old.text ++ compact_text (shown self.now)) }
         ensures before { out.new.before ≡ out.old.before };
@@ -37,16 +37,18 @@ fn push_member<T: Json>(
     later: bool,
     out: &mut Spelling,
 ) -> Result<(), Memory>
-    ensures ok { OnOk result (out.new.text ≡ out.old.text ++ (comma_if later ++ compact_text (T.shown member.now))) }
+    ensures ok { OnOk result (
+        out.new.text ≡ out.old.text ++ (comma_if later ++ compact_text (T.shown member.now))) }
     ensures before { out.new.before ≡ out.old.before }
 {
     push_comma(later, out)?;
     member.push_json(alloc, out)
 }
 
-/// Appends members as a list of JSON. After an `Err` some of it may stand after what stood there.
+/// Appends members as a list of JSON. An `Err` may leave a part appended.
 pub fn push_list<T: Json>(alloc: Global, members: &[T], out: &mut Spelling) -> Result<(), Memory>
-    ensures ok { OnOk result (out.new.text ≡ out.old.text ++ compact_text (json_list (map T.shown members.now))) }
+    ensures ok { OnOk result (
+        out.new.text ≡ out.old.text ++ compact_text (json_list (map T.shown members.now))) }
     ensures before { out.new.before ≡ out.old.before }
 {
     out.push_byte(b'[')?;

@@ -80,7 +80,8 @@ fn ask_members(
     word: RequestWord,
     members: &Map<String, Value>,
 ) -> Result<Command, BadMember>
-    ensures { Gives result (commands.ask_read (request_read word) (members_view members.now.entries)) }
+    ensures { Gives result (
+        commands.ask_read (request_read word) (members_view members.now.entries)) }
 {
     let request = request_members(alloc, word, members)?;
     let site = number_or(members, Field::Site, 0)?;
@@ -106,7 +107,7 @@ fn command_members(alloc: Global, members: Map<String, Value>) -> Result<Command
     }
 }
 
-/// What a JSON value asks, which has to be an object.
+/// The command of a JSON value, which has to be an object.
 fn command_in(alloc: Global, json: Value) -> Result<Command, BadMember>
     ensures { Gives result (asked_in (view json)) }
 {
@@ -118,13 +119,16 @@ fn command_in(alloc: Global, json: Value) -> Result<Command, BadMember>
     }
 }
 
-/// What a line asks.
+/// The command of a line.
 ///
-/// `BadJson` comes exactly where `serde_json` doesn't read the line, and `BadCommand` exactly where what it reads is no
-/// object with a known word in `do` and with well-formed members; it names the first member that is missing or ill-formed.
+/// `BadJson` comes exactly where `serde_json` doesn't read the line. `BadCommand` comes exactly
+/// where the value is no object with a known word in `do` and with well-formed members. It names
+/// the first member that is missing or ill-formed.
 pub fn command(alloc: Global, line: &[u8]) -> Result<Command, CommandFault>
     ensures ok { IfOk result (λ asked. commands.command line.now ≡ Ok asked) }
-    ensures refused { (why : Refusal) → IsErrOf result (fault.Refused why) → commands.command line.now ≡ Err why }
+    ensures refused { (why : Refusal)
+        → IsErrOf result (fault.Refused why)
+        → commands.command line.now ≡ Err why }
 {
     let Some(json) = read_line(alloc, line)? else {
         return Err(CommandFault::Refused(Refusal::BadJson));

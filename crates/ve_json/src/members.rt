@@ -1,4 +1,5 @@
-// The members of a command: each reader looks its member up once, and names it where it is missing or not well formed.
+// The members of a command: each reader looks its member up once, and names it where it is missing
+// or not well formed.
 ghost use Rattle.std.specs.Prelude.{◌≡◌, [], None, Some, false, option_map, IfOk, IfErr};
 ghost use Rattle.serde_json.specs.Find.{as_bool, get_member};
 ghost use Rattle.serde_json.specs.View.{view, members_view};
@@ -8,12 +9,12 @@ ghost use Rattle.model_edit.specs.declared.selection.By.TheVariants as by;
 ghost use Rattle.model_world.specs.Attributes as attributes;
 ghost use Rattle.model_world.specs.Changes as changes;
 ghost use Rattle.model_world.specs.Commands as commands;
-ghost use Rattle.model_world.specs.Members.{needed, defaulted};
+ghost use Rattle.model_world.specs.Members.{required_member, optional_member};
 ghost use Rattle.model_world.specs.Names.{field_name};
 ghost use Rattle.model_world.specs.Operations as operations;
 ghost use Rattle.model_world.specs.Values as values;
-ghost use Rattle.model_world.specs.declared.change.TextMarks.TheVariants as text_marks;
-ghost use Rattle.ve_json.specs.Gives.{Gives, named};
+ghost use Rattle.model_world.specs.declared.edit_command.TextMarks.TheVariants as text_marks;
+ghost use Rattle.ve_json.specs.Gives.{Gives, or_bad_member};
 ghost use Rattle.ve_json.specs.declared.fault.BadMember.TheVariants as bad;
 
 use crate::attributes::{attrs_in, branch_in, kinds_in, name_in, shapes_in};
@@ -31,22 +32,26 @@ use ve_kinds::Kind;
 
 /// The member of this field.
 fn of_field(members: &Map<String, Value>, field: Field) -> Option<&Value>
-    ensures { option_map (λ v. view v.now) result ≡ get_member (field_name field) (members_view members.now.entries) }
+    ensures { option_map (λ v. view v.now) result
+        ≡ get_member (field_name field) (members_view members.now.entries) }
 {
     member(members, field_name(field))
 }
 
 /// A member that has to be there.
 pub fn found(members: &Map<String, Value>, field: Field) -> Result<&Value, BadMember>
-    ensures ok { IfOk result (λ v. get_member (field_name field) (members_view members.now.entries) ≡ Some (view v.now)) }
-    ensures err { IfErr result (λ why. (why ≡ bad.Named field) × (get_member (field_name field) (members_view members.now.entries) ≡ None)) }
+    ensures ok { IfOk result (λ v.
+        get_member (field_name field) (members_view members.now.entries) ≡ Some (view v.now)) }
+    ensures err { IfErr result (λ why.
+        (why ≡ bad.Named field)
+        × (get_member (field_name field) (members_view members.now.entries) ≡ None)) }
 {
     of_field(members, field).ok_or(BadMember::Named(field))
 }
 
 /// A value that isn't well formed makes its member a bad one.
 pub fn named<T: Drop>(field: Field, read: Result<T, ValueFault>) -> Result<T, BadMember>
-    ensures { result ≡ named field read }
+    ensures { result ≡ or_bad_member field read }
 {
     match read {
         Ok(value) => Ok(value),
@@ -57,7 +62,8 @@ pub fn named<T: Drop>(field: Field, read: Result<T, ValueFault>) -> Result<T, Ba
 
 /// A number.
 pub fn number(members: &Map<String, Value>, field: Field) -> Result<usize, BadMember>
-    ensures { Gives result (needed field values.number_in (members_view members.now.entries)) }
+    ensures { Gives result (
+        required_member field values.number_in (members_view members.now.entries)) }
 {
     number_in(found(members, field)?).ok_or(BadMember::Named(field))
 }
@@ -68,7 +74,8 @@ pub fn number_or(
     field: Field,
     default: usize,
 ) -> Result<usize, BadMember>
-    ensures { Gives result (defaulted field default values.number_in (members_view members.now.entries)) }
+    ensures { Gives result (
+        optional_member field default values.number_in (members_view members.now.entries)) }
 {
     match of_field(members, field) {
         None => Ok(default),
@@ -81,7 +88,8 @@ pub fn number_or_none(
     members: &Map<String, Value>,
     field: Field,
 ) -> Result<Option<usize>, BadMember>
-    ensures { Gives result (defaulted field None commands.some_number_in (members_view members.now.entries)) }
+    ensures { Gives result (
+        optional_member field None commands.some_number_in (members_view members.now.entries)) }
 {
     match of_field(members, field) {
         None => Ok(None),
@@ -91,7 +99,9 @@ pub fn number_or_none(
 
 /// The number of sites: 1 where nothing is said.
 pub fn sites(members: &Map<String, Value>) -> Result<usize, BadMember>
-    ensures { Gives result (defaulted field.Sites 1 (values.number_between 1 max_sites) (members_view members.now.entries)) }
+    ensures { Gives result (
+        optional_member field.Sites 1 (values.number_between 1 max_sites)
+        (members_view members.now.entries)) }
 {
     match of_field(members, Field::Sites) {
         None => Ok(1),
@@ -105,7 +115,8 @@ pub fn some_text(
     members: &Map<String, Value>,
     field: Field,
 ) -> Result<Text, BadMember>
-    ensures { Gives result (needed field changes.some_text_in (members_view members.now.entries)) }
+    ensures { Gives result (
+        required_member field changes.some_text_in (members_view members.now.entries)) }
 {
     named(field, some_text_in(alloc, found(members, field)?))
 }
@@ -116,14 +127,16 @@ pub fn some_source(
     members: &Map<String, Value>,
     field: Field,
 ) -> Result<Text, BadMember>
-    ensures { Gives result (needed field changes.some_source_in (members_view members.now.entries)) }
+    ensures { Gives result (
+        required_member field changes.some_source_in (members_view members.now.entries)) }
 {
     named(field, some_source_in(alloc, found(members, field)?))
 }
 
 /// Characters.
 pub fn text(alloc: Global, members: &Map<String, Value>, field: Field) -> Result<Text, BadMember>
-    ensures { Gives result (needed field values.text_in (members_view members.now.entries)) }
+    ensures { Gives result (
+        required_member field values.text_in (members_view members.now.entries)) }
 {
     named(field, text_in(alloc, found(members, field)?))
 }
@@ -134,21 +147,24 @@ pub fn text_or_null(
     members: &Map<String, Value>,
     field: Field,
 ) -> Result<Option<Text>, BadMember>
-    ensures { Gives result (needed field values.text_or_null_in (members_view members.now.entries)) }
+    ensures { Gives result (
+        required_member field values.text_or_null_in (members_view members.now.entries)) }
 {
     named(field, text_or_null_in(alloc, found(members, field)?))
 }
 
 /// The name of an attribute.
 pub fn name(alloc: Global, members: &Map<String, Value>, field: Field) -> Result<Text, BadMember>
-    ensures { Gives result (needed field attributes.name_in (members_view members.now.entries)) }
+    ensures { Gives result (
+        required_member field attributes.name_in (members_view members.now.entries)) }
 {
     named(field, name_in(alloc, found(members, field)?))
 }
 
 /// Attributes; none where they are absent.
 pub fn attrs(alloc: Global, members: &Map<String, Value>, field: Field) -> Result<Attrs, BadMember>
-    ensures { Gives result (defaulted field [] attributes.attrs_in (members_view members.now.entries)) }
+    ensures { Gives result (
+        optional_member field [] attributes.attrs_in (members_view members.now.entries)) }
 {
     match of_field(members, field) {
         None => Ok(Attrs::new(alloc)),
@@ -158,14 +174,16 @@ pub fn attrs(alloc: Global, members: &Map<String, Value>, field: Field) -> Resul
 
 /// The kind of a branch.
 pub fn branch(members: &Map<String, Value>, field: Field) -> Result<Kind, BadMember>
-    ensures { Gives result (needed field attributes.branch_in (members_view members.now.entries)) }
+    ensures { Gives result (
+        required_member field attributes.branch_in (members_view members.now.entries)) }
 {
     branch_in(found(members, field)?).ok_or(BadMember::Named(field))
 }
 
 /// Kinds of branches; none where they are absent.
 pub fn kinds(alloc: Global, members: &Map<String, Value>, field: Field) -> Result<Kinds, BadMember>
-    ensures { Gives result (defaulted field [] attributes.kinds_in (members_view members.now.entries)) }
+    ensures { Gives result (
+        optional_member field [] attributes.kinds_in (members_view members.now.entries)) }
 {
     match of_field(members, field) {
         None => Ok(Kinds::new(alloc)),
@@ -179,7 +197,8 @@ pub fn shapes(
     members: &Map<String, Value>,
     field: Field,
 ) -> Result<Shapes, BadMember>
-    ensures { Gives result (defaulted field [] attributes.shapes_in (members_view members.now.entries)) }
+    ensures { Gives result (
+        optional_member field [] attributes.shapes_in (members_view members.now.entries)) }
 {
     match of_field(members, field) {
         None => Ok(Shapes::new(alloc)),
@@ -193,7 +212,8 @@ pub fn ops(
     members: &Map<String, Value>,
     field: Field,
 ) -> Result<OpWordList, BadMember>
-    ensures { Gives result (needed field operations.ops_in (members_view members.now.entries)) }
+    ensures { Gives result (
+        required_member field operations.ops_in (members_view members.now.entries)) }
 {
     named(field, ops_in(alloc, found(members, field)?))
 }
@@ -210,7 +230,9 @@ fn text_marks_in(json: &Value) -> Option<TextMarks>
 
 /// Which marks typed characters get: those to the left where nothing is said.
 pub fn text_marks(members: &Map<String, Value>, field: Field) -> Result<TextMarks, BadMember>
-    ensures { Gives result (defaulted field text_marks.Left changes.text_marks_in (members_view members.now.entries)) }
+    ensures { Gives result (
+        optional_member field text_marks.Left changes.text_marks_in (
+        members_view members.now.entries)) }
 {
     match of_field(members, field) {
         None => Ok(TextMarks::Left),
@@ -230,7 +252,8 @@ fn dir_in(json: &Value) -> Option<Dir>
 
 /// Which way a caret goes.
 pub fn dir(members: &Map<String, Value>, field: Field) -> Result<Dir, BadMember>
-    ensures { Gives result (needed field commands.dir_in (members_view members.now.entries)) }
+    ensures { Gives result (
+        required_member field commands.dir_in (members_view members.now.entries)) }
 {
     dir_in(found(members, field)?).ok_or(BadMember::Named(field))
 }
@@ -247,7 +270,8 @@ fn by_in(json: &Value) -> Option<By>
 
 /// How far a caret goes: a cluster where nothing is said.
 pub fn by(members: &Map<String, Value>, field: Field) -> Result<By, BadMember>
-    ensures { Gives result (defaulted field by.Cluster commands.by_in (members_view members.now.entries)) }
+    ensures { Gives result (
+        optional_member field by.Cluster commands.by_in (members_view members.now.entries)) }
 {
     match of_field(members, field) {
         None => Ok(By::Cluster),
@@ -257,7 +281,8 @@ pub fn by(members: &Map<String, Value>, field: Field) -> Result<By, BadMember>
 
 /// A switch, off where it is absent.
 pub fn switch(members: &Map<String, Value>, field: Field) -> Result<bool, BadMember>
-    ensures { Gives result (defaulted field false as_bool (members_view members.now.entries)) }
+    ensures { Gives result (
+        optional_member field false as_bool (members_view members.now.entries)) }
 {
     match of_field(members, field) {
         None => Ok(false),

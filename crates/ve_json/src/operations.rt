@@ -1,7 +1,8 @@
-// The operations of a transaction, as a line writes them. What they remove, and the old values of attributes, are the list's.
+// The operations of a transaction, as a line writes them. What they remove, and the old values of
+// attributes, are the list's.
 ghost use Rattle.std.specs.Prelude.{◌≡◌, None};
 ghost use Rattle.serde_json.specs.View.{view, members_view};
-ghost use Rattle.model_world.specs.declared.change.OpWords.TheVariants as words;
+ghost use Rattle.model_world.specs.declared.edit_command.OpWords.TheVariants as words;
 ghost use Rattle.model_world.specs.Operations as operations;
 ghost use Rattle.ve_json.specs.Gives.{Reads};
 
@@ -21,7 +22,8 @@ fn removal_in(
     members: &Map<String, Value>,
     counted: &Value,
 ) -> Result<OpWords, ValueFault>
-    ensures { Reads result (operations.removal_in (members_view members.now.entries) (view counted.now)) }
+    ensures { Reads result (
+        operations.removal_in (members_view members.now.entries) (view counted.now)) }
 {
     let count = number_in(counted).ok_or(ValueFault::IllFormed)?;
     let insert = all_items_in(
@@ -55,8 +57,8 @@ fn op_in(alloc: Global, json: &Value) -> Result<OpWords, ValueFault>
     }
 }
 
-/// Whether the setting of this attribute may stand before these operations: up to the next retain there are only
-/// settings of other attributes.
+/// Whether the setting of this attribute may stand before these operations: up to the next retain
+/// there are only settings of other attributes.
 fn setting_may_precede(name: &Text, later: &[OpWords]) -> bool
     ensures { result ≡ operations.word_may_precede (words.Attr name.now None) later.now }
 {

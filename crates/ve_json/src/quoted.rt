@@ -1,4 +1,4 @@
-// A text as a JSON string, spelled as `serde_json` spells it, straight into a buffer.
+// A text as a JSON string, as `serde_json` writes it, straight into a buffer.
 ghost use Rattle.std.specs.Prelude.{◌≡◌, ◌++◌, ◌∷◌, [], ◌<◌, OnErr, OnOk, MatchOption, ℕ, length, take};
 ghost use Rattle.std.specs.Char.{digit_char};
 ghost use Rattle.json.specs.Print.{escape_letter, escape_byte, escape, quoted};
@@ -36,7 +36,7 @@ fn hex_digit(value: u8) -> u8
     if value < 10 { b'0' + value } else { 87 + value }
 }
 
-/// Appends what stands in a JSON string for a byte. An `Err` changes nothing.
+/// Appends the bytes of a JSON string that stand for a byte. An `Err` changes nothing.
 fn push_escaped(byte: u8, out: &mut Spelling) -> Result<(), Memory>
     ensures ok { OnOk result (out.new.text ≡ out.old.text ++ escape_byte byte) }
     ensures err { OnErr result (out.new.text ≡ out.old.text) }
@@ -79,7 +79,8 @@ fn split_escaped(bytes: &[u8]) -> Option<(&[u8], u8, &[u8])>
     None
 }
 
-/// Appends what stands in a JSON string for the bytes: those that stand for themselves piece by piece.
+/// Appends the bytes of a JSON string that stand for these: those that stand for themselves piece
+/// by piece.
 fn push_all_escaped(bytes: &[u8], out: &mut Spelling) -> Result<(), Memory>
     ensures ok { OnOk result (out.new.text ≡ out.old.text ++ escape bytes.now) }
     ensures before { out.new.before ≡ out.old.before }
@@ -93,7 +94,7 @@ fn push_all_escaped(bytes: &[u8], out: &mut Spelling) -> Result<(), Memory>
     out.push(rest)
 }
 
-/// Appends a text as a JSON string. After an `Err` some of it may stand after what stood there.
+/// Appends a text as a JSON string. An `Err` may leave a part appended.
 pub fn push_quoted(text: &str, out: &mut Spelling) -> Result<(), Memory>
     ensures ok { OnOk result (out.new.text ≡ out.old.text ++ quoted text.now) }
     ensures before { out.new.before ≡ out.old.before }

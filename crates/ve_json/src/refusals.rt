@@ -42,7 +42,8 @@ fn two(second: &'static str, number: usize, next: usize) -> Words
 
 /// A word with four numbers, those of two ranges.
 fn four(second: &'static str, range: (usize, usize), next: (usize, usize)) -> Words
-    ensures { words_text result ≡ with_numbers second.now (range.0 ∷ range.1 ∷ next.0 ∷ next.1 ∷ []) }
+    ensures { words_text result
+        ≡ with_numbers second.now (range.0 ∷ range.1 ∷ next.0 ∷ next.1 ∷ []) }
 {
     Words {
         first: "",
@@ -51,7 +52,7 @@ fn four(second: &'static str, range: (usize, usize), next: (usize, usize)) -> Wo
     }
 }
 
-/// What is told of a bad member.
+/// The words of a refusal for a bad member.
 fn bad_member(field: Field) -> Words
     ensures { words_text result ≡ refusal_text (a_refusal.BadCommand field) }
 {
@@ -62,7 +63,7 @@ fn bad_member(field: Field) -> Words
     }
 }
 
-/// What is told of a page's text.
+/// The words of a refusal for a page's text.
 fn bad_text(word: HtmlWord, at: usize) -> Words
     ensures { words_text result ≡ refusal_text (a_refusal.Html word at) }
 {

@@ -44,7 +44,8 @@ fn push_number(alloc: Global, number: usize, out: &mut Spelling) -> Result<(), M
 
 /// Appends two numbers, each after a space.
 fn push_two(alloc: Global, one: usize, other: usize, out: &mut Spelling) -> Result<(), Memory>
-    ensures ok { OnOk result (out.new.text ≡ out.old.text ++ ((32 ∷ decimal one) ++ (32 ∷ decimal other))) }
+    ensures ok { OnOk result (
+        out.new.text ≡ out.old.text ++ ((32 ∷ decimal one) ++ (32 ∷ decimal other))) }
     ensures before { out.new.before ≡ out.old.before }
 {
     push_number(alloc, one, out)?;

@@ -75,7 +75,7 @@ fn revoke_members(members: &Map<String, Value>) -> Result<Request, BadMember>
     Ok(Request::Revoke { entry })
 }
 
-/// The members of a command that has a place alone.
+/// The members of a command that has a position alone.
 fn place_members(word: PlaceWord, members: &Map<String, Value>) -> Result<Request, BadMember>
     ensures { Gives result (place_read word (members_view members.now.entries)) }
 {
@@ -98,7 +98,7 @@ fn line_of(word: TableWord) -> Field
     }
 }
 
-/// The members of a command that has a table's place and a row or a column of it.
+/// The members of a command that has a table's position and a row or a column of it.
 fn table_members(word: TableWord, members: &Map<String, Value>) -> Result<Request, BadMember>
     ensures { Gives result (table_read word (members_view members.now.entries)) }
 {
@@ -135,7 +135,8 @@ fn edit_members(
     word: ChangeWord,
     members: &Map<String, Value>,
 ) -> Result<Request, BadMember>
-    ensures { Gives result (request_read (a_request.Change word) (members_view members.now.entries)) }
+    ensures { Gives result (
+        request_read (a_request.Change word) (members_view members.now.entries)) }
 {
     let change = change_members(alloc, word, members)?;
     Ok(Request::Edit { change })

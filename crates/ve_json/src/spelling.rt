@@ -1,11 +1,11 @@
-// A text that is being spelled into a buffer.
+// A text that is being written into a buffer.
 ghost use Rattle.std.specs.Prelude.{◌≡◌, ◌++◌, [], ◌∷◌, OnErr, OnOk};
 
 use std::marker::Model;
 use ve_base::{Bytes, Memory};
 
-/// A text that is being spelled, after what stood in its buffer before. Where memory is short, what was spelled can be
-/// taken away again.
+/// A text that is being written, after the former content of its buffer. Where memory is short, the
+/// text can be taken away again.
 #[derive(Drop)]
 pub struct Spelling {
     buffer: Bytes,
@@ -25,7 +25,7 @@ impl Model for Spelling {
 }
 
 impl Spelling {
-    /// No text yet, after what stands in a buffer.
+    /// No text yet, after the content of a buffer.
     pub fn after(buffer: Bytes) -> Spelling
         ensures before { result.before ≡ buffer }
         ensures text { result.text ≡ [] }

@@ -15,9 +15,10 @@ use model_world::{TreeWord, kind_name};
 use std::alloc::Global;
 use ve_base::Memory;
 
-/// Appends a place, or `null`.
+/// Appends a position, or `null`.
 fn push_place(alloc: Global, place: Option<usize>, out: &mut Spelling) -> Result<(), Memory>
-    ensures ok { OnOk result (out.new.text ≡ out.old.text ++ compact_text (shown.place_or_null place)) }
+    ensures ok { OnOk result (
+        out.new.text ≡ out.old.text ++ compact_text (shown.place_or_null place)) }
     ensures before { out.new.before ≡ out.old.before }
 {
     match place {

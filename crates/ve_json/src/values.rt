@@ -1,4 +1,4 @@
-// What a JSON value is read as: numbers, texts and pairs.
+// Numbers, texts and pairs read from a JSON value.
 ghost use Rattle.std.specs.Prelude.{◌≡◌, map, option_map};
 ghost use Rattle.std.specs.List.{list_any};
 ghost use Rattle.serde_json.specs.Find.{as_array, get_member};
@@ -96,7 +96,8 @@ pub fn text_or_null_in(alloc: Global, json: &Value) -> Result<Option<Text>, Valu
 
 /// Lends the values of a list.
 pub fn values_in(json: &Value) -> Option<&[Value]>
-    ensures { option_map (λ list. map view list.now) result ≡ option_map values.listed (as_array (view json.now)) }
+    ensures { option_map (λ list. map view list.now) result
+        ≡ option_map values.json_values (as_array (view json.now)) }
 {
     match json {
         Value::Array(list) => Some(list.as_slice()),
@@ -107,7 +108,8 @@ pub fn values_in(json: &Value) -> Option<&[Value]>
 
 /// The two values of a list that has just two.
 pub fn pair_in(json: &Value) -> Option<(&Value, &Value)>
-    ensures { option_map (λ pair. (view pair.0.now, view pair.1.now)) result ≡ values.pair_in (view json.now) }
+    ensures { option_map (λ pair. (view pair.0.now, view pair.1.now)) result
+        ≡ values.pair_in (view json.now) }
 {
     match values_in(json)? {
         [one, other] => Some((one, other)),
@@ -117,7 +119,8 @@ pub fn pair_in(json: &Value) -> Option<(&Value, &Value)>
 
 /// A member of an object.
 pub fn member<'a>(members: &'a Map<String, Value>, name: &str) -> Option<&'a Value>
-    ensures { option_map (λ v. view v.now) result ≡ get_member name.now (members_view members.now.entries) }
+    ensures { option_map (λ v. view v.now) result
+        ≡ get_member name.now (members_view members.now.entries) }
 {
     members.get(name)
 }

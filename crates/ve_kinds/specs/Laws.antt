@@ -1,4 +1,4 @@
--- What holds of the tables of kinds and tags.
+-- Laws of the tables of kinds and tags.
 use Rattle.std.specs.Prelude.{◌≡◌, ℕ, ◌+◌, Bool, true, false, List, Some, None, IfSome, if◌then◌else◌}
 use Rattle.std.specs.Option.{option_and_then}
 use Rattle.ve_kinds.specs.declared.kind.Kind.{Kind}

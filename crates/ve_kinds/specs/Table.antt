@@ -28,7 +28,7 @@ block_leaves = TransBlock ∷ AlienBlock ∷ []
 abbrev pub inline_leaves : List Kind
 inline_leaves = Br ∷ Img ∷ Ref ∷ TransInline ∷ AlienInline ∷ []
 
--- what every flow kind may hold
+-- the kinds that every flow kind may hold
 abbrev pub blocks : List Kind
 blocks = content_branches ++ (Ul ∷ Ol ∷ Dl ∷ Blockquote ∷ Div ∷ Table ∷ TransBlock ∷ AlienBlock ∷ [])
 

@@ -50,7 +50,8 @@ other_inline_tags =
 abbrev pub inline_tags : List (List ℕ)
 inline_tags = annotation_tags ++ other_inline_tags
 
--- elements without content and without an end tag (WHATWG HTML, "Serializing HTML fragments": void elements and those that serialize as void)
+-- elements without content and without an end tag (WHATWG HTML, "Serializing HTML fragments": void
+-- elements and those that serialize as void)
 abbrev pub void_tags : List (List ℕ)
 void_tags =
     codes "area" ∷ codes "base" ∷ codes "basefont" ∷ codes "bgsound" ∷ codes "br" ∷ codes "col" ∷ codes "embed" ∷ codes "frame"
@@ -60,7 +61,8 @@ void_tags =
 unfoldable pub is_void : List ℕ → Bool
 is_void tag = is_one_of void_tags tag
 
--- elements whose content is their text up to their end tag, in which nothing is decoded (the same section)
+-- elements whose content is their text up to their end tag, in which nothing is decoded (the same
+-- section)
 abbrev pub raw_tags : List (List ℕ)
 raw_tags = codes "style" ∷ codes "script" ∷ codes "xmp" ∷ codes "iframe" ∷ codes "noembed" ∷ codes "noframes" ∷ []
 

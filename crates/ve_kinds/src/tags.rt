@@ -130,7 +130,8 @@ pub fn is_inline_tag(tag: &str) -> bool
 
 /// Whether elements of the tag with these bytes have no content and no end tag.
 ///
-/// WHATWG HTML, "Serializing HTML fragments": the void elements and those that are written like them.
+/// WHATWG HTML, "Serializing HTML fragments": the void elements and those that are written like
+/// them.
 #[tactic(auto, unfolding(crate::specs::Tags::is_void))]
 pub fn is_void_name(tag: &[u8]) -> bool
     ensures { result ≡ table.is_void tag.now }
@@ -146,7 +147,8 @@ pub fn is_void_name(tag: &[u8]) -> bool
 
 /// Whether text in elements of the tag with these bytes is kept as it stands.
 ///
-/// WHATWG HTML, "Serializing HTML fragments": the elements whose text is written without replacements.
+/// WHATWG HTML, "Serializing HTML fragments": the elements whose text is written without
+/// replacements.
 #[tactic(auto, unfolding(crate::specs::Tags::is_raw))]
 pub fn is_raw_name(tag: &[u8]) -> bool
     ensures { result ≡ table.is_raw tag.now }

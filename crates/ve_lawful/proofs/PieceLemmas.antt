@@ -18,12 +18,12 @@ abbrev IsAtStart : Result law.State LawFault → Type 0
 IsAtStart (Ok s) = Unit {0}
 IsAtStart (Err fault) = law.fault_place fault ≡ 0
 
-closed_at_start : (stack : List Kind) (seen : Bool) (k : Kind) → IsAtStart (law.closed stack seen k)
+closed_at_start : (stack : List Kind) (seen : Bool) (k : Kind) → IsAtStart (law.state_closed stack seen k)
 closed_at_start [] seen k = refl
 closed_at_start (inner ∷ outer) seen k =
     elim (kind_same inner k) as (λ b. IsAtStart (if b then Ok (record { stack = outer; seen = seen }) else Err (Unlawful 0))) [ true ↦ tt | false ↦ refl ]
 
-opened_at_start : (s : law.State) (k : Kind) → IsAtStart (law.opened s k)
+opened_at_start : (s : law.State) (k : Kind) → IsAtStart (law.state_opened s k)
 opened_at_start s k = go (law.may_open s k) (nat_lt (length s.stack) 100) (record { stack = k ∷ s.stack; seen = s.seen || kind_same k InternalList }) where
   go : (allowed few : Bool) (next : law.State) → IsAtStart (if allowed then (if few then Ok next else Err (TooDeep 0)) else Err (Unlawful 0))
   go true true next = tt
@@ -35,7 +35,7 @@ step_at_start s (Char ch marks) = elim (is_content_branch (law.top s.stack)) as 
 step_at_start s (Opening kind head marks pre origin generated) = opened_at_start s kind
 step_at_start s (Closing kind pre) = closed_at_start s.stack s.seen kind
 
--- the fault of one item has place 0
+-- the fault of one item has position 0
 pub place_of-step : (s : law.State) (item : Item) (fault : LawFault) → step s item ≡ Err fault → law.fault_place fault ≡ 0
 place_of-step s item fault h = subst IsAtStart h (step_at_start s (plain [] item))
 
@@ -57,8 +57,8 @@ one_more s t u items n d within before now =
     ap (λ l. law.after s (plain_list [] l)) (take_more items n d within)
     ∙ ap (λ l. law.after s l) (map-append (plain []) (take n items) (x ∷ []))
     ∙ after-append s A B
-    ∙ ap (λ r. law.followed (length A) r (λ v. law.after v B)) before
-    ∙ ap (λ r. law.outcome_moved (length A) (law.followed 1 r (λ next. law.after next []))) now
+    ∙ ap (λ r. law.outcome_then (length A) r (λ v. law.after v B)) before
+    ∙ ap (λ r. law.outcome_moved (length A) (law.outcome_then 1 r (λ next. law.after next []))) now
 
 -- where an item isn't allowed, the list fails there
 pub stopped : (s t : law.State) (items : List Item) (n : ℕ) (d : Item) (fault : LawFault) → n < length items → after s (take n items) ≡ Ok t → step t (get_or items n d) ≡ Err fault
@@ -72,11 +72,11 @@ stopped s t items n d fault within before now =
     ap (λ l. law.after s (plain_list [] l)) parts
     ∙ ap (λ l. law.after s l) (map-append (plain []) (take n items) (x ∷ drop (suc n) items))
     ∙ after-append s A B
-    ∙ ap (λ r. law.followed (length A) r (λ v. law.after v B)) before
-    ∙ ap (λ r. law.outcome_moved (length A) (law.followed 1 r (λ next. law.after next (plain_list [] (drop (suc n) items))))) now
+    ∙ ap (λ r. law.outcome_then (length A) r (λ v. law.after v B)) before
+    ∙ ap (λ r. law.outcome_moved (length A) (law.outcome_then 1 r (λ next. law.after next (plain_list [] (drop (suc n) items))))) now
     ∙ ap (λ k. Err (law.fault_moved k fault)) long
 
--- with places that are counted from before the list
+-- with positions that are counted from before the list
 pub stopped_at : (s t : law.State) (items : List Item) (at n : ℕ) (d : Item) (fault moved : LawFault) → n < length items → after s (take n items) ≡ Ok t
     → step t (get_or items n d) ≡ Err fault → (law.fault_place fault ≡ 0 → moved ≡ law.fault_moved (at + n) fault)
     → law.outcome_moved at (after s items) ≡ Err moved

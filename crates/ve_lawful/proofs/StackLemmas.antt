@@ -4,7 +4,7 @@ use Rattle.ve_kinds.specs.declared.kind.Kind.{Kind}
 use Rattle.ve_kinds.specs.declared.kind.Kind.TheVariants.{Root}
 use Rattle.ve_kinds.specs.declared.kind.Kind.TheVariants.{InternalList}
 use Rattle.ve_kinds.specs.Table.{kind_same}
-use Rattle.model_items.specs.Law.{top, is_empty, may_open, opened, closed}
+use Rattle.model_items.specs.Law.{top, is_empty, may_open, state_opened, state_closed}
 use Rattle.model_items.proofs.SameLemmas.{Means-kind_same}
 use Rattle.ve_lawful.specs.Stack.{stack_of}
 
@@ -41,7 +41,7 @@ stack_of_push kinds n k h =
 -- an opening that is allowed goes on top
 pub opened_stack_of : (kinds : List Kind) (n : ℕ) (seen new : Bool) (kind : Kind) →
     may_open (record { stack = stack_of kinds n; seen = seen }) kind ≡ true → n < 100 → n < length kinds → new ≡ (seen || kind_same kind InternalList) →
-    opened (record { stack = stack_of kinds n; seen = seen }) kind ≡ Ok (record { stack = stack_of (set kinds n kind) (n + 1); seen = new })
+    state_opened (record { stack = stack_of kinds n; seen = seen }) kind ≡ Ok (record { stack = stack_of (set kinds n kind) (n + 1); seen = new })
 opened_stack_of kinds n seen new kind allowed few room e =
     let long = length_stack_of kinds n in
     let below : nat_lt (length (stack_of kinds n)) 100 ≡ true = lt-ltb (length (stack_of kinds n)) 100 (omega arith) in
@@ -50,7 +50,7 @@ opened_stack_of kinds n seen new kind allowed few room e =
 
 -- the closing of the top takes it away
 pub closed_stack_of : (kinds : List Kind) (n : ℕ) (seen : Bool) (kind : Kind) → 0 < n → top (stack_of kinds n) ≡ kind →
-    closed (stack_of kinds n) seen kind ≡ Ok (record { stack = stack_of kinds (n - 1); seen = seen })
+    state_closed (stack_of kinds n) seen kind ≡ Ok (record { stack = stack_of kinds (n - 1); seen = seen })
 closed_stack_of kinds zero seen kind some same = absurd (omega arith)
 closed_stack_of kinds (suc n) seen kind some same =
     let e : n ≡ suc n - 1 = omega arith in

@@ -1,4 +1,4 @@
--- Going on by a lent piece of a list.
+-- Going on by a borrowed piece of a list.
 use Rattle.std.proofs.Common.{◌≡◌, ℕ, ◌+◌, ◌-◌, ◌≤◌, List, [], ◌++◌, length, take, drop, slice_range, Ok, Err, Some, Result, sym, ap, ◌∙◌, arith, append_assoc, take-append-drop, length-take-le}
 use Rattle.std.proofs.Math.Seq.{take-add}
 use Rattle.std.proofs.lemmas.List.{map-append, length-map}
@@ -21,7 +21,7 @@ walked_on s t u items piece at n lent before now =
     ∙ after_whole (plain_list [] (take at items)) (plain_list [] piece) s t u before now
 
 fails_on : (at m : ℕ) (r : Result law.State LawFault) (rest : law.State → Result law.State LawFault) (fault : LawFault)
-    → law.outcome_moved at r ≡ Err fault → law.outcome_moved at (law.followed m r rest) ≡ Err fault
+    → law.outcome_moved at r ≡ Err fault → law.outcome_moved at (law.outcome_then m r rest) ≡ Err fault
 fails_on at m (Ok s) rest fault h = cc
 fails_on at m (Err f) rest fault h = h
 
@@ -39,7 +39,7 @@ walk_fails s t items piece at n fault within lent before now =
     ap (λ l. law.after s (plain_list [] l)) parts
     ∙ ap (λ l. law.after s l) (map-append (plain []) (take at items) (piece ++ rest) ∙ ap (λ l. A ++ l) (map-append (plain []) piece rest))
     ∙ after-append s A (P ++ R)
-    ∙ ap (λ r. law.followed (length A) r (λ v. law.after v (P ++ R))) before
+    ∙ ap (λ r. law.outcome_then (length A) r (λ v. law.after v (P ++ R))) before
     ∙ ap (λ k. law.outcome_moved k (law.after t (P ++ R))) long
     ∙ ap (law.outcome_moved at) (after-append t P R)
     ∙ fails_on at (length P) (law.after t P) (λ v. law.after v R) fault now

@@ -1,4 +1,5 @@
--- The law over items that cite their values by number. It reads no value, so it is the same over every list of values, and here over none.
+-- The law over items that cite their values by number. It reads no value, so it is the same over
+-- every list of values, and here over none.
 use Rattle.std.specs.Prelude.{◌≡◌, List, [], Option, Result}
 use Rattle.ve_base.specs.declared.value.Value.{Value}
 use Rattle.model_items.specs.declared.item.Item.{Item}
@@ -6,11 +7,11 @@ use Rattle.model_items.specs.declared.law_fault.LawFault.{LawFault}
 use Rattle.model_items.specs.Law as law
 use Rattle.model_items.specs.Plain.{plain, plain_list}
 
--- the state after one item, or why it is not allowed, with place 0
+-- the state after one item, or why it is not allowed, with position 0
 abbrev pub step : law.State → Item → Result law.State LawFault
 step s item = law.step s (plain [] item)
 
--- the state after the items, or the first offence, with its place counted from where they begin
+-- the state after the items, or the first offence, with its position counted from where they begin
 abbrev pub after : law.State → List Item → Result law.State LawFault
 after s items = law.after s (plain_list [] items)
 

@@ -1,4 +1,4 @@
-// What is true of the law as a whole.
+// Laws of the verdict as a whole.
 ghost use Rattle.ve_lawful.specs.Uncited.{StepReadsNoValues, AfterReadsNoValues, VerdictReadsNoValues};
 
 /// The law reads no value that an item cites: over every list of values it says the same.

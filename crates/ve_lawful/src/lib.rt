@@ -1,12 +1,14 @@
-//! Which lists of items are lawful: the state that each item moves on, and the first place where a list or a piece of one
-//! fails. It knows kinds and items, and reads none of the values that items cite. It takes no memory.
+//! Lawful lists of items: the state that each item moves on, and the first position where a list or
+//! a piece of one fails. It knows kinds and items, and reads none of the values that items cite. It
+//! takes no memory.
 //!
-//! - `State` is the stack of open kinds, the innermost first, and whether the internal list was opened (specs/Stack.antt
-//!   says how it is kept; the law itself is in model_items, specs/Law.antt). At most `max_open_kinds` kinds are open.
-//! - specs/Uncited.antt is the law over items that cite their values: `step`, `after`, `verdict`. `State::step`,
-//!   `check_piece` and `check` are these, with the same places.
+//! - `State` is the stack of open kinds, the innermost first, and whether the internal list was
+//!   opened (specs/Stack.antt says how it is kept). The law itself is in model_items,
+//!   specs/Law.antt. At most `max_open_kinds` kinds are open.
+//! - specs/Uncited.antt is the law over items that cite their values: `step`, `after`, `verdict`.
+//!   `State::step`, `check_piece` and `check` are these, with the same positions.
 //!
-//! Its law is in laws.rt: the law reads no values.
+//! Its law is in src/laws.rt: the law reads no values.
 #![tactic(auto)]
 
 mod laws;

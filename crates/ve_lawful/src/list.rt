@@ -20,8 +20,8 @@ fn ended(state: &State, len: usize) -> Result<(), LawFault>
     }
 }
 
-/// The first place where a list fails; a list that ends in the wrong state fails at its length. It takes no memory, and
-/// walks the list as it is lent, block after block.
+/// The first position where a list fails; a list that ends in the wrong state fails at its length.
+/// It takes no memory, and walks the list block after block, as it is borrowed.
 pub fn check(list: &Linear) -> Result<(), LawFault>
     ensures ok { OnOk result (verdict list.now.items ≡ None) }
     ensures err { IfErr result (λ fault. verdict list.now.items ≡ Some fault) }

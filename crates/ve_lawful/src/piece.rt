@@ -6,7 +6,7 @@ ghost use Rattle.ve_lawful.specs.Uncited.{after};
 use crate::State;
 use model_items::{Item, LawFault};
 
-/// The same offence at another place.
+/// The same offence at another position.
 fn moved_to(fault: LawFault, at: usize) -> LawFault
     ensures { law.fault_place fault ≡ 0 → result ≡ law.fault_moved at fault }
 {
@@ -16,11 +16,13 @@ fn moved_to(fault: LawFault, at: usize) -> LawFault
     }
 }
 
-/// Goes on by items, of which the first stands at a place. At an offence the state before it is left.
+/// Goes on by items, of which the first stands at a position. At an offence the state before it is
+/// left.
 pub(crate) fn go_on(state: &mut State, at: usize, items: &[Item]) -> Result<(), LawFault>
     requires { at + length items.now < 2 ^ 64 }
     ensures ok { OnOk result (after state.old items.now ≡ Ok state.new) }
-    ensures err { IfErr result (λ fault. law.outcome_moved at (after state.old items.now) ≡ Err fault) }
+    ensures err { IfErr result (λ fault.
+        law.outcome_moved at (after state.old items.now) ≡ Err fault) }
 {
     for (n, item) in items.iter().enumerate() {
         match state.step(*item) {
@@ -31,8 +33,8 @@ pub(crate) fn go_on(state: &mut State, at: usize, items: &[Item]) -> Result<(), 
     Ok(())
 }
 
-/// The state after a piece of a list, from the state before it, or the first place where the piece fails. Places count
-/// from the piece's start. It takes no memory.
+/// The state after a piece of a list, from the state before it, or the first position where the
+/// piece fails. Positions count from the piece's start. It takes no memory.
 pub fn check_piece(state: &State, items: &[Item]) -> Result<State, LawFault>
     ensures { result ≡ after state.now items.now }
 {

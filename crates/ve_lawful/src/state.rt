@@ -1,4 +1,4 @@
-// The open kinds at a place of a list.
+// The open kinds at a position of a list.
 ghost use Rattle.std.specs.Prelude.{◌≡◌, ◌<◌, ◌≤◌, length, slice_get, IfErr, OnErr, OnOk, Ok, Err, Some};
 ghost use Rattle.model_items.specs.Law as law;
 ghost use Rattle.ve_base.specs.Limits.{max_open_kinds};
@@ -9,7 +9,8 @@ use std::marker::Model;
 use ve_base::MAX_OPEN_KINDS;
 use ve_kinds::{Kind, is_content_branch, may_hold};
 
-/// The open kinds at a place of a list, the root not counted, and whether the internal list was opened before it.
+/// The open kinds at a position of a list, the root not counted, and whether the internal list was
+/// opened before it.
 #[derive(Drop)]
 pub struct State {
     kinds: [Kind; MAX_OPEN_KINDS],
@@ -106,7 +107,8 @@ impl State {
         may_hold(self.top(), kind) && allowed
     }
 
-    /// Whether no item may follow and the list may end here: nothing is open, and the internal list was seen.
+    /// Whether no item may follow and the list may end here: nothing is open, and the internal list
+    /// was seen.
     pub fn is_over(&self) -> bool
         ensures { result ≡ law.is_over self.now }
     {

@@ -2,7 +2,7 @@
 use Rattle.std.proofs.Common.{[], ◌∷◌, refl, arith}
 use Rattle.ve_lengths.specs.Starts.{Finds}
 
--- 3, 0 and 4: the fourth place is the first of the third length, since the second is empty
+-- 3, 0 and 4: the fourth position is the first of the third length, since the second is empty
 fourth_place : Finds (3 ∷ 0 ∷ 4 ∷ []) 3 2 0
 fourth_place = record { among = omega arith; place = refl; inside = omega arith }
 

@@ -1,4 +1,4 @@
--- A place lies in one length.
+-- A position lies in one length.
 use Rattle.std.proofs.Common.{◌≡◌, ◌<◌, ◌≤◌, ◌+◌, ◌-◌, ℕ, List, take, drop, sum, inl, inr, ap, ◌∙◌, arith}
 use Rattle.std.proofs.lemmas.List.Sums.{sum_by-append, sum_by_more, sum_by-take-le}
 use Rattle.std.proofs.lemmas.Bool.{cases_lt}

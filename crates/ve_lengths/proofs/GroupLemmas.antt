@@ -1,4 +1,4 @@
--- The starts of groups rise, so the last one that is not past a place is found by halves.
+-- The starts of groups rise, so the last one that is not past a position is found by halves.
 use Rattle.std.proofs.Common.{◌≡◌, ◌≤◌, ◌<◌, ◌-◌, ◌*◌, ℕ, List, length, sum, leb, true, false, get_or, inl, inr, arith}
 use Rattle.std.proofs.lemmas.Bool.{cases_lt, leb-true, leb-false}
 use Rattle.std.proofs.lemmas.List.{get_or_default}

@@ -72,7 +72,7 @@ starts_shrunk lens old new total k by a lt long r = record {
 pub start_within : (lens starts : List ℕ) (total g : ℕ) → AreStarts lens starts total → g < length starts → get_or starts g 0 ≤ sum lens
 start_within lens starts total g a lt = omega (arith, a.each g lt, sum_by-take-le (λ x. x) lens (16 * g))
 
--- a place within the sum is before the end of the row
+-- a position within the sum is before the end of the row
 pub before_end : (lens : List ℕ) (at k left : ℕ) → sum (take k lens) + left ≡ at → at < sum lens → k < length lens
 before_end lens at k left e within = elim (cases_lt k (length lens)) [
   | inl less ↦ less
@@ -82,11 +82,11 @@ before_end lens at k left e within = elim (cases_lt k (length lens)) [
 pub next_sum : (lens : List ℕ) (k : ℕ) → k < length lens → sum (take (k + 1) lens) ≡ sum (take k lens) + get_or lens k 0
 next_sum lens k lt = sum_by_more (λ x. x) lens k 0 lt
 
--- what is read at a place of a list
+-- what is read at a position of a list
 pub read_at : (xs : List ℕ) (i x : ℕ) → i < length xs → x ≡ get_or xs i x → x ≡ get_or xs i 0
 read_at xs i x lt e = e ∙ get_or_default xs i x 0 lt
 
--- a slice that was lent whole and written back
+-- a slice that was borrowed whole and written back
 written_back : (old new : List ℕ) (n : ℕ) → n ≡ length old → length new ≡ length old → take n (new ++ drop (length new) old) ≡ new
 written_back old new n all same =
     take-append-le n new (drop (length new) old) (omega (arith, all, same)) ∙ take_all n new (omega (arith, all, same))

@@ -1,4 +1,4 @@
--- What lengths are seen as.
+-- The view of lengths.
 use Rattle.std.specs.Prelude.{ℕ, List}
 
 pub record LengthRow : Type 0 where

@@ -1,7 +1,7 @@
 -- Lengths in groups of 16.
 use Rattle.std.specs.Prelude.{ℕ, ◌≡◌, ◌≤◌, ◌+◌, ◌*◌, ◌/◌, ◌<◌, ◌^◌, List, length, take, slice_index, sum}
 
--- the place lies so far after the start of that length, and before its end
+-- the position lies so far after the start of that length, and before its end
 pub record Finds (lens : List ℕ) (at k offset : ℕ) : Type 0 where
   pub among : k < length lens
   pub place : sum (take k lens) + offset ≡ at

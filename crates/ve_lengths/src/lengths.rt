@@ -1,4 +1,4 @@
-// Lengths, with the place where each group of them starts.
+// Lengths, with the position where each group of them starts.
 ghost use Rattle.std.specs.Prelude.{◌≡◌, ◌≤◌, ◌<◌, ◌+◌, ◌-◌, ◌/◌, ◌*◌, ◌^◌, ◌++◌, ◌∷◌, [], None, OnOk, OnErr};
 ghost use Rattle.std.specs.Prelude.{length, take, drop, insert, max, sum, slice_index, slice_set, option_to_list};
 ghost use Rattle.ve_lengths.specs.Starts.{Finds};
@@ -8,7 +8,8 @@ use std::alloc::Global;
 use std::marker::Model;
 use ve_base::Memory;
 
-/// Lengths in their order, seen as the list of them and the number of lengths that there is room for.
+/// Lengths in their order, seen as the list of them and the number of lengths that there is room
+/// for.
 #[derive(Drop)]
 pub struct Lengths {
     lens: Vec<usize>,
@@ -59,7 +60,7 @@ impl Lengths {
         self.total
     }
 
-    /// One of them.
+    /// The length with that number.
     pub fn get(&self, k: usize) -> usize
         requires { k < length self.now.lens }
         ensures { result ≡ slice_index self.now.lens k }
@@ -88,8 +89,9 @@ impl Lengths {
         start
     }
 
-    /// The first length of the last group that starts at a place or before it, and where that group starts. It is looked for by
-    /// halves, so the time hardly grows with the number of groups.
+    /// The first length of the last group that starts at a position or before it, and where that
+    /// group starts. It is looked for by halves, so the time hardly grows with the number of
+    /// groups.
     fn group_at(&self, at: usize) -> (usize, usize)
         requires { at < sum self.now.lens }
         ensures start { sum (take result.0 self.now.lens) ≡ result.1 }
@@ -99,7 +101,8 @@ impl Lengths {
         (GROUP * group, self.starts[group])
     }
 
-    /// The length that holds a place, counted over all of them, and how far it is from that length's start.
+    /// The length that holds a position, counted over all of them, and how far it is from that
+    /// length's start.
     pub fn find(&self, at: usize) -> (usize, usize)
         requires { at < sum self.now.lens }
         ensures { Finds self.now.lens at result.0 result.1 }
@@ -117,7 +120,8 @@ impl Lengths {
     pub fn grow(&mut self, k: usize, by: usize)
         requires among { k < length self.old.lens }
         requires fits { sum self.old.lens + by < 2 ^ 64 }
-        ensures lens { self.new.lens ≡ slice_set self.old.lens k (slice_index self.old.lens k + by) }
+        ensures lens { self.new.lens
+            ≡ slice_set self.old.lens k (slice_index self.old.lens k + by) }
         ensures room { self.new.room ≡ self.old.room }
     {
         raise(&mut self.starts, k / GROUP + 1, by);
@@ -129,7 +133,8 @@ impl Lengths {
     pub fn shrink(&mut self, k: usize, by: usize)
         requires among { k < length self.old.lens }
         requires long { by ≤ slice_index self.old.lens k }
-        ensures lens { self.new.lens ≡ slice_set self.old.lens k (slice_index self.old.lens k - by) }
+        ensures lens { self.new.lens
+            ≡ slice_set self.old.lens k (slice_index self.old.lens k - by) }
         ensures room { self.new.room ≡ self.old.room }
     {
         lower(&mut self.starts, k / GROUP + 1, by);

@@ -1,11 +1,13 @@
-//! Lengths in their order, such as those of blocks or of gaps: which of them holds a place, and where each one starts.
+//! Lengths in their order, such as those of blocks or of gaps: which of them holds a position, and
+//! where each one starts.
 //!
-//! It knows numbers alone, not what is so long. A length may be 0; their sum fits a `usize`.
-//! Beside each group of 16 lengths stands the sum of those before it. So a place is found by the starts of
-//! the groups and the lengths of one group, and a length that changes moves the starts of the groups after it.
+//! It knows numbers alone, not what they measure. A length may be 0; their sum fits a `usize`.
+//! Beside each group of 16 lengths stands the sum of those before it. So a position is found by the
+//! starts of the groups and the lengths of one group. A length that changes moves the starts of the
+//! groups after it.
 //!
-//! Definitions: `LengthRow` is what the lengths are seen as, `Finds` is what a search comes to, and
-//! `AreStarts` is what is kept beside the groups. Law: a search has one answer.
+//! Definitions: `LengthRow` is the view of the lengths, `Finds` the result of a search, and
+//! `AreStarts` the starts beside the groups. Law: a search has one answer.
 #![tactic(auto)]
 
 mod laws;

@@ -5,9 +5,12 @@ ghost use Rattle.ve_lengths.specs.Starts.{AreStarts, RaisedFrom};
 /// How many lengths stand in a group.
 pub const GROUP: usize = 16;
 
-/// Reckons the starts anew from a group on, which starts at `start`; those before it stand. Gives the sum of all lengths. It takes no memory.
+/// Reckons the starts anew from a group on, which starts at `start`; those before it stand. Gives
+/// the sum of all lengths. It takes no memory.
 pub fn reckon(lens: &[usize], starts: &mut Vec<usize>, group: usize, start: usize) -> usize
-    requires before { (g : ℕ) → g < group → slice_index starts.old.items g ≡ sum (take (16 * g) lens.now) }
+    requires before { (g : ℕ)
+        → g < group
+        → slice_index starts.old.items g ≡ sum (take (16 * g) lens.now) }
     requires start { start ≡ sum (take (16 * group) lens.now) }
     requires among { group ≤ length starts.old.items }
     requires within { 16 * group ≤ length lens.now }
@@ -30,7 +33,10 @@ pub fn reckon(lens: &[usize], starts: &mut Vec<usize>, group: usize, start: usiz
 
 /// Adds to the starts from one group on.
 pub fn raise(starts: &mut [usize], first: usize, by: usize)
-    requires { (g : ℕ) → first ≤ g → g < length starts.old → slice_index starts.old g + by < 2 ^ 64 }
+    requires { (g : ℕ)
+        → first ≤ g
+        → g < length starts.old
+        → slice_index starts.old g + by < 2 ^ 64 }
     ensures { RaisedFrom starts.old starts.new first by }
 {
     for group in first..starts.len() {

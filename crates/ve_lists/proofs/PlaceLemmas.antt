@@ -30,7 +30,7 @@ list_item_past values items at lawful h opens = let there = item_there items at 
         let here = ap (passes (is_opening_of Li)) (slice_get-plain values items at x there ∙ ap (λ y. Some (plain values y)) is) in absurd (cc)
     by x (item.Opening kind generated head marks pre origin) is there = partner_past values items at x kind generated head marks pre origin lawful there is
 
--- the item just before a place
+-- the item just before a position
 pub passes_before_at : (test : PlainItem → Bool) (items : List PlainItem) (at : ℕ) → 0 < at → passes_before test items at ≡ passes test (slice_get items (at - 1))
 passes_before_at test items zero h = absurd (omega arith)
 passes_before_at test items (suc at) h = let e : suc at - 1 ≡ at = omega arith in ap (λ n. passes test (slice_get items n)) (sym e)

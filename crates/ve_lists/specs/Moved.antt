@@ -40,7 +40,8 @@ BeginsWith items edit c = (values : List Value) → All (CitesWell values) items
 abbrev pub open_of : ListStart → Open
 open_of list = record { kind = list.kind; from = list.from }
 
--- the list of an item, where that list stands in a list item; the open nodes are given from the innermost out
+-- the list of an item, where that list stands in a list item; the open nodes are given from the
+-- innermost out
 abbrev pub nested_in : List Open → Option Open
 nested_in (list ∷ outer ∷ others) = if kind_same outer.kind Li then Some list else None
 nested_in _ = None

@@ -1,4 +1,4 @@
-// What is asked of the brackets of lists and their items.
+// Tests of the brackets of lists and their items.
 ghost use Rattle.std.specs.Prelude.{◌≡◌, ◌≤◌, ◌<◌, [], ◌∷◌, true, None, length, option_map, IfSome};
 ghost use Rattle.model_items.specs.Plain.{plain, plain_list};
 ghost use Rattle.model_items.specs.Offsets.{opens_at};
@@ -14,7 +14,7 @@ use ve_items::Item;
 use ve_kinds::Kind;
 use ve_offsets::{Doc, state_at};
 
-/// A list: its kind and the place of its opening.
+/// A list: its kind and the position of its opening.
 #[derive(Clone, Copy)]
 pub struct ListStart {
     pub kind: Kind,
@@ -50,10 +50,11 @@ pub fn closing(kind: Kind) -> Item
     Item::Closing { kind, pre: None }
 }
 
-/// Whether a list item begins at a place.
+/// Whether a list item begins at a position.
 pub fn is_list_item(doc: Doc<'_>, at: usize) -> bool
     ensures within { result ≡ true → at < length doc.entry.list.now.items }
-    ensures means { (values : _) → result ≡ model.is_list_item (plain_list values doc.entry.list.now.items) at }
+    ensures means { (values : _)
+        → result ≡ model.is_list_item (plain_list values doc.entry.list.now.items) at }
 {
     if at >= doc.list.len() {
         return false;
@@ -61,11 +62,13 @@ pub fn is_list_item(doc: Doc<'_>, at: usize) -> bool
     opens(doc.list.get(at), Kind::Li)
 }
 
-/// Whether the item just before a place closes a node of the kind.
+/// Whether the item just before a position closes a node of the kind.
 pub fn closes_before(doc: Doc<'_>, at: usize, kind: Kind) -> bool
     requires { at ≤ length doc.list.now.items }
     ensures after { result ≡ true → 0 < at }
-    ensures means { (values : _) → result ≡ passes_before (is_closing_of kind) (plain_list values doc.entry.list.now.items) at }
+    ensures means { (values : _)
+        → result
+        ≡ passes_before (is_closing_of kind) (plain_list values doc.entry.list.now.items) at }
 {
     if at == 0 {
         return false;
@@ -77,7 +80,8 @@ pub fn closes_before(doc: Doc<'_>, at: usize, kind: Kind) -> bool
 pub fn kind_at(doc: Doc<'_>, o: usize) -> Kind
     requires doc { IsDoc doc }
     requires within { o ≤ length doc.list.now.items }
-    ensures { (values : _) → result ≡ offsets.kind_at (plain_list values doc.entry.list.now.items) o }
+    ensures { (values : _)
+        → result ≡ offsets.kind_at (plain_list values doc.entry.list.now.items) o }
 {
     let state = state_at(doc, o);
     if state.depth() == 0 {
@@ -91,7 +95,9 @@ pub fn nested_list(doc: Doc<'_>, o: usize) -> Option<ListStart>
     requires doc { IsDoc doc }
     requires within { o ≤ length doc.list.now.items }
     ensures within { IfSome result (λ list. list.from < length doc.entry.list.now.items) }
-    ensures means { (values : _) → option_map open_of result ≡ nested_in (opens_at (plain_list values doc.entry.list.now.items) o) }
+    ensures means { (values : _)
+        → option_map open_of result
+        ≡ nested_in (opens_at (plain_list values doc.entry.list.now.items) o) }
 {
     let state = state_at(doc, o);
     if state.depth() < 2 {

@@ -19,7 +19,8 @@ use ve_kinds::Kind;
 use ve_offsets::Doc;
 use ve_tx::Transaction;
 
-/// The edit before the item: it joins the list of the kind that ends the item before it, or a new one there.
+/// The edit before the item: it joins the list of the kind that ends the item before it, or a new
+/// one there.
 fn joined(alloc: Global, doc: Doc<'_>, at: usize, kind: Kind) -> Result<Edits, Memory>
     requires sibling { 0 < at }
     requires within { at ≤ length doc.list.now.items }
@@ -43,13 +44,16 @@ fn joined(alloc: Global, doc: Doc<'_>, at: usize, kind: Kind) -> Result<Edits, M
     Ok(edits)
 }
 
-/// The change that moves the item, where another one stands before it in the list, which has the kind.
+/// The change that moves the item, where another one stands before it in the list, which has the
+/// kind.
 fn indented(alloc: Global, doc: Doc<'_>, at: usize, kind: Kind) -> Result<Transaction, Memory>
     requires doc { IsDoc doc }
     requires sibling { 0 < at }
     requires within { at < length doc.list.now.items }
-    requires opens { (values : _) → model.is_list_item (plain_list values doc.list.now.items) at ≡ true }
-    ensures means { IfOk result (IsTransactionOf doc.entry.list.now.items (λ all. indent_edits all at kind)) }
+    requires opens { (values : _)
+        → model.is_list_item (plain_list values doc.list.now.items) at ≡ true }
+    ensures means { IfOk result (
+        IsTransactionOf doc.entry.list.now.items (λ all. indent_edits all at kind)) }
     ensures cites { IfOk result (CitesAsItems doc.entry.list.now.items) }
 {
     let other = partner(doc, at);
@@ -61,15 +65,18 @@ fn indented(alloc: Global, doc: Doc<'_>, at: usize, kind: Kind) -> Result<Transa
     Ok(tx)
 }
 
-/// The change that moves a list item into a list at the end of the item before it: into the one that stands there, if it
-/// has the kind of the item's own list, or else into a new one. `NotListItem` comes exactly where no list item begins at
-/// the place, and `NoSibling` exactly where none ends just before it.
+/// The transaction that moves a list item into a list at the end of the item before it. That is the
+/// list that stands there, if it has the kind of the item's own list, or else a new one.
+/// `NotListItem` comes exactly where no list item begins at the position, and `NoSibling` exactly
+/// where none ends just before it.
 pub fn indent(alloc: Global, doc: Doc<'_>, at: usize) -> Result<Transaction, ListFault>
     requires doc { IsDoc doc }
     requires cites { All (CitesWell doc.store.now) doc.list.now.items }
-    ensures means { IfOk result (λ tx. model.indent (page_items doc.entry) at ≡ Ok (by_value doc.entry.store.now tx)) }
+    ensures means { IfOk result (λ tx.
+        model.indent (page_items doc.entry) at ≡ Ok (by_value doc.entry.store.now tx)) }
     ensures cites { IfOk result (λ tx. TxCites doc.entry.store.now tx) }
-    ensures refused { IfErr result (λ fault. IsListRefusal fault (model.indent (page_items doc.entry) at)) }
+    ensures refused { IfErr result (λ fault.
+        IsListRefusal fault (model.indent (page_items doc.entry) at)) }
 {
     if !is_list_item(doc, at) {
         return Err(ListFault::NotListItem { at });

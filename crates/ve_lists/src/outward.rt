@@ -21,12 +21,14 @@ use ve_offsets::Doc;
 use ve_store::NewValues;
 use ve_tx::Transaction;
 
-/// The edit before the item: the list ends there, and the item that it stands in; where the list would be empty, it goes.
+/// The edit before the item: the list ends there, and the item that it stands in; where the list
+/// would be empty, it goes.
 fn ended(alloc: Global, doc: Doc<'_>, at: usize, list: ListStart) -> Result<Edits, Memory>
     requires list { list.from < length doc.list.now.items }
     requires within { at ≤ length doc.list.now.items }
     ensures at { IfOk result (λ edits. edits.at ≡ at) }
-    ensures makes { IfOk result (BeginsWith doc.entry.list.now.items (λ _. end_before at (open_of list))) }
+    ensures makes { IfOk result (
+        BeginsWith doc.entry.list.now.items (λ _. end_before at (open_of list))) }
 {
     let mut edits = Edits::new(alloc);
     let len = doc.list.len();
@@ -52,8 +54,10 @@ fn outdented(
     requires follows { new.old.after ≡ length doc.store.now }
     requires list { list.from < length doc.list.now.items }
     requires within { at < length doc.list.now.items }
-    requires opens { (values : _) → model.is_list_item (plain_list values doc.list.now.items) at ≡ true }
-    ensures means { IfOk result (MovesOut doc.entry.store.now new.new (page_items doc.entry) at (open_of list)) }
+    requires opens { (values : _)
+        → model.is_list_item (plain_list values doc.list.now.items) at ≡ true }
+    ensures means { IfOk result (
+        MovesOut doc.entry.store.now new.new (page_items doc.entry) at (open_of list)) }
     ensures cites { IfOk result (λ tx. TxCites (together doc.entry.store.now new.new) tx) }
     ensures values { IfOk result (BringsInserted doc.entry.store.now new.old new.new) }
     ensures grows { Grows new.old new.new }
@@ -73,10 +77,11 @@ fn outdented(
     Ok(tx)
 }
 
-/// The change that moves a list item out of its list, to stand after the item that the list stands in. What follows it in
-/// its list becomes a list in it, and what follows the list in the outer item is then its own too. `NotListItem` comes
-/// exactly where no list item begins at the place, and `NotNested` exactly where its list stands in no list item. After
-/// want of memory `new` may hold further values.
+/// The transaction that moves a list item out of its list, to stand after the item that the list
+/// stands in. The items after it in its list become a list in it. The nodes after the list in the
+/// outer item are then its own too. `NotListItem` comes exactly where no list item begins at the
+/// position, and `NotNested` exactly where its list stands in no list item. After want of memory
+/// `new` may hold further values.
 pub fn outdent(
     alloc: Global,
     doc: Doc<'_>,
@@ -86,11 +91,14 @@ pub fn outdent(
     requires doc { IsDoc doc }
     requires cites { All (CitesWell doc.store.now) doc.list.now.items }
     requires follows { new.old.after ≡ length doc.store.now }
-    ensures means { IfOk result (λ tx. model.outdent (page_items doc.entry) at ≡ Ok (by_value (together doc.entry.store.now new.new) tx)) }
+    ensures means { IfOk result (λ tx.
+        model.outdent (page_items doc.entry) at
+        ≡ Ok (by_value (together doc.entry.store.now new.new) tx)) }
     ensures cites { IfOk result (λ tx. TxCites (together doc.entry.store.now new.new) tx) }
     ensures values { IfOk result (BringsInserted doc.entry.store.now new.old new.new) }
     ensures grows { Grows new.old new.new }
-    ensures refused { IfErr result (λ fault. IsListRefusal fault (model.outdent (page_items doc.entry) at)) }
+    ensures refused { IfErr result (λ fault.
+        IsListRefusal fault (model.outdent (page_items doc.entry) at)) }
 {
     if !is_list_item(doc, at) {
         return Err(ListFault::NotListItem { at });

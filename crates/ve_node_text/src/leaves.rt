@@ -9,8 +9,8 @@ use std::alloc::Global;
 use ve_base::{Bytes, Head, Memory};
 use ve_kinds::Kind;
 
-/// Appends a leaf, where `body` is the text of the body that it carries, if it is a reference that carries
-/// one. An alien or a generated leaf is its source.
+/// Appends a leaf, where `body` is the text of the body that it carries, if it is a reference that
+/// carries one. An alien or a generated leaf is its source.
 pub fn put_leaf(
     alloc: Global,
     out: &mut Bytes,
@@ -19,7 +19,8 @@ pub fn put_leaf(
     body: Option<&str>,
 ) -> Result<(), Memory>
     requires { head_refers kind head.now ≡ true }
-    ensures text { OnOk result (out.new ≡ out.old ++ leaf_of head.now (option_map (λ b. b.now) body.entry) kind) }
+    ensures text { OnOk result (
+        out.new ≡ out.old ++ leaf_of head.now (option_map (λ b. b.now) body.entry) kind) }
     ensures utf8 { OnOk result (IsUtf8 out.old → IsUtf8 out.new) }
 {
     match kind {

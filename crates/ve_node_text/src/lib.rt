@@ -1,11 +1,12 @@
-//! The text of what is no node by itself, or has no nodes in it: characters, whitespace, the tags of marks
-//! where they change, the tags of an element, and leaves, references with their composed `data-mw` among
-//! them. It reads the values that an item cites, and knows no list: which text comes next is its caller's
+//! The text of single items of a page: characters, whitespace, the tags of marks where they change,
+//! and the tags of an element. Also leaves, references with their composed `data-mw` among them. It
+//! reads the values that an item cites, and knows no list: which text comes next is its caller's
 //! matter. An `Err` is want of memory, and may leave a part appended.
 //!
-//! The meaning of each call is in `Written` of model_page_write: `letter`, `marks_changed`, `start_tag`,
-//! `end_tag`, `leaf_text`. Of a leaf it is said by `leaf_of` in `Leaves` of specs/, which names the text of a
-//! carried body in place of the body, and is the model's by the law `leaves_are_written`.
+//! The meaning of each call is in `Written` of model_page_write: `letter`, `marks_changed`,
+//! `start_tag`, `end_tag`, `leaf_text`. Of a leaf it is said by `leaf_of` in `Leaves` of specs/,
+//! which names the text of a carried body in place of the body. It is the model's by the law
+//! `leaves_are_written`.
 #![tactic(auto)]
 
 mod cited;

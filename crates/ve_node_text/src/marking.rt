@@ -27,7 +27,8 @@ fn common_count(opened: &[Mark], marks: &[Mark]) -> usize
 /// Closes the marks from the last one back to the n-th.
 fn close_marks(alloc: Global, out: &mut Bytes, opened: &[Mark], n: usize) -> Result<(), Memory>
     requires { n ≤ length opened.now }
-    ensures text { OnOk result (out.new ≡ out.old ++ flat_map written.mark_end (reverse (drop n opened.now))) }
+    ensures text { OnOk result (
+        out.new ≡ out.old ++ flat_map written.mark_end (reverse (drop n opened.now))) }
     ensures utf8 { OnOk result (IsUtf8 out.old → IsUtf8 out.new) }
 {
     let mut k = opened.len();

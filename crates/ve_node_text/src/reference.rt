@@ -17,7 +17,8 @@ fn is_data_mw(attr: &Attr) -> bool
     attr.name.as_str() == "data-mw"
 }
 
-/// Appends an attribute of a reference whose body has this text, if it carries one: the composed `data-mw` in the place of its own.
+/// Appends an attribute of a reference whose body has this text, if it carries one: the composed
+/// `data-mw` in the place of its own.
 fn push_attr_of(
     alloc: Global,
     out: &mut Bytes,
@@ -25,7 +26,12 @@ fn push_attr_of(
     body: Option<&str>,
 ) -> Result<(), Memory>
     requires { CanCompose attr.now }
-    ensures text { OnOk result (out.new ≡ out.old ++ attr_text (canon_attr (with_mw (attr_bytes attr.now) (option_map (λ b. b.now) body.entry)))) }
+    ensures text { OnOk result (
+        out.new
+        ≡ out.old
+        ++ attr_text (
+        canon_attr (
+        with_mw (attr_bytes attr.now) (option_map (λ b. b.now) body.entry)))) }
     ensures utf8 { OnOk result (IsUtf8 out.old → IsUtf8 out.new) }
 {
     if is_data_mw(attr) {
@@ -44,7 +50,8 @@ fn push_start_of(
     body: Option<&str>,
 ) -> Result<(), Memory>
     requires { is_editable_ref head.now ≡ true }
-    ensures text { OnOk result (out.new ≡ out.old ++ ref_start head.now (option_map (λ b. b.now) body.entry)) }
+    ensures text { OnOk result (
+        out.new ≡ out.old ++ ref_start head.now (option_map (λ b. b.now) body.entry)) }
     ensures utf8 { OnOk result (IsUtf8 out.old → IsUtf8 out.new) }
 {
     out.push(b"<")?;
@@ -64,7 +71,8 @@ pub fn put_reference(
     body: Option<&str>,
 ) -> Result<(), Memory>
     requires { is_editable_ref head.now ≡ true }
-    ensures text { OnOk result (out.new ≡ out.old ++ ref_of head.now (option_map (λ b. b.now) body.entry)) }
+    ensures text { OnOk result (
+        out.new ≡ out.old ++ ref_of head.now (option_map (λ b. b.now) body.entry)) }
     ensures utf8 { OnOk result (IsUtf8 out.old → IsUtf8 out.new) }
 {
     push_start_of(alloc, out, head, body)?;

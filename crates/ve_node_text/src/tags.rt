@@ -26,7 +26,8 @@ pub fn put_start_tag(
     kind: Kind,
     attrs: &Attrs,
 ) -> Result<(), Memory>
-    ensures text { OnOk result (out.new ≡ out.old ++ start_tag (encode_utf8_all (tag_of kind)) attrs.now) }
+    ensures text { OnOk result (
+        out.new ≡ out.old ++ start_tag (encode_utf8_all (tag_of kind)) attrs.now) }
     ensures utf8 { OnOk result (IsUtf8 out.old → IsUtf8 out.new) }
 {
     put_start(alloc, out, tag_for(kind), attrs)

@@ -22,7 +22,8 @@ abbrev broken : List Item
 broken =
     open_ P ∷ Char 97 None ∷ open_ Br ∷ close_ Br ∷ close_ P ∷ open_ P ∷ Char 98 None ∷ close_ P ∷ open_ InternalList ∷ close_ InternalList ∷ []
 
--- `<ul><li>a<p>x</p>b</li></ul>`: the characters that stand beside a paragraph get paragraphs of their own
+-- `<ul><li>a<p>x</p>b</li></ul>`: the characters that stand beside a paragraph get paragraphs of
+-- their own
 abbrev listed : List Item
 listed =
     open_ Ul ∷ open_ Li ∷ open_ P ∷ Char 97 None ∷ close_ P ∷ open_ P ∷ Char 120 None ∷ close_ P ∷ open_ P ∷ Char 98 None ∷ close_ P ∷ close_ Li ∷ close_ Ul

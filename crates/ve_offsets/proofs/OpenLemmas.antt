@@ -13,7 +13,7 @@ use Rattle.model_items.proofs.LawLemmas.{if_ok, Ok-same, opened_before, closed_b
 use Rattle.model_items.proofs.NodeAtLemmas.{open_is_stack}
 use Rattle.ve_offsets.proofs.UnmatchedLemmas.{closings_left, openings_left, opens_append, unmatched_is_left}
 use Rattle.ve_tree.specs.IsTree.{unvalued}
-use Rattle.model_items.specs.Offsets.{opens_at, unmatched}
+use Rattle.model_items.specs.Offsets.{opens_at, unmatched_counts}
 use Rattle.ve_offsets.specs.Unmatched.{unmatched_after, unmatched_in, AllBegin, UnmatchedAreOpen}
 
 -- after some items, of the nodes that were open `closed` are closed, and the begun ones are open
@@ -89,7 +89,7 @@ counts_are_left (Closing kind pre ∷ items) closings (suc openings) =
     counts_are_left items closings openings ∙ (λ i. (c i, o i))
 
 -- The walk over a range counts the brackets whose partners are not in it.
-pub counts_are_unmatched : (items : List Item) (from to : ℕ) → Lawful (unvalued items) → from ≤ to → to ≤ length items → unmatched_in items from to ≡ unmatched (unvalued items) from to
+pub counts_are_unmatched : (items : List Item) (from to : ℕ) → Lawful (unvalued items) → from ≤ to → to ≤ length items → unmatched_in items from to ≡ unmatched_counts (unvalued items) from to
 counts_are_unmatched items from to lawful order within =
     let all = unvalued items in
     let span = to - from in

@@ -8,7 +8,7 @@ unmatched_append : (xs ys : List Item) (counts : ℕ × ℕ) → unmatched_after
 unmatched_append [] ys counts = refl
 unmatched_append (x ∷ xs) ys counts = unmatched_append xs ys (unmatched_with x counts)
 
--- a piece from a place on, and what is left of the range
+-- a piece from a position on, and what is left of the range
 pub piece_counted : (items piece : List Item) (counts : ℕ × ℕ) (at k to : ℕ) → piece ≡ take (at + k - at) (drop at items) → at + k ≤ to →
     unmatched_after (unmatched_after counts piece) (take (to - (at + k)) (drop (at + k) items)) ≡ unmatched_after counts (take (to - at) (drop at items))
 piece_counted items piece counts at k to is_piece within =

@@ -6,7 +6,7 @@ use Rattle.ve_kinds.specs.declared.kind.Kind.{Kind}
 use Rattle.ve_kinds.specs.declared.kind.Kind.TheVariants.{Root, P, H1, H2, H3, H4, H5, H6, Pre, Section, Li, Dt, Dd, Blockquote, Div, Td, Th, Caption, InternalItem, Ul, Ol, Dl, Table, Thead, Tbody, Tfoot, Tr, InternalList, TransBlock, AlienBlock, Br, Img, Ref, TransInline, AlienInline}
 use Rattle.ve_kinds.specs.Table.{may_hold}
 use Rattle.model_items.specs.declared.plain_item.PlainItem.{PlainItem}
-use Rattle.model_items.specs.Law.{State, start, finish, top, opened, may_open}
+use Rattle.model_items.specs.Law.{State, start, finish, top, state_opened, may_open}
 use Rattle.model_items.specs.Tree.{item_count, Shape, Letter, Begin, End, shape_of, shapes}
 use Rattle.model_items.proofs.LawLemmas.{if_ok, joined-ok, after_from_Lawful}
 use Rattle.model_items.proofs.TreeLemmas.{tree_spells}
@@ -57,7 +57,7 @@ held_by_none Ref = refl
 held_by_none TransInline = refl
 held_by_none AlienInline = refl
 
-pub not_root : (s u : State) (kind : Kind) → opened s kind ≡ Ok u → kind ≢ Root
+pub not_root : (s u : State) (kind : Kind) → state_opened s kind ≡ Ok u → kind ≢ Root
 not_root s u kind h e =
     let allowed = (if_ok (may_open s kind) _ _ u h).0 in
     let held = (and_parts (may_hold (top s.stack) kind) _ allowed).0 in

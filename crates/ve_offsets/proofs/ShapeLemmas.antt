@@ -1,4 +1,5 @@
--- The law along what a tree writes out: whole nodes leave the open kinds as they are, and the kinds name the flag.
+-- The law along what a tree writes out: whole nodes leave the open kinds as they are, and the kinds
+-- name the flag.
 use Rattle.std.proofs.Common.{◌≡◌, ℕ, zero, suc, ◌≤◌, Bool, true, false, not, ◌&&◌, ◌||◌, if◌then◌else◌, List, [], ◌∷◌, ◌++◌, length, map, take, replicate, Result, Ok, Err, refl, sym, ap, ◌∙◌, subst, arith}
 use Rattle.std.proofs.Math.Seq.{take-append_seam}
 use Rattle.std.proofs.lemmas.Bool.{and_parts}
@@ -10,18 +11,18 @@ use Rattle.model_items.specs.declared.plain_item.PlainItem.{PlainItem}
 use Rattle.model_items.specs.declared.plain_item.PlainItem.TheVariants.{Char, Opening, Closing}
 use Rattle.model_items.specs.declared.law_fault.LawFault.{LawFault}
 use Rattle.model_items.specs.declared.law_fault.LawFault.TheVariants.{Unlawful}
-use Rattle.model_items.specs.Law.{State, start, finish, top, is_empty, is_over, may_open, opened, closed, step, outcome_moved, followed, after}
+use Rattle.model_items.specs.Law.{State, start, finish, top, is_empty, is_over, may_open, state_opened, state_closed, step, outcome_moved, outcome_then, after}
 use Rattle.model_items.specs.Tree.{Forest, Empty, Run, Branch, Shape, Letter, Begin, End, shape_of, shapes}
 use Rattle.model_items.proofs.LawLemmas.{if_ok, Ok-same, opened_before, closed_before, joined-ok}
 
 abbrev pub step_by : State → Shape → Result State LawFault
 step_by s Letter = if is_content_branch (top s.stack) then Ok s else Err (Unlawful 0)
-step_by s (Begin kind) = opened s kind
-step_by s (End kind) = closed s.stack s.seen kind
+step_by s (Begin kind) = state_opened s kind
+step_by s (End kind) = state_closed s.stack s.seen kind
 
 abbrev pub after_by : State → List Shape → Result State LawFault
 after_by s [] = Ok s
-after_by s (x ∷ xs) = followed 1 (step_by s x) (λ next. after_by next xs)
+after_by s (x ∷ xs) = outcome_then 1 (step_by s x) (λ next. after_by next xs)
 
 step-shape : (s : State) (x : PlainItem) → step s x ≡ step_by s (shape_of x)
 step-shape s (Char c marks) = refl
@@ -30,7 +31,7 @@ step-shape s (Closing kind pre) = refl
 
 pub after-shapes : (items : List PlainItem) (s : State) → after s items ≡ after_by s (map shape_of items)
 after-shapes [] s = refl
-after-shapes (x ∷ items) s = λ i. followed 1 (step-shape s x i) (λ next. after-shapes items next i)
+after-shapes (x ∷ items) s = λ i. outcome_then 1 (step-shape s x i) (λ next. after-shapes items next i)
 
 -- two parts
 pub by_parts : (xs ys : List Shape) (s u : State) → after_by s (xs ++ ys) ≡ Ok u → (t : State) × (after_by s xs ≡ Ok t) × (after_by t ys ≡ Ok u)
@@ -38,16 +39,16 @@ by_parts [] ys s u h = (s, refl, h)
 by_parts (x ∷ xs) ys s u h =
     let p = joined-ok 1 (step_by s x) (λ next. after_by next (xs ++ ys)) u h in
     let q = by_parts xs ys p.0 u p.2 in
-    (q.0, ap (λ r. followed 1 r (λ next. after_by next xs)) p.1 ∙ ap (outcome_moved 1) q.1, q.2)
+    (q.0, ap (λ r. outcome_then 1 r (λ next. after_by next xs)) p.1 ∙ ap (outcome_moved 1) q.1, q.2)
 
 pub by_whole : (xs ys : List Shape) (s t u : State) → after_by s xs ≡ Ok t → after_by t ys ≡ Ok u → after_by s (xs ++ ys) ≡ Ok u
 by_whole [] ys s t u p q = subst (λ v. after_by v ys ≡ Ok u) (sym (Ok-same {E = LawFault} s t p)) q
 by_whole (x ∷ xs) ys s t u p q =
     let r = joined-ok 1 (step_by s x) (λ next. after_by next xs) t p in
-    ap (λ o. followed 1 o (λ next. after_by next (xs ++ ys))) r.1 ∙ ap (outcome_moved 1) (by_whole xs ys r.0 t u r.2 q)
+    ap (λ o. outcome_then 1 o (λ next. after_by next (xs ++ ys))) r.1 ∙ ap (outcome_moved 1) (by_whole xs ys r.0 t u r.2 q)
 
 pub by_one : (x : Shape) (s u : State) → step_by s x ≡ Ok u → after_by s (x ∷ []) ≡ Ok u
-by_one x s u h = ap (λ r. followed 1 r (λ next. after_by next [])) h
+by_one x s u h = ap (λ r. outcome_then 1 r (λ next. after_by next [])) h
 
 -- whole nodes leave the open kinds as they are
 letters_level : (n : ℕ) (s t : State) → after_by s (replicate n Letter) ≡ Ok t → s ≡ t
@@ -74,7 +75,8 @@ level (Branch kind inside later) s t h =
     outer : (k : Kind) (xs ys : List Kind) → ◌≡◌ {A = List Kind} (k ∷ xs) (k ∷ ys) → xs ≡ ys
     outer k xs ys e = cc
 
--- the flag where something is open: whether the outermost kind is the internal list, which stands nowhere else
+-- the flag where something is open: whether the outermost kind is the internal list, which stands
+-- nowhere else
 abbrev pub SeenBy : List Kind → Bool → Type 0
 SeenBy [] seen = Unit {0}
 SeenBy (k ∷ []) seen = seen ≡ kind_same k InternalList
@@ -174,12 +176,12 @@ pass pre post f s before whole some =
 
 -- what stands at the prefix may be entered
 pub enters : (pre more : List Shape) (kind : Kind) (s : State) → after_by start pre ≡ Ok s → after_by start (pre ++ (Begin kind ∷ more)) ≡ Ok finish →
-    (u : State) × (opened s kind ≡ Ok u)
+    (u : State) × (state_opened s kind ≡ Ok u)
 enters pre more kind s before whole =
     let p = by_parts pre (Begin kind ∷ more) start finish whole in
     let is_s : p.0 ≡ s = Ok-same {E = LawFault} p.0 s (sym p.1 ∙ before) in
     let q = joined-ok 1 (step_by p.0 (Begin kind)) (λ next. after_by next more) finish p.2 in
-    (q.0, subst (λ t. opened t kind ≡ Ok q.0) is_s q.1)
+    (q.0, subst (λ t. state_opened t kind ≡ Ok q.0) is_s q.1)
 
 -- the state after as many items
 pub reached : (pre post : List Shape) (items : List PlainItem) (o : ℕ) (s : State) → pre ++ post ≡ map shape_of items → length pre ≡ o → after_by start pre ≡ Ok s →

@@ -6,7 +6,7 @@ use Rattle.ve_kinds.specs.declared.kind.Kind.{Kind}
 use Rattle.model_items.specs.declared.item.Item.{Item}
 use Rattle.model_items.specs.declared.plain_item.PlainItem.{PlainItem}
 use Rattle.model_items.specs.Plain.{plain}
-use Rattle.model_items.specs.Law.{State, start, finish, opened, after, Lawful}
+use Rattle.model_items.specs.Law.{State, start, finish, state_opened, after, Lawful}
 use Rattle.model_items.specs.Tree.{Forest, Empty, Run, Branch, item_count, tree_of, Shape, Letter, Begin, End, shape_of, shapes}
 use Rattle.model_items.proofs.LawLemmas.{after_from_Lawful}
 use Rattle.model_items.proofs.TreeLemmas.{tree_spells}
@@ -38,7 +38,8 @@ replicate-add : (m n : ℕ) (x : Shape) → replicate (m + n) x ≡ replicate m 
 replicate-add zero n x = let e : 0 + n ≡ n = omega arith in ap (λ k. replicate k x) e
 replicate-add (suc m) n x = let e : suc m + n ≡ suc (m + n) = omega arith in ap (λ k. replicate k x) e ∙ ap (λ xs. x ∷ xs) (replicate-add m n x)
 
--- The walk has passed shapes that lead to the state, and the siblings of a forest are still to be passed, `left` items before the offset.
+-- The walk has passed shapes that lead to the state, and the siblings of a forest are still to be
+-- passed, `left` items before the offset.
 pub record OnTheWay (slots : Slots) (items : List PlainItem) (o : ℕ) (state : State) (next : Option NodeId) (left : ℕ) (f : Named) : Type 0 where
   pub pre : List Shape
   pub rest : List Shape
@@ -197,8 +198,8 @@ way_skip slots items o state child left node lawful within w here le = by_forest
 
 -- a node round the offset is entered
 pub record Entered (slots : Slots) (items : List PlainItem) (o : ℕ) (state : State) (node : ArenaNode) (kind : Kind) (left : ℕ) : Type 0 where
-  pub opens : (u : State) × (opened state kind ≡ Ok u)
-  pub on : (u : State) → opened state kind ≡ Ok u → StateWalk slots items o u node.first (left - 1)
+  pub opens : (u : State) × (state_opened state kind ≡ Ok u)
+  pub on : (u : State) → state_opened state kind ≡ Ok u → StateWalk slots items o u node.first (left - 1)
 
 pub way_enter : (slots : Slots) (items : List PlainItem) (o : ℕ) (state : State) (child : NodeId) (left : ℕ) (node : ArenaNode) (kind : Kind) → Lawful items →
     StateWalk slots items o state (Some child) left → slot_at slots child.0 ≡ Some node → node.what ≡ what.Node kind → left < node.len → 0 < left →
@@ -220,7 +221,7 @@ way_enter slots items o state child left node kind lawful w here sort lt some = 
         let opens = enters w.pre more k state w.before (goes_well items _ lawful w.whole) in
         let joined : shapes (unnumbered inside) ++ (End k ∷ (shapes (unnumbered later) ++ w.rest)) ≡ more = sym (append_assoc (shapes (unnumbered inside)) (End k ∷ shapes (unnumbered later)) w.rest) in
         record {
-          opens = (opens.0, subst (λ k. opened state k ≡ Ok opens.0) same opens.1);
+          opens = (opens.0, subst (λ k. state_opened state k ≡ Ok opens.0) same opens.1);
           on = λ u e. record {
             forest = inside;
             on = record {
@@ -228,7 +229,7 @@ way_enter slots items o state child left node kind lawful w here sort lt some = 
               rest = End k ∷ (shapes (unnumbered later) ++ w.rest);
               whole = append_assoc w.pre (Begin k ∷ []) (shapes (unnumbered inside) ++ (End k ∷ (shapes (unnumbered later) ++ w.rest))) ∙ ap (λ xs. w.pre ++ (Begin k ∷ xs)) joined ∙ w.whole;
               sum = omega (arith, w.sum, length-append w.pre (Begin k ∷ []), some);
-              before = by_whole w.pre (Begin k ∷ []) start state u w.before (by_one (Begin k) state u (subst (λ k. opened state k ≡ Ok u) (sym same) e));
+              before = by_whole w.pre (Begin k ∷ []) start state u w.before (by_one (Begin k) state u (subst (λ k. state_opened state k ≡ Ok u) (sym same) e));
               room = omega (arith, n.len_is, lt);
               next_is = sym (ap (link_in (λ node. node.first)) n.here) ∙ w.shown.0.children.first;
               inner = h;

@@ -1,4 +1,5 @@
--- How many brackets of a range are unmatched: what is left when openings and closings of the range are paired, read from its end.
+-- How many brackets of a range are unmatched: what is left when openings and closings of the range
+-- are paired, read from its end.
 use Rattle.std.specs.Prelude.{count_by, filter, slice_get}
 use Rattle.std.specs.List.{range_with_len}
 use Rattle.std.proofs.Common.{◌≡◌, ◌≤◌, ◌<◌, ◌+◌, ◌-◌, ◌⊎◌, inl, inr, ℕ, zero, suc, Bool, true, false, cond, not, ◌&&◌, nat_le, nat_lt, List, [], ◌∷◌, ◌++◌, length, take, drop, Some, refl, sym, ap, ◌∙◌, subst, arith, append-nil, zero-add, length-drop}
@@ -9,7 +10,7 @@ use Rattle.model_items.specs.declared.plain_item.PlainItem.{PlainItem}
 use Rattle.model_items.specs.declared.plain_item.PlainItem.TheVariants.{Char, Opening, Closing}
 use Rattle.model_items.specs.Law.{start, finish, step, after, Lawful}
 use Rattle.model_items.specs.Tree.{Open, opens_with, opens_after, length_to_close}
-use Rattle.model_items.specs.Offsets.{is_opening, is_closing, passes, opens_at, first_from, partner, partner_of, is_unmatched, unmatched}
+use Rattle.model_items.specs.Offsets.{is_opening, is_closing, passes, opens_at, first_from, partner, partner_of, is_unmatched, unmatched_counts}
 use Rattle.model_items.proofs.LawLemmas.{joined-ok, closed_before, after_parts, after_from_Lawful}
 use Rattle.model_items.proofs.NodeAtLemmas.{open_is_stack}
 
@@ -66,7 +67,7 @@ opens_append opens at (x ∷ xs) ys =
     opens_append (opens_with x at opens) (suc at) xs ys
     ∙ ap (λ n. opens_after (opens_after (opens_with x at opens) (suc at) xs) n ys) n
 
--- what the rest of a list from a place on tells of the place
+-- what the rest of a list from a position on tells of the position
 pub place_rest : (whole : List PlainItem) (at : ℕ) (x : PlainItem) (rest : List PlainItem) → drop at whole ≡ x ∷ rest →
     (slice_get whole at ≡ Some x) × (drop (suc at) whole ≡ rest) × (take (suc at) whole ≡ take at whole ++ x ∷ [])
 place_rest [] zero x rest h = absurd (cc)
@@ -115,7 +116,7 @@ count_yes q p at ns yes_ also =
     ∙ sum_by-cons (λ n. cond (q n) 1 0) at (filter p ns)
     ∙ ap (λ b. cond b 1 0 + count_by q (filter p ns)) also
 
--- a place is in a range, before it or past it
+-- a position is in a range, before it or past it
 in_range : (from to other : ℕ) → from ≤ other → other < to → not (nat_le from other && nat_lt other to) ≡ false
 in_range from to other low high = ap not (and_from _ _ (le-leb from other low) (lt-ltb other to high))
 
@@ -137,7 +138,7 @@ past_range from to other high =
     none true = refl
     none false = refl
 
--- nodes that open in a range, before a place
+-- nodes that open in a range, before a position
 abbrev Begun : ℕ → ℕ → List Open → Type 0
 Begun from at [] = Unit {0}
 Begun from at (o ∷ opens) = (from ≤ o.from) × (o.from < at) × Begun from at opens
@@ -146,7 +147,7 @@ begun_later : (from at : ℕ) (opens : List Open) → Begun from at opens → Be
 begun_later from at [] all = tt
 begun_later from at (o ∷ opens) all = (all.0, omega (arith, all.1), begun_later from at opens all.2)
 
--- nodes that open before a place
+-- nodes that open before a position
 abbrev AllBefore : ℕ → List Open → Type 0
 AllBefore at [] = Unit {0}
 AllBefore at (o ∷ opens) = (o.from < at) × AllBefore at opens
@@ -170,7 +171,7 @@ before_after (x ∷ items) opens at all =
     with_one (Opening kind head marks pre origin generated) = (omega arith, before_later at (suc at) opens (omega arith) all)
     with_one (Closing kind pre) = before_fewer (suc at) opens (before_later at (suc at) opens (omega arith) all)
 
--- the places so many from one on, as those after it
+-- the positions so many from one on, as those after it
 later_places : (q p : ℕ → Bool) (at count : ℕ) → count_by q (filter p (range_with_len (at + 1) count)) ≡ count_by q (filter p (range_with_len (suc at) count))
 later_places q p at count = let e : at + 1 ≡ suc at = omega arith in ap (λ n. count_by q (filter p (range_with_len n count))) e
 
@@ -221,7 +222,7 @@ module _ (whole : List PlainItem) (from to : ℕ) where
           (in_range from to (partner whole at) (omega (arith, partner_is, low)) (omega (arith, partner_is, inside, end))) in
           omega (arith, counted, later, e)
 
-  -- the unmatched openings of the range from a place on
+  -- the unmatched openings of the range from a position on
   openings_counted : (xs suffix : List PlainItem) (at : ℕ) → drop at whole ≡ xs ++ suffix → at + length xs ≡ to → from ≤ at → Ends xs suffix →
       count_by (λ n. passes is_opening (slice_get whole n)) (filter (is_unmatched whole from to) (range_with_len at (length xs))) ≡ openings_left xs
   openings_counted [] suffix at h end low some = refl
@@ -244,12 +245,14 @@ module _ (whole : List PlainItem) (from to : ℕ) where
       (later_places q (is_unmatched whole from to) at (length xs)
       ∙ openings_counted xs suffix (suc at) p.1 (omega (arith, end)) (omega (arith, low)) (ends_fewer xs (1 - closings_left xs) suffix some))
 
-  -- where nothing that opened in the range is open, the partner of a closing stands before the range
+  -- where nothing that opened in the range is open, the partner of a closing stands before the
+  -- range
   outer_begins : (opens : List Open) → AllBefore from opens → 0 < length opens → first_from opens < from
   outer_begins [] all some = absurd (omega (arith, some))
   outer_begins (o ∷ opens) all some = all.0
 
-  -- the unmatched closings of the range from a place on, where some nodes that opened in the range are open
+  -- the unmatched closings of the range from a position on, where some nodes that opened in the
+  -- range are open
   closings_counted : (xs suffix : List PlainItem) (at : ℕ) (begun outer : List Open) → Lawful whole → drop at whole ≡ xs ++ suffix → at + length xs ≡ to → from ≤ at →
       opens_at whole at ≡ begun ++ outer → Begun from at begun → AllBefore from outer →
       count_by (λ n. passes is_closing (slice_get whole n)) (filter (is_unmatched whole from to) (range_with_len at (length xs))) ≡ closings_left xs - length begun
@@ -295,7 +298,7 @@ module _ (whole : List PlainItem) (from to : ℕ) where
 
 -- The unmatched brackets of a range are those that are left.
 pub unmatched_is_left : (items : List PlainItem) (from to : ℕ) → Lawful items → from ≤ to → to ≤ length items →
-    unmatched items from to ≡ (closings_left (take (to - from) (drop from items)), openings_left (take (to - from) (drop from items)))
+    unmatched_counts items from to ≡ (closings_left (take (to - from) (drop from items)), openings_left (take (to - from) (drop from items)))
 unmatched_is_left items from to lawful order within =
     λ i. (
       (ap (λ n. count_by (λ at. passes is_closing (slice_get items at)) (filter (is_unmatched items from to) (range_with_len from n))) (sym long) ∙ closings) i,

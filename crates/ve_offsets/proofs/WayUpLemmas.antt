@@ -9,7 +9,7 @@ use Rattle.ve_kinds.specs.Table.{is_content_branch}
 use Rattle.model_items.specs.declared.plain_item.PlainItem.{PlainItem}
 use Rattle.model_items.specs.declared.plain_item.PlainItem.TheVariants.{Char, Opening, Closing}
 use Rattle.model_items.specs.declared.law_fault.LawFault.{LawFault}
-use Rattle.model_items.specs.Law.{State, start, finish, top, is_empty, is_over, may_open, opened, step, followed, after, Lawful}
+use Rattle.model_items.specs.Law.{State, start, finish, top, is_empty, is_over, may_open, state_opened, step, outcome_then, after, Lawful}
 use Rattle.model_items.specs.Tree.{Open, opens_with, opens_after, node_at, place_with, shape_of, Begin}
 use Rattle.model_items.proofs.LawLemmas.{if_ok, Ok-same, opened_before, closed_before, after_parts, after_whole, joined-ok, after_from_Lawful}
 use Rattle.model_items.proofs.NodeAtLemmas.{open_is_stack}
@@ -48,7 +48,7 @@ pub record Step (items : List PlainItem) (x : Open) (outer : List Open) : Type 0
   pub u : State
   pub v : State
   pub before : after start (take x.from items) ≡ Ok u
-  pub opens : opened u x.kind ≡ Ok v
+  pub opens : state_opened u x.kind ≡ Ok v
 
 abbrev Chain : List PlainItem → List Open → Type 0
 Chain items [] = Unit {0}
@@ -69,7 +69,7 @@ longer : (items pre : List PlainItem) (opens : List Open) (s t : State) (x : Pla
     Chain items (opens_with x (length pre) opens) → Prefix items (pre ++ (x ∷ [])) (opens_with x (length pre) opens) t rest
 longer items pre opens s t x rest p e chain = record {
   whole = append_assoc pre (x ∷ []) rest ∙ p.whole;
-  state = after_whole pre (x ∷ []) start s t p.state (ap (λ r. followed 1 r (λ next. Ok next)) e);
+  state = after_whole pre (x ∷ []) start s t p.state (ap (λ r. outcome_then 1 r (λ next. Ok next)) e);
   open_is = ap (opens_with x (length pre)) p.open_is ∙ sym (opens_append [] 0 pre (x ∷ []) ∙ ap (λ n. opens_with x n (opens_after [] 0 pre)) at);
   chain = chain;
 }
@@ -77,7 +77,7 @@ longer items pre opens s t x rest p e chain = record {
     at : 0 + length pre ≡ length pre
     at = omega arith
 
-step_here : (items pre : List PlainItem) (opens : List Open) (s t : State) (x : PlainItem) (rest : List PlainItem) (kind : Kind) → Prefix items pre opens s (x ∷ rest) → opened s kind ≡ Ok t →
+step_here : (items pre : List PlainItem) (opens : List Open) (s t : State) (x : PlainItem) (rest : List PlainItem) (kind : Kind) → Prefix items pre opens s (x ∷ rest) → state_opened s kind ≡ Ok t →
     Step items (record { kind = kind; from = length pre }) opens
 step_here items pre opens s t x rest kind p e =
     let here : take (length pre) items ≡ pre = ap (take (length pre)) (sym p.whole) ∙ take-append_seam pre (x ∷ rest) in
@@ -115,7 +115,7 @@ opened_at items o x outer lawful e =
 
 -- an opening leads to the state at each offset where its node is the innermost
 pub entered : (items : List PlainItem) (o : ℕ) (x : Open) (outer : List Open) (mid new : State) → Lawful items → o < length items → opens_after [] 0 (take o items) ≡ x ∷ outer →
-    after start (take x.from items) ≡ Ok mid → opened mid x.kind ≡ Ok new → after start (take o items) ≡ Ok new
+    after start (take x.from items) ≡ Ok mid → state_opened mid x.kind ≡ Ok new → after start (take o items) ≡ Ok new
 entered items o x outer mid new lawful within e before opens =
     let s = state_there items o lawful in
     let there = opened_at items o x outer lawful e in
@@ -126,7 +126,7 @@ entered items o x outer mid new lawful within e before opens =
     let long = length-drop o items in
     let told_s = told (map shape_of (take o items)) start s.0 tt (sym (after-shapes (take o items) start) ∙ s.1) in
     let told_mid = told (map shape_of (take x.from items)) start mid tt (sym (after-shapes (take x.from items) start) ∙ before) in
-    let told_new = told (Begin x.kind ∷ []) mid new told_mid (ap (λ r. followed 1 r (λ next. Ok next)) opens) in
+    let told_new = told (Begin x.kind ∷ []) mid new told_mid (ap (λ r. outcome_then 1 r (λ next. Ok next)) opens) in
     let on_s = on_before (map shape_of (drop o items)) s.0 finish (omega (arith, length-map (drop o items) shape_of, long, within)) (sym (after-shapes (drop o items) s.0) ∙ s.2) in
     let on_new : is_over new ≡ false = ap (λ stack. is_empty stack && new.seen) (sym on_top) in
     s.1 ∙ ap Ok (same_state s.0 new stacks told_s told_new on_s on_new)
@@ -223,11 +223,11 @@ up {items = items} n o node parent x outer other round here is_parent opens tree
     subst (λ from. IsNodeAt tree parent (node_at items from)) from (parent_holds tree r.place n node parent r.listed r.number_is here is_parent)
 
 pub may_enter : (items : List PlainItem) (o : ℕ) (x : Open) (outer : List Open) (mid : State) → Lawful items → opens_after [] 0 (take o items) ≡ x ∷ outer →
-    after start (take x.from items) ≡ Ok mid → IsOk (opened mid x.kind)
+    after start (take x.from items) ≡ Ok mid → IsOk (state_opened mid x.kind)
 may_enter items o x outer mid lawful e before =
     let there = opened_at items o x outer lawful e in
     let same : there.u ≡ mid = Ok-same {E = LawFault} there.u mid (sym there.before ∙ before) in
-    subst IsOk (sym (ap (λ (s : State). opened s x.kind) (sym same) ∙ there.opens)) refl
+    subst IsOk (sym (ap (λ (s : State). state_opened s x.kind) (sym same) ∙ there.opens)) refl
 
 -- its kind is the one that was opened
 pub kind_round : {slots : Slots} {root : NodeId} {items : List PlainItem} (tree : IsTree slots root items) (n : NodeId) (o : ℕ) (node : ArenaNode) (kind : Kind) (r : Round tree n o) →

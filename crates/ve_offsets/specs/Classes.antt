@@ -21,8 +21,8 @@ IsInsideLeaf items o = class_at (unvalued items) o ≡ Inside
 abbrev pub IsStructural : List Item → ℕ → Type 0
 IsStructural items o = class_at (unvalued items) o ≡ Structural
 
--- the class of the offset after an item: after a closing it lies in what holds the closed node, and content branches hold inline
--- leaves alone
+-- the class of the offset after an item: after a closing it lies in what holds the closed node, and
+-- content branches hold inline leaves alone
 abbrev pub class_after : Item → OffsetClass
 class_after (Char ch marks) = Content
 class_after (Opening kind generated head marks pre origin) = class_in kind

@@ -1,4 +1,4 @@
--- What each call asks of a page that is lent.
+-- Preconditions of each call on a borrowed page.
 use Rattle.std.specs.Prelude.{List}
 use Rattle.model_items.specs.declared.plain_item.PlainItem.{PlainItem}
 use Rattle.model_items.specs.Plain.{plain_list}

@@ -1,10 +1,12 @@
--- How the nearest content offset is searched for; a lemma takes what is found to the model's `nearest_content`.
+-- How the nearest content offset is searched for; a lemma takes what is found to the model's
+-- `nearest_content`.
 use Rattle.std.specs.Prelude.{◌≡◌, ◌≤◌, ℕ, ◌+◌, ◌-◌, List, length}
 use Rattle.model_items.specs.declared.item.Item.{Item}
 use Rattle.model_items.specs.Offsets.{distance}
 use Rattle.ve_offsets.specs.Classes.{IsContent}
 
--- p is a content offset of the list, no other lies nearer to o, and at the same distance none lies lower
+-- p is a content offset of the list, no other lies nearer to o, and at the same distance none lies
+-- lower
 pub record IsNearestContent (items : List Item) (o p : ℕ) : Type 0 where
   pub within : p ≤ length items
   pub content : IsContent items p

@@ -19,7 +19,8 @@ IsStateAt items o s = after start (take o items) ≡ Ok s
 abbrev pub IsRound : List (Option ArenaNode) → NodeId → List PlainItem → NodeId → ℕ → Type 0
 IsRound slots root items n o = (tree : IsTree slots root items) → IsNodeAt tree n (node_at items o)
 
--- from the start of the list, the items before any offset that the node is the innermost one round lead to the state
+-- from the start of the list, the items before any offset that the node is the innermost one round
+-- lead to the state
 abbrev pub IsStateRound : List (Option ArenaNode) → NodeId → List Item → NodeId → State → Type 0
 IsStateRound slots root items n s =
     (o : ℕ) → o < length items → IsRound slots root (unvalued items) n o → law.after start (take o (unvalued items)) ≡ Ok s

@@ -24,8 +24,8 @@ fn class_in(kind: Kind) -> OffsetClass
     }
 }
 
-/// The class of the offset after an item. After a closing it lies in what holds the closed node, which is a
-/// content branch for an inline leaf alone.
+/// The class of the offset after an item. After a closing it lies in what holds the closed node,
+/// which is a content branch for an inline leaf alone.
 pub fn class_after(item: Item) -> OffsetClass
     ensures { result ≡ classes.class_after item }
 {

@@ -10,11 +10,11 @@ ghost use Rattle.ve_offsets.specs.Nearest.{IsNearestContent, HasNoContent, IsCon
 
 use crate::Doc;
 use crate::class::class_after;
-use crate::reader::Reader;
+use crate::reader::OffsetReader;
 use model_items::OffsetClass;
 
 /// The class of an offset, by the item before it.
-fn class_in_list(items: &mut Reader<'_>, o: usize) -> OffsetClass
+fn class_in_list(items: &mut OffsetReader<'_>, o: usize) -> OffsetClass
     requires lawful { Lawful (unvalued items.old) }
     requires within { o ≤ length items.old }
     ensures class { result ≡ tree.class_at (unvalued items.old) o }
@@ -27,7 +27,7 @@ fn class_in_list(items: &mut Reader<'_>, o: usize) -> OffsetClass
 }
 
 /// Whether an offset is content.
-fn is_content_in(items: &mut Reader<'_>, o: usize) -> bool
+fn is_content_in(items: &mut OffsetReader<'_>, o: usize) -> bool
     requires lawful { Lawful (unvalued items.old) }
     requires within { o ≤ length items.old }
     ensures content { IsTrue result ↔ IsContent items.old o }
@@ -37,7 +37,7 @@ fn is_content_in(items: &mut Reader<'_>, o: usize) -> bool
 }
 
 /// Whether the offset `away` items before this one is content.
-fn is_content_before(items: &mut Reader<'_>, o: usize, away: usize) -> bool
+fn is_content_before(items: &mut OffsetReader<'_>, o: usize, away: usize) -> bool
     requires lawful { Lawful (unvalued items.old) }
     requires within { o ≤ length items.old }
     ensures content { IsTrue result ↔ IsContentBefore items.old o away }
@@ -50,7 +50,7 @@ fn is_content_before(items: &mut Reader<'_>, o: usize, away: usize) -> bool
 }
 
 /// Whether the offset `away` items after this one is content.
-fn is_content_after(items: &mut Reader<'_>, o: usize, away: usize) -> bool
+fn is_content_after(items: &mut OffsetReader<'_>, o: usize, away: usize) -> bool
     requires lawful { Lawful (unvalued items.old) }
     requires within { o ≤ length items.old }
     ensures content { IsTrue result ↔ IsContentAfter items.old o away }
@@ -70,8 +70,8 @@ fn search(doc: Doc<'_>, o: usize) -> Option<usize>
     ensures none { IfNone result (HasNoContent doc.entry.list.now.items) }
 {
     let len = doc.list.len();
-    let mut before = Reader::new(doc.list);
-    let mut after = Reader::new(doc.list);
+    let mut before = OffsetReader::new(doc.list);
+    let mut after = OffsetReader::new(doc.list);
     let mut away = 0;
     loop {
         if is_content_before(&mut before, o, away) {
@@ -87,7 +87,8 @@ fn search(doc: Doc<'_>, o: usize) -> Option<usize>
     }
 }
 
-/// The content offset nearest to an offset, the lower one of two at the same distance, and none where the list has none.
+/// The content offset nearest to an offset, the lower one of two at the same distance, and none
+/// where the list has none.
 pub fn nearest_content(doc: Doc<'_>, o: usize) -> Option<usize>
     requires doc { IsDoc doc }
     requires within { o ≤ length doc.list.now.items }

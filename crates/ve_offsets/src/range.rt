@@ -43,12 +43,13 @@ fn with_items(counts: (usize, usize), items: &[Item]) -> (usize, usize)
     now
 }
 
-/// How many closings and openings of a range are unmatched: their partners are not in it. It reads the items of the range, and no other.
+/// How many closings and openings of a range are unmatched: their partners are not in it. It reads
+/// the items of the range, and no other.
 pub fn unmatched(doc: Doc<'_>, from: usize, to: usize) -> (usize, usize)
     requires doc { IsDoc doc }
     requires order { from ≤ to }
     requires within { to ≤ length doc.list.now.items }
-    ensures { result ≡ model.unmatched (unvalued doc.entry.list.now.items) from to }
+    ensures { result ≡ model.unmatched_counts (unvalued doc.entry.list.now.items) from to }
 {
     let mut counts = (0, 0);
     let mut at = from;

@@ -5,17 +5,17 @@ ghost use Rattle.ve_offsets.specs.Lent.{IsPiece, HoldsItem};
 use std::marker::Model;
 use ve_items::{Item, Linear};
 
-/// A list that is read at places near one another, seen as its items. It keeps what was lent at the last place, so a walk to one side
-/// looks for each block once.
+/// A list that is read at positions near one another, seen as its items. It keeps what was borrowed
+/// at the last position, so a walk to one side looks for each block once.
 #[derive(Drop)]
-pub struct Reader<'a> {
+pub struct OffsetReader<'a> {
     list: &'a Linear,
-    // what was lent, and where its first item stands
+    // the position of the first item of the borrowed piece
     from: usize,
     piece: &'a [Item],
 }
 
-impl<'a> Model for Reader<'a> {
+impl<'a> Model for OffsetReader<'a> {
     ghost use Rattle.std.specs.Prelude.{List};
     ghost use Rattle.model_items.specs.declared.item.Item.{Item};
     ghost use Rattle.ve_offsets.specs.Lent.{IsPiece};
@@ -27,7 +27,8 @@ impl<'a> Model for Reader<'a> {
     ghost invariant = { λ r. IsPiece r.list.now.items r.from r.piece.now };
 }
 
-/// Lends items with the one at a place, and gives the place of the first: those before it in its block, or else those after it.
+/// Lends items with the one at a position, and gives the position of the first: those before it in
+/// its block, or else those after it.
 fn lend<'a>(list: &'a Linear, at: usize, left: bool) -> (usize, &'a [Item])
     requires { at < length list.now.items }
     ensures { HoldsItem list.now.items at result.0 result.1.now }
@@ -41,11 +42,11 @@ fn lend<'a>(list: &'a Linear, at: usize, left: bool) -> (usize, &'a [Item])
     (at, list.piece(at, len))
 }
 
-impl<'a> Reader<'a> {
-    pub fn new(list: &'a Linear) -> Reader<'a>
+impl<'a> OffsetReader<'a> {
+    pub fn new(list: &'a Linear) -> OffsetReader<'a>
         ensures { result ≡ list.now.items }
     {
-        Reader {
+        OffsetReader {
             list,
             from: 0,
             piece: &[],
@@ -59,7 +60,7 @@ impl<'a> Reader<'a> {
         self.list.len()
     }
 
-    /// The item at a place.
+    /// The item at a position.
     pub fn get(&mut self, at: usize) -> Item
         requires { at < length self.old }
         ensures item { slice_get self.old at ≡ Some result }

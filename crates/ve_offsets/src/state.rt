@@ -14,8 +14,8 @@ use ve_tree::{NodeId, NodeWhat};
 
 /// Opens a node of a kind, where it may be opened.
 fn enter(state: &mut State, kind: Kind)
-    requires { IsOk (law.opened state.old kind) }
-    ensures { law.opened state.old kind ≡ Ok state.new }
+    requires { IsOk (law.state_opened state.old kind) }
+    ensures { law.state_opened state.old kind ≡ Ok state.new }
 {
     let opening = Item::Opening {
         kind,
@@ -47,12 +47,15 @@ fn finished() -> State
     }
 }
 
-/// Enters the nodes round a node from the outermost in, and then the node itself; of the root nothing. There are at most so many of them.
+/// Enters the nodes round a node from the outermost in, and then the node itself; of the root
+/// nothing. There are at most so many of them.
 fn enter_round(state: &mut State, doc: Doc<'_>, n: NodeId, levels: usize)
     requires doc { IsDoc doc }
     requires start { state.old ≡ law.start }
-    requires round { IsRoundSome doc.tree.now.arena doc.tree.now.root (unvalued doc.list.now.items) n levels }
-    ensures { IsStateRound doc.entry.tree.now.arena doc.entry.tree.now.root doc.entry.list.now.items n state.new }
+    requires round { IsRoundSome doc.tree.now.arena doc.tree.now.root (unvalued doc.list.now.items)
+        n levels }
+    ensures { IsStateRound doc.entry.tree.now.arena doc.entry.tree.now.root doc.entry.list.now.items
+        n state.new }
 {
     if n.0 == doc.tree.root.0 {
         return;
@@ -68,7 +71,8 @@ fn enter_round(state: &mut State, doc: Doc<'_>, n: NodeId, levels: usize)
     enter(state, kind);
 }
 
-/// The state before the list's end: the kinds of the nodes round the offset, entered from the root down.
+/// The state before the list's end: the kinds of the nodes round the offset, entered from the root
+/// down.
 fn state_within(doc: Doc<'_>, o: usize) -> State
     requires doc { IsDoc doc }
     requires within { o < length doc.list.now.items }
@@ -79,8 +83,9 @@ fn state_within(doc: Doc<'_>, o: usize) -> State
     state
 }
 
-/// The open kinds at an offset, and whether the internal list was opened before it: the law's state after the
-/// items before the offset. It goes up from the innermost node round the offset, and reads no item.
+/// The open kinds at an offset, and whether the internal list was opened before it: the law's state
+/// after the items before the offset. It goes up from the innermost node round the offset, and
+/// reads no item.
 pub fn state_at(doc: Doc<'_>, o: usize) -> State
     requires doc { IsDoc doc }
     requires within { o ≤ length doc.list.now.items }

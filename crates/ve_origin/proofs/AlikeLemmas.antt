@@ -9,7 +9,7 @@ use Rattle.ve_origin.specs.Agree.{Agree}
 pub piece_is : {A : Type 0} (xs piece : List A) (at : ℕ) → piece ≡ slice_range xs at (at + length piece) → piece ≡ take (length piece) (drop at xs)
 piece_is xs piece at is = is ∙ ap (λ m. take m (drop at xs)) (let e : at + length piece - at ≡ length piece = omega arith in e)
 
--- a range up to a place in a piece that begins where the range ended
+-- a range up to a position in a piece that begins where the range ended
 pub range_on : {A : Type 0} (xs piece : List A) (from n k : ℕ) → k ≤ length piece → piece ≡ slice_range xs (from + n) (from + n + length piece) →
     slice_range xs from (from + (n + k)) ≡ slice_range xs from (from + n) ++ take k piece
 range_on xs piece from n k le is =

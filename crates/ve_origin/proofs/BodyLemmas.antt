@@ -87,7 +87,7 @@ open_then depth d x y xs ys (Open e) h k = λ us vs.
 pub nothing_compared : (depth : ℕ) → Compares depth [] [] (Open depth)
 nothing_compared depth us vs = (λ e. e, λ e. e)
 
--- by a place of each piece
+-- by a position of each piece
 pub same_at : (depth i : ℕ) (one other : List Item) (x y : Item) → drop i one ≡ x ∷ drop (i + 1) one → drop i other ≡ y ∷ drop (i + 1) other → Compares depth (x ∷ []) (y ∷ []) Same →
     Compares depth (drop i one) (drop i other) Same
 same_at depth i one other x y e f h = subst (λ l. Compares depth l (drop i other) Same) (sym e) (subst (λ l. Compares depth (x ∷ drop (i + 1) one) l Same) (sym f) (same_first depth x y _ _ h))
@@ -114,7 +114,7 @@ both_end us vs a b h k is = (λ e. h.0 is ∙ sym (k.0 e), λ e. k.1 (sym e ∙ 
 pub open_items : (depth : ℕ) (x y : Item) (d : ℕ) → d ≡ depth_after depth x → (closes depth x && closes depth y) ≡ false → x ≡ y → Compares depth (x ∷ []) (y ∷ []) (Open d)
 open_items depth x y d e h same = subst (λ m. Compares depth (x ∷ []) (y ∷ []) (Open m)) (sym e) (item_shared depth x y h same)
 
--- whether a body ends at a place of a list
+-- whether a body ends at a position of a list
 pub ends_at : (depth at : ℕ) (items : List Item) (x : Item) (b : Bool) → slice_get items at ≡ Some x → b ≡ closes depth x → (b ≡ true ↔ cited_inside depth (drop at items) ≡ [])
 ends_at depth at items x b found is = cases b (sym is)
   where

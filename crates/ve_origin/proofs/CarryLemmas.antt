@@ -1,4 +1,4 @@
--- The references of two nodes that have the same items, by their rows and by their places.
+-- The references of two nodes that have the same items, by their rows and by their positions.
 use Rattle.std.proofs.Common.{◌≡◌, ℕ, zero, suc, ◌+◌, ◌-◌, ◌<◌, ◌≤◌, ◌==◌, ◌↔◌, Bool, true, false, List, [], ◌∷◌, length, take, drop, refl, sym, ap, ◌∙◌, arith, subst, eqb-true}
 use Rattle.std.specs.Prelude.{slice_get, find, Some, None, option_map}
 use Rattle.std.specs.List.{list_any, slice_range}
@@ -26,7 +26,8 @@ use Rattle.ve_origin.proofs.RowLemmas.{found_row}
 use Rattle.ve_origin.proofs.SplitLemmas.{body_for, AllSame}
 use Rattle.ve_origin.proofs.ValueLemmas.{bodies_decide}
 
--- the places of a node in each of two lists of items, up to which the internal list doesn't open, where both have the same items
+-- the positions of a node in each of two lists of items, up to which the internal list doesn't
+-- open, where both have the same items
 pub record AreAlike (xs ys : List PlainItem) (from a n : ℕ) : Type 0 where
   pub here : from + n ≤ length xs
   pub there : a + n ≤ length ys
@@ -34,7 +35,7 @@ pub record AreAlike (xs ys : List PlainItem) (from a n : ℕ) : Type 0 where
   pub outside : list_any opens_notes (take (from + n) xs) ≡ false
   pub outside_first : list_any opens_notes (take (a + n) ys) ≡ false
 
--- ---- the item at one place of both
+-- ---- the item at one position of both
 
 pub record ItemOf (xs : List PlainItem) (from i : ℕ) (y : PlainItem) : Type 0 where
   pub item : PlainItem
@@ -56,7 +57,7 @@ item_of xs from n i y within less e =
     let p = first_get (slice_range xs from (from + n)) i y e in
     record { item = p.0; found = range_get xs from n i less within ∙ p.1; same = p.2 }
 
--- one exists at each place
+-- one exists at each position
 some_at : (l : List PlainItem) (i : ℕ) → i < length l → (y : PlainItem) × (slice_get (first_plain l) i ≡ Some y)
 some_at [] i h = absurd (omega (arith, h))
 some_at (x ∷ l) zero h = (item_without_pre x, refl)
@@ -83,9 +84,9 @@ index_of p (x ∷ rows) r e = cases (x.at == p) refl (index_of p rows r)
         let m = more (sym later ∙ e) in
         (suc m.0, m.1, m.2)
 
--- ---- by places
+-- ---- by positions
 
--- each place carries the same in both
+-- each position carries the same in both
 abbrev pub AllPlaces : List Item → List Item → List PlainItem → List PlainItem → ℕ → ℕ → ℕ → Type 0
 AllPlaces now first xs ys from a n = (i : ℕ) → i < n → AreSameBodies now first (carried_at (table xs) (from + i)) (carried_at (table ys) (a + i))
 
@@ -115,7 +116,7 @@ module _ (values : List Value) (now first : List Item) (from a n : ℕ) (distinc
         λ h. subst (λ k. AreSameBodies now first (carried_at (table xs) (from + i)) k) q (subst (λ k. AreSameBodies now first k (place_of_body r)) p (d.1 h)),
       )
 
-  -- so all are the same by value where they are by their places
+  -- so all are the same by value where they are by their positions
   pub same_by_places : AreAlike xs ys from a n → AllPlaces now first xs ys from a n → AllSame (body_carried xs) (body_carried ys) from a (first_plain (slice_range xs from (from + n)))
   same_by_places alike all i y e =
       let less : i < n = first_less i y e in

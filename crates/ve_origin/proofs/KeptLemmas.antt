@@ -50,7 +50,7 @@ begun xs from n within some x =
 tail_is : (x y : PlainItem) (xs ys : List PlainItem) → first_plain (x ∷ xs) ≡ first_plain (y ∷ ys) → xs ≡ ys
 tail_is x y xs ys e = cc
 
--- ---- the node at a place
+-- ---- the node at a position
 
 first_node_is : (bodies : ℕ → Option Body) (at n : ℕ) (x : PlainItem) (xs : List PlainItem) → closes_last 0 (take n xs) ≡ true → first_node (carried_from bodies at (x ∷ xs)) ≡ carried_from bodies at (x ∷ take n xs)
 first_node_is bodies at n x xs h =

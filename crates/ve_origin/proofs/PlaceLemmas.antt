@@ -1,4 +1,4 @@
--- What the references at the places of a node carry.
+-- The bodies that the references at the positions of a node carry.
 use Rattle.std.proofs.Common.{◌≡◌, ℕ, zero, suc, ◌+◌, ◌-◌, ◌≤◌, Bool, true, false, List, [], ◌∷◌, ◌++◌, take, drop, refl, sym, ap, ◌∙◌, arith, subst, eq-eqb}
 use Rattle.std.specs.Prelude.{slice_get, Option, Some, None, option_map, if◌then◌else◌, ◌||◌}
 use Rattle.std.specs.List.{list_any, slice_range}
@@ -48,7 +48,8 @@ notes_first (x ∷ xs) = ap (λ b. b || list_any opens_notes xs) (notes_without 
 range_take : (xs : List PlainItem) (from n : ℕ) → take (from + n) xs ≡ take from xs ++ slice_range xs from (from + n)
 range_take xs from n = take-add from n xs ∙ ap (λ m. take from xs ++ take m (drop from xs)) (let e : n ≡ from + n - from = omega arith in e)
 
--- none opens up to a node's end, where none opens before the node and none in one that has the same items
+-- none opens up to a node's end, where none opens before the node and none in one that has the same
+-- items
 pub none_opens : (xs ys : List PlainItem) (from a n : ℕ) → list_any opens_notes (take from xs) ≡ false → list_any opens_notes (take (a + n) ys) ≡ false →
     first_plain (slice_range xs from (from + n)) ≡ first_plain (slice_range ys a (a + n)) → list_any opens_notes (take (from + n) xs) ≡ false
 none_opens xs ys from a n before other same =
@@ -65,14 +66,14 @@ none_opens xs ys from a n before other same =
 pub none_up_to : (xs : List PlainItem) (n p : ℕ) → p ≤ n → list_any opens_notes (take n xs) ≡ false → list_any opens_notes (take p xs) ≡ false
 none_up_to xs n p le h = ap (list_any opens_notes) (sym (take-take p n xs le)) ∙ any_take p (take n xs) h
 
--- ---- one place
+-- ---- one position
 
 own_without : (at : ℕ) (inside : Bool) (x : PlainItem) → own_refs at inside (item_without_pre x) ≡ own_refs at inside x
 own_without at inside (Char c marks) = refl
 own_without at inside (Closing kind pre) = refl
 own_without at inside (Opening kind head marks pre origin generated) = refl
 
--- the reference at a place of a list, where the internal list opens past it
+-- the reference at a position of a list, where the internal list opens past it
 there : (xs : List PlainItem) (p : ℕ) (x : PlainItem) → slice_get xs p ≡ Some x → list_any opens_notes (take p xs) ≡ false → ref_in p (refs_of xs) ≡ ref_in p (own_refs p false x)
 there xs p x e h =
     let z : 0 + p ≡ p = omega arith in
@@ -97,7 +98,8 @@ inside_for xs p (Char c marks) b e = cc
 inside_for xs p (Closing kind pre) b e = cc
 inside_for xs p (Opening kind head marks pre origin generated) b e = body_there xs p b e
 
--- where no reference stands in the one list, none stands in the other at the place of an item that differs in its whitespace alone
+-- where no reference stands in the one list, none stands in the other at the position of an item
+-- that differs in its whitespace alone
 own_none : (p q : ℕ) (x : PlainItem) → ref_in p (own_refs p false x) ≡ None → ref_in q (own_refs q false x) ≡ None
 own_none p q (Char c marks) e = refl
 own_none p q (Closing kind pre) e = refl

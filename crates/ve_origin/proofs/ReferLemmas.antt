@@ -1,4 +1,4 @@
--- The references of a list by their places, and the rows of its table.
+-- The references of a list by their positions, and the rows of its table.
 use Rattle.std.proofs.Common.{◌≡◌, ◌≢◌, ℕ, zero, suc, ◌+◌, ◌<◌, ◌≤◌, ◌==◌, Bool, true, false, List, [], ◌∷◌, ◌++◌, length, take, drop, map, refl, sym, ap, ◌∙◌, arith, eq-eqb}
 use Rattle.std.specs.Prelude.{slice_get, find, Option, Some, None, option_map, option_and_then, if◌then◌else◌, ◌&&◌, ◌||◌, not}
 use Rattle.std.specs.List.{list_any}
@@ -64,7 +64,7 @@ none_before at p inside (x ∷ xs) h =
     ∙ ap (λ o. option_or o (ref_in p (refs_from (suc at) (inside_after inside x) xs))) (own_apart at p inside x (λ e. omega (arith, h, e)))
     ∙ none_before (suc at) p (inside_after inside x) xs (omega (arith, h))
 
--- the reference at a place is the item there, where the internal list doesn't open before it
+-- the reference at a position is the item there, where the internal list doesn't open before it
 pub ref_here : (at i : ℕ) (inside : Bool) (xs : List PlainItem) (x : PlainItem) → slice_get xs i ≡ Some x → list_any opens_notes (take i xs) ≡ false →
     ref_in (at + i) (refs_from at inside xs) ≡ ref_in (at + i) (own_refs (at + i) inside x)
 ref_here at i inside [] x e h = cc
@@ -102,7 +102,7 @@ none_past at (suc i) inside (y ∷ xs) h =
     ∙ ap (λ n. ref_in n (refs_from (suc at) (inside_after inside y) xs)) next
     ∙ none_past (suc at) i (inside_after inside y) xs (omega (arith, h))
 
--- what stands at a place is no reference, or one that stands outside the internal list
+-- what stands at a position is no reference, or one that stands outside the internal list
 pub data RefThere (o : Option RefAt) : Type 0 where
   NoRef : o ≡ None → RefThere o
   IsRef : (r : RefAt) → o ≡ Some r → r.inside ≡ false → RefThere o
@@ -133,7 +133,7 @@ carried_cases c true b h = absurd cc
 carried_cases true false b h = refl
 carried_cases false false b h = refl
 
--- the place of the body that is carried, by the table
+-- the position of the body that is carried, by the table
 pub place_there : (items : List PlainItem) (p : ℕ) → RefThere (ref_in p (refs_of items)) → carried_at (table items) p ≡ place_of_body (body_carried items p)
 place_there items p (NoRef none) = ap carried_place (find_row items p (refs_of items) ∙ ap (option_map (ref_row items)) none) ∙ sym (ap (λ o. place_of_body (option_and_then (carried_by items) o)) none)
 place_there items p (IsRef r some outside) =
@@ -182,7 +182,7 @@ body_there items p b e = from (ref_in p (refs_of items)) e
 
 -- ---- the rows of a table rise
 
--- each stands at a place or past it
+-- each stands at a position or past it
 abbrev pub AreFrom : ℕ → List RefAt → Type 0
 AreFrom at refs = (k : ℕ) (r : RefAt) → slice_get refs k ≡ Some r → at ≤ r.at
 
@@ -245,6 +245,6 @@ table_rises items i j r s e f less =
     let rb = b.at_is in
     omega (arith, up, ra, rb)
 
--- a row stands at a place where a reference stands
+-- a row stands at a position where a reference stands
 pub row_there : (items : List PlainItem) (k : ℕ) (row : RefRow) → slice_get (table items) k ≡ Some row → (r : RefAt) × (slice_get (refs_of items) k ≡ Some r) × (r.at ≡ row.at)
 row_there items k row e = let h = row_of items (refs_of items) k row e in (h.ref, h.found, h.at_is)

@@ -46,7 +46,7 @@ pub no_row : (rows : List RefRow) (at : ℕ) → ((j : ℕ) (s : RefRow) → sli
 no_row [] at h = refl
 no_row (x ∷ rows) at h = find_later rows x at (not_same x.at at (h 0 x refl)) ∙ no_row rows at (λ j s g. h (suc j) s g)
 
--- none is found where the first row from a place on stands at another one, or there is none
+-- none is found where the first row from a position on stands at another one, or there is none
 pub none_found : (rows : List RefRow) (at k : ℕ) → RowsRise rows → ((j : ℕ) (s : RefRow) → slice_get rows j ≡ Some s → j < k → s.at < at) → ((j : ℕ) (s : RefRow) → slice_get rows j ≡ Some s → k ≤ j → at ≤ s.at) →
     ((s : RefRow) → slice_get rows k ≡ Some s → s.at ≢ at) → find (λ s. s.at == at) rows ≡ None
 none_found rows at k rise before after apart = no_row rows at other

@@ -14,7 +14,8 @@ cited_inside depth (Char ch marks ∷ items) = Char ch marks ∷ cited_inside de
 cited_inside depth (Opening kind generated head marks pre origin ∷ items) =
     Opening kind generated head marks pre origin ∷ cited_inside (suc depth) items
 
--- Nothing is carried in either list, or what stands inside the internal items that open at these places is the same.
+-- Nothing is carried in either list, or what stands inside the internal items that open at these
+-- positions is the same.
 abbrev pub AreSameBodies : List Item → List Item → Option ℕ → Option ℕ → Type 0
 AreSameBodies now first None None = ⊤
 AreSameBodies now first (Some a) (Some b) = cited_inside 0 (drop (suc a) now) ≡ cited_inside 0 (drop (suc b) first)
@@ -35,7 +36,8 @@ depth_after depth (Char ch marks) = depth
 depth_after depth (Opening kind generated head marks pre origin) = suc depth
 depth_after depth (Closing kind pre) = depth - 1
 
--- What is found of two bodies that begin with these items, whatever follows them: they are the same, they are not, or what follows decides.
+-- The result for two bodies that begin with these items, whatever follows them: they are the same,
+-- they are not, or the rest decides.
 abbrev pub Compares : ℕ → List Item → List Item → Compared → Type 0
 Compares depth one other Same = (xs ys : List Item) → cited_inside depth (one ++ xs) ≡ cited_inside depth (other ++ ys)
 Compares depth one other Different = (xs ys : List Item) → cited_inside depth (one ++ xs) ≢ cited_inside depth (other ++ ys)

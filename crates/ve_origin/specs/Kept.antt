@@ -14,7 +14,8 @@ opens_notes (Char c marks) = false
 opens_notes (Closing kind pre) = false
 opens_notes (Opening kind head marks pre origin generated) = kind_same kind InternalList
 
--- the last item closes the node that is open, where so many more are open in it, and none before it does
+-- the last item closes the node that is open, where so many more are open in it, and none before it
+-- does
 abbrev pub closes_last : ℕ → List PlainItem → Bool
 closes_last depth [] = false
 closes_last zero (Closing kind pre ∷ items) = is_empty items
@@ -22,7 +23,7 @@ closes_last (suc depth) (Closing kind pre ∷ items) = closes_last depth items
 closes_last depth (Char c marks ∷ items) = closes_last depth items
 closes_last depth (Opening kind head marks pre origin generated ∷ items) = closes_last (suc depth) items
 
--- the node that begins at a place
+-- the node that begins at a position
 abbrev pub first_node : List Carried → List Carried
 first_node [] = []
 first_node (c ∷ cs) = c ∷ node_from cs 0
@@ -30,7 +31,8 @@ first_node (c ∷ cs) = c ∷ node_from cs 0
 abbrev pub node_at : List Carried → ℕ → List Carried
 node_at items at = first_node (drop at items)
 
--- The node of the origin k in the list that was first read is the range of these places: it ends with its closing, and stands before the internal list.
+-- The node of the origin k in the list that was first read is the range of these positions: it ends
+-- with its closing, and stands before the internal list.
 pub record IsNodeRange (items : List PlainItem) (k from to : ℕ) : Type 0 where
   pub some : from < to
   pub within : to ≤ length items

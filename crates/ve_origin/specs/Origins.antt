@@ -1,4 +1,4 @@
--- What is lent of the page that was first read, and what is answered of it.
+-- The borrowed parts of the page that was first read, and the answers about it.
 use Rattle.std.specs.Prelude.{◌≡◌, ◌≤◌, ◌<◌, ℕ, Bool, false, List, map, take, slice_get, Some, All, IsCharBoundary}
 use Rattle.std.specs.List.{list_any}
 use Rattle.ve_base.specs.declared.value.Value.{Value}
@@ -20,7 +20,8 @@ source_span s = record { from = s.from; to = s.to }
 abbrev pub spans : List OriginRow → List SourceSpan
 spans rows = map (λ (r : OriginRow). source_span r.span) rows
 
--- The page that was first read: its text, where its body stands, a row for each origin, the items of its list, and the table of their references.
+-- The page that was first read: its text, where its body stands, a row for each origin, the items
+-- of its list, and the table of their references.
 pub record FirstRead : Type 0 where
   pub page : List ℕ
   pub body : Span
@@ -46,7 +47,7 @@ pub record IsRow (page : List ℕ) (count : ℕ) (row : OriginRow) : Type 0 wher
 abbrev pub AreRows : List ℕ → ℕ → List OriginRow → Type 0
 AreRows page count rows = (k : ℕ) (row : OriginRow) → slice_get rows k ≡ Some row → IsRow page count row
 
--- What `kept` answers of the node at a place, whatever distinct values both lists cite.
+-- The answer of `kept` for the node at a position, whatever distinct values both lists cite.
 abbrev pub Keeps : FirstRead → ℕ → List Item → ℕ → List RefRow → Bool → Type 0
 Keeps o k now from refs kept =
     (values : List Value) (row : OriginRow) → AreDistinct values → All (CitesWell values) o.items → All (CitesWell values) now →

@@ -19,7 +19,8 @@ abbrev pub first_plain : List PlainItem → List PlainItem
 first_plain [] = []
 first_plain (x ∷ xs) = item_without_pre x ∷ xs
 
--- so many items from a place of each list cite the same, the whitespace before the first ones aside
+-- so many items from a position of each list cite the same, the whitespace before the first ones
+-- aside
 abbrev pub AreSameNodes : List Item → ℕ → List Item → ℕ → ℕ → Type 0
 AreSameNodes now from first place count =
     first_without (slice_range now from (from + count)) ≡ first_without (slice_range first place (place + count))

@@ -5,7 +5,7 @@ ghost use Rattle.ve_origin.specs.Bodies.{cited_inside, closes, depth_after, AreS
 use model_items::Item;
 use ve_items::{Linear, same_item};
 
-/// What is found where two bodies were compared in step; `Open` has how many nodes are open in both.
+/// The result of comparing two bodies in step; `Open` has how many nodes are open in both.
 #[derive(Clone, Copy, Debug)]
 enum Compared {
     Same,
@@ -77,7 +77,8 @@ fn compare_pieces(depth: usize, one: &[Item], other: &[Item]) -> Compared
     Compared::Open(open)
 }
 
-/// Whether a body ends at a place, where so many nodes are open in it: a closing stands there, or the list ends.
+/// Whether a body ends at a position, where so many nodes are open in it: a closing stands there,
+/// or the list ends.
 fn ends(list: &Linear, at: usize, depth: usize) -> bool
     requires { at ≤ length list.now.items }
     ensures { IsTrue result ↔ (cited_inside depth (drop at list.now.items) ≡ []) }
@@ -85,12 +86,13 @@ fn ends(list: &Linear, at: usize, depth: usize) -> bool
     at == list.len() || closes(depth, list.get(at))
 }
 
-/// Whether two bodies have the same items, from a place of each up to the closing of the node that is open there. It goes over lent pieces, and
-/// stops at the first difference.
+/// Whether two bodies have the same items, from a position of each up to the closing of the node
+/// that is open there. It goes over borrowed pieces, and stops at the first difference.
 fn are_same_inside(now: &Linear, at: usize, first: &Linear, place: usize) -> bool
     requires here { at ≤ length now.now.items }
     requires there { place ≤ length first.now.items }
-    ensures { IsTrue result ↔ (cited_inside 0 (drop at now.now.items) ≡ cited_inside 0 (drop place first.now.items)) }
+    ensures { IsTrue result
+        ↔ (cited_inside 0 (drop at now.now.items) ≡ cited_inside 0 (drop place first.now.items)) }
 {
     let mut depth = 0;
     let mut here = at;
@@ -110,7 +112,7 @@ fn are_same_inside(now: &Linear, at: usize, first: &Linear, place: usize) -> boo
     ends(now, here, depth) && ends(first, there, depth)
 }
 
-/// The place after an opening, or the list's end.
+/// The position after an opening, or the list's end.
 fn place_after(list: &Linear, opening: usize) -> usize
     ensures within { result ≤ length list.now.items }
     ensures rest { drop result list.now.items ≡ drop (opening + 1) list.now.items }
@@ -122,7 +124,8 @@ fn place_after(list: &Linear, opening: usize) -> usize
     }
 }
 
-/// Whether nothing is carried in either list, or the bodies of the internal items that open at these places have the same items.
+/// Whether nothing is carried in either list, or the bodies of the internal items that open at
+/// these positions have the same items.
 pub fn are_same_bodies(
     now: &Linear,
     carried: Option<usize>,

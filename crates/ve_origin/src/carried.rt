@@ -7,11 +7,19 @@ use crate::bodies::are_same_bodies;
 use model_page::RefRow;
 use ve_items::Linear;
 
-/// How many rows stand before a place.
+/// How many rows stand before a position.
 fn rows_before(rows: &[RefRow], at: usize) -> usize
     ensures bound { result ≤ length rows.now }
-    ensures before { RowsRise rows.now → (k : ℕ) (r : Row) → slice_get rows.now k ≡ Some r → k < result → r.at < at }
-    ensures after { RowsRise rows.now → (k : ℕ) (r : Row) → slice_get rows.now k ≡ Some r → result ≤ k → at ≤ r.at }
+    ensures before { RowsRise rows.now
+        → (k : ℕ) (r : Row)
+        → slice_get rows.now k ≡ Some r
+        → k < result
+        → r.at < at }
+    ensures after { RowsRise rows.now
+        → (k : ℕ) (r : Row)
+        → slice_get rows.now k ≡ Some r
+        → result ≤ k
+        → at ≤ r.at }
 {
     rows.partition_point(|row| row.at < at)
 }
@@ -23,7 +31,7 @@ fn carried_place(row: &RefRow) -> Option<usize>
     if row.carrier { row.body_at } else { None }
 }
 
-/// Where the internal item opens whose body the reference at a place carries.
+/// Where the internal item opens whose body the reference at a position carries.
 fn carried_at(rows: &[RefRow], at: usize) -> Option<usize>
     ensures { RowsRise rows.now → result ≡ carried_at rows.now at }
 {
@@ -38,7 +46,7 @@ fn carried_at(rows: &[RefRow], at: usize) -> Option<usize>
     carried_place(row)
 }
 
-/// A list, the table of its references, and the place of a node in it.
+/// A list, the table of its references, and the position of a node in it.
 #[derive(Clone, Copy)]
 pub struct Side<'a> {
     pub list: &'a Linear,
@@ -46,8 +54,8 @@ pub struct Side<'a> {
     pub from: usize,
 }
 
-/// Whether each reference among so many items of the one node carries the same body as the one at its place in the other node. The rows are
-/// found by a search.
+/// Whether each reference among so many items of the one node carries the same body as the one at
+/// its position in the other node. The rows are found by a search.
 pub fn all_carry_same(now: Side<'_>, first: Side<'_>, count: usize) -> bool
     requires { first.from + count < 2 ^ 64 }
     ensures { TellsCarried now.entry first.entry count result }

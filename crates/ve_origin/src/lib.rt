@@ -1,18 +1,20 @@
-//! What is left of the page that was first read: the parts of its text, and which nodes of a list are still as they were read.
+//! Origins: the parts of the page that was first read, and which nodes of a list are still as they
+//! were read. It knows neither trees nor stores, and writes nothing.
 //!
-//! - `OriginTable` has a row for each origin: its bytes of the page, and the places of its node in the list
-//!   that was first read. `Origins` lends the page, that table, that list and the table of its references
-//!   together (specs/Origins.antt).
-//! - `Origins::head` and `tail` are the page before and after its body, and `part` is model_page_write's `part_at`.
-//! - `Origins::kept` is model_page_write's `is_kept` (specs/Kept.antt: the node at a place, and what the row
-//!   of an origin has to be). The places of values are compared in place of values, so its clause holds over
-//!   every list of distinct values. Rows.antt and Bodies.antt in specs/ say by which rows and items it is
-//!   found; Agree.antt and Without.antt serve private functions.
+//! - `OriginTable` has a row for each origin: its bytes of the page, and the positions of its node
+//!   in the list that was first read. `Origins` borrows the page, that table, that list and the
+//!   table of its references together (specs/Origins.antt).
+//! - `Origins::head` and `tail` are the page before and after its body, and `part` is
+//!   model_page_write's `part_at`.
+//! - `Origins::kept` is model_page_write's `is_kept` (specs/Kept.antt: the node at a position, and
+//!   the conditions on the row of an origin). The positions of values are compared in place of
+//!   values, so its clause holds over every list of distinct values. Rows.antt and Bodies.antt in
+//!   specs/ say by which rows and items it is found; Agree.antt and Without.antt serve private
+//!   functions.
 //! - `Origins::is_first` tells whether a whole list is the one that was first read.
 //!
-//! It knows neither trees nor stores, and writes nothing. No call takes memory but `OriginTable::push`. There
-//! are no laws here: that the node of each origin stands at its range, before the internal list, is for
-//! whoever reads a page to keep.
+//! No call takes memory but `OriginTable::push`. There are no laws here: that the node of each
+//! origin stands at its range, before the internal list, is for whoever reads a page to keep.
 #![tactic(auto)]
 
 mod bodies;

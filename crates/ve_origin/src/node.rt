@@ -31,8 +31,8 @@ fn without_pre(item: Item) -> Item
     }
 }
 
-/// Whether so many items from a place of each list are alike, where the whitespace before the first ones is left aside. The first ones
-/// are looked at alone only where they differ.
+/// Whether so many items from a position of each list are alike, where the whitespace before the
+/// first ones is left aside. The first ones are looked at alone only where they differ.
 pub fn same_node(now: &Linear, from: usize, first: &Linear, place: usize, count: usize) -> bool
     requires some { 0 < count }
     requires here { from + count ≤ length now.now.items }

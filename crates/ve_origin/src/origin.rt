@@ -12,7 +12,8 @@ use ve_base::ListOf;
 use ve_html_scan::Span;
 use ve_items::Linear;
 
-/// An origin: its bytes of the page, and the places of its node in the list that was first read, half open.
+/// An origin: its bytes of the page, and the positions of its node in the list that was first read,
+/// half open.
 #[derive(Clone, Copy, Debug, PartialEq, Eq)]
 pub struct OriginRow {
     pub span: Span,
@@ -23,7 +24,8 @@ pub struct OriginRow {
 /// The origins of a page by their numbers.
 pub type OriginTable = ListOf<OriginRow>;
 
-/// The page that was first read with its origins, its list and the table of its references, lent together.
+/// The page that was first read with its origins, its list and the table of its references,
+/// borrowed together.
 #[derive(Drop)]
 pub struct Origins<'a> {
     page: &'a str,
@@ -55,7 +57,9 @@ impl<'a> Origins<'a> {
     ) -> Origins<'a>
         requires body { IsCut page.now body }
         requires rows { AreRows page.now (length first.now.items) table.now }
-        ensures { result ≡ first_read page.entry.now body table.entry.now first.entry.now.items first_refs.entry.now }
+        ensures { result
+            ≡ first_read page.entry.now body table.entry.now first.entry.now.items
+            first_refs.entry.now }
     {
         Origins {
             page,
@@ -87,7 +91,8 @@ impl<'a> Origins<'a> {
         &self.page[self.body.to..]
     }
 
-    /// Whether a list is the one that was first read. It stops at the first difference, and walks over lent pieces.
+    /// Whether a list is the one that was first read. It stops at the first difference, and walks
+    /// over borrowed pieces.
     pub fn is_first(&self, now: &Linear) -> bool
         ensures { IsTrue result ↔ (now.now.items ≡ self.now.items) }
     {
@@ -112,9 +117,10 @@ impl<'a> Origins<'a> {
         &self.page[span.from..span.to]
     }
 
-    /// Whether the node that begins at a place of a list has the items that were first read for the origin,
-    /// the whitespace before it aside, and each reference in it carries the body that it carried. `refs` is
-    /// the table of the list. It stops at the first difference, and walks over lent pieces.
+    /// Whether the node that begins at a position of a list is as it was first read. It has the
+    /// items that were first read for the origin, the whitespace before it aside, and each
+    /// reference in it carries the body that it carried. `refs` is the table of the list. It stops
+    /// at the first difference, and walks over borrowed pieces.
     pub fn kept(&self, k: u32, now: &Linear, from: usize, refs: &RefTable) -> bool
         requires number { k < length self.now.rows }
         requires within { from ≤ length now.now.items }

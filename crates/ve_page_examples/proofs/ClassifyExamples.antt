@@ -1,4 +1,5 @@
--- Worked examples of the parts of a page, and answers that no part has: references, groups, fragments, fits, sources and runs.
+-- Worked examples of the parts of a page, and answers that no part has: references, groups,
+-- fragments, fits, sources and runs.
 use Rattle.std.proofs.Common.{◌≡◌, ℕ, zero, suc, ◌+◌, true, false, List, [], ◌∷◌, length, Some, None, refl, sym, ap, subst, arith}
 use Rattle.std.specs.Prelude.{Bool, codes}
 use Rattle.model_spelling.specs.Grammar.{Attr}

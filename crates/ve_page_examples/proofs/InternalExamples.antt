@@ -21,7 +21,8 @@ row at carrier = record { at = at; key = key_n; number = 1; carrier = carrier; b
 the_owner_carries_the_body : table (reuse_paragraph ++ owner_paragraph ++ internal_list_of (codes "x")) ≡ row 2 false ∷ row 7 true ∷ []
 the_owner_carries_the_body = refl
 
--- refuses a row of the first number, one without its body, and one whose body the first reference carries
+-- refuses a row of the first number, one without its body, and one whose body the first reference
+-- carries
 a_row_says_what_is_known : (cited : Cited) → row_by (Some (record { number = 2; first = 3; owner = Some 5 })) (Some 9) cited
     ≡ Some (record { at = cited.at; key = cited.key.now; number = 2; carrier = 5 == cited.at; body_at = Some 9 })
 a_row_says_what_is_known cited = refl
@@ -41,7 +42,7 @@ no_key_is_left_uncounted : {S : Type 0} (old new : IndexMap (List ℕ) ℕ S) �
 no_key_is_left_uncounted old new same h =
     let e : counted old (codes "g") ≡ suc (counted old (codes "g")) = sym same ∙ h (codes "g") in omega (arith, e)
 
--- a body that opens at the place 3 isn't noted at the start
+-- a body that opens at the position 3 isn't noted at the start
 no_body_opens_at_the_start : {S : Type 0} (old new : IndexMap RefKey ℕ S) → get ref_key_same old key_n ≡ None → get ref_key_same new key_n ≡ Some 0 → NotesBody old new key_n 3 → ⊥
 no_body_opens_at_the_start old new none first h =
     let e : 0 ≡ 3 = ap (λ (place : Option ℕ). unwrap_or place 0) (sym first ∙ h key_n ∙ ap (λ place. option_or place (Some 3)) none) in omega (arith, e)
@@ -50,7 +51,7 @@ abbrev first_at : List RefAt → ℕ
 first_at [] = 0
 first_at (r ∷ refs) = r.at
 
--- nor is a reference at the place 7
+-- nor is a reference at the position 7
 no_reference_stands_at_the_start : (notes : Notes) (c : Cited) → notes.refs.items ≡ c ∷ [] → c.at ≡ 0 →
     HasRefs notes (record { at = 7; key = key_n; owner = false; inside = false } ∷ []) → ⊥
 no_reference_stands_at_the_start notes c is first h =

@@ -1,4 +1,5 @@
--- Worked examples of what is carried, which bodies and nodes are the same, and the bytes of origins.
+-- Worked examples of what is carried, which bodies and nodes are the same, and the bytes of
+-- origins.
 use Rattle.std.proofs.Common.{◌≡◌, ℕ, true, false, List, [], ◌∷◌, Some, None, refl, ap, arith}
 use Rattle.std.specs.Prelude.{Option, Bool, codes, slice_get}
 use Rattle.ve_base.specs.declared.head.Key.TheVariants.{Auto}
@@ -29,7 +30,7 @@ the_carrier_carries_the_body = refl
 abbrev body : List Item
 body = Opening InternalItem false None None None None ∷ Char 97 None ∷ Closing InternalItem None ∷ []
 
--- refuses the place in the one list for the place in the other
+-- refuses the position in the one list for the position in the other
 bodies_stand_each_at_its_place : AreSameBodies body (Char 98 None ∷ body) (Some 0) (Some 1)
 bodies_stand_each_at_its_place = refl
 

@@ -71,7 +71,8 @@ no_run_stands_in_a_list text nodes kind n at f more end byte h = let e : Structu
 abbrev letter : Forest
 letter = Text (codes "a") Nothing
 
--- the letter in `<p>a</p>` doesn't end where the end tag does, as a child among blocks and as a part of content
+-- the letter in `<p>a</p>` doesn't end where the end tag does, as a child among blocks and as a
+-- part of content
 no_child_has_the_end_tag : Whole letter 1 3 2 8 → ⊥
 no_child_has_the_end_tag h = let e : 4 ≡ 8 = h.byte_is in omega (arith, e)
 

@@ -1,4 +1,5 @@
--- Worked examples of what is read so far, of leaves, heads and owners, and items that aren't put together.
+-- Worked examples of what is read so far, of leaves, heads and owners, and items that aren't put
+-- together.
 use Rattle.std.proofs.Common.{◌≡◌, ℕ, true, false, List, [], ◌∷◌, length, Some, None, refl, ap, subst, arith}
 use Rattle.std.specs.Prelude.{Option, codes, slice_get}
 use Rattle.model_spelling.specs.Grammar.{Attr as Spelled}
@@ -22,7 +23,7 @@ use Rattle.model_page.specs.Heads.{attrs_of, head_with}
 use Rattle.model_page.specs.Pieces.{Owner as PageOwner, SourceSpan}
 use Rattle.model_page.specs.ReferenceNodes.{auto_count}
 use Rattle.ve_internal.specs.declared.reference.RefRead.{RefRead}
-use Rattle.ve_reader.specs.Claimed.{claimed, lent_owner}
+use Rattle.ve_reader.specs.Claimed.{claim_of, lent_owner}
 use Rattle.ve_reader.specs.Holding.{More}
 use Rattle.ve_reader.specs.Leaves.{head_of_ref, leaf_items, mark_from, text_items}
 use Rattle.ve_reader.specs.Owned.{count_next}
@@ -179,21 +180,21 @@ abbrev reading : Option (List ℕ) → Option (List ℕ) → RefRead
 reading name html = record { group = []; name = name; html = html }
 
 -- refuses a claim without the body
-a_body_is_claimed : claimed [] (reading None (Some (codes "x"))) ≡ Some (record { key = key_ (Auto 0); html = Some (codes "x") })
+a_body_is_claimed : claim_of [] (reading None (Some (codes "x"))) ≡ Some (record { key = key_ (Auto 0); html = Some (codes "x") })
 a_body_is_claimed = refl
 
 -- refuses a second owner of one key
-the_second_owner_is_barred : claimed (owner_ key_n ∷ []) (reading (Some (codes "n")) (Some (codes "y"))) ≡ None
+the_second_owner_is_barred : claim_of (owner_ key_n ∷ []) (reading (Some (codes "n")) (Some (codes "y"))) ≡ None
 the_second_owner_is_barred = refl
 
 -- refuses a bar before the first owner, and before a use by name
-the_first_owner_is_free : claimed [] (reading (Some (codes "n")) (Some (codes "y"))) ≡ Some (record { key = key_n; html = Some (codes "y") })
+the_first_owner_is_free : claim_of [] (reading (Some (codes "n")) (Some (codes "y"))) ≡ Some (record { key = key_n; html = Some (codes "y") })
 the_first_owner_is_free = refl
 
-a_use_is_free : claimed (owner_ key_n ∷ []) (reading (Some (codes "n")) None) ≡ Some (record { key = key_n; html = None })
+a_use_is_free : claim_of (owner_ key_n ∷ []) (reading (Some (codes "n")) None) ≡ Some (record { key = key_n; html = None })
 a_use_is_free = refl
 
--- an owner that starts at the byte 5 isn't lent as one at its place, which is 0
+-- an owner that starts at the byte 5 isn't borrowed as one at its position, which is 0
 no_place_is_the_byte : (o : Owner) → o.at ≡ 0 → slice_get (owner_ key_n ∷ []) 0 ≡ Some (lent_owner o) → ⊥
 no_place_is_the_byte o first h =
     let found : Some (owner_ key_n) ≡ Some (lent_owner o) = h in

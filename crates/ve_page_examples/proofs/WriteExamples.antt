@@ -1,4 +1,5 @@
--- Worked examples of what is written, what is bare and where siblings end, and answers of passing a list that are none.
+-- Worked examples of what is written, what is bare and where siblings end, and answers of passing a
+-- list that are none.
 use Rattle.std.proofs.Common.{◌≡◌, ℕ, true, false, List, [], ◌∷◌, ◌++◌, ◌+◌, Some, None, refl, ap, subst, arith}
 use Rattle.std.specs.Prelude.{Bool, codes, slice_get}
 use Rattle.model_spelling.specs.Grammar.{Start as StartTag}
@@ -118,7 +119,8 @@ a_letter_is_bare : bare_in false [] (paragraph [] (Letter 97 [] Empty)) ≡ true
 unfolding page_on_literals
 a_letter_is_bare = refl
 
--- refuses a bare paragraph that has attributes, one that holds nothing, and one after which whitespace stands
+-- refuses a bare paragraph that has attributes, one that holds nothing, and one after which
+-- whitespace stands
 with_attributes_it_is_not : bare_in false [] (paragraph (record { name = codes "id"; value = codes "x" } ∷ []) (Letter 97 [] Empty)) ≡ false
 unfolding page_on_literals
 with_attributes_it_is_not = refl

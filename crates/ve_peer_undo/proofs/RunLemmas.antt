@@ -1,4 +1,5 @@
--- Entries that run from a page meet what is asked, and those before one that is taken back don't matter.
+-- Entries that run from a page meet what is asked, and those before one that is taken back don't
+-- matter.
 use Rattle.std.proofs.Common.{◌≡◌, ◌<◌, ℕ, zero, suc, List, [], ◌∷◌, ◌++◌, length, refl, sym, ap, ◌∙◌, subst, append_assoc, arith}
 use Rattle.model_items.specs.declared.plain_item.PlainItem.{PlainItem}
 use Rattle.model_items.specs.Law.{Lawful}
@@ -16,7 +17,8 @@ runs_on [] items run = tt
 runs_on (t ∷ ts) items run =
     ((parts_of_Applies t items run.0.applies).0, subst (λ n. RunOnLength n ts) (gives_new_length t items run.0.applies) (runs_on ts (edited t items) run.1))
 
--- the list before the entry is lawful with names apart, the entry runs on it, and the later ones after that
+-- the list before the entry is lawful with names apart, the entry runs on it, and the later ones
+-- after that
 record Parted (before entry later : List Transaction) (base : List PlainItem) : Type 0 where
   there : List PlainItem
   lawful : Lawful there

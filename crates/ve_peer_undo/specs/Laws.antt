@@ -7,7 +7,8 @@ use Rattle.model_change.specs.Transaction.{Transaction}
 use Rattle.model_change.specs.Replay.{AllRun, entry_at, flattened, made_after, reversal, revoke}
 use Rattle.ve_rebase.specs.Lists.{RunFromOneLength}
 
--- Where entries run one after the other from a page, those after one of them and what takes it back run from lists of one length.
+-- Where entries run one after the other from a page, those after one of them and what takes it back
+-- run from lists of one length.
 abbrev pub RevokesRun : Type 0
 RevokesRun = (entries : List (List Transaction)) (i : ℕ) (base : List PlainItem) → i < length entries → Lawful base → AllNamesApart base →
     AllRun (flattened entries) base → RunFromOneLength (made_after entries i) (reversal (entry_at entries i))

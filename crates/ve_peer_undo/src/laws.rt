@@ -2,9 +2,10 @@
 ghost use Rattle.model_change.specs.Replay.{RevokeTakesBack};
 ghost use Rattle.ve_peer_undo.specs.Laws.{EarlierDoNotMatter, RevokesRun};
 
-/// Entries that run one after the other from a page meet what `reversal` asks, whichever is taken back. What
-/// it gives runs on the list with all entries; the list is then the one that the later entries give without
-/// that entry. What takes an entry back is the same where only it and the later ones are given.
+/// Entries that run one after the other from a page meet the precondition of `reversal`, whichever
+/// is taken back. Its parcel runs on the list with all entries; the list is then the one that the
+/// later entries give without that entry. The parcel is the same where only that entry and the
+/// later ones are given.
 pub fn entries_are_taken_back()
     ensures run { RevokesRun }
     ensures back { RevokeTakesBack }

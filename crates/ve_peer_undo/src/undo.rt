@@ -14,10 +14,12 @@ use ve_base::{Memory, TryCopy};
 use ve_rebase::{JoinedEntries, entries_over_list};
 use ve_tx::{Entry, Parcel, TxList};
 
-/// What takes a parcel back just after it: the inverses of its transactions, the last one first.
+/// The parcel that takes another back just after it: the inverses of its transactions, the last one
+/// first.
 fn inverse_of(alloc: Global, parcel: &Parcel) -> Result<Parcel, Memory>
     requires { ParcelCites parcel.now }
-    ensures back { IfOk result (λ back. parcel_by_value back ≡ reversal_of (parcel_by_value parcel.now)) }
+    ensures back { IfOk result (λ back.
+        parcel_by_value back ≡ reversal_of (parcel_by_value parcel.now)) }
     ensures outline { IfOk result (λ back. outline back ≡ outline parcel.now) }
     ensures cites { IfOk result ParcelCites }
 {
@@ -41,10 +43,14 @@ fn inverse_of(alloc: Global, parcel: &Parcel) -> Result<Parcel, Memory>
 fn over_later(alloc: Global, later: &[Parcel], back: &Parcel) -> Result<Parcel, RevokeFault>
     requires run { RunFromOneLength (parcels_by_value later.now) (parcel_by_value back.now) }
     requires cites { ParcelCites back.now }
-    ensures joined { IfOk result (λ made. mine_of (join_list (parcels_by_value later.now) (parcel_by_value back.now)) ≡ Ok (parcel_by_value made)) }
+    ensures joined { IfOk result (λ made.
+        mine_of (join_list (parcels_by_value later.now) (parcel_by_value back.now))
+        ≡ Ok (parcel_by_value made)) }
     ensures outline { IfOk result (λ made. outline made ≡ outline back.now) }
     ensures cites { IfOk result ParcelCites }
-    ensures refused { IfErr result (IsRevokeRefusal (mine_of (join_list (parcels_by_value later.now) (parcel_by_value back.now)))) }
+    ensures refused { IfErr result (
+        IsRevokeRefusal (
+        mine_of (join_list (parcels_by_value later.now) (parcel_by_value back.now)))) }
 {
     let JoinedEntries { kept, clash } = entries_over_list(alloc, later, from_ref(back))?;
     if let Some(clash) = clash {
@@ -59,16 +65,20 @@ fn over_later(alloc: Global, later: &[Parcel], back: &Parcel) -> Result<Parcel, 
     Ok(made)
 }
 
-/// What takes back entry `i` under all later ones, as a parcel: it runs on the list that all entries make.
-/// It has as many transactions as the entry, and keeps its values and both numbers.
+/// The parcel that takes back entry `i` under all later ones: it runs on the list that all entries
+/// make. It has as many transactions as the entry, and keeps its values and both numbers.
 ///
-/// `Conflict` comes exactly where a later entry conflicts with it, and names the first two ranges that do.
+/// `Conflict` comes exactly where a later entry conflicts with it, and names the first two ranges
+/// that do.
 pub fn reversal(alloc: Global, entries: &[Parcel], i: usize) -> Result<Parcel, RevokeFault>
     requires within { i < length entries.now }
     requires cite { All ParcelCites entries.now }
-    requires run { RunFromOneLength (made_after (map parcel_by_value entries.now) i) (reversal_of (entry_at (map parcel_by_value entries.now) i)) }
-    ensures back { IfOk result (λ back. revoke (map parcel_by_value entries.now) i ≡ Ok (parcel_by_value back)) }
-    ensures outline { IfOk result (λ back. slice_get (map outline entries.now) i ≡ Some (outline back)) }
+    requires run { RunFromOneLength (made_after (map parcel_by_value entries.now) i)
+        (reversal_of (entry_at (map parcel_by_value entries.now) i)) }
+    ensures back { IfOk result (λ back.
+        revoke (map parcel_by_value entries.now) i ≡ Ok (parcel_by_value back)) }
+    ensures outline { IfOk result (λ back.
+        slice_get (map outline entries.now) i ≡ Some (outline back)) }
     ensures cites { IfOk result ParcelCites }
     ensures refused { IfErr result (IsRevokeRefusal (revoke (map parcel_by_value entries.now) i)) }
 {

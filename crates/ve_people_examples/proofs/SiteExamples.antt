@@ -1,5 +1,5 @@
--- Worked turns of sites and of their server, beside those of model_site: each tells a call from one that is wrong in the way
--- that is said above it.
+-- Worked turns of sites and of their server, beside those of model_site: each tells a call from one
+-- that is wrong in the way that is said above it.
 use Rattle.std.proofs.Common.{◌≡◌, ℕ, ◌-◌, List, [], ◌∷◌, ◌++◌, length, map, slice_get, Option, Some, None, option_map, Result, Ok, Err, codes, refl}
 use Rattle.ve_kinds.specs.declared.kind.Kind.TheVariants.{P}
 use Rattle.model_items.specs.declared.plain_item.PlainItem.{PlainItem}
@@ -20,7 +20,7 @@ page cs = node P (text cs) ++ internal
 abbrev opened : List ℕ → Replica
 opened cs = opened_with (page cs)
 
--- characters put in at a place of a list of so many items
+-- characters put in at a position of a list of so many items
 abbrev inserts : ℕ → List ℕ → ℕ → Transaction
 inserts at cs long = Retain at ∷ Replace [] (text cs) ∷ Retain (long - at) ∷ []
 

@@ -1,11 +1,12 @@
--- Worked spans of transactions that meet: each tells a test from one that is wrong in the way that is said above it.
+-- Worked spans of transactions that meet: each tells a test from one that is wrong in the way that
+-- is said above it.
 use Rattle.std.proofs.Common.{◌≡◌, ℕ, true, false, Some, None, codes, refl}
 use Rattle.ve_tx.specs.declared.op.Op.TheVariants.{Attribute}
 use Rattle.ve_rebase.specs.declared.span.Span.{Span}
 use Rattle.ve_rebase.specs.Places.{passes}
 use Rattle.ve_rebase.specs.Span.{meet}
 
--- one that replaces items from a place on, in a list of ten
+-- one that replaces items from a position on, in a list of ten
 abbrev replaces : (at reach : ℕ) → Span
 replaces at reach =
     record { active = true; attributes = false; first = at; reach = reach; last = 10; removed = reach; inserted = 1 }

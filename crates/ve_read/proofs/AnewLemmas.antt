@@ -137,7 +137,8 @@ grows_on old mid new g h =
     let whole : new.values ≡ old.values ++ (M ++ N) = then_ ∙ ap (λ l. l ++ N) first ∙ append_assoc old.values M N in
     (h.0 ∙ g.0, ap (take (length old.values)) whole ∙ take_at old.values (M ++ N) (length old.values) refl)
 
--- The first so many values of a list are cited in a store and what follows it, which took those that were new.
+-- The first so many values of a list are cited in a store and what follows it, which took those
+-- that were new.
 pub record AreAnew (values store : List Value) (count : ℕ) (old new : Following) (ids : List ValueId) : Type 0 where
   pub stand : StandThere (take count values) (together store new) ids
   pub filled : together store new ≡ fill (together store old) (take count values)

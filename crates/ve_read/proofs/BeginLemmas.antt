@@ -1,4 +1,5 @@
--- What stands before a node with an origin in the list of an opened page: no internal list, and openings that have origins.
+-- The items before a node with an origin in the list of an opened page: no internal list, and
+-- openings that have origins.
 use Rattle.std.proofs.Common.{◌≡◌, ℕ, zero, suc, ◌+◌, ◌<◌, Bool, true, false, List, [], ◌∷◌, ◌++◌, length, take, Some, refl, sym, ap, ◌∙◌, subst, arith}
 use Rattle.std.specs.Prelude.{◌||◌}
 use Rattle.std.specs.List.{list_any}
@@ -38,8 +39,8 @@ not_nil : (xs ys : List ℕ) (y : ℕ) → xs ++ (y ∷ ys) ≡ [] → ⊥
 not_nil [] ys y e = absurd (cc)
 not_nil (x ∷ xs) ys y e = absurd (cc)
 
--- The node of the origin k begins among the first items, whose openings have origins from j on: what of them follows its opening, and which kinds are
--- open there.
+-- The node of the origin k begins among the first items, whose openings have origins from j on:
+-- what of them follows its opening, and which kinds are open there.
 pub record Begins (j : ℕ) (before more last : List PlainItem) (kind : Kind) (k : ℕ) : Type 0 where
   pub number : k ≡ j + opening_count before
   pub clean : Clean before

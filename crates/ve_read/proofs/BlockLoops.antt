@@ -24,7 +24,7 @@ use Rattle.ve_classify.proofs.ContentLemmas.{content_splits}
 use Rattle.ve_reader.specs.declared.purpose.Purpose.{Purpose}
 use Rattle.ve_reader.specs.declared.purpose.Purpose.TheVariants as purpose
 use Rattle.ve_reader.specs.declared.purpose.ReadStop.{ReadStop}
-use Rattle.ve_reader.specs.ReadSoFar.{ReadSoFar, is_page, shown, shown_rows, place_in, with_piece, piece_after}
+use Rattle.ve_reader.specs.ReadSoFar.{ReadSoFar, is_page, items_here, shown_rows, place_in, with_piece, piece_after}
 use Rattle.ve_reader.specs.Stops.{stop_limit, depth_limit, deep_in}
 use Rattle.ve_read.specs.Content.{with_content, content_limit}
 use Rattle.ve_read.specs.ContentParts.{OfParts, SomeParts}
@@ -262,7 +262,8 @@ module _ (text : List ℕ) (nodes : List Node) (around : Around) (n : ℕ) (whit
 
 -- ---- the loop
 
--- Siblings and whitespace are left, after which all is read as it was to be, and what is over a limit is what was to be.
+-- Siblings and whitespace are left, after which all is read as it was to be, and what is over a
+-- limit is what was to be.
 pub record Left (text : List ℕ) (nodes : List Node) (around : Around) (n to byte : ℕ) (white : List ℕ) (old now : ReadSoFar) (parts : Parts) (at : ℕ) : Type 0 where
   pub forest : Forest
   pub place : ℕ
@@ -326,7 +327,7 @@ some_unit text nodes around from n to byte white unit old now is p left =
 
 -- ---- nothing is left
 
-shown_none : (p : Purpose) (k : ℕ) → shown p k [] ≡ []
+shown_none : (p : Purpose) (k : ℕ) → items_here p k [] ≡ []
 shown_none purpose.Page k = refl
 shown_none purpose.Body k = refl
 shown_none purpose.Fragment k = refl

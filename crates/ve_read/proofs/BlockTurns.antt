@@ -1,4 +1,5 @@
--- A block, or a run as a paragraph, is read before what follows it, and what is over a limit stands in it or else in what follows it.
+-- A block, or a run as a paragraph, is read before what follows it, and what is over a limit stands
+-- in it or else in what follows it.
 use Rattle.std.proofs.Common.{◌≡◌, ℕ, ◌+◌, true, List, [], ◌∷◌, ◌++◌, length, Option, Some, None, refl, sym, ap, ◌∙◌, subst, append-nil, length-append, arith}
 use Rattle.std.specs.Option.{option_or}
 use Rattle.model_items.specs.declared.plain_item.PlainItem.{PlainItem}
@@ -24,7 +25,8 @@ use Rattle.ve_read.proofs.LieLemmas.{siblings_begin, limit_lies, mark_lies, tagg
 
 -- ---- a piece before what follows it
 
--- What stands first, from a byte to another, adds a piece with owners, whatever follows it; an annotation in it may stand in too many marks.
+-- The first unit, from a byte to another, adds a piece with owners, whatever follows it. An
+-- annotation in it may stand in too many marks.
 pub record Adds (around : Around) (parts rest : Parts) (at byte : ℕ) (r : ReadSoFar) (piece : Piece) (owners : List Owner) (here : Option ℕ) : Type 0 where
   pub item : PlainItem
   pub items : List PlainItem

@@ -116,7 +116,7 @@ drop_next (x ∷ owners) zero o e = ap (λ y. y ∷ owners) (same x o e)
     same a b h = ap (λ y. unwrap_or y a) h
 drop_next (x ∷ owners) (suc k) o e = drop_next owners k o e
 
--- What is left of the owners gives what all give.
+-- The rest of the owners gives what all give.
 pub record Left (d : ℕ) (owners : List Owner) (first : ReadSoFar) (k : ℕ) (r : ReadSoFar) : Type 0 where
   pub within : k ≤ length owners
   pub ready : InBodies 1 r

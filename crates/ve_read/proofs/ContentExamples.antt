@@ -1,4 +1,5 @@
--- Worked examples: content that is read in the body of a reference, and what is over a limit in it, computed by the check.
+-- Worked examples: content that is read in the body of a reference, and what is over a limit in it,
+-- computed by the check.
 use Rattle.std.proofs.Common.{◌≡◌, ℕ, false, [], ◌∷◌, Some, None, refl}
 use Rattle.std.specs.Prelude.{codes}
 use Rattle.std.specs.Str.{chars}
@@ -25,7 +26,8 @@ bold = record { tag = codes "b"; attrs = [] }
 abbrev line : Parts
 line = Words (codes "b") (Parent (codes "b") [] (Words (codes "c") Ended) (Note (codes "d") Ended))
 
--- the letters come after the one before, the second of them in bold, and then the comment, which keeps its source
+-- the letters come after the one before, the second of them in bold, and then the comment, which
+-- keeps its source
 line_read : (with_content line 5 (after_letter 2)).items
     ≡ Char 97 [] ∷ Char 98 [] ∷ Char 99 (bold ∷ []) ∷ Opening AlienInline (whole_head (codes "<!--d-->")) [] [] None false ∷ Closing AlienInline [] ∷ []
 unfolding chars begins_with decoded_from

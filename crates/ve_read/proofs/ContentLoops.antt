@@ -16,7 +16,7 @@ use Rattle.ve_reader.specs.declared.purpose.Purpose.{Purpose}
 use Rattle.ve_reader.specs.declared.purpose.Purpose.TheVariants as purpose
 use Rattle.ve_reader.specs.declared.purpose.ReadStop.{ReadStop}
 use Rattle.ve_reader.specs.declared.purpose.ReadStop.TheVariants as stop
-use Rattle.ve_reader.specs.ReadSoFar.{ReadSoFar, shown, shown_rows, with_piece}
+use Rattle.ve_reader.specs.ReadSoFar.{ReadSoFar, items_here, shown_rows, with_piece}
 use Rattle.ve_reader.specs.Stops.{stop_limit, depth_limit}
 use Rattle.ve_read.specs.Content.{with_content, content_limit}
 use Rattle.ve_read.specs.ContentParts.{OfPart, OfParts, SomeParts}
@@ -24,7 +24,7 @@ use Rattle.ve_read.proofs.ContentTurns.{parts_in_turn, limits_in_turn}
 
 -- ---- nothing is left
 
-shown_none : (p : Purpose) (k : ℕ) → shown p k [] ≡ []
+shown_none : (p : Purpose) (k : ℕ) → items_here p k [] ≡ []
 shown_none purpose.Page k = refl
 shown_none purpose.Body k = refl
 shown_none purpose.Fragment k = refl
@@ -48,7 +48,8 @@ with_none r =
 
 -- ---- what is left
 
--- Parts are left, after which all is read as it was to be, and what is over a limit is what was to be.
+-- Parts are left, after which all is read as it was to be, and what is over a limit is what was to
+-- be.
 pub record Left (text : List ℕ) (nodes : List Node) (n to byte : ℕ) (old now : ReadSoFar) (parts : Parts) (at : ℕ) : Type 0 where
   pub forest : Forest
   pub place : ℕ

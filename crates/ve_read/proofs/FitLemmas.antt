@@ -1,4 +1,4 @@
--- What the first part is as a block, by its fit: a leaf that keeps its source, or a branch.
+-- The first part as a block, by its fit: a leaf that keeps its source, or a branch.
 use Rattle.std.proofs.Common.{◌≡◌, ◌⊎◌, inl, inr, ℕ, zero, suc, ◌+◌, Bool, true, false, not, ◌&&◌, if◌then◌else◌, List, [], ◌∷◌, ◌++◌, Option, Some, None, refl, sym, ap, ◌∙◌, subst}
 use Rattle.std.specs.List.{list_any, list_all}
 use Rattle.model_spelling.specs.Grammar.{Attr, name_same, is_start}

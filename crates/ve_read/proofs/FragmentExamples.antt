@@ -1,4 +1,5 @@
--- Worked examples: what a fragment is where kinds are open, what refuses it, and how items cite anew.
+-- Worked examples: what a fragment is where kinds are open, what refuses it, and how items cite
+-- anew.
 use Rattle.std.specs.Prelude.{◌≡◌, ℕ, false, [], ◌∷◌, ◌++◌, Some, None, Err, codes, refl}
 use Rattle.std.specs.List.{repeat}
 use Rattle.ve_base.specs.Empty.{empty_head}
@@ -16,7 +17,8 @@ use Rattle.ve_read.specs.Fragments.{RefusesFragment, IsMisspelled, OverMarks, fr
 
 -- ---- items
 
--- a heading isn't content, so it leaves the paragraph, and the text in it has no generated paragraph
+-- a heading isn't content, so it leaves the paragraph, and the text in it has no generated
+-- paragraph
 heading : fragment_in (P ∷ []) (codes "<h2>x</h2>") ≡ Opening H2 empty_head [] [] None false ∷ Char 120 [] ∷ Closing H2 [] ∷ []
 unfolding page_on_literals
 heading = refl

@@ -73,7 +73,8 @@ earlier_none (Some l) = refl
 
 -- ---- a node
 
--- What is over a limit in a node is its opening, or else stands inside, where nothing inside begins before it.
+-- The item of a node over a limit is its opening, or else stands inside, where nothing inside
+-- begins before it.
 pub node_limits : (kind : Kind) (head : Head) (white : List ℕ) (generated : Bool) (span : SourceSpan) (inside : Piece) (pre : List ℕ) (r : ReadSoFar) (marked : Option ℕ) (high : ℕ) → IsEven inside
     → BeginIn span.from high inside.spans → LiesIn span.from high marked
     → earlier (deep_in r (node kind head [] generated span inside pre)) (tagged marked)

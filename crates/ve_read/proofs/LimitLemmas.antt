@@ -1,4 +1,5 @@
--- Where limits lie: the spans of what parts make begin in their source, and an annotation that is over the limit stands in it.
+-- Where limits lie: the spans of what parts make begin in their source, and an annotation that is
+-- over the limit stands in it.
 use Rattle.std.proofs.Common.{◌≡◌, ℕ, ◌+◌, ◌-◌, ◌<◌, ◌≤◌, suc, Bool, true, false, if◌then◌else◌, List, [], ◌∷◌, ◌++◌, length, Option, Some, None, refl, length-append, lt-ltb, le-ltb, arith}
 use Rattle.std.specs.Prelude.{chars, nat_lt, IfSome}
 use Rattle.std.specs.Option.{option_or}
@@ -137,7 +138,7 @@ deep_lies depth (Opening kind head marks pre origin generated ∷ items) (span �
     either true later = later
     either false later = b.0
 
--- What was made from a place on: its spans begin there.
+-- The items that were made from a position on: their spans begin there.
 pub record Begins (low high : ℕ) (m : Made) : Type 0 where
   pub run : BeginIn low high m.run.spans
   pub later : BeginIn low high m.later.spans

@@ -1,4 +1,4 @@
--- What is in an annotation is read inside of its mark.
+-- The inside of an annotation is read inside of its mark.
 use Rattle.std.proofs.Common.{◌≡◌, ℕ, ◌+◌, ◌<◌, Bool, true, false, if◌then◌else◌, List, length, Option, Some, None, refl, sym, ap, ◌∙◌, append-nil, arith}
 use Rattle.std.specs.Prelude.{IfSome, option_map, nat_lt}
 use Rattle.std.specs.Option.{option_or}

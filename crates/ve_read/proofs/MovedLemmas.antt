@@ -1,4 +1,4 @@
--- What parts become does not depend on the byte where they begin, but for the places in it.
+-- Converted parts do not depend on the byte where they begin, but for the positions in them.
 use Rattle.std.proofs.Common.{◌≡◌, ℕ, suc, ◌+◌, Bool, true, false, if◌then◌else◌, List, [], ◌∷◌, ◌++◌, length, map, ◌-◌, Option, Some, None, refl, sym, ap, ◌∙◌, arith}
 use Rattle.std.proofs.lemmas.List.{map-append}
 use Rattle.std.specs.Prelude.{nat_lt, option_map, filter, chars, codes, is_some, ◌||◌, ◌&&◌}
@@ -29,7 +29,7 @@ use Rattle.model_page.specs.PageItems.{body_made}
 use Rattle.ve_kinds.specs.declared.kind.Kind.TheVariants.{InternalItem}
 use Rattle.ve_read.specs.Moved.{span_moved, owner_moved, piece_moved, made_moved, place_moved, limit_moved}
 
--- ---- places
+-- ---- positions
 
 place_past : (d : ℕ) (w : Progress) (source : List ℕ) (owners : List Owner) → past (place_moved d w) source (map (owner_moved d) owners) ≡ place_moved d (past w source owners)
 place_past d w source owners =
@@ -182,7 +182,7 @@ ref_moves d w around (Element name attrs children (Element n a inner rest)) = re
 
 -- ---- parts
 
--- what later parts become moves with the place where they begin
+-- what later parts become moves with the position where they begin
 abbrev Moves : ℕ → (Progress → Made) → Type 0
 Moves d later = (w : Progress) → later (place_moved d w) ≡ made_moved d (later w)
 

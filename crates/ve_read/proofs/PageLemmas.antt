@@ -3,6 +3,7 @@ use Rattle.std.proofs.Common.{◌≡◌, ℕ, ◌+◌, ◌≤◌, Bool, true, fa
 use Rattle.std.specs.Prelude.{All, flat_map, nat_lt, option_map}
 use Rattle.std.specs.Option.{option_or}
 use Rattle.std.proofs.lemmas.List.{length-map}
+use Rattle.ve_base.specs.Limits.{max_page}
 use Rattle.ve_base.specs.declared.value.Value.{Value}
 use Rattle.ve_base.specs.Empty.{empty_head}
 use Rattle.ve_kinds.specs.declared.kind.Kind.TheVariants.{Root, InternalList}
@@ -136,15 +137,15 @@ within_by o limit = elim limit [ Some l ↦ Err (OverLimit l) | None ↦ if_smal
 not_over : (n m : ℕ) → m ≤ n → nat_lt n m ≡ false
 not_over n m l = grind arith
 
-pub read_as_small : (text : List ℕ) (from to : ℕ) → length text ≤ 4194304 → body_at text ≡ Ok (from, to) → fault_of (slice text from to) ≡ None → limit_from from (slice text from to) ≡ None
+pub read_as_small : (text : List ℕ) (from to : ℕ) → length text ≤ max_page → body_at text ≡ Ok (from, to) → fault_of (slice text from to) ≡ None → limit_from from (slice text from to) ≡ None
     → read_page text ≡ if_small (opened_at text from to)
 read_as_small text from to short body spelled within =
-    ap (page_by text) (not_over 4194304 (length text) short)
+    ap (page_by text) (not_over max_page (length text) short)
     ∙ ap (read_body text) body
     ∙ ap (body_by text from to) spelled
     ∙ ap (within_by (opened_at text from to)) within
 
--- What stands in the parts that were read of a body.
+-- The parts that were read of a body.
 pub record HasParts (from : ℕ) (text : List ℕ) (r : ReadSoFar) (list : List Item) (values : List Value) : Type 0 where
   pub read : IsBodyRead from text r
   pub items : plain_list values list ≡ r.items
@@ -171,9 +172,9 @@ rows_are d text rows even e =
 
 -- ---- what is handed over
 
--- What was found of a page, by the calls that found it.
+-- The findings for a page, by the calls that made them.
 pub record Found (text : List ℕ) (at : Span) (bytes : List ℕ) (r : ReadSoFar) (list : List Item) (values : List Value) : Type 0 where
-  pub short : length text ≤ 4194304
+  pub short : length text ≤ max_page
   pub body : body_at text ≡ Ok (at.from, at.to)
   pub source : bytes ≡ slice text at.from at.to
   pub read : IsBodyRead at.from bytes r
@@ -191,7 +192,7 @@ sized_page text body source r list values h =
     let n = parts_count text body.from body.to r list values p in
     (read_as_small text body.from body.to h.short h.body p.read.spelled p.read.within, n.0, n.1)
 
--- The page, and the places of its rows, where it is small enough.
+-- The page, and the positions of its rows, where it is small enough.
 pub page_is : (text : List ℕ) (source : List ℕ) (r : ReadSoFar) (p : PageRead) (rows : List OriginRow) → Found text p.body source r p.list.items p.values → InsidesAreEven
     → All (CitesWell p.values) p.list.items → rows ≡ r.rows → p.rows ≡ map (row_moved p.body.from) rows → if_small (opened_at text p.body.from p.body.to) ≡ Ok (opened_at text p.body.from p.body.to)
     → IsReadPage text p × HasPlaces p

@@ -1,4 +1,4 @@
--- What the first part of content is, by its fit: characters, a leaf, or an annotation.
+-- The first part of content, by its fit: characters, a leaf, or an annotation.
 use Rattle.std.proofs.Common.{◌≡◌, ℕ, ◌+◌, Bool, true, false, not, ◌&&◌, if◌then◌else◌, List, [], ◌∷◌, Option, Some, None, refl, sym, ap, ◌∙◌, subst, append-nil, true≢false}
 use Rattle.std.specs.Prelude.{slice_get, option_map, codes}
 use Rattle.std.specs.List.{list_any}

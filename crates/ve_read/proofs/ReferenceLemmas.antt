@@ -24,7 +24,7 @@ use Rattle.ve_classify.proofs.CitationLemmas.{references_are_cited}
 use Rattle.ve_internal.specs.declared.reference.RefRead.{RefRead}
 use Rattle.ve_internal.specs.Read.{as_texts, BodyIsUtf8, TextIsUtf8}
 use Rattle.ve_reader.specs.declared.owners.Claim.{Claim}
-use Rattle.ve_reader.specs.Claimed.{claimed, page_claim, text_key}
+use Rattle.ve_reader.specs.Claimed.{claim_of, page_claim, text_key}
 use Rattle.ve_classify.specs.FirstPart.{first_node, nodes_in, part_nodes}
 use Rattle.ve_classify.specs.Places.{StandsIn, PartEnds}
 use Rattle.ve_reader.specs.ReadSoFar.{ReadSoFar, is_page, place_in, owned_at}
@@ -184,7 +184,7 @@ some_chars : (o : Option (List ℕ)) → is_some (option_map chars o) ≡ is_som
 some_chars None = refl
 some_chars (Some t) = refl
 
-claims_are_keys : (owners : List Owner) (m : model.RefRead) → claimed owners (as_texts m) ≡ option_map (page_claim owners) (unless_owned owners m)
+claims_are_keys : (owners : List Owner) (m : model.RefRead) → claim_of owners (as_texts m) ≡ option_map (page_claim owners) (unless_owned owners m)
 claims_are_keys owners m =
     claim_by owners m (is_some m.html) (is_owned owners (text_key owners (chars m.group) (option_map chars m.name))) (text_key owners (chars m.group) (option_map chars m.name))
     (key_same owners m.group m.name m.html) refl refl (some_chars m.html)
@@ -218,14 +218,14 @@ reads_by mw reading None e h = absurd cc
 reads_by mw reading (Some m) e h = record { says = m; is = e; texts = cc }
 
 pub claims : (r : ReadSoFar) (nodes : List Node) (n end : ℕ) (v : Bor (List ℕ)) (mw : List ℕ) (read : Option RefRead) (reading : RefRead) (claim : Option Claim) → is_page r.purpose ≡ true → IsCited nodes n end (Some v) →
-    mw ≡ decoded v.now → read ≡ option_map as_texts (model.reference_of mw) → IfSome read (λ _. BodyIsUtf8 (model.reference_of mw)) → read ≡ Some reading → claim ≡ claimed r.owners reading → IsClaimed r nodes n end claim
+    mw ≡ decoded v.now → read ≡ option_map as_texts (model.reference_of mw) → IfSome read (λ _. BodyIsUtf8 (model.reference_of mw)) → read ≡ Some reading → claim ≡ claim_of r.owners reading → IsClaimed r nodes n end claim
 claims r nodes n end v mw read reading claim e cites is reads body some claim_is = λ f group later at more s p size.
     let cited : Some mw ≡ cited_in group = ap (λ (x : List ℕ). Some x) is ∙ cites f group later at more s p size in
     let one = cited_one group mw cited in
     let m = reads_by mw reading (model.reference_of mw) refl (sym some ∙ reads) in
     let w : Progress = place_in r at in
     let utf8 : TextIsUtf8 m.says.html = subst BodyIsUtf8 m.is (subst (λ (x : Option RefRead). IfSome x (λ _. BodyIsUtf8 (model.reference_of mw))) some body) in
-    let keys : claim ≡ option_map (page_claim r.owners) (unless_owned r.owners m.says) = claim_is ∙ ap (claimed r.owners) m.texts ∙ claims_are_keys r.owners m.says in
+    let keys : claim ≡ option_map (page_claim r.owners) (unless_owned r.owners m.says) = claim_is ∙ ap (claim_of r.owners) m.texts ∙ claims_are_keys r.owners m.says in
     let read_is : reference_in r.owners (cited_in group) ≡ unless_owned r.owners m.says = said r.owners (cited_in group) mw cited ∙ ap (unless_said r.owners) m.is in
     let barred : Bool = is_some m.says.html && is_owned r.owners (key_of r.owners m.says) in (
       ref_read r at group e

@@ -1,4 +1,4 @@
--- What stands first among siblings.
+-- The first unit of siblings.
 use Rattle.std.proofs.Common.{◌≡◌, ℕ, zero, suc, ◌+◌, ◌<◌, Bool, true, false, not, ◌&&◌, if◌then◌else◌, List, [], ◌∷◌, ◌++◌, length, Option, Some, refl, sym, ap, ◌∙◌, subst, append-nil, length-append, arith, true≢false}
 use Rattle.std.specs.Prelude.{slice_get, chars}
 use Rattle.std.specs.Borrow.{Bor}

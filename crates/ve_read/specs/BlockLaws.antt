@@ -1,4 +1,5 @@
--- How siblings are read: a block, with the whitespace before it, or a run comes before what follows; and where that stops.
+-- How siblings are read: a block, with the whitespace before it, or a run comes before what
+-- follows; and where that stops.
 use Rattle.std.specs.Prelude.{◌≡◌, ℕ, ◌+◌, true, false, List, length}
 use Rattle.std.specs.Option.{option_or}
 use Rattle.model_spelling.specs.Grammar.{Attr, start_text}

@@ -1,4 +1,4 @@
--- What all siblings of a parent add to what is read, and where reading them stops.
+-- All siblings of a parent: what they add to the items, and where reading them stops.
 use Rattle.std.specs.Prelude.{ℕ, List, [], Option, option_map}
 use Rattle.model_page.specs.Parts.{Parts}
 use Rattle.model_page.specs.Fit.{Around, Content}

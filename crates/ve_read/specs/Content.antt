@@ -1,4 +1,4 @@
--- What content adds to what is read, and where reading it stops.
+-- Content: what it adds to the items, and where reading it stops.
 use Rattle.std.specs.Prelude.{ℕ, [], Option, option_map}
 use Rattle.ve_kinds.specs.declared.kind.Kind.{Kind}
 use Rattle.model_page.specs.Heads.{whole_head}
@@ -11,7 +11,8 @@ use Rattle.ve_classify.specs.FirstPart.{first_source}
 use Rattle.ve_reader.specs.ReadSoFar.{ReadSoFar, place_in, with_piece}
 use Rattle.ve_reader.specs.Stops.{deep_in}
 
--- what parts become in content after what is read, inside of the marks around, where they begin at this byte
+-- what parts become in content after what is read, inside of the marks around, where they begin at
+-- this byte
 abbrev pub content_made : Parts → ℕ → ReadSoFar → Made
 content_made parts at r = made_of (Content r.marks) parts (place_in r at)
 

@@ -1,4 +1,5 @@
--- How content is read: one part after the other, and what is in an annotation inside of its mark; and where that stops.
+-- How content is read: one part after the other, and what is in an annotation inside of its mark;
+-- and where that stops.
 use Rattle.std.specs.Prelude.{◌≡◌, ℕ, ◌+◌, ◌<◌, ◌≤◌, true, false, List, length, Option, IfSome}
 use Rattle.std.specs.Option.{option_or}
 use Rattle.model_spelling.specs.Grammar.{Attr, start_text}
@@ -11,7 +12,8 @@ use Rattle.ve_reader.specs.ReadSoFar.{ReadSoFar, with_mark, mark_left}
 use Rattle.ve_reader.specs.Stops.{mark_limit}
 use Rattle.ve_read.specs.Content.{with_content, content_limit}
 
--- Where two limits are found before a byte and two at it or past it, the earlier of all is the earlier of the first two, or else of the others.
+-- Two limits are found before a byte, and two at it or past it. The earlier of all is the earlier
+-- of the first two, or else of the others.
 abbrev pub EarlierJoins : Type 0
 EarlierJoins =
     (byte : ℕ) (deep marked deep_later marked_later : Option Limit)
@@ -32,7 +34,7 @@ LimitsInTurn =
     → content_limit parts at r
     ≡ option_or (content_limit (take_parts 1 parts) at r) (content_limit (later_of parts) (at + length (first_source parts)) (with_content (take_parts 1 parts) at r))
 
--- What is in an annotation is read inside of its mark, which is left then;
+-- The inside of an annotation is read inside of its mark, which is left then;
 abbrev pub AnnotationsAreRead : Type 0
 AnnotationsAreRead =
     (name : List ℕ) (attrs : List Attr) (children : Parts) (at : ℕ) (r : ReadSoFar) → fit_of (Content r.marks) name children ≡ Annotation

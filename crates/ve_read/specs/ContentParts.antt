@@ -1,4 +1,5 @@
--- Which parts of a page are read: those that stand at a node, up to another node and a byte. What is promised is said of whatever siblings stand there.
+-- Which parts of a page are read: those that stand at a node, up to another node and a byte. What
+-- is promised is said of whatever siblings stand there.
 use Rattle.std.specs.Prelude.{◌≡◌, ℕ, true, List}
 use Rattle.model_spelling.specs.Grammar.{Attr}
 use Rattle.model_spelling.specs.Forest.{Forest, Element}
@@ -9,7 +10,8 @@ use Rattle.ve_classify.specs.Standing.{has_node}
 use Rattle.ve_classify.specs.FirstPart.{take_parts}
 use Rattle.ve_classify.specs.Places.{StandsIn, PartsTo, PartEnds}
 
--- Some siblings stand at a node, and the first of their parts, so many, end before the node `to` and the byte `byte`.
+-- Some siblings stand at a node, and the first of their parts, so many, end before the node `to`
+-- and the byte `byte`.
 pub record SomeParts (text : List ℕ) (nodes : List Node) (n to byte : ℕ) : Type 0 where
   pub forest : Forest
   pub at : ℕ

@@ -36,14 +36,16 @@ IsOver (fault.Html f) limit = ⊥
 IsOver (fault.TooManyItems count) limit = ⊥
 IsOver fault.StoreFull limit = ⊥
 
--- what was to be read is within the limits where it was read, and else is over the one that is named
+-- what was to be read is within the limits where it was read, and else is over the one that is
+-- named
 abbrev pub Within : {A : Type 0} → Result A ReadFault → Option Limit → Type 0
 Within (Ok x) limit = limit ≡ None
 Within (Err e) limit = IsOver e limit
 
 -- ---- a body
 
--- the first place of the page that is over a limit, where its body has this text and begins at this byte
+-- the first position of the page that is over a limit, where its body has this text and begins at
+-- this byte
 abbrev pub limit_from : ℕ → List ℕ → Option Limit
 limit_from from text = page_limit from (or_nothing (forest_of text))
 

@@ -1,4 +1,4 @@
--- What is read of a text of which the forest is known. These serve private functions.
+-- Reading of a text of which the forest is known. These serve private functions.
 use Rattle.std.specs.Prelude.{◌≡◌, ℕ, List, None}
 use Rattle.model_spelling.specs.Forest.{Forest, Spells}
 use Rattle.model_spelling.specs.ForestNodes.{forest_nodes}
@@ -28,7 +28,8 @@ piece_in text = (page_made 0 (or_nothing (forest_of text))).later
 abbrev pub rows_in : List ℕ → List OriginRow
 rows_in text = let piece = piece_in text in node_rows 0 piece.items piece.spans
 
--- The body of this text is read as the page that begins its body at this byte, but that rows have the bytes of the text.
+-- The body of this text is read as the page that begins its body at this byte, but that rows have
+-- the bytes of the text.
 pub record IsBodyRead (from : ℕ) (text : List ℕ) (r : ReadSoFar) : Type 0 where
   pub spelled : fault_of text ≡ None
   pub within : limit_from from text ≡ None

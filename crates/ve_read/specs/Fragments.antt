@@ -1,4 +1,4 @@
--- What a fragment is, by its text and the kinds that are open where it is to stand, innermost first.
+-- Fragments, by their text and the kinds that are open where each is to stand, innermost first.
 use Rattle.std.specs.Prelude.{◌≡◌, ℕ, Bool, false, ◌&&◌, if◌then◌else◌, All, List, [], ◌∷◌, ◌++◌, chars, map, Some, None, Option, Result, Ok, Err}
 use Rattle.ve_base.specs.Empty.{empty_head}
 use Rattle.ve_base.specs.declared.value.Value.{Value}

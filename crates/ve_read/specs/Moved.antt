@@ -1,4 +1,5 @@
--- What is read of a body by itself, as it stands in the page: its bytes are counted from the first byte of the page. These serve private functions.
+-- The reading of a body by itself, moved to where it stands in the page: its bytes are counted from
+-- the first byte of the page. These serve private functions.
 use Rattle.std.specs.Prelude.{ℕ, ◌+◌, map}
 use Rattle.model_page.specs.Pieces.{SourceSpan, Piece, Owner, Made, Progress}
 use Rattle.model_page.specs.Limits.{Limit, TooDeep, TooManyMarks}

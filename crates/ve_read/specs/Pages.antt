@@ -1,4 +1,4 @@
--- What is promised of a page that was read, and of one that was refused.
+-- Promises of a page that was read, and of one that was refused.
 use Rattle.std.specs.Prelude.{◌≡◌, ℕ, List, All, Option, Some, None, Result, Ok, Err}
 use Rattle.model_items.specs.Plain.{plain_list, CitesWell}
 use Rattle.model_spelling.specs.Faults.{ForestFault, Scan, Mismatched, Unclosed, Stray, TooDeep}
@@ -25,7 +25,8 @@ pub record IsReadPage (text : List ℕ) (p : PageRead) : Type 0 where
   pub values : p.values ≡ values_of (opened_by text p)
   pub cites : All (CitesWell p.values) p.list.items
 
--- each row has the places of its node: those of the openings in order, for as long as there are spans
+-- each row has the positions of its node: those of the openings in order, for as long as there are
+-- spans
 abbrev pub HasPlaces : PageRead → Type 0
 HasPlaces p = p.rows ≡ node_rows 0 (plain_list p.values p.list.items) (spans p.rows)
 

@@ -1,4 +1,5 @@
--- Which siblings are read: all that stand at a node, up to another node and a byte. What is promised is said of whatever siblings stand there.
+-- Which siblings are read: all that stand at a node, up to another node and a byte. What is
+-- promised is said of whatever siblings stand there.
 use Rattle.std.specs.Prelude.{◌≡◌, ℕ, Bool, true, false, not, List}
 use Rattle.model_spelling.specs.Forest.{Forest}
 use Rattle.model_spelling.specs.ForestNodes.{ForestNode}

@@ -1,4 +1,5 @@
--- What is promised of whatever siblings stand at a node: what is read with them, and where reading them stops.
+-- Promises for whatever siblings stand at a node: the items with them, and where reading them
+-- stops.
 use Rattle.std.specs.Prelude.{◌≡◌, ℕ, List, Result, chars}
 use Rattle.model_page.specs.Parts.{parts_of}
 use Rattle.model_page.specs.Fit.{Around}
@@ -23,14 +24,16 @@ LeavesWhite text nodes around n to byte old white = OfSiblings text nodes n to b
 abbrev pub StopsInSiblings : {A : Type 0} → List ℕ → List Node → Around → ℕ → ℕ → ℕ → ReadSoFar → Result A ReadStop → Type 0
 StopsInSiblings text nodes around n to byte old result = OfSiblings text nodes n to byte (λ parts at. Stops result (siblings_limit around parts at old))
 
--- a block is read after whitespace, and reading stops in it; these serve private functions, as those below
+-- a block is read after whitespace, and reading stops in it; these serve private functions, as
+-- those below
 abbrev pub ReadsBlock : List ℕ → List Node → Around → ℕ → ℕ → ℕ → List ℕ → ReadSoFar → ReadSoFar → Type 0
 ReadsBlock text nodes around n end byte white old new = OfBlock text nodes around n end byte (λ parts at. new ≡ with_blocks (chars white) around parts at old)
 
 abbrev pub StopsInBlock : {A : Type 0} → List ℕ → List Node → Around → ℕ → ℕ → ℕ → ReadSoFar → Result A ReadStop → Type 0
 StopsInBlock text nodes around n end byte old result = OfBlock text nodes around n end byte (λ parts at. Stops result (siblings_limit around parts at old))
 
--- what stands first is read where whitespace is waiting, other whitespace is waiting then; or reading stops in it
+-- what stands first is read where whitespace is waiting, other whitespace is waiting then; or
+-- reading stops in it
 abbrev pub ReadsUnit : List ℕ → List Node → Around → ℕ → Unit → List ℕ → List ℕ → ReadSoFar → ReadSoFar → Type 0
 ReadsUnit text nodes around n unit white next old new =
     OfUnit text nodes around n unit white (After text nodes around n unit.part.end unit.part.byte white next old new)

@@ -1,4 +1,5 @@
--- Groups that are references: what is claimed for one, and what it becomes. These serve private functions.
+-- Groups that are references: what is claimed for one, and what it becomes. These serve private
+-- functions.
 use Rattle.std.specs.Prelude.{◌≡◌, ℕ, ◌+◌, List, Option, None, option_map, is_some}
 use Rattle.model_spelling.specs.Grammar.{Attr}
 use Rattle.model_spelling.specs.Forest.{Forest, Nothing, Element, spelling}
@@ -59,7 +60,8 @@ abbrev pub IsForElement : Forest → Option Claim → Type 0
 IsForElement (Element name attrs children Nothing) claim = Unit {0}
 IsForElement group claim = claim ≡ None
 
--- what is claimed for the group at a node, whatever siblings stand there: with it, the group is the reference that the model says
+-- what is claimed for the group at a node, whatever siblings stand there: with it, the group is the
+-- reference that the model says
 abbrev pub IsClaimed : ReadSoFar → List Node → ℕ → ℕ → Option Claim → Type 0
 IsClaimed r nodes n end claim =
     (f group : Forest) (later : Parts) (at : ℕ) (more : List ForestNode) → Stands nodes n at f more → parts_of f ≡ Group group later

@@ -8,8 +8,9 @@ use Rattle.ve_origin.specs.Origins.{AreRows, IsCut}
 use Rattle.ve_read.specs.declared.pages.PageRead.{PageRead}
 use Rattle.ve_read.specs.Pages.{HasPlaces, IsReadPage}
 
--- The body is cut between characters; each row has whole characters of the page, and is the range of its node, before the internal list; and the
--- origins of the list are the numbers of the rows, each once and in order.
+-- The body is cut between characters. Each row has whole characters of the page, and is the range
+-- of its node, before the internal list. The origins of the list are the numbers of the rows, each
+-- once and in order.
 pub record RowsStand (text : List ℕ) (p : PageRead) : Type 0 where
   pub cut : IsCut text p.body
   pub are_rows : AreRows text (length p.list.items) p.rows

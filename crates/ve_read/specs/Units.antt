@@ -1,4 +1,5 @@
--- What stands first among siblings: whitespace, a run, or a block; and what is left after it. These serve private functions.
+-- The first unit of siblings: whitespace, a run, or a block; and the rest after it. These serve
+-- private functions.
 use Rattle.std.specs.Prelude.{◌≡◌, ◌⊎◌, ℕ, ◌+◌, Bool, true, false, not, List, [], length, chars}
 use Rattle.model_spelling.specs.Forest.{Forest, Text, starts_with_text, spelling}
 use Rattle.model_spelling.specs.ForestNodes.{ForestNode, forest_size}
@@ -88,7 +89,8 @@ pub record SomeUnit (text : List ℕ) (nodes : List Node) (around : Around) (n :
 
 -- ---- what is left after it
 
--- what is said of whatever siblings stand at a node, of which this stands first and before which the whitespace may be waiting
+-- what is said of whatever siblings stand at a node, of which this stands first and before which
+-- the whitespace may be waiting
 abbrev pub OfUnit : List ℕ → List Node → Around → ℕ → Unit → List ℕ → (Forest → ℕ → List ForestNode → Type 0) → Type 0
 OfUnit text nodes around n unit white says =
     (f : Forest) (at : ℕ) (more : List ForestNode) → StandsIn text nodes n at f more

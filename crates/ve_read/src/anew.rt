@@ -1,4 +1,4 @@
-// Items over values of their own, citing a store and what follows it.
+// Items over values of their own, made to cite a store and the values that follow it.
 ghost use Rattle.std.specs.Prelude.{◌≡◌, length, map, All, IfOk, OnOk};
 ghost use Rattle.model_change.specs.Store.{fill};
 ghost use Rattle.model_items.specs.Plain.{plain_list, CitesWell};
@@ -10,7 +10,7 @@ use ve_base::{Memory, TryCopy, ValueId};
 use ve_items::{Item, Items, Linear};
 use ve_store::{NewValues, Store};
 
-/// What cites the value that is cited, where these cite the values in turn.
+/// The new number of a cited value, where these numbers cite the values in turn.
 fn id_anew(ids: &[ValueId], id: Option<ValueId>) -> Option<ValueId>
     ensures { result ≡ model.id_anew ids.now id }
 {
@@ -60,7 +60,8 @@ fn items_anew(alloc: Global, ids: &[ValueId], list: &Linear) -> Result<Items, Me
     Ok(items)
 }
 
-/// What cites the values in turn, in a store or in what follows it, which takes those that are new.
+/// The numbers that cite the values in turn, in a store or in what follows it, which takes those
+/// that are new.
 fn values_anew(
     alloc: Global,
     values: &Store,
@@ -68,8 +69,10 @@ fn values_anew(
     new: &mut NewValues,
 ) -> Result<Vec<ValueId>, Memory>
     requires follows { new.old.after ≡ length store.now }
-    ensures stand { IfOk result (λ ids. model.StandThere values.now (together store.now new.new) ids.items) }
-    ensures filled { OnOk result (together store.now new.new ≡ fill (together store.now new.old) values.now) }
+    ensures stand { IfOk result (λ ids.
+        model.StandThere values.now (together store.now new.new) ids.items) }
+    ensures filled { OnOk result (
+        together store.now new.new ≡ fill (together store.now new.old) values.now) }
     ensures grows { Grows new.old new.new }
 {
     let mut ids = Vec::new(alloc);
@@ -81,7 +84,8 @@ fn values_anew(
     Ok(ids)
 }
 
-/// The items of a list over its values, citing a store and what follows it, which takes the values that are new, in their order.
+/// The items of a list over its values, made to cite a store and the values that follow it. New
+/// values are taken there, in their order.
 pub fn cited_anew(
     alloc: Global,
     list: &Linear,
@@ -91,9 +95,11 @@ pub fn cited_anew(
 ) -> Result<Items, Memory>
     requires follows { new.old.after ≡ length store.now }
     requires cites { All (CitesWell values.now) list.now.items }
-    ensures items { IfOk result (λ items. plain_list (together store.now new.new) items ≡ plain_list values.now list.now.items) }
+    ensures items { IfOk result (λ items.
+        plain_list (together store.now new.new) items ≡ plain_list values.now list.now.items) }
     ensures cites { IfOk result (All (CitesWell (together store.now new.new))) }
-    ensures filled { OnOk result (together store.now new.new ≡ fill (together store.now new.old) values.now) }
+    ensures filled { OnOk result (
+        together store.now new.new ≡ fill (together store.now new.old) values.now) }
     ensures grows { Grows new.old new.new }
 {
     let ids = values_anew(alloc, values, store, new)?;

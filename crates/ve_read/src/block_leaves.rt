@@ -28,8 +28,11 @@ pub fn push_leaf(
     requires block { SomeBlock text.now forest.now (parent_of around) n part.end part.byte }
     requires fit { IsFit forest.now n around fit }
     requires leaf { (kind : Kind) → fit ≢ fits.Branch kind }
-    ensures ok { OnOk result (ReadsBlock text.now forest.now (parent_of around) n part.end part.byte white.now reader.old reader.new) }
-    ensures limit { StopsInBlock text.now forest.now (parent_of around) n part.end part.byte reader.old result }
+    ensures ok { OnOk result (
+        ReadsBlock text.now forest.now (parent_of around) n part.end part.byte white.now
+        reader.old reader.new) }
+    ensures limit { StopsInBlock text.now forest.now (parent_of around) n part.end part.byte
+        reader.old result }
 {
     let Fit::Whole(kind) = fit else {
         unreachable!();

@@ -1,4 +1,4 @@
-// Blocks, one after the other, and what stands in them.
+// Blocks, one after the other, and their insides.
 ghost use Rattle.std.specs.Prelude.{◌≡◌, ◌<◌, ◌≤◌, [], length, true, IfErr, IfOk, OnOk};
 ghost use Rattle.model_page.specs.Fit.{around_in as inside};
 ghost use Rattle.ve_read.specs.Places.{SomeBlock, SomeSiblings, holds_blocks};
@@ -20,7 +20,7 @@ use ve_html_tree::Forest;
 use ve_kinds::Kind;
 use ve_reader::{NodeStart, ReadStop, Reader, element_head};
 
-/// A branch, after whitespace: its opening, what stands in it, and its closing.
+/// A branch, after whitespace: its opening, its inside, and its closing.
 #[cycle(blocks)]
 fn push_branch(
     alloc: Global,
@@ -40,8 +40,11 @@ fn push_branch(
     requires block { SomeBlock text.now forest.now (parent_of around) n part.end part.byte }
     requires fit { IsFit forest.now n around (fits.Branch kind) }
     requires unmarked { reader.old.marks ≡ [] }
-    ensures ok { OnOk result (ReadsBlock text.now forest.now (parent_of around) n part.end part.byte white.now reader.old reader.new) }
-    ensures limit { StopsInBlock text.now forest.now (parent_of around) n part.end part.byte reader.old result }
+    ensures ok { OnOk result (
+        ReadsBlock text.now forest.now (parent_of around) n part.end part.byte white.now
+        reader.old reader.new) }
+    ensures limit { StopsInBlock text.now forest.now (parent_of around) n part.end part.byte
+        reader.old result }
 {
     let within = n < forest.len();
     prove!(within);
@@ -89,8 +92,11 @@ fn push_block(
     requires blocks { holds_blocks (parent_of around) ≡ true }
     requires block { SomeBlock text.now forest.now (parent_of around) n part.end part.byte }
     requires unmarked { reader.old.marks ≡ [] }
-    ensures ok { OnOk result (ReadsBlock text.now forest.now (parent_of around) n part.end part.byte white.now reader.old reader.new) }
-    ensures limit { StopsInBlock text.now forest.now (parent_of around) n part.end part.byte reader.old result }
+    ensures ok { OnOk result (
+        ReadsBlock text.now forest.now (parent_of around) n part.end part.byte white.now
+        reader.old reader.new) }
+    ensures limit { StopsInBlock text.now forest.now (parent_of around) n part.end part.byte
+        reader.old result }
 {
     match fit(forest, n, around) {
         Fit::Branch(kind) => push_branch(alloc, text, forest, reader, around, n, part, white, kind),
@@ -98,7 +104,8 @@ fn push_block(
     }
 }
 
-/// What stands first, where this whitespace is waiting; it gives the whitespace that is waiting then.
+/// Reads the first unit, where this whitespace is waiting; it gives the whitespace that is waiting
+/// then.
 #[cycle(blocks)]
 fn push_unit<'a>(
     alloc: Global,
@@ -117,9 +124,12 @@ fn push_unit<'a>(
     requires blocks { holds_blocks (parent_of around) ≡ true }
     requires unit { SomeUnit text.now forest.now (parent_of around) n unit }
     requires unmarked { reader.old.marks ≡ [] }
-    ensures ok { IfOk result (λ next. ReadsUnit text.now forest.now (parent_of around) n unit white.now next.now reader.old reader.new) }
+    ensures ok { IfOk result (λ next.
+        ReadsUnit text.now forest.now (parent_of around) n unit white.now next.now reader.old
+        reader.new) }
     ensures unmarked { OnOk result (reader.new.marks ≡ []) }
-    ensures limit { IfErr result (λ e. StopsInUnit text.now forest.now (parent_of around) n unit white.now reader.old e) }
+    ensures limit { IfErr result (λ e.
+        StopsInUnit text.now forest.now (parent_of around) n unit white.now reader.old e) }
 {
     match unit.sort {
         Sort::White => Ok(text_at(forest, n)),
@@ -151,9 +161,14 @@ fn read_blocks<'a>(
     requires blocks { holds_blocks (parent_of around) ≡ true }
     requires stands { SomeSiblings text.now forest.now from to.end to.byte }
     requires unmarked { reader.old.marks ≡ [] }
-    ensures ok { OnOk result (ReadsSiblings text.now forest.now (parent_of around) from to.end to.byte reader.old reader.new) }
-    ensures white { IfOk result (λ white. LeavesWhite text.now forest.now (parent_of around) from to.end to.byte reader.old white.now) }
-    ensures limit { StopsInSiblings text.now forest.now (parent_of around) from to.end to.byte reader.old result }
+    ensures ok { OnOk result (
+        ReadsSiblings text.now forest.now (parent_of around) from to.end to.byte reader.old
+        reader.new) }
+    ensures white { IfOk result (λ white.
+        LeavesWhite text.now forest.now (parent_of around) from to.end to.byte reader.old
+        white.now) }
+    ensures limit { StopsInSiblings text.now forest.now (parent_of around) from to.end to.byte
+        reader.old result }
 {
     let mut n = from;
     let mut white: &'a str = "";
@@ -165,9 +180,10 @@ fn read_blocks<'a>(
     Ok(white)
 }
 
-/// Reads all siblings of a page that stand at a node of its forest, up to the node and the byte where they end, as what stands in a
-/// node of the kind, where no mark is around; and gives the whitespace after the last of them. An `Err` names the first of them that
-/// is over a limit, by its byte in the text, or is want of memory; some of them may have been read then.
+/// Reads all siblings of a page that stand at a node of its forest, up to the node and the byte
+/// where they end. They are read as the inside of a node of the kind, where no mark is around. It
+/// gives the whitespace after the last of them. An `Err` names the first of them that is over a
+/// limit, by its byte in the text, or is want of memory. Some of them may have been read then.
 #[cycle(blocks)]
 pub fn read_siblings<'a>(
     alloc: Global,
@@ -183,9 +199,14 @@ pub fn read_siblings<'a>(
     requires tags { TagsFit forest.now }
     requires stands { SomeSiblings text.now forest.now from to.end to.byte }
     requires unmarked { reader.old.marks ≡ [] }
-    ensures ok { OnOk result (ReadsSiblings text.now forest.now (inside kind) from to.end to.byte reader.old reader.new) }
-    ensures white { IfOk result (λ white. LeavesWhite text.now forest.now (inside kind) from to.end to.byte reader.old white.now) }
-    ensures limit { StopsInSiblings text.now forest.now (inside kind) from to.end to.byte reader.old result }
+    ensures ok { OnOk result (
+        ReadsSiblings text.now forest.now (inside kind) from to.end to.byte reader.old
+        reader.new) }
+    ensures white { IfOk result (λ white.
+        LeavesWhite text.now forest.now (inside kind) from to.end to.byte reader.old
+        white.now) }
+    ensures limit { StopsInSiblings text.now forest.now (inside kind) from to.end to.byte reader.old
+        result }
 {
     match around_in(kind) {
         Around::Content => {

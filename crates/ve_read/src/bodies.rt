@@ -41,7 +41,8 @@ fn open_internal(
     white: &str,
 ) -> Result<OpenNode, Memory>
     requires { reader.old.depth < max_open_kinds }
-    ensures ok { OnOk result (reader.new ≡ with_opening kind head (chars white.now) false no_span reader.old) }
+    ensures ok { OnOk result (
+        reader.new ≡ with_opening kind head (chars white.now) false no_span reader.old) }
     ensures node { IfOk result (λ node. node ≡ node_opened kind reader.old) }
 {
     let start = NodeStart {
@@ -57,7 +58,8 @@ fn open_internal(
     }
 }
 
-/// The internal item of an owner, with its body. The page's body begins at the byte `from`, and owners are counted from it.
+/// The internal item of an owner, with its body. The page's body begins at the byte `from`, and
+/// owners are counted from it.
 fn read_owner(
     alloc: Global,
     reader: &mut Reader,
@@ -66,7 +68,8 @@ fn read_owner(
 ) -> Result<(), ReadFault>
     requires ready { InBodies 1 reader.old }
     requires spelled { fault_of owner.html.now ≡ None }
-    ensures ok { OnOk result (reader.new ≡ with_items (internal_item (lent_owner owner.entry)) reader.old) }
+    ensures ok { OnOk result (
+        reader.new ≡ with_items (internal_item (lent_owner owner.entry)) reader.old) }
     ensures limit { Within result (body_limit (owner_moved from (lent_owner owner.entry))) }
 {
     let at = byte_in_page(from, owner.at)?;
@@ -90,7 +93,8 @@ fn read_owners(
 ) -> Result<(), ReadFault>
     requires ready { InBodies 1 reader.old }
     requires spelled { AreSpelled owners.now }
-    ensures ok { OnOk result (reader.new ≡ with_items (flat_map internal_item owners.now) reader.old) }
+    ensures ok { OnOk result (
+        reader.new ≡ with_items (flat_map internal_item owners.now) reader.old) }
     ensures limit { Within result (first_body_limit (map (owner_moved from) owners.now)) }
 {
     let mut k = 0;
@@ -101,8 +105,8 @@ fn read_owners(
     Ok(())
 }
 
-/// Reads the internal list of a page that was read but for it, after the whitespace at the end. What is over a limit in a body is named
-/// by the byte of the page where its owner starts.
+/// Reads the internal list of a page that was read but for it, after the whitespace at the end.
+/// What is over a limit in a body is named by the byte of the page where its owner starts.
 pub fn read_bodies(
     alloc: Global,
     reader: &mut Reader,
@@ -112,7 +116,9 @@ pub fn read_bodies(
     requires depth { reader.old.depth ≡ 0 }
     requires unmarked { reader.old.marks ≡ [] }
     requires spelled { AreSpelled reader.old.owners }
-    ensures items { OnOk result (reader.new.items ≡ reader.old.items ++ internal_list (chars white.now) reader.old.owners) }
+    ensures items { OnOk result (
+        reader.new.items
+        ≡ reader.old.items ++ internal_list (chars white.now) reader.old.owners) }
     ensures rows { OnOk result (reader.new.rows ≡ reader.old.rows) }
     ensures limit { Within result (first_body_limit (map (owner_moved from) reader.old.owners)) }
 {

@@ -32,8 +32,11 @@ fn annotation(
     requires tags { TagsFit forest.now }
     requires part { SomePart text.now forest.now n part.end part.byte }
     requires fit { IsFit forest.now n around.Content fits.Annotation }
-    ensures ok { OnOk result (OfPart text.now forest.now n part.end part.byte (λ parts at. reader.new ≡ with_content parts at reader.old)) }
-    ensures limit { OfPart text.now forest.now n part.end part.byte (λ parts at. Stops result (content_limit parts at reader.old)) }
+    ensures ok { OnOk result (
+        OfPart text.now forest.now n part.end part.byte (λ parts at.
+        reader.new ≡ with_content parts at reader.old)) }
+    ensures limit { OfPart text.now forest.now n part.end part.byte (λ parts at.
+        Stops result (content_limit parts at reader.old)) }
 {
     let within = n < forest.len();
     prove!(within);
@@ -67,8 +70,11 @@ fn read_part(
     requires leads { LeadsOn forest.now }
     requires tags { TagsFit forest.now }
     requires part { SomePart text.now forest.now n part.end part.byte }
-    ensures ok { OnOk result (OfPart text.now forest.now n part.end part.byte (λ parts at. reader.new ≡ with_content parts at reader.old)) }
-    ensures limit { OfPart text.now forest.now n part.end part.byte (λ parts at. Stops result (content_limit parts at reader.old)) }
+    ensures ok { OnOk result (
+        OfPart text.now forest.now n part.end part.byte (λ parts at.
+        reader.new ≡ with_content parts at reader.old)) }
+    ensures limit { OfPart text.now forest.now n part.end part.byte (λ parts at.
+        Stops result (content_limit parts at reader.old)) }
 {
     match fit(forest, n, Around::Content) {
         Fit::Annotation => annotation(alloc, text, forest, reader, n, part),
@@ -76,9 +82,9 @@ fn read_part(
     }
 }
 
-/// Reads content of a page: the parts of the siblings that stand at a node of its forest, up to the node and the byte where
-/// they end, inside of the marks around. An `Err` names the first of them that is over a limit, by its byte in the text, or is
-/// want of memory.
+/// Reads content of a page: the siblings that stand at a node of its forest, up to the node and the
+/// byte where they end, inside of the marks around. An `Err` names the first of them that is over a
+/// limit, by its byte in the text, or is want of memory.
 #[cycle(content)]
 pub fn read_content(
     alloc: Global,
@@ -92,8 +98,11 @@ pub fn read_content(
     requires leads { LeadsOn forest.now }
     requires tags { TagsFit forest.now }
     requires stands { SomeParts text.now forest.now from to.end to.byte }
-    ensures ok { OnOk result (OfParts text.now forest.now from to.end to.byte (λ parts at. reader.new ≡ with_content parts at reader.old)) }
-    ensures limit { OfParts text.now forest.now from to.end to.byte (λ parts at. Stops result (content_limit parts at reader.old)) }
+    ensures ok { OnOk result (
+        OfParts text.now forest.now from to.end to.byte (λ parts at.
+        reader.new ≡ with_content parts at reader.old)) }
+    ensures limit { OfParts text.now forest.now from to.end to.byte (λ parts at.
+        Stops result (content_limit parts at reader.old)) }
 {
     let mut n = from;
     'parts: while n < to.end {

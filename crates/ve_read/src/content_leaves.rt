@@ -30,8 +30,11 @@ pub fn push_whole_leaf(
 ) -> Result<(), ReadStop>
     requires within { n < length forest.now }
     requires part { SomePart text.now forest.now n part.end part.byte }
-    ensures ok { OnOk result (OfPart text.now forest.now n part.end part.byte (λ parts at. reader.new ≡ with_whole kind parts at reader.old)) }
-    ensures limit { OfPart text.now forest.now n part.end part.byte (λ parts at. Stops result (whole_limit kind parts at reader.old)) }
+    ensures ok { OnOk result (
+        OfPart text.now forest.now n part.end part.byte (λ parts at.
+        reader.new ≡ with_whole kind parts at reader.old)) }
+    ensures limit { OfPart text.now forest.now n part.end part.byte (λ parts at.
+        Stops result (whole_limit kind parts at reader.old)) }
 {
     let source = part_source(text, forest, n, part);
     let head = whole_head(alloc, source)?;
@@ -55,8 +58,11 @@ fn push_whole(
     requires tags { TagsFit forest.now }
     requires part { SomePart text.now forest.now n part.end part.byte }
     requires fit { IsFit forest.now n around.Content (fits.Whole kind) }
-    ensures ok { OnOk result (OfPart text.now forest.now n part.end part.byte (λ parts at. reader.new ≡ with_content parts at reader.old)) }
-    ensures limit { OfPart text.now forest.now n part.end part.byte (λ parts at. Stops result (content_limit parts at reader.old)) }
+    ensures ok { OnOk result (
+        OfPart text.now forest.now n part.end part.byte (λ parts at.
+        reader.new ≡ with_content parts at reader.old)) }
+    ensures limit { OfPart text.now forest.now n part.end part.byte (λ parts at.
+        Stops result (content_limit parts at reader.old)) }
 {
     match kind {
         Kind::TransInline => push_generated(alloc, text, forest, reader, n, part),
@@ -80,8 +86,11 @@ pub fn push_single(
     requires part { SomePart text.now forest.now n part.end part.byte }
     requires fit { IsFit forest.now n around.Content fit }
     requires single { fit ≢ fits.Annotation }
-    ensures ok { OnOk result (OfPart text.now forest.now n part.end part.byte (λ parts at. reader.new ≡ with_content parts at reader.old)) }
-    ensures limit { OfPart text.now forest.now n part.end part.byte (λ parts at. Stops result (content_limit parts at reader.old)) }
+    ensures ok { OnOk result (
+        OfPart text.now forest.now n part.end part.byte (λ parts at.
+        reader.new ≡ with_content parts at reader.old)) }
+    ensures limit { OfPart text.now forest.now n part.end part.byte (λ parts at.
+        Stops result (content_limit parts at reader.old)) }
 {
     let node = forest.node(n);
     match fit {

@@ -64,7 +64,10 @@ pub fn byte_in_page(from: usize, at: usize) -> Result<usize, Memory>
 
 /// A fault of a body's text, as the page has it.
 fn moved_fault(fault: HtmlFault, from: usize) -> Result<HtmlFault, Memory>
-    ensures { IfOk result (λ moved. (first : Option ForestFault) → IsFirstFault fault first → HasFault (spelled_fault moved) (fault_in_page_if_any from first)) }
+    ensures { IfOk result (λ moved.
+        (first : Option ForestFault)
+        → IsFirstFault fault first
+        → HasFault (spelled_fault moved) (fault_in_page_if_any from first)) }
 {
     match fault {
         HtmlFault::Scan(scan) => {
@@ -94,7 +97,9 @@ fn moved_fault(fault: HtmlFault, from: usize) -> Result<HtmlFault, Memory>
 
 /// The first fault of a page, by that of the text of its body, which begins at a byte of it.
 pub fn fault_in_page(fault: HtmlFault, from: usize) -> ReadFault
-    ensures { (first : Option ForestFault) → IsFirstFault fault first → IsFault result (fault_in_page_if_any from first) }
+    ensures { (first : Option ForestFault)
+        → IsFirstFault fault first
+        → IsFault result (fault_in_page_if_any from first) }
 {
     match moved_fault(fault, from) {
         Ok(moved) => ReadFault::Html(moved),
@@ -102,9 +107,11 @@ pub fn fault_in_page(fault: HtmlFault, from: usize) -> ReadFault
     }
 }
 
-/// What is over a limit in the body, which begins at a byte of the page.
+/// The limit that the body passes, which begins at a byte of the page.
 pub fn stop_in_page(stop: ReadStop, from: usize) -> ReadFault
-    ensures { (limit : Option Limit) → stop_limit stop limit → IsOver result (option_map (limit_moved from) limit) }
+    ensures { (limit : Option Limit)
+        → stop_limit stop limit
+        → IsOver result (option_map (limit_moved from) limit) }
 {
     match stop {
         ReadStop::TooDeep { at } => match byte_in_page(from, at) {
@@ -119,9 +126,11 @@ pub fn stop_in_page(stop: ReadStop, from: usize) -> ReadFault
     }
 }
 
-/// What is over a limit in the body of a reference, by the byte of the page where that starts.
+/// The limit that the body of a reference passes, by the byte of the page where that starts.
 pub fn stop_at_owner(stop: ReadStop, at: usize) -> ReadFault
-    ensures { (limit : Option Limit) → stop_limit stop limit → IsOver result (option_map (moved_to at) limit) }
+    ensures { (limit : Option Limit)
+        → stop_limit stop limit
+        → IsOver result (option_map (moved_to at) limit) }
 {
     match stop {
         ReadStop::TooDeep { .. } => ReadFault::TooDeep { at },

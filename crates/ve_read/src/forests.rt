@@ -1,4 +1,4 @@
-// A text that was spelled, read as a whole.
+// A text that has a forest, read as a whole.
 ghost use Rattle.std.specs.Prelude.{◌≡◌, [], None, IfOk, OnOk};
 ghost use Rattle.std.specs.Str.{chars};
 ghost use Rattle.model_spelling.specs.Faults.{fault_of};
@@ -27,8 +27,8 @@ pub fn read_spelled<'a>(alloc: Global, text: &'a str) -> Result<Forest<'a>, Memo
     }
 }
 
-/// Reads all that stands in a text as what stands in a node of the kind, where no mark is around, and gives the whitespace at its end.
-/// An `Err` names a byte of the text.
+/// Reads a whole text as the inside of a node of the kind, where no mark is around, and gives the
+/// whitespace at its end. An `Err` names a byte of the text.
 pub fn read_whole<'a>(
     alloc: Global,
     text: &str,
@@ -38,9 +38,12 @@ pub fn read_whole<'a>(
 ) -> Result<&'a str, ReadStop>
     requires nodes { AreNodesOf text.now forest.now }
     requires unmarked { reader.old.marks ≡ [] }
-    ensures ok { OnOk result (reader.new ≡ with_siblings (around_in kind) (parts_in text.now) 0 reader.old) }
-    ensures white { IfOk result (λ white. chars white.now ≡ white_at_end (around_in kind) (parts_in text.now) 0 reader.old) }
-    ensures limit { Stops result (siblings_limit (around_in kind) (parts_in text.now) 0 reader.old) }
+    ensures ok { OnOk result (
+        reader.new ≡ with_siblings (around_in kind) (parts_in text.now) 0 reader.old) }
+    ensures white { IfOk result (λ white.
+        chars white.now ≡ white_at_end (around_in kind) (parts_in text.now) 0 reader.old) }
+    ensures limit { Stops result (
+        siblings_limit (around_in kind) (parts_in text.now) 0 reader.old) }
 {
     read_stands();
     tags_are_read();

@@ -76,7 +76,8 @@ fn forest_of<'a>(alloc: Global, text: &'a str) -> Result<Forest<'a>, FragmentFau
 
 /// A paragraph of the characters of a text, which cites nothing.
 fn paragraph_of(alloc: Global, text: &str) -> Result<Items, Memory>
-    ensures items { IfOk result (λ items. (values : _) → plain_list values items ≡ paragraph_of (chars text.now)) }
+    ensures items { IfOk result (λ items.
+        (values : _) → plain_list values items ≡ paragraph_of (chars text.now)) }
     ensures cites { IfOk result (λ items. (values : _) → All (CitesWell values) items) }
 {
     let mut items = Items::new(alloc);
@@ -98,7 +99,7 @@ fn paragraph_of(alloc: Global, text: &str) -> Result<Items, Memory>
     Ok(items)
 }
 
-/// What a text becomes as what stands in a node of the kind, over values of its own.
+/// The items of a text as the inside of a node of the kind, over values of its own.
 fn read_in(
     alloc: Global,
     text: &str,
@@ -106,8 +107,10 @@ fn read_in(
     kind: Kind,
 ) -> Result<ReadParts, FragmentFault>
     requires nodes { AreNodesOf text.now forest.now }
-    ensures items { IfOk result (λ parts. plain_list parts.values parts.list.items ≡ pieces_of kind text.now) }
-    ensures values { IfOk result (λ parts. parts.values ≡ fill [] (cited (pieces_of kind text.now))) }
+    ensures items { IfOk result (λ parts.
+        plain_list parts.values parts.list.items ≡ pieces_of kind text.now) }
+    ensures values { IfOk result (λ parts.
+        parts.values ≡ fill [] (cited (pieces_of kind text.now))) }
     ensures cites { IfOk result (λ parts. All (CitesWell parts.values) parts.list.items) }
     ensures limit { OverMarks result (marked_at (around_in kind) (parts_in text.now) 0) }
 {
@@ -140,7 +143,8 @@ fn items_in(
 ) -> Result<Items, FragmentFault>
     requires nodes { AreNodesOf text.now forest.now }
     requires follows { new.old.after ≡ length store.now }
-    ensures read { IfOk result (IsReadIn kind text.now (together store.now new.old) (together store.now new.new)) }
+    ensures read { IfOk result (
+        IsReadIn kind text.now (together store.now new.old) (together store.now new.new)) }
     ensures limit { OverMarks result (marked_at (around_in kind) (parts_in text.now) 0) }
     ensures grows { Grows new.old new.new }
 {
@@ -153,9 +157,10 @@ fn items_in(
     Ok(items)
 }
 
-/// Reads a fragment that is to stand where the kinds of the state are open: its items, citing a store and what follows it, which takes the
-/// values that are new, in the order in which the items cite them. It becomes what it is in the innermost open kind that it fits, and
-/// whitespace alone is a paragraph where blocks may stand. No item has an origin, and none is generated.
+/// Reads a fragment that is to stand where the kinds of the state are open: its items, citing a
+/// store and the values that follow it. New values are taken there, in the order in which the items
+/// cite them. The fragment is read in the innermost open kind that it fits, and whitespace alone is
+/// a paragraph where blocks may stand. No item has an origin, and none is generated.
 ///
 /// `Html` comes exactly where no forest spells the text; then `TooManyMarks` where an annotation would stand inside of more than
 /// `MAX_MARKS` marks. How deep the items are isn't judged. After an `Err` further values may follow the store.
@@ -169,9 +174,12 @@ pub fn fragment(
     requires follows { new.old.after ≡ length store.now }
     ensures spelled { OnOk result (fault_of text.now ≡ None) }
     ensures within { OnOk result (limit_in state.now.stack text.now ≡ None) }
-    ensures items { IfOk result (λ items. plain_list (together store.now new.new) items ≡ fragment_in state.now.stack text.now) }
+    ensures items { IfOk result (λ items.
+        plain_list (together store.now new.new) items ≡ fragment_in state.now.stack text.now) }
     ensures cites { IfOk result (All (CitesWell (together store.now new.new))) }
-    ensures values { OnOk result (together store.now new.new ≡ fill (together store.now new.old) (cited (fragment_in state.now.stack text.now))) }
+    ensures values { OnOk result (
+        together store.now new.new
+        ≡ fill (together store.now new.old) (cited (fragment_in state.now.stack text.now))) }
     ensures grows { Grows new.old new.new }
     ensures refused { IfErr result (λ fault. RefusesFragment fault state.now.stack text.now) }
 {

@@ -1,18 +1,22 @@
-//! A page's text as items: its list, the values that the list cites, and a row for each origin; or the first refusal. And the
-//! text of a fragment as items over a store.
+//! Reading of pages and fragments: a page's text becomes its list, the values that the list cites,
+//! and a row for each origin, or the first refusal. The text of a fragment becomes items over a
+//! store. It leaves it to ve_reader where items go.
 //!
-//! - `page` gives model_page's page as it was opened (`IsReadPage` in `Pages` of specs/), or the model's refusal in the model's
-//!   order. `fragment` gives the model's fragment where these kinds are open, or its refusal (`Fragments`).
-//! - `read_siblings` walks over blocks: all children of a node, or all siblings of a page, a body or a fragment (`Blocks`,
-//!   `Places`, `Reads`, `Units`). Whitespace is kept until it is known what follows it. How far a run goes is looked up first.
-//! - `read_content` walks over content: characters, leaves and annotations, part by part (`Content`, `ContentParts`,
-//!   `References`).
+//! - `page` gives model_page's page as it was opened (`IsReadPage` in `Pages` of specs/), or the
+//!   model's refusal in the model's order. `fragment` gives the model's fragment where these kinds
+//!   are open, or its refusal (`Fragments`).
+//! - `read_siblings` walks over blocks: all children of a node, or all siblings of a page, a body
+//!   or a fragment (`Blocks`, `Places`, `Reads`, `Units`). Whitespace is kept until it is known
+//!   what follows it. How far a run goes is looked up first.
+//! - `read_content` walks over content: characters, leaves and annotations, part by part
+//!   (`Content`, `ContentParts`, `References`).
 //!
-//! One walk goes over the body of the page, and then one over the body of each reference. `Forests`, `Faults`, `Bodies`, `Moved`
-//! and `Anew` serve private functions.
+//! One walk goes over the body of the page, and then one over the body of each reference.
+//! `Forests`, `Faults`, `Bodies`, `Moved` and `Anew` serve private functions.
 //!
-//! Laws: each row has whole characters of the page and is the range of its node (`rows_stand`); content and siblings are read
-//! one after the other, and reading stops at what comes first in the text (`content_in_turn`, `siblings_in_turn`).
+//! Laws: each row has whole characters of the page and is the range of its node (`rows_stand`).
+//! Content and siblings are read one after the other, and reading stops at the first limit in the
+//! text (`content_in_turn`, `siblings_in_turn`).
 #![tactic(auto)]
 
 mod anew;

@@ -23,7 +23,7 @@ fn row_in_page(row: OriginRow, from: usize) -> Result<OriginRow, Memory>
     })
 }
 
-/// All rows, each put in its own place.
+/// All rows, each put in its own position.
 pub fn rows_in_page(table: OriginTable, from: usize) -> Result<OriginTable, Memory>
     ensures { IfOk result (λ moved. moved ≡ map (row_moved from) table) }
 {

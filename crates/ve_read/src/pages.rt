@@ -21,7 +21,8 @@ use ve_origin::OriginTable;
 use ve_reader::{Purpose, Reader, pieces_are_even};
 use ve_store::Store;
 
-/// A page as it was first read: its list, the values that the list cites, a row for each origin, and the bytes of its body.
+/// A page as it was first read: its list, the values that the list cites, a row for each origin,
+/// and the bytes of its body.
 #[derive(Drop)]
 pub struct PageRead {
     pub list: Linear,
@@ -30,7 +31,8 @@ pub struct PageRead {
     pub body: Span,
 }
 
-/// Reads the body of a page by its forest, and then the bodies of its references. The body begins at the byte `from`.
+/// Reads the body of a page by its forest, and then the bodies of its references. The body begins
+/// at the byte `from`.
 fn read_forest(
     alloc: Global,
     text: &str,
@@ -38,7 +40,8 @@ fn read_forest(
     from: usize,
 ) -> Result<Reader, ReadFault>
     requires { AreNodesOf text.now forest.now }
-    ensures items { IfOk result (λ r. r.items ≡ items_of_page (page_made from (or_nothing (forest_of text.now)))) }
+    ensures items { IfOk result (λ r.
+        r.items ≡ items_of_page (page_made from (or_nothing (forest_of text.now)))) }
     ensures rows { IfOk result (λ r. r.rows ≡ rows_in text.now) }
     ensures limit { Within result (limit_from from text.now) }
 {
@@ -77,8 +80,8 @@ fn check_size(count: usize, values: usize) -> Result<(), ReadFault>
     Ok(())
 }
 
-/// Reads a page: the first of its refusals, in the order of `ReadFault`, or all that it holds. It takes a store of its own, and hands it
-/// over.
+/// Reads a page: the first of its refusals, in the order of `ReadFault`, or all that it holds. It
+/// takes a store of its own, and hands it over.
 pub fn page(alloc: Global, text: &str) -> Result<PageRead, ReadFault>
     ensures read { IfOk result (λ p. IsReadPage text.now p) }
     ensures places { IfOk result (λ p. HasPlaces p) }

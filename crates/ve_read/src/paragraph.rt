@@ -15,9 +15,9 @@ use ve_html_tree::Forest;
 use ve_kinds::Kind;
 use ve_reader::{NodeStart, ReadStop, Reader};
 
-/// Reads the run of a page that begins at a node, up to the node and the byte where it ends, as the paragraph that is made for it. No
-/// mark is around. An `Err` names the first of it that is over a limit, by its byte in the text, or is want of memory; some of it may
-/// have been read then.
+/// Reads the run of a page that begins at a node, up to the node and the byte where it ends, as the
+/// paragraph that is made for it. No mark is around. An `Err` names the first of it that is over a
+/// limit, by its byte in the text, or is want of memory. Some of it may have been read then.
 pub fn read_paragraph(
     alloc: Global,
     text: &str,
@@ -32,8 +32,11 @@ pub fn read_paragraph(
     requires tags { TagsFit forest.now }
     requires stands { SomeParts text.now forest.now n part.end part.byte }
     requires unmarked { reader.old.marks ≡ [] }
-    ensures ok { OnOk result (OfParts text.now forest.now n part.end part.byte (λ run at. reader.new ≡ with_paragraph run at reader.old)) }
-    ensures limit { OfParts text.now forest.now n part.end part.byte (λ run at. Stops result (paragraph_limit run at reader.old)) }
+    ensures ok { OnOk result (
+        OfParts text.now forest.now n part.end part.byte (λ run at.
+        reader.new ≡ with_paragraph run at reader.old)) }
+    ensures limit { OfParts text.now forest.now n part.end part.byte (λ run at.
+        Stops result (paragraph_limit run at reader.old)) }
 {
     let from = forest.node(n).span.from;
     let start = NodeStart {

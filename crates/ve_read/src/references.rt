@@ -24,7 +24,7 @@ use ve_internal::reference_of;
 use ve_kinds::Kind;
 use ve_reader::{Claim, NewOwner, Purpose, ReadStop, Reader, reference_head};
 
-/// What the group of a page from a node up to another is as a reference, where it is one.
+/// The claim of the group of a page from a node up to another, where it is a reference.
 fn claim_at(
     alloc: Global,
     forest: &Forest<'_>,
@@ -35,7 +35,8 @@ fn claim_at(
     requires within { n < length forest.now }
     requires leads { LeadsOn forest.now }
     ensures claim { IfOk result (IsClaimed reader.now forest.now n end) }
-    ensures free { IfOk result (λ claim. IfSome claim (λ c. IfSome c.html (λ _. is_owned reader.now.owners c.key ≡ false))) }
+    ensures free { IfOk result (λ claim.
+        IfSome claim (λ c. IfSome c.html (λ _. is_owned reader.now.owners c.key ≡ false))) }
 {
     match reader.purpose() {
         Purpose::Page => {}
@@ -51,7 +52,7 @@ fn claim_at(
     }
 }
 
-/// The source of what is in the element at a node.
+/// The source of the inside of the element at a node.
 fn inner_source<'a>(text: &'a str, forest: &Forest<'_>, n: usize) -> &'a str
     requires within { n < length forest.now }
     requires element { SomeElement text.now forest.now n }
@@ -88,8 +89,10 @@ fn push_claimed(
     requires tags { TagsFit forest.now }
     requires element { SomeElement text.now forest.now n }
     requires free { IfSome claim.html (λ _. is_owned reader.old.owners claim.key ≡ false) }
-    ensures ok { OnOk result (OfElement text.now forest.now n (ReadsClaim claim byte reader.old reader.new)) }
-    ensures limit { OfElement text.now forest.now n (λ name attrs children at. Stops result (claim_limit claim byte reader.old name attrs children at)) }
+    ensures ok { OnOk result (
+        OfElement text.now forest.now n (ReadsClaim claim byte reader.old reader.new)) }
+    ensures limit { OfElement text.now forest.now n (λ name attrs children at.
+        Stops result (claim_limit claim byte reader.old name attrs children at)) }
 {
     let node = forest.node(n);
     let Token::StartTag { name, attrs, .. } = node.token else {
@@ -120,8 +123,11 @@ pub fn push_generated(
     requires tags { TagsFit forest.now }
     requires part { SomePart text.now forest.now n part.end part.byte }
     requires fit { IsFit forest.now n around.Content (fits.Whole TransInline) }
-    ensures ok { OnOk result (OfPart text.now forest.now n part.end part.byte (λ parts at. reader.new ≡ with_content parts at reader.old)) }
-    ensures limit { OfPart text.now forest.now n part.end part.byte (λ parts at. Stops result (content_limit parts at reader.old)) }
+    ensures ok { OnOk result (
+        OfPart text.now forest.now n part.end part.byte (λ parts at.
+        reader.new ≡ with_content parts at reader.old)) }
+    ensures limit { OfPart text.now forest.now n part.end part.byte (λ parts at.
+        Stops result (content_limit parts at reader.old)) }
 {
     match claim_at(alloc, forest, reader, n, part.end)? {
         Some(claim) => push_claimed(alloc, text, forest, reader, n, part.byte, claim),

@@ -1,4 +1,4 @@
-// What stands first among siblings.
+// The first unit of siblings: whitespace that waits, a run, or a block.
 ghost use Rattle.std.specs.Prelude.{◌≡◌, ◌<◌, ◌≤◌, length, true};
 ghost use Rattle.model_page.specs.Fit.{around_in};
 ghost use Rattle.ve_classify.specs.Fits.{parent_of};
@@ -23,7 +23,7 @@ pub enum Sort {
     Block,
 }
 
-/// What stands first, and where it ends.
+/// The first unit of siblings, and where it ends.
 #[derive(Clone, Copy, Debug, PartialEq, Eq)]
 pub struct Unit {
     pub sort: Sort,
@@ -55,7 +55,8 @@ pub fn text_at<'a>(forest: &Forest<'a>, n: usize) -> &'a str
     text
 }
 
-/// What stands first among the siblings of a flow parent of the kind, which end before the node and the byte of `to`.
+/// The first unit of the siblings of a flow parent of the kind, which end before the node and the
+/// byte of `to`.
 fn flow_unit(forest: &Forest<'_>, kind: Kind, n: usize, to: Part) -> Unit
     requires within { n < to.end }
     requires bound { to.end ≤ length forest.now }
@@ -93,7 +94,8 @@ fn structural_unit(forest: &Forest<'_>, kind: Kind, n: usize, to: Part) -> Unit
     requires leads { LeadsOn forest.now }
     ensures more { n < result.part.end }
     ensures bound { result.part.end ≤ length forest.now }
-    ensures unit { IsUnitAt forest.now (parent_of (around.Structural kind)) n to.end to.byte result }
+    ensures unit { IsUnitAt forest.now (parent_of (around.Structural kind)) n to.end to.byte
+        result }
 {
     let part = part_at(forest, n, to.end, to.byte);
     match fit(forest, n, Around::Structural(kind)) {
@@ -108,7 +110,7 @@ fn structural_unit(forest: &Forest<'_>, kind: Kind, n: usize, to: Part) -> Unit
     }
 }
 
-/// What stands first among siblings that stand so, and end before the node and the byte of `to`.
+/// The first unit of siblings that stand so, and end before the node and the byte of `to`.
 pub fn unit_at(forest: &Forest<'_>, around: Around, n: usize, to: Part) -> Unit
     requires within { n < to.end }
     requires bound { to.end ≤ length forest.now }

@@ -108,7 +108,7 @@ not_among (d ∷ done) a rest all apart h =
 
 -- ---- the loop
 
--- What was made of the attributes of a tag so far, and what is still to come.
+-- The attributes of a tag made so far, and those still to come.
 pub record Left (list : List g.Attr) (slash : Bool) (now : AttrTokens) (made : List Attr) : Type 0 where
   pub done : List g.Attr
   pub rest : List g.Attr

@@ -17,7 +17,7 @@ use Rattle.model_page.specs.Limits.{deep_at}
 use Rattle.ve_origin.specs.declared.origin.OriginRow.{OriginRow}
 use Rattle.ve_reader.specs.declared.purpose.Purpose.{Purpose}
 use Rattle.ve_reader.specs.declared.purpose.Purpose.TheVariants as purpose
-use Rattle.ve_reader.specs.ReadSoFar.{ReadSoFar, shown, node_rows, shown_rows, with_piece, piece_after, opening_piece, closing_piece, with_opening, node_opened, next_origin, row_ended, rows_ended, with_closing}
+use Rattle.ve_reader.specs.ReadSoFar.{ReadSoFar, items_here, node_rows, shown_rows, with_piece, piece_after, opening_piece, closing_piece, with_opening, node_opened, next_origin, row_ended, rows_ended, with_closing}
 use Rattle.ve_reader.specs.Stops.{depth_limit, deep_in}
 use Rattle.ve_reader.specs.Laws.{openings, is_closed, IsEven, PiecesJoin, NodesJoin, MarksAreLeft, DepthsJoin, NodeDepths}
 
@@ -36,12 +36,12 @@ length-with_origins k (Char c marks ∷ xs) = ap suc (length-with_origins k xs)
 length-with_origins k (Closing kind pre ∷ xs) = ap suc (length-with_origins k xs)
 length-with_origins k (Opening kind head marks pre origin generated ∷ xs) = ap suc (length-with_origins (suc k) xs)
 
-shown-append : (p : Purpose) (k : ℕ) (xs ys : List PlainItem) → shown p k (xs ++ ys) ≡ shown p k xs ++ shown p (k + openings xs) ys
+shown-append : (p : Purpose) (k : ℕ) (xs ys : List PlainItem) → items_here p k (xs ++ ys) ≡ items_here p k xs ++ items_here p (k + openings xs) ys
 shown-append purpose.Page k xs ys = with_origins-append k xs ys
 shown-append purpose.Body k xs ys = refl
 shown-append purpose.Fragment k xs ys = map-append item_unmade xs ys
 
-length-shown : (p : Purpose) (k : ℕ) (xs : List PlainItem) → length (shown p k xs) ≡ length xs
+length-shown : (p : Purpose) (k : ℕ) (xs : List PlainItem) → length (items_here p k xs) ≡ length xs
 length-shown purpose.Page k xs = length-with_origins k xs
 length-shown purpose.Body k xs = refl
 length-shown purpose.Fragment k xs = length-map xs item_unmade
@@ -57,7 +57,7 @@ length-node_rows at (Opening kind head marks pre origin generated ∷ items) (sp
 
 -- the next number, where it is asked for
 shown-count : (p : Purpose) (rows : List OriginRow) (at : ℕ) (piece : Piece) (xs : List PlainItem) → length piece.spans ≡ openings piece.items
-    → shown p (length rows + openings piece.items) xs ≡ shown p (length (rows ++ shown_rows p at piece)) xs
+    → items_here p (length rows + openings piece.items) xs ≡ items_here p (length (rows ++ shown_rows p at piece)) xs
 shown-count purpose.Page rows at piece xs e =
     ap (λ k. with_origins k xs) (omega (arith, length-append rows (node_rows at piece.items piece.spans), length-node_rows at piece.items piece.spans e))
 shown-count purpose.Body rows at piece xs e = refl
@@ -114,9 +114,9 @@ pieces_join a b x y r even =
     let k : ℕ = length r.rows in
     let at : ℕ = length r.items in
     let first : ReadSoFar = with_piece a x r in
-    let counted = ap (λ ys. shown r.purpose k a.items ++ ys) (shown-count r.purpose r.rows at a b.items even.spans) in
-    let items = ap (λ xs. r.items ++ xs) (shown-append r.purpose k a.items b.items ∙ counted) ∙ sym (append_assoc r.items (shown r.purpose k a.items) (shown r.purpose (length first.rows) b.items)) in
-    let at_b : at + length a.items ≡ length first.items = omega (arith, length-append r.items (shown r.purpose k a.items), length-shown r.purpose k a.items) in
+    let counted = ap (λ ys. items_here r.purpose k a.items ++ ys) (shown-count r.purpose r.rows at a b.items even.spans) in
+    let items = ap (λ xs. r.items ++ xs) (shown-append r.purpose k a.items b.items ∙ counted) ∙ sym (append_assoc r.items (items_here r.purpose k a.items) (items_here r.purpose (length first.rows) b.items)) in
+    let at_b : at + length a.items ≡ length first.items = omega (arith, length-append r.items (items_here r.purpose k a.items), length-shown r.purpose k a.items) in
     let rows =
     ap (λ xs. r.rows ++ xs) (shown_rows-append r.purpose at a b even ∙ ap (λ m. shown_rows r.purpose at a ++ shown_rows r.purpose m b) at_b)
     ∙ sym (append_assoc r.rows (shown_rows r.purpose at a) (shown_rows r.purpose (length first.items) b)) in
@@ -144,9 +144,9 @@ node_shown r kind head white generated span inside pre owners even =
     let two = shown-count p r.rows (length r.items) opening (inside.items ++ closing) refl in
     let three = shown-append p (length opened.rows) inside.items closing in
     let four = shown-count p opened.rows (length opened.items) inside closing even.spans in
-    let a : List PlainItem = shown p k opening.items in
-    let b : List PlainItem = shown p (length opened.rows) inside.items in
-    let c : List PlainItem = shown p (length filled.rows) closing in
+    let a : List PlainItem = items_here p k opening.items in
+    let b : List PlainItem = items_here p (length opened.rows) inside.items in
+    let c : List PlainItem = items_here p (length filled.rows) closing in
     ap (λ xs. r.items ++ xs) (one ∙ ap (λ xs. a ++ xs) (two ∙ three ∙ ap (λ xs. b ++ xs) four))
     ∙ sym (append_assoc r.items a (b ++ c))
     ∙ sym (append_assoc (r.items ++ a) b c)
@@ -180,9 +180,9 @@ node_joins kind head white generated span inside pre owners r even =
     let filled : ReadSoFar = with_piece inside owners opened in
     let opening : List PlainItem = Opening kind head [] white None generated ∷ [] in
     let at_inside : length opened.items ≡ suc (length r.items) =
-    omega (arith, length-append r.items (shown r.purpose (length r.rows) opening), length-shown r.purpose (length r.rows) opening) in
+    omega (arith, length-append r.items (items_here r.purpose (length r.rows) opening), length-shown r.purpose (length r.rows) opening) in
     let at_closing : length filled.items ≡ suc (length r.items) + length inside.items =
-    omega (arith, length-append opened.items (shown r.purpose (length opened.rows) inside.items), length-shown r.purpose (length opened.rows) inside.items, at_inside) in
+    omega (arith, length-append opened.items (items_here r.purpose (length opened.rows) inside.items), length-shown r.purpose (length opened.rows) inside.items, at_inside) in
     let items = node_shown r kind head white generated span inside pre owners even in
     let rows = rows_shown r.purpose (length r.items) r.rows kind head white generated span inside pre (length opened.items) (length filled.items) even at_inside at_closing in
     let owned = sym (append-nil ((r.owners ++ []) ++ owners) ∙ ap (λ os. os ++ owners) (append-nil r.owners)) in

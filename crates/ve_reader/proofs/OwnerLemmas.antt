@@ -13,7 +13,7 @@ use Rattle.model_page.specs.ReferenceNodes.{is_auto, auto_count, is_owned}
 use Rattle.ve_internal.specs.Keys.{ref_key_same-equivalence}
 use Rattle.ve_internal.specs.declared.reference.RefRead.{RefRead}
 use Rattle.ve_reader.specs.declared.owners.OwnedBody.{OwnedBody}
-use Rattle.ve_reader.specs.Claimed.{text_key, claimed}
+use Rattle.ve_reader.specs.Claimed.{text_key, claim_of}
 use Rattle.ve_reader.specs.Owned.{owner_in, owners_in, count_next}
 
 -- ---- keys
@@ -33,14 +33,14 @@ taken m owners k e = key_found m.entries k ∙ ap (λ os. is_owned os k) e
 -- ---- claims
 
 pub not_claimed : (owners : List Owner) (reading : RefRead) (key : RefKey) (owns there : Bool) → key ≡ text_key owners reading.group reading.name
-    → owns ≡ is_some reading.html → there ≡ is_owned owners key → (owns && there) ≡ true → None ≡ claimed owners reading
+    → owns ≡ is_some reading.html → there ≡ is_owned owners key → (owns && there) ≡ true → None ≡ claim_of owners reading
 not_claimed owners reading key owns there k o t h =
     let named : RefKey = text_key owners reading.group reading.name in
     let both : (is_some reading.html && is_owned owners named) ≡ true = sym (λ j. o j && (t ∙ ap (is_owned owners) k) j) ∙ h in
     sym (ap (λ b. if b then None else Some (record { key = named; html = reading.html })) both)
 
 pub is_claimed : (owners : List Owner) (reading : RefRead) (key : RefKey) (owns there : Bool) → key ≡ text_key owners reading.group reading.name
-    → owns ≡ is_some reading.html → there ≡ is_owned owners key → (owns && there) ≡ false → Some (record { key = key; html = reading.html }) ≡ claimed owners reading
+    → owns ≡ is_some reading.html → there ≡ is_owned owners key → (owns && there) ≡ false → Some (record { key = key; html = reading.html }) ≡ claim_of owners reading
 is_claimed owners reading key owns there k o t h =
     let named : RefKey = text_key owners reading.group reading.name in
     let both : (is_some reading.html && is_owned owners named) ≡ false = sym (λ j. o j && (t ∙ ap (is_owned owners) k) j) ∙ h in

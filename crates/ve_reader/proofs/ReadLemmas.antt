@@ -12,7 +12,7 @@ use Rattle.ve_reader.specs.Drafted.{Drafted}
 use Rattle.ve_reader.specs.Leaves.{text_items, with_items}
 use Rattle.ve_reader.specs.declared.purpose.Purpose.{Purpose}
 use Rattle.ve_reader.specs.declared.purpose.Purpose.TheVariants as purpose
-use Rattle.ve_reader.specs.ReadSoFar.{ReadSoFar, shown, node_rows, shown_rows, with_piece, row_ended}
+use Rattle.ve_reader.specs.ReadSoFar.{ReadSoFar, items_here, node_rows, shown_rows, with_piece, row_ended}
 
 -- ---- characters
 
@@ -24,7 +24,7 @@ unmade-chars : (marks : List Mark) (text : List ℕ) → map item_unmade (map (�
 unmade-chars marks [] = refl
 unmade-chars marks (c ∷ cs) = ap (λ xs. Char c marks ∷ xs) (unmade-chars marks cs)
 
-shown-chars : (p : Purpose) (k : ℕ) (marks : List Mark) (text : List ℕ) → shown p k (map (λ c. Char c marks) text) ≡ map (λ c. Char c marks) text
+shown-chars : (p : Purpose) (k : ℕ) (marks : List Mark) (text : List ℕ) → items_here p k (map (λ c. Char c marks) text) ≡ map (λ c. Char c marks) text
 shown-chars purpose.Page k marks text = with_origins-chars k marks text
 shown-chars purpose.Body k marks text = refl
 shown-chars purpose.Fragment k marks text = unmade-chars marks text

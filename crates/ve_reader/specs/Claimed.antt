@@ -1,4 +1,4 @@
--- What a reference is after the owners so far, by the texts that its `data-mw` says.
+-- The claim of a reference after the owners so far, by the texts of its `data-mw`.
 use Rattle.std.specs.Prelude.{◌≡◌, ℕ, ◌&&◌, if◌then◌else◌, List, Option, Some, None, option_map, is_some, chars}
 use Rattle.ve_base.specs.declared.head.Key.TheVariants.{Named, Auto}
 use Rattle.ve_base.specs.declared.head.RefKey.{RefKey}
@@ -10,7 +10,7 @@ use Rattle.ve_internal.specs.Read.{as_texts}
 use Rattle.ve_reader.specs.declared.owners.Claim.{Claim}
 use Rattle.ve_reader.specs.declared.owners.Owner.{Owner}
 
--- an owner that is lent
+-- an owner that is borrowed
 abbrev pub lent_owner : Owner → PageOwner
 lent_owner o = record { at = o.at; key = o.key.now; html = o.html.now }
 
@@ -20,8 +20,8 @@ text_key owners group None = record { group = group; key = Auto (auto_count owne
 text_key owners group (Some name) = record { group = group; key = Named name }
 
 -- none where the reference would own a body that has an owner
-abbrev pub claimed : List PageOwner → RefRead → Option Claim
-claimed owners reading =
+abbrev pub claim_of : List PageOwner → RefRead → Option Claim
+claim_of owners reading =
     let key = text_key owners reading.group reading.name in
     if is_some reading.html && is_owned owners key then None else Some (record { key = key; html = reading.html })
 
@@ -29,8 +29,9 @@ claimed owners reading =
 abbrev pub page_claim : List PageOwner → page.RefRead → Claim
 page_claim owners reading = record { key = key_of owners reading; html = option_map chars reading.html }
 
--- It is the key of model_page, and the body's text; none where model_page takes the reading for none.
+-- It is the key of model_page, and the body's text; none where model_page takes the reading for
+-- none.
 abbrev pub ClaimsAreKeys : Type 0
 ClaimsAreKeys =
     (owners : List PageOwner) (reading : page.RefRead)
-    → claimed owners (as_texts reading) ≡ option_map (page_claim owners) (unless_owned owners reading)
+    → claim_of owners (as_texts reading) ≡ option_map (page_claim owners) (unless_owned owners reading)

@@ -1,4 +1,5 @@
--- How a draft holds its items: over the values that they cite, which are those of the items in order, each once.
+-- How a draft holds its items: over the values that they cite, which are those of the items in
+-- order, each once.
 use Rattle.std.specs.Prelude.{◌≡◌, ◌≢◌, List, [], ◌∷◌, ◌++◌, Option, Some, None, All, slice_get}
 use Rattle.ve_base.specs.declared.marks.Mark.{Mark}
 use Rattle.ve_base.specs.declared.value.Value.{Value}

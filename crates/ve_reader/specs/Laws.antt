@@ -1,4 +1,4 @@
--- What pieces are, and that reading them one after the other is reading them joined.
+-- Pieces; and that reading them one after the other is reading them joined.
 use Rattle.std.specs.Prelude.{◌≡◌, ℕ, zero, suc, Bool, true, false, List, [], ◌∷◌, ◌++◌, length}
 use Rattle.std.specs.Option.{option_or}
 use Rattle.ve_base.specs.declared.head.Head.{Head}
@@ -38,7 +38,7 @@ pub record IsEven (piece : Piece) : Type 0 where
   pub spans : length piece.spans ≡ openings piece.items
   pub closed : is_closed 0 piece.items ≡ true
 
--- What parts become is even: their run and what comes after it,
+-- Converted siblings are even: their run and what comes after it,
 abbrev pub PiecesAreEven : Type 0
 PiecesAreEven = (around : Around) (parts : Parts) (w : Progress) → IsEven (made_of around parts w).run × IsEven (made_of around parts w).later
 
@@ -62,7 +62,7 @@ NodesJoin =
     → with_piece (piece_after white (node kind head [] generated span inside pre)) owners r
     ≡ with_closing (node_opened kind r) pre (with_piece inside owners (with_opening kind head white generated span r))
 
--- What is read inside of a mark is read, and then the mark is left.
+-- The inside of a mark is read, and then the mark is left.
 abbrev pub MarksAreLeft : Type 0
 MarksAreLeft =
     (mark : Mark) (piece : Piece) (owners : List Owner) (r : ReadSoFar) → mark_left (with_piece piece owners (with_mark mark r)) ≡ with_piece piece owners r

@@ -1,4 +1,5 @@
--- What one node becomes: heads, marks, and leaves as items. They are those of model_page's conversion, as the laws say.
+-- The items of one node: heads, marks, and leaves. They are those of model_page's conversion, as
+-- the laws say.
 use Rattle.std.specs.Prelude.{◌≡◌, ℕ, Bool, false, List, [], ◌∷◌, ◌++◌, Option, Some, None, chars, is_some}
 use Rattle.model_spelling.specs.Grammar.{Attr as Spelled}
 use Rattle.model_spelling.specs.Forest.{Forest, spelling}

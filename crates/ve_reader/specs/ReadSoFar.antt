@@ -1,4 +1,5 @@
--- What is read so far, and what it is with one more piece of items. A piece is model_page's: items, and the spans of their openings.
+-- The state of reading, and the state with one more piece of items. A piece is model_page's: items,
+-- and the spans of their openings.
 use Rattle.std.specs.Prelude.{ℕ, zero, suc, ◌+◌, ◌-◌, Bool, true, false, List, [], ◌∷◌, ◌++◌, length, map, take, Option, Some, None}
 use Rattle.std.specs.Str.{encode_utf8_all}
 use Rattle.ve_base.specs.declared.marks.Mark.{Mark}
@@ -16,7 +17,8 @@ use Rattle.ve_reader.specs.declared.purpose.Purpose.TheVariants as purpose
 use Rattle.ve_reader.specs.declared.reader.OpenNode.{OpenNode}
 use Rattle.ve_reader.specs.declared.reader.NewOwner.{NewOwner}
 
--- What is read, how many kinds are open, the items so far with the rows of their origins, the marks around, and the owners among the items.
+-- Whether a page, a body or a fragment is read, and how many kinds are open. Then the items so far
+-- with the rows of their origins, the marks around, and the owners among the items.
 pub record ReadSoFar : Type 0 where
   pub purpose : Purpose
   pub depth : ℕ
@@ -59,13 +61,15 @@ owned_at at (Some o) = record { at = at; key = o.key; html = encode_utf8_all o.h
 
 -- ---- origins
 
--- items as they are here: with origins from the number k on in a page, as they are in a body, and not generated in a fragment
-abbrev pub shown : Purpose → ℕ → List PlainItem → List PlainItem
-shown purpose.Page k items = with_origins k items
-shown purpose.Body k items = items
-shown purpose.Fragment k items = map item_unmade items
+-- items as they are here: with origins from the number k on in a page, as they are in a body, and
+-- not generated in a fragment
+abbrev pub items_here : Purpose → ℕ → List PlainItem → List PlainItem
+items_here purpose.Page k items = with_origins k items
+items_here purpose.Body k items = items
+items_here purpose.Fragment k items = map item_unmade items
 
--- a row for each opening, with its span: its node begins there and ends with its closing, where the first item stands at the place `at`
+-- a row for each opening, with its span: its node begins there and ends with its closing, where the
+-- first item stands at the position `at`
 abbrev pub node_rows : ℕ → List PlainItem → List SourceSpan → List OriginRow
 node_rows at [] spans = []
 node_rows at (Char c marks ∷ items) spans = node_rows (suc at) items spans
@@ -87,7 +91,7 @@ abbrev pub with_piece : Piece → List Owner → ReadSoFar → ReadSoFar
 with_piece piece owners r = record {
   purpose = r.purpose;
   depth = r.depth;
-  items = r.items ++ shown r.purpose (length r.rows) piece.items;
+  items = r.items ++ items_here r.purpose (length r.rows) piece.items;
   marks = r.marks;
   rows = r.rows ++ shown_rows r.purpose (length r.items) piece;
   owners = r.owners ++ owners;
@@ -120,7 +124,7 @@ next_origin purpose.Fragment count = None
 abbrev pub node_opened : Kind → ReadSoFar → OpenNode
 node_opened kind r = record { kind = kind; row = next_origin r.purpose (length r.rows) }
 
--- the row of this number ends at the place
+-- the row of this number ends at the position
 abbrev pub row_ended : ℕ → ℕ → List OriginRow → List OriginRow
 row_ended k to [] = []
 row_ended zero to (row ∷ rows) = record { span = row.span; from = row.from; to = to } ∷ rows

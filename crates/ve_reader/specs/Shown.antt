@@ -1,4 +1,4 @@
--- What an opening has by what is read, as the code asks. These serve private functions.
+-- Fields of an opening by the purpose of reading, as the code asks. These serve private functions.
 use Rattle.std.specs.Prelude.{ℕ, Bool, false, List, [], ◌∷◌}
 use Rattle.ve_html_scan.specs.declared.token.Span.{Span}
 use Rattle.ve_origin.specs.declared.origin.OriginRow.{OriginRow}

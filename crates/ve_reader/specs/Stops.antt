@@ -1,4 +1,5 @@
--- Where reading stops: at the first opening that is too deep, at the first annotation inside of too many marks, or for want of memory.
+-- Where reading stops: at the first opening that is too deep, at the first annotation inside of too
+-- many marks, or for want of memory.
 use Rattle.std.specs.Prelude.{◌≡◌, ℕ, if◌then◌else◌, nat_lt, length, Option, Some, None, option_map, Result, Ok, Err}
 use Rattle.ve_base.specs.Limits.{max_marks, max_open_kinds}
 use Rattle.model_page.specs.Pieces.{Piece}
@@ -34,7 +35,8 @@ stop_limit (stop.TooDeep at) limit = limit ≡ Some (TooDeep at)
 stop_limit (stop.TooManyMarks at) limit = limit ≡ Some (TooManyMarks at)
 stop_limit stop.Memory limit = Unit {0}
 
--- what was to be read is within the limits where it was read, and else is over the limit that is named, unless memory ran out
+-- what was to be read is within the limits where it was read, and else is over the limit that is
+-- named, unless memory ran out
 abbrev pub Stops : {A : Type 0} → Result A ReadStop → Option Limit → Type 0
 Stops (Ok x) limit = limit ≡ None
 Stops (Err e) limit = stop_limit e limit

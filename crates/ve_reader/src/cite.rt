@@ -1,4 +1,4 @@
-// The places of the values that an item cites. What is empty isn't cited.
+// The positions of the values that an item cites. What is empty isn't cited.
 ghost use Rattle.std.specs.Prelude.{◌≡◌, [], IfOk, OnOk, OnErr};
 ghost use Rattle.ve_reader.specs.Holding.{Knows};
 ghost use Rattle.std.specs.Str.{chars};
@@ -57,7 +57,7 @@ pub fn cite_white(alloc: Global, store: &mut Store, white: &str) -> Result<Optio
     Ok(Some(id))
 }
 
-/// The place of the marks around, which may be known already.
+/// The position of the marks around, which may be known already.
 pub fn marks_around(
     alloc: Global,
     store: &mut Store,

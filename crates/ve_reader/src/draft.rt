@@ -16,8 +16,8 @@ use ve_items::Linear;
 use ve_kinds::Kind;
 use ve_store::Store;
 
-/// Items that are put together, seen by value, with the marks around. The values that they cite are taken as the items
-/// come: each once, in the order in which items cite them.
+/// Items that are put together, seen by value, with the marks around. The values that they cite are
+/// taken as the items come: each once, in the order in which items cite them.
 #[derive(Drop)]
 pub struct ItemDraft {
     items: GrowingList,
@@ -64,7 +64,8 @@ impl ItemDraft {
 
     /// One mark more, inside the others. An `Err` changes nothing.
     pub fn enter(&mut self, mark: Mark) -> Result<(), Memory>
-        ensures ok { OnOk result (self.new ≡ record { items = self.old.items; marks = self.old.marks ++ mark ∷ [] }) }
+        ensures ok { OnOk result (
+            self.new ≡ record { items = self.old.items; marks = self.old.marks ++ mark ∷ [] }) }
         ensures err { OnErr result (self.new ≡ self.old) }
     {
         self.marks.push(mark)?;
@@ -133,7 +134,8 @@ impl ItemDraft {
 
     /// The opening of a block, after whitespace. An `Err` changes nothing.
     pub fn open(&mut self, opening: Opening, white: &str) -> Result<(), Memory>
-        ensures ok { OnOk result (self.new ≡ with_item (block_of opening (chars white.now)) self.old) }
+        ensures ok { OnOk result (
+            self.new ≡ with_item (block_of opening (chars white.now)) self.old) }
         ensures err { OnErr result (self.new ≡ self.old) }
     {
         let count = self.values.len();
@@ -154,7 +156,8 @@ impl ItemDraft {
 
     /// A closing, after whitespace. An `Err` changes nothing.
     pub fn close(&mut self, kind: Kind, white: &str) -> Result<(), Memory>
-        ensures ok { OnOk result (self.new ≡ with_item (plain.Closing kind (chars white.now)) self.old) }
+        ensures ok { OnOk result (
+            self.new ≡ with_item (plain.Closing kind (chars white.now)) self.old) }
         ensures err { OnErr result (self.new ≡ self.old) }
     {
         let count = self.values.len();
@@ -167,7 +170,8 @@ impl ItemDraft {
         }
     }
 
-    /// The items, and the values that they cite: each once, in the order in which the items cite them.
+    /// The items, and the values that they cite: each once, in the order in which the items cite
+    /// them.
     pub fn into_parts(self) -> Result<(Linear, Store), Memory>
         ensures items { IfOk result (λ parts. plain_list parts.1 parts.0.items ≡ self.items) }
         ensures values { IfOk result (λ parts. parts.1 ≡ fill [] (cited self.items)) }

@@ -6,8 +6,8 @@ use std::marker::Model;
 use ve_base::{FILLED_BLOCK, Memory};
 use ve_items::{Item, Linear};
 
-/// A list of items that grows at its end, seen as that list. The last items wait until there are enough of them for a
-/// block.
+/// A list of items that grows at its end, seen as that list. The last items wait until there are
+/// enough of them for a block.
 #[derive(Drop)]
 pub struct GrowingList {
     list: Linear,
@@ -27,7 +27,7 @@ impl Model for GrowingList {
     ghost invariant = { λ g. g.len ≡ length (g.list.items ++ g.tail.items) };
 }
 
-/// Puts the tail into its place. An `Err` changes nothing.
+/// Puts the tail into its position. An `Err` changes nothing.
 fn flush(list: &mut Linear, tail: &mut Vec<Item>) -> Result<(), Memory>
     ensures list { OnOk result (list.new.items ≡ list.old.items ++ tail.old.items) }
     ensures tail { OnOk result (tail.new.items ≡ []) }
@@ -39,7 +39,7 @@ fn flush(list: &mut Linear, tail: &mut Vec<Item>) -> Result<(), Memory>
     Ok(())
 }
 
-/// Puts the tail into its place where it is a block's worth.
+/// Puts the tail into its position where it is a block's worth.
 fn flush_full(list: &mut Linear, tail: &mut Vec<Item>) -> Result<(), Memory>
     ensures { list.new.items ++ tail.new.items ≡ list.old.items ++ tail.old.items }
 {

@@ -1,4 +1,4 @@
-// What an opening or a mark takes from the tag that it is read from.
+// Heads and marks read from tags.
 ghost use Rattle.std.specs.Prelude.{◌≡◌, IfOk};
 ghost use Rattle.std.specs.Str.{chars};
 ghost use Rattle.model_page.specs.Heads as page;
@@ -61,7 +61,8 @@ pub fn whole_head(alloc: Global, source: &str) -> Result<Head, Memory>
     })
 }
 
-/// The head of a reference: its tag and attributes, the source of what is in it, its key, and whether it owns the body.
+/// The head of a reference: its tag and attributes, the source of what is in it, its key, and
+/// whether it owns the body.
 pub fn reference_head(
     alloc: Global,
     name: &str,

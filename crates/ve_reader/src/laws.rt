@@ -4,15 +4,16 @@ ghost use Rattle.ve_reader.specs.Laws.{DepthsJoin, InsidesAreEven, MarksAreLeft,
 ghost use Rattle.ve_reader.specs.Leaves.{LeavesArePieces, LeavesAreNumbered, MarksAreAround, HeadsAreReferences};
 ghost use Rattle.ve_reader.specs.TagAttrs.{TagsAreRead};
 
-/// What parts become has a span for each opening and whole nodes alone, and so has what stands inside a branch.
+/// Converted siblings have a span for each opening and whole nodes alone, and so has the inside of
+/// a branch.
 #[tactic(auto, using(crate::proofs::EvenLemmas::pieces_are_even, crate::proofs::EvenLemmas::insides_are_even))]
 pub fn pieces_are_even()
     ensures parts { PiecesAreEven }
     ensures insides { InsidesAreEven }
 {}
 
-/// Joined pieces are read one after the other, a node as its opening, what is in it, and its closing, and
-/// what stands inside of a mark before the mark is left.
+/// Joined pieces are read one after the other. A node is read as its opening, its inside and its
+/// closing; and the inside of a mark before the mark is left.
 #[tactic(auto, using(crate::proofs::JoinLemmas::pieces_join, crate::proofs::JoinLemmas::nodes_join, crate::proofs::JoinLemmas::marks_are_left))]
 pub fn pieces_join()
     ensures pieces { PiecesJoin }
@@ -20,7 +21,8 @@ pub fn pieces_join()
     ensures marks { MarksAreLeft }
 {}
 
-/// The first opening that is too deep stands in the first of two pieces or else in the other; of a node it is its own, or else it stands inside.
+/// The first opening that is too deep stands in the first of two pieces or else in the other. Of a
+/// node it is its own, or else it stands inside.
 #[tactic(auto, using(crate::proofs::JoinLemmas::depths_join, crate::proofs::JoinLemmas::node_depths))]
 pub fn depths_join()
     ensures pieces { DepthsJoin }
@@ -42,8 +44,8 @@ pub fn tags_are_read()
     ensures { TagsAreRead }
 {}
 
-/// What is claimed by the texts of a `data-mw` is the key and the body that model_page gives the reference,
-/// or nothing where it takes it for none.
+/// The texts of a `data-mw` claim the key and the body that model_page gives the reference, or
+/// nothing where it takes it for none.
 pub fn claims_are_keys()
     ensures { ClaimsAreKeys }
 {}

@@ -11,7 +11,9 @@ use ve_html_scan::decoded;
 use ve_kinds::Kind;
 
 fn push_chars(draft: &mut ItemDraft, text: &str) -> Result<(), Memory>
-    ensures { OnOk result (draft.new ≡ with_items (map (λ c. plain.Char c draft.old.marks) (chars text.now)) draft.old) }
+    ensures { OnOk result (
+        draft.new
+        ≡ with_items (map (λ c. plain.Char c draft.old.marks) (chars text.now)) draft.old) }
 {
     for ch in text.chars() {
         draft.push_char(ch)?;
@@ -21,7 +23,8 @@ fn push_chars(draft: &mut ItemDraft, text: &str) -> Result<(), Memory>
 
 /// The characters of a text of the page, with the marks around.
 pub fn push_text(alloc: Global, draft: &mut ItemDraft, spelled: &str) -> Result<(), Memory>
-    ensures { OnOk result (draft.new ≡ with_items (text_items draft.old.marks spelled.now) draft.old) }
+    ensures { OnOk result (
+        draft.new ≡ with_items (text_items draft.old.marks spelled.now) draft.old) }
 {
     let text = decoded(alloc, spelled)?;
     push_chars(draft, text.as_str())
@@ -34,7 +37,8 @@ pub fn push_leaf(
     head: Head,
     origin: Option<u32>,
 ) -> Result<(), Memory>
-    ensures { OnOk result (draft.new ≡ with_items (leaf_items kind head draft.old.marks [] origin) draft.old) }
+    ensures { OnOk result (
+        draft.new ≡ with_items (leaf_items kind head draft.old.marks [] origin) draft.old) }
 {
     draft.open_leaf(Opening {
         kind,
@@ -53,7 +57,8 @@ pub fn push_block_leaf(
     origin: Option<u32>,
     white: &str,
 ) -> Result<(), Memory>
-    ensures { OnOk result (draft.new ≡ with_items (leaf_items kind head [] (chars white.now) origin) draft.old) }
+    ensures { OnOk result (
+        draft.new ≡ with_items (leaf_items kind head [] (chars white.now) origin) draft.old) }
 {
     let opening = Opening {
         kind,

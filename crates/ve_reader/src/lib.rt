@@ -1,20 +1,23 @@
-//! Items of a page, a body or a fragment, as they grow from the first one on. It knows what a piece of items is, and neither
-//! forests nor siblings: who walks over a page says what comes next.
+//! Items of a page, a body or a fragment, as they grow from the first one on. It knows pieces of
+//! items, and neither forests nor siblings: its caller walks over a page and says what comes next.
 //!
-//! - A `Reader` holds items over their values, a row for each origin, the marks around, the owners, and how many kinds are open
-//!   (`ReadSoFar` in specs/). Each call adds a piece of model_page's conversion (`with_piece`), or an opening or a closing.
-//!   Reading stops at an opening that is too deep, at a mark too many, or for want of memory (`Stops`).
-//! - An `ItemDraft` holds items with the values that they cite, each once and in their order (`Drafted`, `Holding`). A call that
-//!   fails changes nothing.
-//! - `element_head`, `mark_of`, `push_text` and `push_leaf` make what one node becomes: a head, a mark, characters, a leaf
-//!   (`Leaves`, `TagAttrs`).
-//! - `Owners` says which key a reference gets, and whether its body has an owner (`Owned`, `Claimed`). A key is found by its hash.
+//! - A `Reader` holds items over their values, a row for each origin, the marks around, the owners,
+//!   and how many kinds are open (`ReadSoFar` in specs/). Each call adds a piece of model_page's
+//!   conversion (`with_piece`), or an opening or a closing. Reading stops at an opening that is too
+//!   deep, at a mark too many, or for want of memory (`Stops`).
+//! - An `ItemDraft` holds items with the values that they cite, each once and in their order
+//!   (`Drafted`, `Holding`). A call that fails changes nothing.
+//! - `element_head`, `mark_of`, `push_text` and `push_leaf` make the items of one node: a head, a
+//!   mark, characters, a leaf (`Leaves`, `TagAttrs`).
+//! - `Owners` says which key a reference gets, and whether its body has an owner (`Owned`,
+//!   `Claimed`). A key is found by its hash.
 //!
 //! After an `Err` of a `Reader` some of the items may have come in: whoever reads gives up then.
 //!
-//! Laws: pieces that are joined are read one after the other, and the first opening that is too deep is found so
-//! (`pieces_are_even`, `pieces_join`, `depths_join`); leaves, heads and marks are model_page's (`leaves_are_pieces`,
-//! `tags_are_read`); so are the keys that are claimed (`claims_are_keys`).
+//! Laws: pieces that are joined are read one after the other, and the first opening that is too
+//! deep is found so (`pieces_are_even`, `pieces_join`, `depths_join`). Leaves, heads and marks are
+//! model_page's (`leaves_are_pieces`, `tags_are_read`), and so are the keys that are claimed
+//! (`claims_are_keys`).
 #![tactic(auto)]
 
 mod cite;

@@ -2,7 +2,7 @@
 use ve_base::Head;
 use ve_kinds::Kind;
 
-/// What an opening has besides its marks and its whitespace.
+/// An opening without its marks and its whitespace.
 #[derive(Drop)]
 pub struct Opening {
     pub kind: Kind,

@@ -2,7 +2,7 @@
 ghost use Rattle.std.specs.Prelude.{◌≡◌, ◌&&◌, ◌<◌, ◌++◌, ◌∷◌, [], false, length, slice_get, Some, IfOk, IfSome, OnOk, OnErr};
 ghost use Rattle.std.specs.Str.{encode_utf8_all};
 ghost use Rattle.model_page.specs.ReferenceNodes.{is_owned};
-ghost use Rattle.ve_reader.specs.Claimed.{claimed, lent_owner, text_key};
+ghost use Rattle.ve_reader.specs.Claimed.{claim_of, lent_owner, text_key};
 ghost use Rattle.ve_reader.specs.Owned.{count_next};
 
 use crate::key::OwnedKey;
@@ -12,7 +12,8 @@ use std::marker::Model;
 use ve_base::{Key, Memory, RefKey, Text};
 use ve_internal::RefRead;
 
-/// What a reference is by its `data-mw`: its key, and the text of the body that it owns, if it owns one.
+/// The claim of a reference by its `data-mw`: its key, and the text of the body that it owns, if it
+/// owns one.
 #[derive(Drop)]
 pub struct Claim {
     pub key: RefKey,
@@ -34,7 +35,8 @@ struct OwnedBody {
     html: Text,
 }
 
-/// The owners of bodies in the order in which they came, seen as model_page's list of them. Each has its own key.
+/// The owners of bodies in the order in which they came, seen as model_page's list of them. Each
+/// has its own key.
 #[derive(Drop)]
 pub struct Owners {
     bodies: IndexMap<OwnedKey, OwnedBody>,
@@ -92,7 +94,7 @@ impl Owners {
         self.bodies.len()
     }
 
-    /// The owner at a place.
+    /// The owner at a position.
     pub fn get(&self, place: usize) -> Owner<'_>
         requires { place < length self.now }
         ensures { slice_get self.now place ≡ Some (lent_owner result) }
@@ -118,10 +120,10 @@ impl Owners {
         RefKey { group, key }
     }
 
-    /// What a reference is after these owners, by what its `data-mw` says. None where it would own a body that has an owner. It takes no
-    /// memory.
+    /// The claim of a reference after these owners, by the reading of its `data-mw`. None where it
+    /// would own a body that has an owner. It takes no memory.
     pub fn claim(&self, reading: RefRead) -> Option<Claim>
-        ensures claim { result ≡ claimed self.now reading }
+        ensures claim { result ≡ claim_of self.now reading }
         ensures free { IfSome result (λ c. IfSome c.html (λ _. is_owned self.now c.key ≡ false)) }
     {
         let owned = OwnedKey {
@@ -137,10 +139,13 @@ impl Owners {
         })
     }
 
-    /// One owner more, of a key that none has: it starts at a byte of the page, and its body has this text. An `Err` changes nothing.
+    /// One owner more, of a key that none has: it starts at a byte of the page, and its body has
+    /// this text. An `Err` changes nothing.
     pub fn push(&mut self, at: usize, key: RefKey, html: Text) -> Result<(), Memory>
         requires { is_owned self.old key ≡ false }
-        ensures ok { OnOk result (self.new ≡ self.old ++ record { at = at; key = key; html = encode_utf8_all html } ∷ []) }
+        ensures ok { OnOk result (
+            self.new
+            ≡ self.old ++ record { at = at; key = key; html = encode_utf8_all html } ∷ []) }
         ensures err { OnErr result (self.new ≡ self.old) }
     {
         let unnamed = count_with(self.unnamed, &key)?;

@@ -1,4 +1,5 @@
-// One item more, over the values that it cites. After an `Err` values may have come in, and no item.
+// One item more, over the values that it cites. After an `Err` values may have come in, and no
+// item.
 ghost use Rattle.std.specs.Prelude.{◌≡◌, IfOk, OnOk, OnErr};
 ghost use Rattle.std.specs.Str.{chars};
 ghost use Rattle.model_items.specs.declared.plain_item.PlainItem.TheVariants as plain;
@@ -15,7 +16,7 @@ use ve_items::Item;
 use ve_kinds::Kind;
 use ve_store::Store;
 
-/// A character. It gives the place of its marks.
+/// A character. It gives the position of its marks.
 #[tactic(auto, using(crate::proofs::ExtendLemmas::more_char, ve_tx::proofs::ValuesLemmas::extends_by_fill))]
 pub fn put_char(
     alloc: Global,
@@ -26,7 +27,8 @@ pub fn put_char(
     ch: char,
 ) -> Result<Option<ValueId>, Memory>
     requires { Knows values.old marks.now known }
-    ensures ok { OnOk result (More values.old values.new items.old items.new (plain.Char ch marks.now)) }
+    ensures ok { OnOk result (
+        More values.old values.new items.old items.new (plain.Char ch marks.now)) }
     ensures knows { IfOk result (Knows values.new marks.now) }
     ensures err { OnErr result (items.new ≡ items.old) }
     ensures extends { Extends values.old values.new }
@@ -36,7 +38,7 @@ pub fn put_char(
     Ok(marks)
 }
 
-/// The opening of an inline leaf. It gives the place of its marks.
+/// The opening of an inline leaf. It gives the position of its marks.
 pub fn put_leaf(
     alloc: Global,
     items: &mut GrowingList,
@@ -46,7 +48,8 @@ pub fn put_leaf(
     opening: Opening,
 ) -> Result<Option<ValueId>, Memory>
     requires { Knows values.old marks.now known }
-    ensures ok { OnOk result (More values.old values.new items.old items.new (leaf_of opening marks.now)) }
+    ensures ok { OnOk result (
+        More values.old values.new items.old items.new (leaf_of opening marks.now)) }
     ensures knows { IfOk result (Knows values.new marks.now) }
     ensures err { OnErr result (items.new ≡ items.old) }
     ensures extends { Extends values.old values.new }
@@ -72,7 +75,8 @@ pub fn put_block(
     opening: Opening,
     white: &str,
 ) -> Result<(), Memory>
-    ensures ok { OnOk result (More values.old values.new items.old items.new (block_of opening (chars white.now))) }
+    ensures ok { OnOk result (
+        More values.old values.new items.old items.new (block_of opening (chars white.now))) }
     ensures err { OnErr result (items.new ≡ items.old) }
     ensures extends { Extends values.old values.new }
 {
@@ -97,7 +101,8 @@ pub fn put_closing(
     kind: Kind,
     white: &str,
 ) -> Result<(), Memory>
-    ensures ok { OnOk result (More values.old values.new items.old items.new (plain.Closing kind (chars white.now))) }
+    ensures ok { OnOk result (
+        More values.old values.new items.old items.new (plain.Closing kind (chars white.now))) }
     ensures err { OnErr result (items.new ≡ items.old) }
     ensures extends { Extends values.old values.new }
 {

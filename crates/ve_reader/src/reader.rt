@@ -1,4 +1,4 @@
-// What is read, as it grows.
+// The state of reading, as it grows.
 ghost use Rattle.std.specs.Prelude.{◌≡◌, [], false, length, All, IfOk, IfSome, OnOk};
 ghost use Rattle.std.specs.Str.{chars};
 ghost use Rattle.ve_kinds.specs.declared.kind.Kind.TheVariants.{Ref};
@@ -8,7 +8,7 @@ ghost use Rattle.model_page.specs.Heads.{characters};
 ghost use Rattle.model_page.specs.Pieces.{leaf, chars_piece};
 ghost use Rattle.model_page.specs.ReferenceNodes.{is_owned};
 ghost use Rattle.ve_origin.specs.Origins.{source_span};
-ghost use Rattle.ve_reader.specs.Claimed.{claimed};
+ghost use Rattle.ve_reader.specs.Claimed.{claim_of};
 ghost use Rattle.ve_reader.specs.ReadSoFar.{nothing_read, with_piece, piece_after, opening_piece, with_opening, with_closing, node_opened, with_mark, mark_left, bodies_next, owned_at};
 ghost use Rattle.ve_reader.specs.Stops.{Stops, deep_in, mark_limit};
 
@@ -26,7 +26,8 @@ use ve_kinds::Kind;
 use ve_origin::{OriginRow, OriginTable};
 use ve_store::Store;
 
-/// A node that is to come: its kind, its head, whether it was made for text that stood in none, and its bytes.
+/// A node that is to come: its kind, its head, whether it was made for text that stood in none, and
+/// its bytes.
 #[derive(Drop)]
 pub struct NodeStart {
     pub kind: Kind,
@@ -57,7 +58,7 @@ pub struct ReadParts {
     pub rows: OriginTable,
 }
 
-/// What is read so far, of a page, a body or a fragment.
+/// The items read so far, of a page, a body or a fragment.
 #[derive(Drop)]
 pub struct Reader {
     draft: ItemDraft,
@@ -96,17 +97,19 @@ impl Reader {
         }
     }
 
-    /// What is read.
+    /// Whether a page, a body or a fragment is read.
     pub fn purpose(&self) -> Purpose
         ensures { result ≡ self.now.purpose }
     {
         self.purpose
     }
 
-    /// What a reference is here by its `data-mw`. None where it would own a body that has an owner.
+    /// The claim of a reference here by its `data-mw`. None where it would own a body that has an
+    /// owner.
     pub fn claim(&self, reading: RefRead) -> Option<Claim>
-        ensures claim { result ≡ claimed self.now.owners reading }
-        ensures free { IfSome result (λ c. IfSome c.html (λ _. is_owned self.now.owners c.key ≡ false)) }
+        ensures claim { result ≡ claim_of self.now.owners reading }
+        ensures free { IfSome result (λ c.
+            IfSome c.html (λ _. is_owned self.now.owners c.key ≡ false)) }
     {
         self.owners.claim(reading)
     }
@@ -134,9 +137,15 @@ impl Reader {
 
     /// The opening of a block, after whitespace.
     pub fn open(&mut self, start: NodeStart, white: &str) -> Result<OpenNode, ReadStop>
-        ensures ok { OnOk result (self.new ≡ with_opening start.kind start.head (chars white.now) start.generated (source_span start.span) self.old) }
+        ensures ok { OnOk result (
+            self.new
+            ≡ with_opening start.kind start.head (chars white.now) start.generated
+            (source_span start.span) self.old) }
         ensures node { IfOk result (λ node. node ≡ node_opened start.kind self.old) }
-        ensures limit { Stops result (deep_in self.old (opening_piece start.kind start.head (chars white.now) start.generated (source_span start.span))) }
+        ensures limit { Stops result (
+            deep_in self.old (
+            opening_piece start.kind start.head (chars white.now) start.generated
+            (source_span start.span))) }
     {
         check_depth(self.purpose, self.depth, start.span.from)?;
         let Some(depth) = self.depth.checked_add(1) else {
@@ -173,7 +182,9 @@ impl Reader {
 
     /// The characters of a text of the page, with the marks around.
     pub fn push_text(&mut self, spelled: &str) -> Result<(), Memory>
-        ensures { OnOk result (self.new ≡ with_piece (chars_piece self.old.marks (characters spelled.now)) [] self.old) }
+        ensures { OnOk result (
+            self.new
+            ≡ with_piece (chars_piece self.old.marks (characters spelled.now)) [] self.old) }
     {
         if crate::push_text(self.alloc, &mut self.draft, spelled).is_err() {
             self.draft = ItemDraft::new(self.alloc);
@@ -185,8 +196,11 @@ impl Reader {
 
     /// An inline leaf, with the marks around.
     pub fn push_leaf(&mut self, kind: Kind, head: Head, span: Span) -> Result<(), ReadStop>
-        ensures ok { OnOk result (self.new ≡ with_piece (leaf kind head self.old.marks (source_span span)) [] self.old) }
-        ensures limit { Stops result (deep_in self.old (leaf kind head self.old.marks (source_span span))) }
+        ensures ok { OnOk result (
+            self.new
+            ≡ with_piece (leaf kind head self.old.marks (source_span span)) [] self.old) }
+        ensures limit { Stops result (
+            deep_in self.old (leaf kind head self.old.marks (source_span span))) }
     {
         check_depth(self.purpose, self.depth, span.from)?;
         let from = self.draft.len();
@@ -209,8 +223,13 @@ impl Reader {
         white: &str,
         span: Span,
     ) -> Result<(), ReadStop>
-        ensures ok { OnOk result (self.new ≡ with_piece (piece_after (chars white.now) (leaf kind head [] (source_span span))) [] self.old) }
-        ensures limit { Stops result (deep_in self.old (piece_after (chars white.now) (leaf kind head [] (source_span span)))) }
+        ensures ok { OnOk result (
+            self.new
+            ≡ with_piece (piece_after (chars white.now) (leaf kind head [] (source_span span)))
+            [] self.old) }
+        ensures limit { Stops result (
+            deep_in self.old (
+            piece_after (chars white.now) (leaf kind head [] (source_span span)))) }
     {
         check_depth(self.purpose, self.depth, span.from)?;
         let from = self.draft.len();
@@ -225,7 +244,8 @@ impl Reader {
         Ok(())
     }
 
-    /// A reference, with the marks around, and the body that it owns, if it owns one: no owner so far has its key.
+    /// A reference, with the marks around, and the body that it owns, if it owns one: no owner so
+    /// far has its key.
     pub fn push_reference(
         &mut self,
         head: Head,
@@ -233,8 +253,12 @@ impl Reader {
         owner: Option<NewOwner>,
     ) -> Result<(), ReadStop>
         requires { IfSome owner (λ o. is_owned self.old.owners o.key ≡ false) }
-        ensures ok { OnOk result (self.new ≡ with_piece (leaf Ref head self.old.marks (source_span span)) (owned_at span.from owner) self.old) }
-        ensures limit { Stops result (deep_in self.old (leaf Ref head self.old.marks (source_span span))) }
+        ensures ok { OnOk result (
+            self.new
+            ≡ with_piece (leaf Ref head self.old.marks (source_span span))
+            (owned_at span.from owner) self.old) }
+        ensures limit { Stops result (
+            deep_in self.old (leaf Ref head self.old.marks (source_span span))) }
     {
         self.push_leaf(Kind::Ref, head, span)?;
         if let Some(owner) = owner {
@@ -243,7 +267,7 @@ impl Reader {
         Ok(())
     }
 
-    /// The owners among the items are handed over, and what comes next is read as bodies.
+    /// The owners among the items are handed over, and the rest is read as bodies.
     pub fn turn_to_bodies(&mut self) -> Owners
         ensures owners { result ≡ self.old.owners }
         ensures next { self.new ≡ bodies_next self.old }
@@ -252,10 +276,11 @@ impl Reader {
         replace(&mut self.owners, Owners::new(self.alloc))
     }
 
-    /// All that was read: the items over the values that they cite, each once and in the order in which the
-    /// items cite them, and a row for each origin.
+    /// All that was read: the items over the values that they cite, each once and in the order in
+    /// which the items cite them, and a row for each origin.
     pub fn into_parts(self) -> Result<ReadParts, Memory>
-        ensures items { IfOk result (λ parts. plain_list parts.values parts.list.items ≡ self.items) }
+        ensures items { IfOk result (λ parts.
+            plain_list parts.values parts.list.items ≡ self.items) }
         ensures values { IfOk result (λ parts. parts.values ≡ fill [] (cited self.items)) }
         ensures cites { IfOk result (λ parts. All (CitesWell parts.values) parts.list.items) }
         ensures rows { IfOk result (λ parts. parts.rows ≡ self.rows) }

@@ -66,7 +66,7 @@ pub fn push_row(
     }
 }
 
-/// The row of this number ends before a place.
+/// The row of this number ends before a position.
 pub fn end_row(rows: &mut Vec<OriginRow>, number: Option<u32>, to: usize)
     ensures { rows.new.items ≡ rows_ended number to rows.old.items }
 {

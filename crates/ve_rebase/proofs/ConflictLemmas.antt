@@ -7,20 +7,20 @@ use Rattle.model_change.specs.Join.{some_meet, overlap, conflict, both_attribute
 use Rattle.ve_tx.specs.declared.op.Op.{Op}
 use Rattle.ve_tx.specs.Normal.{total_size}
 use Rattle.ve_tx.specs.Operation.{Operation, bare, by_value}
-use Rattle.ve_rebase.specs.declared.span.Span.{Span}
+use Rattle.ve_rebase.specs.declared.span.ActiveSpan.{ActiveSpan}
 use Rattle.ve_rebase.specs.Span.{span_of, meet}
 use Rattle.ve_rebase.specs.Places.{places}
 use Rattle.ve_rebase.proofs.ReadLemmas.{total-within}
 use Rattle.ve_rebase.proofs.PlaceLemmas.{met_by_value}
 
-both_is : (a b : Transaction) (s r : Span) (both : Bool) → s ≡ span_of a → r ≡ span_of b → both ≡ (s.attributes && r.attributes) → both ≡ both_attributes a b
+both_is : (a b : Transaction) (s r : ActiveSpan) (both : Bool) → s ≡ span_of a → r ≡ span_of b → both ≡ (s.attributes && r.attributes) → both ≡ both_attributes a b
 both_is a b s r both e f h = h ∙ (ap (λ x. x.attributes && r.attributes) e ∙ ap (λ y. (span_of a).attributes && y.attributes) f)
 
 by_choice : (a b : Transaction) (result both : Bool) → both ≡ both_attributes a b →
     result ≡ (if both then some_meet (placed_changes 0 a) (placed_changes 0 b) else overlap a b) → result ≡ conflict a b
 by_choice a b result both e h = h ∙ ap (λ x. if x then some_meet (placed_changes 0 a) (placed_changes 0 b) else overlap a b) e
 
-pub by_attributes : (values : List Value) (a b : List Operation) (ops others : List Op) (s r : Span) (result both : Bool) →
+pub by_attributes : (values : List Value) (a b : List Operation) (ops others : List Op) (s r : ActiveSpan) (result both : Bool) →
     s ≡ span_of (by_value values a) → r ≡ span_of (by_value values b) → both ≡ (s.attributes && r.attributes) → both ≡ true →
     ops ≡ map bare a → others ≡ map bare b → result ≡ some_meet (places 0 ops) (places 0 others) →
     result ≡ conflict (by_value values a) (by_value values b)
@@ -34,7 +34,7 @@ by_attributes values a b ops others s r result both e f h is_both p q met =
     ∙ (met_by_value values 0 0 a b
     ∙ sym (ap (λ c. if c then some_meet (placed_changes 0 x) (placed_changes 0 y) else overlap x y) is_both)))))
 
-pub by_ranges : (values : List Value) (a b : List Operation) (s r : Span) (result both : Bool) →
+pub by_ranges : (values : List Value) (a b : List Operation) (s r : ActiveSpan) (result both : Bool) →
     s ≡ span_of (by_value values a) → r ≡ span_of (by_value values b) → both ≡ (s.attributes && r.attributes) → both ≡ false →
     result ≡ meet s r →
     result ≡ conflict (by_value values a) (by_value values b)

@@ -43,7 +43,8 @@ retained_lengths n =
     let e : new_length (retained n) ≡ n + (0 + 0) = new-spans (retained n) ∙ ap new_size s in
     (omega arith, omega arith)
 
--- each is on the list that the other gives, and one length comes of both, at most their lengths together
+-- each is on the list that the other gives, and one length comes of both, at most their lengths
+-- together
 pub record HasLengths (a b made made_too : Transaction) : Type 0 where
   pub first : old_length made ≡ new_length b
   pub second : old_length made_too ≡ new_length a

@@ -1,4 +1,4 @@
--- What joining makes of two transactions, from their spans.
+-- The join of two transactions, from their spans.
 use Rattle.std.proofs.Common.{◌≡◌, ◌≤◌, ℕ, zero, suc, ◌+◌, ◌-◌, ◌^◌, Bool, true, false, not, ◌&&◌, nat_le, List, [], ◌∷◌, length, map, Some, None, refl, sym, ap, subst, ◌∙◌, arith, lt-ltb, le-leb, if◌then◌else◌}
 use Rattle.std.proofs.lemmas.Bool.{and_parts, and_from, leb-true}
 use Rattle.std.proofs.lemmas.List.{length-append, length-map}
@@ -15,7 +15,7 @@ use Rattle.ve_tx.specs.declared.op.Op.{Op}
 use Rattle.ve_tx.specs.Operation.{Operation, bare, by_value}
 use Rattle.ve_tx.specs.Operation as operation
 use Rattle.ve_rebase.specs.declared.fault.RebaseFault.TheVariants.{Conflict}
-use Rattle.ve_rebase.specs.declared.span.Span.{Span}
+use Rattle.ve_rebase.specs.declared.span.ActiveSpan.{ActiveSpan}
 use Rattle.ve_rebase.specs.Span.{span_of, old_size, end, joined_first, joined_second}
 use Rattle.ve_rebase.specs.Totals.{inserted_size}
 use Rattle.ve_rebase.specs.Pair.{IsRefused, FitsIn, between, MayStandIn}
@@ -83,12 +83,12 @@ module _ (a b : Transaction) (h : is_reduced a ≡ true) (k : is_reduced b ≡ t
   joined_by r (SecondLeft active active_too near) = (moved_is a b h active, new_end_is b a k active_too (sym one) near)
 
 -- of a span of what is made, its middle between the ends is what is made
-pub record IsMade (t made : Transaction) (s : Span) : Type 0 where
+pub record IsMade (t made : Transaction) (s : ActiveSpan) : Type 0 where
   pub is : made ≡ between s t
   pub stands : MayStandIn s t
   pub old : old_size s ≡ old_length made
 
-pub made_is : (t other made : Transaction) (s : Span) → IsJoined t other made → span_of made ≡ s → length (all_inserted made) ≡ length (all_inserted t) → IsMade t made s
+pub made_is : (t other made : Transaction) (s : ActiveSpan) → IsJoined t other made → span_of made ≡ s → length (all_inserted made) ≡ length (all_inserted t) → IsMade t made s
 made_is t other made s j e inserts =
     let is : made ≡ between s t =
     sym (ends_split made j.reduced) ∙ ap (λ ops. with_ends (first made) ops (last made)) j.same ∙ ap (λ r. between r t) e in
@@ -121,7 +121,7 @@ is_within t h =
     let n = new_within t in
     record { reduced = p.0; old = omega arith; new = omega arith }
 
-pub span_fits : (t : Transaction) (s : Span) → s ≡ span_of t → is_normal t ≡ true → FitsIn (2 ^ 60) s
+pub span_fits : (t : Transaction) (s : ActiveSpan) → s ≡ span_of t → is_normal t ≡ true → FitsIn (2 ^ 60) s
 span_fits t s e h =
     let w = is_within t h in
     let o = old-spans t in
@@ -131,7 +131,7 @@ span_fits t s e h =
     let nw = w.new in
     subst (FitsIn (2 ^ 60)) (sym e) (record { old = omega arith; new = omega arith; range = omega arith })
 
-pub record AreMade (a b : Transaction) (s r : Span) : Type 0 where
+pub record AreMade (a b : Transaction) (s r : ActiveSpan) : Type 0 where
   pub first_is : (join a b).0 ≡ between (joined_first s r) a
   pub second_is : (join a b).1 ≡ between (joined_second s r) b
   pub first_stands : MayStandIn (joined_first s r) a
@@ -159,7 +159,7 @@ are_made a b h k one apart =
       second_small = let x = q.old in let y = j.1.old in omega arith;
     }
 
-pub made_so : (a b : Transaction) (s r : Span) → s ≡ span_of a → r ≡ span_of b → is_normal a ≡ true → is_normal b ≡ true →
+pub made_so : (a b : Transaction) (s r : ActiveSpan) → s ≡ span_of a → r ≡ span_of b → is_normal a ≡ true → is_normal b ≡ true →
     old_length a ≡ old_length b → conflict a b ≡ false → AreMade a b s r
 made_so a b s r e f h k one apart =
     subst (λ x. AreMade a b x r) (sym e)
@@ -189,7 +189,7 @@ range_is t range e f active =
     pair_is : (range : ℕ × ℕ) (s f : ℕ) → range.0 ≡ s → range.1 ≡ f → ◌≡◌ {A = ℕ × ℕ} range (s, f)
     pair_is (x, y) s f e g = cc
 
-pub refused_so : (a b : Transaction) (s r : Span) (range other : ℕ × ℕ) → s ≡ span_of a → r ≡ span_of b → conflict a b ≡ true →
+pub refused_so : (a b : Transaction) (s r : ActiveSpan) (range other : ℕ × ℕ) → s ≡ span_of a → r ≡ span_of b → conflict a b ≡ true →
     range.0 ≡ s.first → range.1 ≡ end s → other.0 ≡ r.first → other.1 ≡ end r →
     IsRefused a b (Conflict range other)
 refused_so a b s r range other e f h range_start range_end other_start other_end =
@@ -212,7 +212,7 @@ inserted-by_value values (operation.Replace removed inserted ∷ tx) =
 inserted-by_value values (operation.Attribute c ∷ tx) = inserted-by_value values tx
 
 -- within the bound it is in normal form
-pub normal_by : (values : List Value) (tx : List Operation) (s : Span) (ops : List Op) (old inserts : ℕ) → MayStandIn s (by_value values tx) → old ≡ old_size s →
+pub normal_by : (values : List Value) (tx : List Operation) (s : ActiveSpan) (ops : List Op) (old inserts : ℕ) → MayStandIn s (by_value values tx) → old ≡ old_size s →
     inserts ≡ inserted_size ops → ops ≡ map bare tx → old + inserts ≤ 2 ^ 60 → is_normal (between s (by_value values tx)) ≡ true
 normal_by values tx s ops old inserts stands e f g room =
     let t = between s (by_value values tx) in

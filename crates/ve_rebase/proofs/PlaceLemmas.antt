@@ -1,4 +1,5 @@
--- Two lists of changes with their places, in the order of the places, meet where one pass along both finds that they do.
+-- Two lists of changes with their positions, in the order of the positions, meet where one pass
+-- along both finds that they do.
 use Rattle.std.proofs.Common.{◌≡◌, ◌≤◌, ◌<◌, ℕ, suc, ◌+◌, Bool, true, false, ◌&&◌, ◌||◌, nat_lt, if◌then◌else◌, List, [], ◌∷◌, length, map, drop, get_or, drop-cons, add-one, Option, refl, sym, ap, ◌∙◌, arith}
 use Rattle.std.specs.Prelude.{◌==◌}
 use Rattle.std.proofs.lemmas.Bool.{ne_eqb, eq-eqb, or_from, eqb-true, eqb-false, ltb-true, ltb-false}
@@ -37,7 +38,7 @@ meets_past n c (d ∷ ds) h k =
     let far : n ≤ d.0 = h.0 in
     or_from (meets c d) (meets_one c ds) (apart c d (λ same. omega arith)) (meets_past n c ds h.1 k)
 
--- what stands at a place
+-- what stands at a position
 
 by_count : (at count : ℕ) (c : AttrChange) (ops : List Op) (some met : Bool) → nat_lt 0 count ≡ some → met ≡ meets_one (at, c) (places at ops) →
     (if some then false else met) ≡ meets_one (at, c) (places (at + count) ops)

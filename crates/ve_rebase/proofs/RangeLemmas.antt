@@ -1,4 +1,5 @@
--- Whether two transactions that joining has moved conflict: by their spans, and where both set attributes by their operations.
+-- Whether two transactions that joining has moved conflict: by their spans, and where both set
+-- attributes by their operations.
 use Rattle.std.proofs.Common.{◌≡◌, ◌≤◌, ◌<◌, ℕ, zero, suc, ◌+◌, ◌^◌, Bool, true, false, not, ◌&&◌, nat_le, if◌then◌else◌, List, [], ◌∷◌, ◌++◌, length, map, refl, sym, ap, ◌∙◌, arith}
 use Rattle.std.proofs.lemmas.Bool.{and_parts, or_from, leb-true}
 use Rattle.ve_base.specs.declared.value.Value.{Value}
@@ -12,7 +13,7 @@ use Rattle.ve_tx.specs.declared.op.Op.{Op}
 use Rattle.ve_tx.specs.declared.op.Op.TheVariants as op
 use Rattle.ve_tx.specs.Normal.{total_size}
 use Rattle.ve_tx.specs.Operation.{Operation, Retain, Replace, Attribute, bare, by_value}
-use Rattle.ve_rebase.specs.declared.span.Span.{Span}
+use Rattle.ve_rebase.specs.declared.span.ActiveSpan.{ActiveSpan}
 use Rattle.ve_rebase.specs.declared.shifted.Shifted.{Shifted}
 use Rattle.ve_rebase.specs.Span.{span_of, meet}
 use Rattle.ve_rebase.specs.Pair.{between}
@@ -22,7 +23,7 @@ use Rattle.ve_rebase.proofs.ReadLemmas.{total-within}
 use Rattle.ve_rebase.proofs.PlaceLemmas.{all_unkept, some_unkept, places_by_value, meets_past, skip_one}
 use Rattle.ve_rebase.proofs.PairLemmas.{attributes_are_active}
 
--- each change stands before a place
+-- each change stands before a position
 abbrev AllBefore : ℕ → List (ℕ × AttrChange) → Type 0
 AllBefore n [] = Unit {0}
 AllBefore n (c ∷ cs) = (c.0 < n) × AllBefore n cs
@@ -143,8 +144,8 @@ rest_by_value values (Retain count ∷ tx) = refl
 rest_by_value values (Replace removed inserted ∷ tx) = refl
 rest_by_value values (Attribute c ∷ tx) = refl
 
--- the changes with their places, as the moved transaction has them
-moved_places : (values : List Value) (s : Span) (tx : List Operation) (ops : List Op) → ops ≡ map bare tx →
+-- the changes with their positions, as the moved transaction has them
+moved_places : (values : List Value) (s : ActiveSpan) (tx : List Operation) (ops : List Op) → ops ≡ map bare tx →
     places s.first (after_first ops) ≡ all_unkept (placed_changes 0 (between s (by_value values tx)))
 moved_places values s tx ops e =
     ap (λ l. places s.first (after_first l)) e

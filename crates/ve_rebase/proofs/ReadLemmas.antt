@@ -14,7 +14,7 @@ use Rattle.model_change.proofs.InverseLemmas.{reduced_parts}
 use Rattle.ve_tx.specs.Normal.{total_size, are_normal, are_reduced}
 use Rattle.ve_tx.specs.Operation.{Operation, Retain, Replace, Attribute, bare, by_value}
 use Rattle.ve_tx.proofs.NormalLemmas.{normal-bare}
-use Rattle.ve_rebase.specs.declared.span.Span.{Span}
+use Rattle.ve_rebase.specs.declared.span.ActiveSpan.{ActiveSpan}
 use Rattle.ve_rebase.specs.declared.totals.Totals.{Totals}
 use Rattle.ve_rebase.specs.Totals.{with_op, with_ops, nothing}
 use Rattle.ve_rebase.specs.Span.{span_of, inert}
@@ -92,7 +92,7 @@ idle_is (model.Retain n ∷ (model.Attribute c ∷ ops)) h idle = absurd (cc)
 idle_is (model.Replace removed inserted ∷ ops) h idle = absurd (cc)
 idle_is (model.Attribute c ∷ ops) h idle = absurd (cc)
 
-abbrev pub make : Bool → Bool → ℕ → ℕ → ℕ → ℕ → ℕ → Span
+abbrev pub make : Bool → Bool → ℕ → ℕ → ℕ → ℕ → ℕ → ActiveSpan
 make active attributes first reach last removed inserted =
     record { active = active; attributes = attributes; first = first; reach = reach; last = last; removed = removed; inserted = inserted }
 

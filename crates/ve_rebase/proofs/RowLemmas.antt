@@ -9,7 +9,7 @@ use Rattle.model_change.specs.Join.{conflict, join, join_row, join_list, row_wit
 use Rattle.ve_tx.specs.Operation.{by_value}
 use Rattle.ve_rebase.specs.declared.fault.RebaseFault.{RebaseFault}
 use Rattle.ve_rebase.specs.declared.fault.RebaseFault.TheVariants.{Conflict, Memory}
-use Rattle.ve_rebase.specs.declared.span.Span.{Span}
+use Rattle.ve_rebase.specs.declared.span.ActiveSpan.{ActiveSpan}
 use Rattle.ve_rebase.specs.declared.shifted.Shifted.{Shifted}
 use Rattle.ve_rebase.specs.Span.{old_size, new_size}
 use Rattle.ve_rebase.specs.Pair.{between}
@@ -125,7 +125,7 @@ row_after-twice done one (Ok row) = ap (λ l. Ok (l, row.1)) (sym (append_assoc 
 row_after-twice done one (Err clash) = refl
 
 -- how far a row is joined: the ones before an index are over mine, whose span is this one by then
-pub record RowSoFar (old now : List Shifted) (mine : Shifted) (span : Span) (i : ℕ) : Type 0 where
+pub record RowSoFar (old now : List Shifted) (mine : Shifted) (span : ActiveSpan) (i : ℕ) : Type 0 where
   pub kept : map operations now ≡ map operations old
   pub shifted : All IsShifted now
   pub mine_shifted : MayMove span mine.tx.now
@@ -146,7 +146,7 @@ row_begun committed mine h follow k = record {
   joined = λ values others. row_after-none (join_row (all_by_value values committed) (shifted_by_value others mine));
 }
 
-module _ (old now : List Shifted) (mine : Shifted) (span : Span) (i : ℕ) (one : Shifted) (so_far : RowSoFar old now mine span i) (lt : i < length now) (e : one ≡ get_or now i one) where
+module _ (old now : List Shifted) (mine : Shifted) (span : ActiveSpan) (i : ℕ) (one : Shifted) (so_far : RowSoFar old now mine span i) (lt : i < length now) (e : one ≡ get_or now i one) where
   here : drop i now ≡ one ∷ drop (suc i) now
   here = drop-index i now one lt e
 
@@ -170,7 +170,7 @@ module _ (old now : List Shifted) (mine : Shifted) (span : Span) (i : ℕ) (one 
       (after_refused (all_by_value values (take i now)) (join_row (all_by_value (drop i values) (drop i now)) y) why
       (subst (λ l. IsRefusedAs (join_row l y) why) (sym z.1) (first_refused (shifted_by_value z.0 one) y xs why (h z.0 others))))
 
-  pub row_next : (s r : Span) → ArePaired one (record { tx = mine.tx; span = span }) s r →
+  pub row_next : (s r : ActiveSpan) → ArePaired one (record { tx = mine.tx; span = span }) s r →
       RowSoFar old (slice_set now i (record { tx = one.tx; span = s })) mine r (suc i)
   row_next s r p = record {
     kept = map-set operations i now one (record { tx = one.tx; span = s }) lt e refl ∙ so_far.kept;
@@ -200,7 +200,7 @@ module _ (old now : List Shifted) (mine : Shifted) (span : Span) (i : ℕ) (one 
         (sym (drop-set i now (record { tx = one.tx; span = s })))))));
   }
 
-pub row_done : (old now : List Shifted) (mine : Shifted) (span : Span) (i : ℕ) → RowSoFar old now mine span i → length now ≤ i → IsRow old mine now span
+pub row_done : (old now : List Shifted) (mine : Shifted) (span : ActiveSpan) (i : ℕ) → RowSoFar old now mine span i → length now ≤ i → IsRow old mine now span
 row_done old now mine span i so_far end =
     let all : take i now ≡ now = take_all i now end in
     let none : drop i now ≡ [] = drop_all i now end in
@@ -239,7 +239,8 @@ row_fails : (xs ys : List Transaction) (y : Transaction) (why : RebaseFault) →
 row_fails xs ys y Memory h = tt
 row_fails xs ys y (Conflict a b) h = ap (λ r. after_row r (λ over. join_list over ys)) h
 
--- committed ones and those of mine that are left start from lists of one length, and what is left ends where all of mine does
+-- committed ones and those of mine that are left start from lists of one length, and what is left
+-- ends where all of mine does
 pub record GoesOn (n : ℕ) (mine now left : List Shifted) : Type 0 where
   pub size : ℕ
   pub committed : FollowFrom size now
@@ -292,7 +293,7 @@ module _ (old now mine_old mine_now : List Shifted) (j : ℕ) (one : Shifted) (s
       (subst (λ l. IsRefusedAs (join_list (all_by_value values now) (map f l)) why) (sym mine_here)
       (row_fails (all_by_value values now) (map f (drop (suc j) mine_now)) (f one) why (h values others))))
 
-  goes_on : (n : ℕ) → GoesOn n mine_old now (drop j mine_now) → (over : List Shifted) (span : Span) → FollowFrom (new_size one.span) over →
+  goes_on : (n : ℕ) → GoesOn n mine_old now (drop j mine_now) → (over : List Shifted) (span : ActiveSpan) → FollowFrom (new_size one.span) over →
       GoesOn n mine_old over (drop (suc j) (slice_set mine_now j (record { tx = one.tx; span = span })))
   goes_on n g over span h =
       let next : Shifted = record { tx = one.tx; span = span } in
@@ -304,7 +305,7 @@ module _ (old now mine_old mine_now : List Shifted) (j : ℕ) (one : Shifted) (s
         end = ap (length_after g.size) (sym mine_here) ∙ g.end;
       })
 
-  pub rows_next : (over : List Shifted) (span : Span) → IsRow now one over span →
+  pub rows_next : (over : List Shifted) (span : ActiveSpan) → IsRow now one over span →
       RowsSoFar old over mine_old (slice_set mine_now j (record { tx = one.tx; span = span })) (suc j)
   rows_next over span row = record {
     kept = row.kept ∙ so_far.kept;

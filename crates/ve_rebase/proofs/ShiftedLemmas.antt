@@ -8,7 +8,7 @@ use Rattle.model_change.proofs.JoinLemmas.{ends_split}
 use Rattle.model_change.proofs.JoinLengths.{joins_insert}
 use Rattle.ve_tx.specs.Operation.{by_value}
 use Rattle.ve_rebase.specs.declared.fault.RebaseFault.TheVariants.{Conflict}
-use Rattle.ve_rebase.specs.declared.span.Span.{Span}
+use Rattle.ve_rebase.specs.declared.span.ActiveSpan.{ActiveSpan}
 use Rattle.ve_rebase.specs.declared.shifted.Shifted.{Shifted}
 use Rattle.ve_rebase.specs.Span.{span_of, old_size, new_size, end, joined_first, joined_second}
 use Rattle.ve_rebase.specs.Pair.{FitsIn, between, MayStandIn}
@@ -20,7 +20,7 @@ use Rattle.ve_rebase.proofs.PairLemmas.{joined_by, made_is}
 use Rattle.ve_rebase.proofs.LengthLemmas.{lengths_joined}
 
 -- before anything is joined a transaction stands between its own ends
-pub begun_stands : (t : Transaction) (s : Span) → s ≡ span_of t → is_reduced t ≡ true → StandsIn s t
+pub begun_stands : (t : Transaction) (s : ActiveSpan) → s ≡ span_of t → is_reduced t ≡ true → StandsIn s t
 begun_stands t s e h =
     let is : with_ends (first t) (core t) (last t) ≡ t = ends_split t h in
     subst (λ r. StandsIn r t) (sym e) (record {
@@ -30,24 +30,24 @@ begun_stands t s e h =
       inserts = ap (λ u. length (all_inserted u)) is;
     })
 
-pub begun_is : (t : Transaction) (s : Span) → s ≡ span_of t → is_reduced t ≡ true → t ≡ between s t
+pub begun_is : (t : Transaction) (s : ActiveSpan) → s ≡ span_of t → is_reduced t ≡ true → t ≡ between s t
 begun_is t s e h = sym (ends_split t h) ∙ ap (λ r. between r t) (sym e)
 
 -- the span tells how long it is
-pub old_stands : (s : Span) (t : Transaction) → StandsIn s t → old_length (between s t) ≡ old_size s
+pub old_stands : (s : ActiveSpan) (t : Transaction) → StandsIn s t → old_length (between s t) ≡ old_size s
 old_stands s t h = old-spans (between s t) ∙ ap old_size h.span
 
-pub new_stands : (s : Span) (t : Transaction) → StandsIn s t → new_length (between s t) ≡ new_size s
+pub new_stands : (s : ActiveSpan) (t : Transaction) → StandsIn s t → new_length (between s t) ≡ new_size s
 new_stands s t h = new-spans (between s t) ∙ ap new_size h.span
 
-pub may_stand : (s : Span) (t : Transaction) → StandsIn s t → MayStandIn s t
+pub may_stand : (s : ActiveSpan) (t : Transaction) → StandsIn s t → MayStandIn s t
 may_stand s t h =
     let o = old_stands s t h in
     let i = h.inserts in
     record { reduced = h.reduced; total = omega arith }
 
 -- what joining makes of it stands between the ends of the joined span
-moved_stands : (s r : Span) (t made : Transaction) → StandsIn s t → is_reduced made ≡ true → core made ≡ core (between s t) → span_of made ≡ r →
+moved_stands : (s r : ActiveSpan) (t made : Transaction) → StandsIn s t → is_reduced made ≡ true → core made ≡ core (between s t) → span_of made ≡ r →
     length (all_inserted made) ≡ length (all_inserted (between s t)) → made ≡ between r (between s t) →
     StandsIn r t × (made ≡ between r t)
 moved_stands s r t made h reduced middle span inserts is =
@@ -63,7 +63,7 @@ moved_stands s r t made h reduced middle span inserts is =
     )
 
 -- what joining makes of two that stand so
-pub record Pairs (s r s2 r2 : Span) (t u : Transaction) : Type 0 where
+pub record Pairs (s r s2 r2 : ActiveSpan) (t u : Transaction) : Type 0 where
   pub first : StandsIn s2 t
   pub second : StandsIn r2 u
   pub first_is : (join (between s t) (between r u)).0 ≡ between s2 t
@@ -73,7 +73,7 @@ pub record Pairs (s r s2 r2 : Span) (t u : Transaction) : Type 0 where
   pub one_length : new_size s2 ≡ new_size r2
   pub small : new_size s2 ≤ new_size s + new_size r
 
-pub pairs : (s r : Span) (t u : Transaction) → StandsIn s t → StandsIn r u → old_size s ≡ old_size r → conflict (between s t) (between r u) ≡ false →
+pub pairs : (s r : ActiveSpan) (t u : Transaction) → StandsIn s t → StandsIn r u → old_size s ≡ old_size r → conflict (between s t) (between r u) ≡ false →
     Pairs s r (joined_first s r) (joined_second s r) t u
 pairs s r t u h k one apart =
     let x = between s t in
@@ -111,7 +111,7 @@ pairs s r t u h k one apart =
     }
 
 -- within the bound the span fits
-fits_in : (s : Span) (t : Transaction) → StandsIn s t → old_size s ≤ 2 ^ 60 → new_size s ≤ 2 ^ 60 → FitsIn (2 ^ 60) s
+fits_in : (s : ActiveSpan) (t : Transaction) → StandsIn s t → old_size s ≤ 2 ^ 60 → new_size s ≤ 2 ^ 60 → FitsIn (2 ^ 60) s
 fits_in s t h old new =
     let x = between s t in
     let w = end_within x h.reduced in
@@ -119,7 +119,7 @@ fits_in s t h old new =
     let e : first x + reach (core x) ≡ end s = ap end h.span in
     record { old = old; new = new; range = omega arith }
 
-pub paired_so : (a b : Shifted) (s r : Span) → IsShifted a → IsShifted b → old_size a.span ≡ old_size b.span → s ≡ joined_first a.span b.span → r ≡ joined_second a.span b.span →
+pub paired_so : (a b : Shifted) (s r : ActiveSpan) → IsShifted a → IsShifted b → old_size a.span ≡ old_size b.span → s ≡ joined_first a.span b.span → r ≡ joined_second a.span b.span →
     ((values others : List Value) → conflict (shifted_by_value values a) (shifted_by_value others b) ≡ false) → new_size s ≤ 2 ^ 60 → ArePaired a b s r
 paired_so a b s r h k one e f apart room =
     let p : (values others : List Value) → Pairs a.span b.span s r (by_value values a.tx.now) (by_value others b.tx.now) =

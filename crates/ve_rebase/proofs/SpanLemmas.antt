@@ -6,8 +6,8 @@ use Rattle.model_change.specs.Transaction.{Retain, Replace, Attribute, Op, Trans
 use Rattle.model_change.specs.Join.{first, without_first, end_retain, without_end, last, core, reach, retained, with_ends, has_some, has_attribute, has_replace, is_active, is_attribute_transaction, both_attributes, start_of, end_of, moved_on, with_new_end}
 use Rattle.model_change.specs.Transaction.{is_reduced}
 use Rattle.model_change.proofs.InverseLemmas.{reduced_parts}
-use Rattle.ve_rebase.specs.declared.span.Span.{Span}
-use Rattle.ve_rebase.specs.Span.{span_of, old_size, new_size, ended, inert}
+use Rattle.ve_rebase.specs.declared.span.ActiveSpan.{ActiveSpan}
+use Rattle.ve_rebase.specs.Span.{span_of, old_size, new_size, span_between, inert}
 use Rattle.ve_rebase.specs.Laws.{SpansAdd, SpansMeet, SpansJoin}
 
 ap2 : {A B C : Type 0} {x y : A} {u v : B} (f : A → B → C) → x ≡ y → u ≡ v → f x u ≡ f y v
@@ -184,14 +184,14 @@ attribute-ends t f l = ap (λ r. r && not (has_replace (with_ends f (core t) l))
     replace-core (Attribute c ∷ ops) = replace-end (Attribute c ∷ ops)
 
 of_middle : (t : Transaction) (ops : Transaction) (f l : ℕ) → core ops ≡ core t → first ops ≡ f → last ops ≡ l → is_attribute_transaction ops ≡ is_attribute_transaction t →
-    span_of ops ≡ ended (span_of t) f l
+    span_of ops ≡ span_between (span_of t) f l
 of_middle t ops f l c a b r =
     ap (λ k. record { active = has_some k; attributes = is_attribute_transaction ops; first = first ops; reach = reach k; last = last ops; removed = old_length k; inserted = new_length k }) c
     ∙ ap (λ k. record { active = is_active t; attributes = k; first = first ops; reach = reach (core t); last = last ops; removed = old_length (core t); inserted = new_length (core t) }) r
     ∙ ap (λ k. record { active = is_active t; attributes = is_attribute_transaction t; first = k; reach = reach (core t); last = last ops; removed = old_length (core t); inserted = new_length (core t) }) a
     ∙ ap (λ k. record { active = is_active t; attributes = is_attribute_transaction t; first = f; reach = reach (core t); last = k; removed = old_length (core t); inserted = new_length (core t) }) b
 
-pub span-ends : (t : Transaction) (f l : ℕ) → is_reduced t ≡ true → is_active t ≡ true → span_of (with_ends f (core t) l) ≡ ended (span_of t) f l
+pub span-ends : (t : Transaction) (f l : ℕ) → is_reduced t ≡ true → is_active t ≡ true → span_of (with_ends f (core t) l) ≡ span_between (span_of t) f l
 span-ends t f l h active = of_middle t (with_ends f (core t) l) f l (core-ends t f l h active) (first-ends t f l h active) (last-ends t f l h active) (attribute-ends t f l)
 
 pub span-retained : (n : ℕ) → span_of (retained n) ≡ inert n
@@ -200,7 +200,8 @@ span-retained (suc n) = refl
 
 -- so joined spans are spans of what is joined
 
--- what joining chooses by: both change attributes only; the first is active; the second is; the first ends at the second's start or before
+-- what joining chooses by: both change attributes only; the first is active; the second is; the
+-- first ends at the second's start or before
 abbrev choose : {A : Type 0} → (both active active_too near : Bool) → (unmet first_idle second_idle left right : A) → A
 choose both active active_too near unmet first_idle second_idle left right =
     if both then unmet else (if not active then first_idle else (if not active_too then second_idle else (if near then left else right)))
@@ -208,25 +209,25 @@ choose both active active_too near unmet first_idle second_idle left right =
 module _ (a b : Transaction) (h : is_reduced a ≡ true) (k : is_reduced b ≡ true) where
   first_by : (both active active_too near : Bool) → is_active a ≡ active →
       span_of (choose {A = Transaction × Transaction} both active active_too near (a, b) (retained (new_length b), b) (a, retained (new_length a)) (with_new_end a b, moved_on b a) (moved_on a b, with_new_end b a)).0
-      ≡ choose {A = Span} both active active_too near (span_of a) (inert (new_size (span_of b))) (span_of a)
-      (ended (span_of a) (first a) ((last a + new_size (span_of b)) - old_size (span_of b)))
-      (ended (span_of a) ((first a + new_size (span_of b)) - old_size (span_of b)) (last a))
+      ≡ choose {A = ActiveSpan} both active active_too near (span_of a) (inert (new_size (span_of b))) (span_of a)
+      (span_between (span_of a) (first a) ((last a + new_size (span_of b)) - old_size (span_of b)))
+      (span_between (span_of a) ((first a + new_size (span_of b)) - old_size (span_of b)) (last a))
   first_by true active active_too near q = refl
   first_by false false active_too near q = span-retained (new_length b) ∙ ap inert (new-spans b)
   first_by false true false near q = refl
-  first_by false true true true q = span-ends a (first a) ((last a + new_length b) - old_length b) h q ∙ ap2 (λ x y. ended (span_of a) (first a) ((last a + x) - y)) (new-spans b) (old-spans b)
-  first_by false true true false q = span-ends a ((first a + new_length b) - old_length b) (last a) h q ∙ ap2 (λ x y. ended (span_of a) ((first a + x) - y) (last a)) (new-spans b) (old-spans b)
+  first_by false true true true q = span-ends a (first a) ((last a + new_length b) - old_length b) h q ∙ ap2 (λ x y. span_between (span_of a) (first a) ((last a + x) - y)) (new-spans b) (old-spans b)
+  first_by false true true false q = span-ends a ((first a + new_length b) - old_length b) (last a) h q ∙ ap2 (λ x y. span_between (span_of a) ((first a + x) - y) (last a)) (new-spans b) (old-spans b)
 
   second_by : (both active active_too near : Bool) → is_active b ≡ active_too →
       span_of (choose {A = Transaction × Transaction} both active active_too near (a, b) (retained (new_length b), b) (a, retained (new_length a)) (with_new_end a b, moved_on b a) (moved_on a b, with_new_end b a)).1
-      ≡ choose {A = Span} both active active_too near (span_of b) (span_of b) (inert (new_size (span_of a)))
-      (ended (span_of b) ((first b + new_size (span_of a)) - old_size (span_of a)) (last b))
-      (ended (span_of b) (first b) ((last b + new_size (span_of a)) - old_size (span_of a)))
+      ≡ choose {A = ActiveSpan} both active active_too near (span_of b) (span_of b) (inert (new_size (span_of a)))
+      (span_between (span_of b) ((first b + new_size (span_of a)) - old_size (span_of a)) (last b))
+      (span_between (span_of b) (first b) ((last b + new_size (span_of a)) - old_size (span_of a)))
   second_by true active active_too near r = refl
   second_by false false active_too near r = refl
   second_by false true false near r = span-retained (new_length a) ∙ ap inert (new-spans a)
-  second_by false true true true r = span-ends b ((first b + new_length a) - old_length a) (last b) k r ∙ ap2 (λ x y. ended (span_of b) ((first b + x) - y) (last b)) (new-spans a) (old-spans a)
-  second_by false true true false r = span-ends b (first b) ((last b + new_length a) - old_length a) k r ∙ ap2 (λ x y. ended (span_of b) (first b) ((last b + x) - y)) (new-spans a) (old-spans a)
+  second_by false true true true r = span-ends b ((first b + new_length a) - old_length a) (last b) k r ∙ ap2 (λ x y. span_between (span_of b) ((first b + x) - y) (last b)) (new-spans a) (old-spans a)
+  second_by false true true false r = span-ends b (first b) ((last b + new_length a) - old_length a) k r ∙ ap2 (λ x y. span_between (span_of b) (first b) ((last b + x) - y)) (new-spans a) (old-spans a)
 
 pub spans_join : SpansJoin
 spans_join a b h k = (

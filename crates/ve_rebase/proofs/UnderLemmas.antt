@@ -22,7 +22,7 @@ use Rattle.ve_rebase.proofs.WrittenLemmas.{written_mine}
 use Rattle.ve_rebase.proofs.EntryLemmas.{values_of, same_outline}
 use Rattle.ve_rebase.proofs.UntilLemmas.{JoinedSoFar, entry_joined, joined_begun, one_meets, joined_next, joined_clash, joined_done, committed_clash, committed_done}
 
--- what is found at a place
+-- what is found at a position
 pub found : (es : List Entry) (i : ℕ) (e : Entry) → slice_get es i ≡ Some e → e ≡ get_or es i e
 found [] i e is = refl
 found (x ∷ es) zero e is = let same : x ≡ e = cc in sym same

@@ -8,7 +8,7 @@ use Rattle.model_change.specs.Join.{join_list, RangeConflict}
 use Rattle.ve_tx.specs.Cites.{TxCites}
 use Rattle.ve_tx.specs.Operation.{Operation, by_value}
 use Rattle.ve_rebase.specs.declared.fault.RebaseFault.{RebaseFault}
-use Rattle.ve_rebase.specs.declared.span.Span.{Span}
+use Rattle.ve_rebase.specs.declared.span.ActiveSpan.{ActiveSpan}
 use Rattle.ve_rebase.specs.declared.shifted.Shifted.{Shifted}
 use Rattle.ve_rebase.specs.Span.{span_of, old_size, new_size}
 use Rattle.ve_rebase.specs.Pair.{between}
@@ -19,13 +19,13 @@ use Rattle.ve_rebase.proofs.ShiftedLemmas.{begun_stands, begun_is, old_stands, n
 use Rattle.ve_rebase.proofs.RowLemmas.{length-map-same}
 
 -- a transaction with its own span
-pub begun_moves : (tx : List Operation) (s : Span) → ((values : List Value) → s ≡ span_of (by_value values tx)) → ((values : List Value) → is_normal (by_value values tx) ≡ true) → MayMove s tx
+pub begun_moves : (tx : List Operation) (s : ActiveSpan) → ((values : List Value) → s ≡ span_of (by_value values tx)) → ((values : List Value) → is_normal (by_value values tx) ≡ true) → MayMove s tx
 begun_moves tx s e h = record {
   fits = span_fits (by_value [] tx) s (e []) (h []);
   stands = λ values. let w = is_within (by_value values tx) (h values) in begun_stands (by_value values tx) s (e values) w.reduced;
 }
 
-pub begun_by_value : (tx : List Operation) (s : Span) → ((values : List Value) → s ≡ span_of (by_value values tx)) → ((values : List Value) → is_normal (by_value values tx) ≡ true) →
+pub begun_by_value : (tx : List Operation) (s : ActiveSpan) → ((values : List Value) → s ≡ span_of (by_value values tx)) → ((values : List Value) → is_normal (by_value values tx) ≡ true) →
     (values : List Value) → by_value values tx ≡ between s (by_value values tx)
 begun_by_value tx s e h values = let w = is_within (by_value values tx) (h values) in begun_is (by_value values tx) s (e values) w.reduced
 

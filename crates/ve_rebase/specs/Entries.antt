@@ -1,4 +1,5 @@
--- Entries with their own values: what they are by value, and what joining leaves of them as it was.
+-- Entries with their own values: their transactions by value, and the fields that joining leaves as
+-- they were.
 use Rattle.std.specs.Prelude.{ℕ, List, [], length, flat_map, Result}
 use Rattle.model_change.specs.Transaction.{Transaction}
 use Rattle.model_change.specs.Join.{join_list, RangeConflict}

@@ -18,7 +18,8 @@ abbrev pub SpansJoin : Type 0
 SpansJoin = (a b : Transaction) → is_reduced a ≡ true → is_reduced b ≡ true →
     (span_of (join a b).0 ≡ joined_first (span_of a) (span_of b)) × (span_of (join a b).1 ≡ joined_second (span_of a) (span_of b))
 
--- two lists of transactions, each of which runs one after the other from one lawful list, and that list with all they insert is within the bound
+-- two lists of transactions, each of which runs one after the other from one lawful list, and that
+-- list with all they insert is within the bound
 pub record FitTogether (committed mine : List Transaction) (items : List PlainItem) : Type 0 where
   pub lawful : Lawful items
   pub committed_run : AllRun committed items

@@ -1,4 +1,5 @@
--- When two lists of transactions may be joined, and what a refusal says. Each transaction is read by value with a list of values of its own.
+-- When two lists of transactions may be joined, and what a refusal says. Each transaction is read
+-- by value with a list of values of its own.
 use Rattle.std.specs.Prelude.{◌≡◌, ℕ, List, [], ◌∷◌, map, Result, Ok, Err}
 use Rattle.ve_base.specs.declared.value.Value.{Value}
 use Rattle.model_change.specs.Transaction.{Transaction, old_length, new_length}

@@ -1,4 +1,5 @@
--- Transactions as joining has moved them so far: each keeps its operations, between the ends of a span. By value each reads a list of values of its own.
+-- Transactions as joining has moved them so far: each keeps its operations, between the ends of a
+-- span. By value each reads a list of values of its own.
 use Rattle.std.specs.Prelude.{◌≡◌, ℕ, true, List, [], ◌∷◌, length, map, All, Result, Ok}
 use Rattle.ve_base.specs.Limits.{max_total_length}
 use Rattle.ve_base.specs.declared.value.Value.{Value}
@@ -6,20 +7,21 @@ use Rattle.model_change.specs.Transaction.{Transaction, all_inserted, is_reduced
 use Rattle.model_change.specs.Join.{core, join_row, join_list, RangeConflict}
 use Rattle.ve_tx.specs.Operation.{Operation, by_value}
 use Rattle.ve_rebase.specs.declared.shifted.Shifted.{Shifted}
-use Rattle.ve_rebase.specs.declared.span.Span.{Span}
+use Rattle.ve_rebase.specs.declared.span.ActiveSpan.{ActiveSpan}
 use Rattle.ve_rebase.specs.Span.{span_of, old_size, new_size}
 use Rattle.ve_rebase.specs.Pair.{FitsIn, between}
 use Rattle.ve_rebase.specs.Lists.{zipped}
 
--- a transaction between the ends of a span: reduced, of the same middle, inserting as much, and the span is its own
-pub record StandsIn (s : Span) (t : Transaction) : Type 0 where
+-- a transaction between the ends of a span: reduced, of the same middle, inserting as much, and the
+-- span is its own
+pub record StandsIn (s : ActiveSpan) (t : Transaction) : Type 0 where
   pub reduced : is_reduced (between s t) ≡ true
   pub middle : core (between s t) ≡ core t
   pub span : span_of (between s t) ≡ s
   pub inserts : length (all_inserted (between s t)) ≡ length (all_inserted t)
 
 -- whatever values the operations cite
-pub record MayMove (s : Span) (tx : List Operation) : Type 0 where
+pub record MayMove (s : ActiveSpan) (tx : List Operation) : Type 0 where
   pub fits : FitsIn max_total_length s
   pub stands : (values : List Value) → StandsIn s (by_value values tx)
 
@@ -64,7 +66,7 @@ abbrev pub joined_rows : (values : List (List Value)) (others : List Value) (com
 joined_rows values others committed mine = join_list (all_by_value values committed) (map (shifted_by_value others) mine)
 
 -- two on lists of one length, joined: their spans then
-pub record ArePaired (a b : Shifted) (s r : Span) : Type 0 where
+pub record ArePaired (a b : Shifted) (s r : ActiveSpan) : Type 0 where
   pub joined : (values others : List Value) →
       joined_pair values others a b ≡ Ok (between s (by_value values a.tx.now) ∷ [], between r (by_value others b.tx.now))
   pub first : MayMove s a.tx.now
@@ -74,7 +76,7 @@ pub record ArePaired (a b : Shifted) (s r : Span) : Type 0 where
   pub one_length : new_size s ≡ new_size r
 
 -- a row joined: the committed ones over mine, and the span of mine over them
-pub record IsRow (committed : List Shifted) (mine : Shifted) (over : List Shifted) (span : Span) : Type 0 where
+pub record IsRow (committed : List Shifted) (mine : Shifted) (over : List Shifted) (span : ActiveSpan) : Type 0 where
   pub joined : (values : List (List Value)) (others : List Value) →
       joined_row values others committed mine ≡ Ok (all_by_value values over, between span (by_value others mine.tx.now))
   pub kept : map operations over ≡ map operations committed

@@ -1,4 +1,4 @@
--- What one pass over the operations of a transaction counts. It reads no value that they cite.
+-- Counts of one pass over the operations of a transaction. It reads no value that they cite.
 use Rattle.std.specs.Prelude.{ℕ, ◌+◌, true, false, List, [], ◌∷◌, length}
 use Rattle.ve_tx.specs.declared.op.Op.{Op}
 use Rattle.ve_tx.specs.declared.op.Op.TheVariants.{Retain, Replace, Attribute}

@@ -25,8 +25,8 @@ all_over values entries = map (over_values values) entries
 abbrev pub joined_under : List Value → Parcel → List Entry → Joined
 joined_under values foreign entries = join_entries (parcel_by_value foreign) (map parcel_by_value (all_over values entries))
 
--- Whatever values the entries cite, they are the entries before the first conflict as they are over the other's, and this is the other's over them. Each
--- keeps all but its transactions.
+-- Whatever values the entries cite, they are the entries before the first conflict as they are over
+-- the other's, and this is the other's over them. Each keeps all but its transactions.
 pub record AreUnder (foreign : Parcel) (entries : List Entry) (made : EntriesUnder) : Type 0 where
   pub committed : (values : List Value) → parcel_by_value made.committed ≡ (joined_under values foreign entries).committed
   pub kept : (values : List Value) → map parcel_by_value (all_over values made.kept) ≡ (joined_under values foreign entries).kept
@@ -51,7 +51,8 @@ abbrev pub IsRefusedUnder : List Shifted → Entry → RebaseFault → Type 0
 IsRefusedUnder over mine why =
     (values : List (List Value)) (others : List Value) → IsRefusedAs (join_list (all_by_value values over) (parcel_by_value (over_values others mine))) why
 
--- the entries before the first conflict are joined so, and the other's transactions are moved over them
+-- the entries before the first conflict are joined so, and the other's transactions are moved over
+-- them
 pub record WereJoined (foreign : Parcel) (entries : List Entry) (over : List Shifted) (kept : List Entry) : Type 0 where
   pub shifted : All IsShifted over
   pub operations_kept : map operations over ≡ foreign.entry.txs

@@ -18,7 +18,8 @@ use Rattle.ve_rebase.specs.Shifted.{IsShifted, FollowFrom, all_by_value}
 abbrev pub joined_until : (committed mine : List Parcel) → Joined
 joined_until committed mine = join_entries (parcels_by_value committed) (map parcel_by_value mine)
 
--- The entries before the first conflict, as they are over the committed ones, and the ranges that conflict. Each keeps all but its transactions.
+-- The entries before the first conflict, as they are over the committed ones, and the ranges that
+-- conflict. Each keeps all but its transactions.
 pub record AreJoined (committed mine : List Parcel) (made : JoinedEntries) : Type 0 where
   pub kept : map parcel_by_value made.kept ≡ (joined_until committed mine).kept
   pub clash : made.clash ≡ clash_of (joined_until committed mine).clash

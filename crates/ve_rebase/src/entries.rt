@@ -67,23 +67,25 @@ fn parcels_with(
     Ok(made)
 }
 
-/// An entry joined with committed ones: these as they are after mine, and mine as it is after them. Each
-/// parcel keeps its values and both numbers, and has as many transactions as before.
+/// An entry joined with committed ones: these as they are after mine, and mine as it is after them.
+/// Each parcel keeps its values and both numbers, and has as many transactions as before.
 ///
-/// The transactions of all committed entries are joined with those of mine as `lists` joins them, with the
-/// same refusal, but each entry cites its own values.
+/// The transactions of all committed entries are joined with those of mine as `lists` joins them,
+/// with the same refusal, but each entry cites its own values.
 pub fn entry_over_list(
     alloc: Global,
     committed: &ParcelList,
     mine: &Parcel,
 ) -> Result<(ParcelList, Parcel), RebaseFault>
     requires { RunFromOneLength (parcels_by_value committed.now) (parcel_by_value mine.now) }
-    ensures joined { IfOk result (λ two. joined_entries committed.now mine.now ≡ Ok (both_entries two)) }
+    ensures joined { IfOk result (λ two.
+        joined_entries committed.now mine.now ≡ Ok (both_entries two)) }
     ensures outlines { IfOk result (λ two. map outline two.0 ≡ map outline committed.now) }
     ensures mine_outline { IfOk result (λ two. outline two.1 ≡ outline mine.now) }
     ensures cite { IfOk result (λ two. All ParcelCites committed.now → All ParcelCites two.0) }
     ensures mine_cites { IfOk result (λ two. ParcelCites mine.now → ParcelCites two.1) }
-    ensures refused { IfErr result (λ why. IsRefusedAs (joined_entries committed.now mine.now) why) }
+    ensures refused { IfErr result (λ why.
+        IsRefusedAs (joined_entries committed.now mine.now) why) }
 {
     let mut over = all_begun(alloc, committed.as_slice())?;
     let mut mine_over = begun(alloc, mine.entry.txs.as_slice())?;

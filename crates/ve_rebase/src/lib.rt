@@ -1,25 +1,27 @@
-//! Whether changes on one list conflict, and all of them joined. `conflict` is the model's `conflict`: two
-//! transactions that set attributes alone conflict where operations of theirs meet at a place, all others
-//! where their active ranges overlap. `pair` is the model's `join`, or both active ranges where they
-//! conflict. `lists` is the model's `join_list`, or the ranges of the first two that conflict: it keeps a
-//! span for each transaction and writes each result once. `entry_over_list` is the same of entries, each of
-//! which cites its own values. `entries_over_list` joins entries one after the other up to the first conflict
-//! (the model's `join_entries`), as a server accepts them; `entries_under` joins a site's entries so over an
+//! Joining of changes on one list, and whether they conflict. `conflict` is the model's `conflict`:
+//! two transactions that set attributes alone conflict where operations of theirs meet at a
+//! position, all others where their active ranges overlap. `pair` is the model's `join`, or both
+//! active ranges where they conflict. `lists` is the model's `join_list`, or the ranges of the
+//! first two that conflict: it keeps a span for each transaction and writes each result once.
+//! `entry_over_list` is the same of entries, each of which cites its own values.
+//! `entries_over_list` joins entries one after the other up to the first conflict (the model's
+//! `join_entries`), as a server accepts them. `entries_under` joins a site's entries so over an
 //! entry of another site, as a site keeps them.
 //!
-//! It knows transactions by their operations and reads no value that these cite, so its clauses hold over every list of values; it knows neither
-//! lists of items nor stores.
+//! It knows transactions by their operations and reads no value that these cite. So its clauses
+//! hold over every list of values. It knows neither lists of items nor stores.
 //!
-//! Definitions, in reading order: `Span` (what a transaction leaves before and after its active range, and
-//! the lengths between), `Totals` and `Places` (what one pass over operations finds), `Pair` (both results by
-//! value, and when they are refused), `Lists` (when lists may be joined, and what a refusal names), `Entries`
-//! (entries by value, and what stays of them), `Shifted` (transactions as joining has moved them so far, and
-//! rows of them joined), `Until` (entries joined up to the first conflict), `Under` (a site's entries joined
-//! so over another's, with what that becomes), `Laws`.
+//! Definitions, in reading order. `Span` is what a transaction leaves before and after its active
+//! range, and the lengths between. `Totals` and `Places` are the results of one pass over
+//! operations. `Pair` has both results by value, and when they are refused. `Lists` says when lists
+//! may be joined, and what a refusal names. `Entries` has entries by value, and what stays of them.
+//! `Shifted` has transactions as joining has moved them so far, and rows of them joined. `Until`
+//! joins entries up to the first conflict. `Under` joins a site's entries so over another's, with
+//! the outcome for that. Then come `Laws`.
 //!
-//! Laws: `spans_decide` says that the spans of two joined transactions, their lengths and whether their
-//! ranges overlap are found from the two spans alone; `joined_stay_normal` that joined transactions keep the
-//! bound of 2^60 where the list with all that both sides insert is within it.
+//! Laws: `spans_decide` says that the spans of two joined transactions, their lengths and whether
+//! their ranges overlap are found from the two spans alone. `joined_stay_normal` says that joined
+//! transactions keep the bound of 2^60 where the list with all that both sides insert is within it.
 #![tactic(auto)]
 
 mod entries;

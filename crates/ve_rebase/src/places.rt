@@ -9,7 +9,7 @@ ghost use Rattle.ve_rebase.specs.Places.{passes, places, placed, change_of, meet
 use ve_base::Text;
 use ve_tx::{Op, same_text};
 
-/// How many operations are passed, and the place in the old list after them.
+/// How many operations are passed, and the position in the old list after them.
 #[derive(Clone, Copy)]
 struct Cursor {
     passed: usize,
@@ -38,15 +38,18 @@ fn adds_or_removes(from: &Option<Text>, to: &Option<Text>) -> bool
     }
 }
 
-/// Whether a change of this name, which adds or removes an attribute where `moves` is true, and another one depend on their order.
+/// Whether a change of this name, which adds or removes an attribute where `moves` is true, and
+/// another one depend on their order.
 fn clashes(name: &Text, moves: bool, other: &Text, from: &Option<Text>, to: &Option<Text>) -> bool
-    ensures { result ≡ (text_same name.now other.now || (moves && adds_or_removes (change_of other.now from.now to.now))) }
+    ensures { result
+        ≡ (text_same name.now other.now
+        || (moves && adds_or_removes (change_of other.now from.now to.now))) }
 {
     same_text(name, other) || moves && adds_or_removes(from, to)
 }
 
-/// Whether a change of this name, which adds or removes an attribute where `moves` is true, meets one of those that stand at the first place of
-/// the operations.
+/// Whether a change of this name, which adds or removes an attribute where `moves` is true, meets
+/// one of those that stand at the first position of the operations.
 fn meets_first(name: &Text, moves: bool, ops: &[Op]) -> bool
     ensures { result ≡ meets_first name.now moves ops.now }
 {
@@ -76,7 +79,7 @@ fn meets_first(name: &Text, moves: bool, ops: &[Op]) -> bool
     false
 }
 
-/// Passes the operations that stand before a place.
+/// Passes the operations that stand before a position.
 fn advance(ops: &[Op], from: Cursor, to: usize) -> Cursor
     requires within { from.passed ≤ length ops.now }
     requires small { from.at + total_size (drop from.passed ops.now) ≤ 2 ^ 62 }
@@ -98,7 +101,8 @@ fn advance(ops: &[Op], from: Cursor, to: usize) -> Cursor
     }
 }
 
-/// Whether a change at a place, of this name, meets one of those from the cursor on, which has passed what stands before the place.
+/// Whether a change at a position, of this name, meets one of those from the cursor on, which has
+/// passed what stands before the position.
 fn meets_here(name: &Text, moves: bool, at: usize, others: &[Op], cursor: Cursor) -> bool
     requires within { cursor.passed ≤ length others.now }
     requires there { cursor.passed < length others.now → at ≤ cursor.at }
@@ -107,7 +111,8 @@ fn meets_here(name: &Text, moves: bool, at: usize, others: &[Op], cursor: Cursor
     cursor.at == at && meets_first(name, moves, &others[cursor.passed..])
 }
 
-/// Passes one operation of the first transaction: where the cursor in the second is then, and whether the operation meets one of that.
+/// Passes one operation of the first transaction: where the cursor in the second is then, and
+/// whether the operation meets one of that.
 fn pass(op: &Op, at: usize, others: &[Op], cursor: Cursor) -> (Cursor, bool)
     requires within { cursor.passed ≤ length others.now }
     requires small { cursor.at + total_size (drop cursor.passed others.now) ≤ 2 ^ 62 }
@@ -126,7 +131,8 @@ fn pass(op: &Op, at: usize, others: &[Op], cursor: Cursor) -> (Cursor, bool)
     }
 }
 
-/// Whether some attribute operation of the first, which begins at `first`, meets one of the second, in one pass along both.
+/// Whether some attribute operation of the first, which begins at `first`, meets one of the second,
+/// in one pass along both.
 pub fn attributes_meet(ops: &[Op], first: usize, others: &[Op], other_first: usize) -> bool
     requires small { first + total_size ops.now ≤ 2 ^ 62 }
     requires others_small { other_first + total_size others.now ≤ 2 ^ 62 }

@@ -1,4 +1,4 @@
-// Transactions as joining has moved them so far: whether two conflict, and what joining makes of them.
+// Transactions as joining has moved them so far: whether two conflict, and their join.
 ghost use Rattle.std.specs.Prelude.{◌≡◌, ◌≤◌, ◌++◌, [], ◌∷◌, All, length, map, IfOk, IfErr};
 ghost use Rattle.model_change.specs.Join.{conflict};
 ghost use Rattle.ve_base.specs.Limits.{max_total_length};
@@ -12,17 +12,17 @@ use crate::RebaseFault;
 use crate::join::reshaped;
 use crate::places::attributes_meet;
 use crate::read::span_of;
-use crate::span::{Span, joined_first, joined_second};
+use crate::span::{ActiveSpan, joined_first, joined_second};
 use std::alloc::Global;
 use ve_base::{MAX_TOTAL_LENGTH, Memory};
 use ve_tx::{Op, Transaction, TxList};
 
-/// A transaction that is lent, and the span that joining has given it so far. It stands for the transaction's operations between the ends of the
-/// span, which are written out only at the end.
+/// A borrowed transaction, and the span that joining has given it so far. It stands for the
+/// transaction's operations between the ends of the span, which are written out only at the end.
 #[derive(Clone, Copy)]
 pub struct Shifted<'a> {
     pub tx: &'a Transaction,
-    pub span: Span,
+    pub span: ActiveSpan,
 }
 
 /// The operations after the first retain.
@@ -39,7 +39,8 @@ fn after_first(ops: &[Op]) -> &[Op]
 fn conflicts(a: Shifted<'_>, b: Shifted<'_>) -> bool
     requires first { IsShifted a }
     requires second { IsShifted b }
-    ensures { (values others : _) → result ≡ conflict (shifted_by_value values a.entry) (shifted_by_value others b.entry) }
+    ensures { (values others : _)
+        → result ≡ conflict (shifted_by_value values a.entry) (shifted_by_value others b.entry) }
 {
     if !a.span.meets(b.span) {
         return false;
@@ -53,13 +54,15 @@ fn conflicts(a: Shifted<'_>, b: Shifted<'_>) -> bool
     attributes_meet(ops, a.span.first, others, b.span.first)
 }
 
-/// What joining makes of the spans of two on lists of one length, or both active ranges where they conflict.
-pub fn paired(a: Shifted<'_>, b: Shifted<'_>) -> Result<(Span, Span), RebaseFault>
+/// The join of the spans of two transactions on lists of one length, or both active ranges where
+/// they conflict.
+pub fn paired(a: Shifted<'_>, b: Shifted<'_>) -> Result<(ActiveSpan, ActiveSpan), RebaseFault>
     requires first { IsShifted a }
     requires second { IsShifted b }
     requires lengths { old_size a.span ≡ old_size b.span }
     ensures paired { IfOk result (λ two. ArePaired a.entry b.entry two.0 two.1) }
-    ensures refused { IfErr result (λ why. (values others : _) → IsRefusedAs (joined_pair values others a.entry b.entry) why) }
+    ensures refused { IfErr result (λ why.
+        (values others : _) → IsRefusedAs (joined_pair values others a.entry b.entry) why) }
 {
     if conflicts(a, b) {
         return Err(RebaseFault::Conflict {
@@ -93,7 +96,10 @@ pub fn begun<'a>(alloc: Global, txs: &'a [Transaction]) -> Result<Vec<Shifted<'a
 pub fn written(alloc: Global, all: &[Shifted<'_>]) -> Result<TxList, Memory>
     requires { All IsShifted all.now }
     ensures written { IfOk result (λ txs. AreWritten txs all.now) }
-    ensures cite { IfOk result (λ txs. (values : _) → All (TxCites values) (map operations all.now) → All (TxCites values) txs) }
+    ensures cite { IfOk result (λ txs.
+        (values : _)
+        → All (TxCites values) (map operations all.now)
+        → All (TxCites values) txs) }
 {
     let mut txs = TxList::new(alloc);
     for one in all {

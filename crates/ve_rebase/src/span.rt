@@ -1,13 +1,14 @@
-// What joining asks of a transaction.
+// Spans: all that joining asks of a transaction.
 ghost use Rattle.std.specs.Prelude.{◌≡◌, ◌≤◌, ◌<◌, ◌+◌, ◌-◌, ◌^◌, ◌&&◌, nat_le};
 ghost use Rattle.ve_base.specs.Limits.{max_total_length};
 ghost use Rattle.ve_rebase.specs.Pair.{FitsIn};
-ghost use Rattle.ve_rebase.specs.Span.{old_size, new_size, end, meet, ended, inert, joined_first, joined_second};
+ghost use Rattle.ve_rebase.specs.Span.{old_size, new_size, end, meet, span_between, inert, joined_first, joined_second};
 
-/// Where a transaction is active, how many items it leaves before and after that, and the lengths of what lies between: the old one and the new
-/// one. `attributes` says that it has attribute operations and no replace; `reach` is the length of the active range, in the old list.
+/// Where a transaction is active, how many items it leaves before and after that, and the lengths
+/// of what lies between: the old one and the new one. `attributes` says that it has attribute
+/// operations and no replace; `reach` is the length of the active range, in the old list.
 #[derive(Clone, Copy)]
-pub struct Span {
+pub struct ActiveSpan {
     pub active: bool,
     pub attributes: bool,
     pub first: usize,
@@ -17,9 +18,9 @@ pub struct Span {
     pub inserted: usize,
 }
 
-impl Span {
+impl ActiveSpan {
     /// Whether two active ranges overlap.
-    pub fn meets(self, other: Span) -> bool
+    pub fn meets(self, other: ActiveSpan) -> bool
         requires one { end self < 2 ^ 64 }
         requires other { end other < 2 ^ 64 }
         ensures { result ≡ meet self other }
@@ -31,14 +32,14 @@ impl Span {
     }
 
     /// Whether both change attributes alone.
-    pub fn both_attributes(self, other: Span) -> bool
+    pub fn both_attributes(self, other: ActiveSpan) -> bool
         ensures { result ≡ (self.attributes && other.attributes) }
     {
         self.attributes && other.attributes
     }
 
     /// Whether its active range ends where the other one begins, or before.
-    fn ends_before(self, other: Span) -> bool
+    fn ends_before(self, other: ActiveSpan) -> bool
         requires { end self < 2 ^ 64 }
         ensures { result ≡ nat_le (end self) other.first }
     {
@@ -71,10 +72,10 @@ impl Span {
     }
 
     /// The same between other ends.
-    fn ended(self, first: usize, last: usize) -> Span
-        ensures { result ≡ ended self first last }
+    fn ended(self, first: usize, last: usize) -> ActiveSpan
+        ensures { result ≡ span_between self first last }
     {
-        Span {
+        ActiveSpan {
             active: self.active,
             attributes: self.attributes,
             first,
@@ -86,8 +87,9 @@ impl Span {
     }
 }
 
-/// How many items a transaction leaves on that side where another one is active, once that other one is done.
-fn moved(count: usize, other: Span) -> usize
+/// How many items a transaction leaves on that side where another one is active, once that other
+/// one is done.
+fn moved(count: usize, other: ActiveSpan) -> usize
     requires other { FitsIn max_total_length other }
     requires count { count ≤ max_total_length }
     ensures { result ≡ (count + new_size other) - old_size other }
@@ -96,10 +98,10 @@ fn moved(count: usize, other: Span) -> usize
 }
 
 /// The span of a transaction that retains all.
-fn inert(count: usize) -> Span
+fn inert(count: usize) -> ActiveSpan
     ensures { result ≡ inert count }
 {
-    Span {
+    ActiveSpan {
         active: false,
         attributes: false,
         first: count,
@@ -110,8 +112,9 @@ fn inert(count: usize) -> Span
     }
 }
 
-/// The span of the first of two transactions on one list that don't conflict, joined: as it is after the second.
-pub fn joined_first(a: Span, b: Span) -> Span
+/// The span of the first of two transactions on one list that don't conflict, joined: as it is
+/// after the second.
+pub fn joined_first(a: ActiveSpan, b: ActiveSpan) -> ActiveSpan
     requires first { FitsIn max_total_length a }
     requires second { FitsIn max_total_length b }
     ensures { result ≡ joined_first a b }
@@ -130,7 +133,7 @@ pub fn joined_first(a: Span, b: Span) -> Span
 }
 
 /// The span of the second, joined: as it is after the first.
-pub fn joined_second(a: Span, b: Span) -> Span
+pub fn joined_second(a: ActiveSpan, b: ActiveSpan) -> ActiveSpan
     requires first { FitsIn max_total_length a }
     requires second { FitsIn max_total_length b }
     ensures { result ≡ joined_second a b }

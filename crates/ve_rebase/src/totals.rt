@@ -1,11 +1,12 @@
-// What one pass over operations counts.
+// Counts of one pass over operations.
 ghost use Rattle.std.specs.Prelude.{◌≡◌, ◌≤◌, ◌+◌, ◌^◌, ◌&&◌, not};
 ghost use Rattle.ve_tx.specs.Normal.{size, total_size};
 ghost use Rattle.ve_rebase.specs.Totals.{with_op, with_ops, nothing, inserted_size};
 
 use ve_tx::Op;
 
-/// The old and the new length, the retain after all other operations, and which operations there are.
+/// The old and the new length, the retain after all other operations, and which operations there
+/// are.
 #[derive(Clone, Copy)]
 pub struct Totals {
     pub old: usize,

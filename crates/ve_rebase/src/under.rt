@@ -23,7 +23,7 @@ pub struct EntriesUnder {
     pub kept: EntryList,
 }
 
-/// The entry at a place of two lists, the one after the other.
+/// The entry at a position of two lists, the one after the other.
 pub fn entry_in<'a>(first: &'a [Entry], second: &'a [Entry], at: usize) -> &'a Entry
     requires { at < length first.now + length second.now }
     ensures { slice_get (first.now ++ second.now) at ≡ Some result.now }
@@ -43,7 +43,8 @@ fn copied<'a>(alloc: Global, over: &[Shifted<'a>]) -> Result<Vec<Shifted<'a>>, M
     Ok(all)
 }
 
-/// The next entry joined over the other's transactions as they are by now. At an `Err` these stay as they are.
+/// The next entry joined over the other's transactions as they are by now. At an `Err` these stay
+/// as they are.
 fn joined_under(
     alloc: Global,
     over: &mut Vec<Shifted<'_>>,
@@ -51,7 +52,8 @@ fn joined_under(
 ) -> Result<Entry, RebaseFault>
     requires shifted { All IsShifted over.old.items }
     requires meet { MeetUnder over.old.items mine.now }
-    ensures joined { IfOk result (λ made. IsJoinedUnder over.old.items mine.now over.new.items made) }
+    ensures joined { IfOk result (λ made.
+        IsJoinedUnder over.old.items mine.now over.new.items made) }
     ensures kept { OnErr result (over.new.items ≡ over.old.items) }
     ensures refused { IfErr result (IsRefusedUnder over.old.items mine.now) }
 {
@@ -67,16 +69,19 @@ fn joined_under(
     })
 }
 
-/// The entries of both lists joined over the other's, one after the other, up to the first conflict: the other's transactions moved over those
-/// before it, and these.
+/// The entries of both lists joined over the other's, one after the other, up to the first
+/// conflict: the other's transactions moved over those before it, and these.
 fn joined_all<'a>(
     alloc: Global,
     foreign: &'a Parcel,
     sent: &[Entry],
     unsent: &[Entry],
 ) -> Result<(Vec<Shifted<'a>>, EntryList), Memory>
-    requires { (values : _) → RunFromOneLength (parcel_by_value foreign.now) (parcels_by_value (all_over values (sent.now ++ unsent.now))) }
-    ensures { IfOk result (λ two. WereJoined foreign.now (sent.now ++ unsent.now) two.0.items two.1) }
+    requires { (values : _)
+        → RunFromOneLength (parcel_by_value foreign.now) (
+        parcels_by_value (all_over values (sent.now ++ unsent.now))) }
+    ensures { IfOk result (λ two.
+        WereJoined foreign.now (sent.now ++ unsent.now) two.0.items two.1) }
 {
     let Some(count) = sent.len().checked_add(unsent.len()) else {
         return Err(Memory);
@@ -93,19 +98,23 @@ fn joined_all<'a>(
     Ok((over, kept))
 }
 
-/// The entries that a site sent and those that it didn't send, joined over an entry of another site, one
-/// after the other, up to the first conflict: those before it, and the other's entry over them. Each entry
-/// that is kept keeps both numbers, the other's its values, and each has as many transactions as before.
+/// The entries that a site sent and those that it didn't send, joined over an entry of another
+/// site, one after the other, up to the first conflict. The result is those before it, and the
+/// other's entry over them. Each entry that is kept keeps both numbers, the other's its values, and
+/// each has as many transactions as before.
 ///
-/// Only memory can be short, which is also the answer where a joined transaction would be longer than a
-/// transaction may be. The other's transactions are moved along as a span each, and written once.
+/// The only `Err` is want of memory, which is also the answer where a joined transaction would be
+/// longer than a transaction may be. The other's transactions are moved along as a span each, and
+/// written once.
 pub fn entries_under(
     alloc: Global,
     foreign: &Parcel,
     sent: &[Entry],
     unsent: &[Entry],
 ) -> Result<EntriesUnder, Memory>
-    requires { (values : _) → RunFromOneLength (parcel_by_value foreign.now) (parcels_by_value (all_over values (sent.now ++ unsent.now))) }
+    requires { (values : _)
+        → RunFromOneLength (parcel_by_value foreign.now) (
+        parcels_by_value (all_over values (sent.now ++ unsent.now))) }
     ensures { IfOk result (AreUnder foreign.now (sent.now ++ unsent.now)) }
 {
     let (over, kept) = joined_all(alloc, foreign, sent, unsent)?;

@@ -32,7 +32,8 @@ fn joined_over(
 ) -> Result<Parcel, RebaseFault>
     requires shifted { All IsShifted over.old.items }
     requires meet { Meet over.old.items (parcel_by_value mine.now) }
-    ensures joined { IfOk result (λ made. IsJoinedOver over.old.items mine.now over.new.items made) }
+    ensures joined { IfOk result (λ made.
+        IsJoinedOver over.old.items mine.now over.new.items made) }
     ensures refused { IfErr result (IsRefusedOver over.old.items mine.now) }
 {
     let mut entry = begun(alloc, mine.entry.txs.as_slice())?;
@@ -41,12 +42,13 @@ fn joined_over(
     Ok(made)
 }
 
-/// Entries joined over committed ones, one after the other, up to the first conflict: those before it, and
-/// the ranges that conflict. Each entry that is kept keeps its values and both numbers, and has as many
-/// transactions as before.
+/// Entries joined over committed ones, one after the other, up to the first conflict: those before
+/// it, and the ranges that conflict. Each entry that is kept keeps its values and both numbers, and
+/// has as many transactions as before.
 ///
-/// Only memory can be short, which is also the answer where a joined transaction would be longer than a
-/// transaction may be. The committed ones are moved along as a span each, and never written out.
+/// The only `Err` is want of memory, which is also the answer where a joined transaction would be
+/// longer than a transaction may be. The committed ones are moved along as a span each, and never
+/// written out.
 pub fn entries_over_list(
     alloc: Global,
     committed: &[Parcel],

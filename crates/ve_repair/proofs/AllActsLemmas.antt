@@ -1,4 +1,4 @@
--- What is done with all items of a list, in three parts.
+-- The acts on all items of a list, in three parts.
 use Rattle.std.proofs.Common.{◌≡◌, ℕ, zero, suc, ◌+◌, List, [], ◌∷◌, ◌++◌, length, replicate, refl, ap, ◌∙◌, arith}
 use Rattle.model_items.specs.Tree.{Shape, Letter, Begin, End}
 use Rattle.ve_repair.specs.Spelled.{Sign, BeginOf, LettersOf, EndOf, sign_shapes}

@@ -1,4 +1,5 @@
--- A node that is nobody's child, and is not put anywhere, keeps its own links to parent and siblings.
+-- A node that is nobody's child, and is not put anywhere, keeps its own links to parent and
+-- siblings.
 use Rattle.std.proofs.Common.{◌≡◌, ◌≢◌, ℕ, Bool, true, false, if◌then◌else◌, Option, Some, None, List, [], ◌∷◌, ◌++◌, drop, refl, sym, ap, ◌∙◌, subst, eqb}
 use Rattle.ve_tree.specs.Links.{Links, first_or, last_of, last_or, Apart, Children}
 use Rattle.ve_tree.specs.Fits.{Fits}

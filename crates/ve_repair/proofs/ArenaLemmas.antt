@@ -6,7 +6,7 @@ use Rattle.ve_arena.specs.declared.node.NodeId.{NodeId}
 use Rattle.ve_arena.specs.declared.node.ArenaNode.{ArenaNode}
 use Rattle.ve_arena.specs.Arena.{slot_at, node_under, IsLive, Changes, with_parent, with_first, with_last, with_before, with_after, with_len}
 use Rattle.ve_tree.specs.Links.{number_of, link_in, links_of}
-use Rattle.ve_repair.specs.Relink.{set}
+use Rattle.ve_repair.specs.Relink.{link_set}
 use Rattle.ve_repair.specs.Labels.{Label, label_of, label_at, SameLabels, StayLive}
 use Rattle.ve_repair.proofs.RelinkLemmas.{by_case}
 
@@ -34,9 +34,9 @@ same_label change h (Some node) = ap (λ (l : Label). Some l) (h node)
 -- the link that is written
 written : (old new : Slots) (n : NodeId) (change : ArenaNode → ArenaNode) (f : Link) (to : Option NodeId) →
     ((node : ArenaNode) → f (change node) ≡ to) → IsLive old n → Changes old new n change →
-    (q : ℕ) → link_in f (slot_at new q) ≡ set (λ m. link_in f (slot_at old m)) n.0 (option_map number_of to) q
+    (q : ℕ) → link_in f (slot_at new q) ≡ link_set (λ m. link_in f (slot_at old m)) n.0 (option_map number_of to) q
 written old new n change f to h some c q = by_case n.0 q
-    (λ e. subst (λ q. link_in f (slot_at new q) ≡ set (λ m. link_in f (slot_at old m)) n.0 (option_map number_of to) q) e
+    (λ e. subst (λ q. link_in f (slot_at new q) ≡ link_set (λ m. link_in f (slot_at old m)) n.0 (option_map number_of to) q) e
     (ap (link_in f) c.here ∙ changed f change to h (node_under old n) some ∙ sym (update_here (λ m. link_in f (slot_at old m)) n.0 (option_map number_of to))))
     (λ e. ap (link_in f) (c.others q (λ e'. e (sym e'))) ∙ sym (update_apart (λ m. link_in f (slot_at old m)) n.0 (option_map number_of to) q (λ e'. e (sym e'))))
 
@@ -54,7 +54,7 @@ labels-kept old new n change h c q = by_case n.0 q
     (λ e. ap (option_map label_of) (c.others q (λ e'. e (sym e'))))
 
 pub links_of-parent : (old new : Slots) (n : NodeId) (to : Option NodeId) → IsLive old n → Changes old new n (with_parent to) →
-    links_of new ≡ record (links_of old) { parent = set (links_of old).parent n.0 (option_map number_of to) }
+    links_of new ≡ record (links_of old) { parent = link_set (links_of old).parent n.0 (option_map number_of to) }
 links_of-parent old new n to some c = λ i. record {
   parent = λ q. written old new n (with_parent to) (λ node. node.parent) to (λ node. refl) some c q i;
   first = λ q. untouched old new n (with_parent to) (λ node. node.first) (λ node. refl) c q i;
@@ -64,7 +64,7 @@ links_of-parent old new n to some c = λ i. record {
 }
 
 pub links_of-first : (old new : Slots) (n : NodeId) (to : Option NodeId) → IsLive old n → Changes old new n (with_first to) →
-    links_of new ≡ record (links_of old) { first = set (links_of old).first n.0 (option_map number_of to) }
+    links_of new ≡ record (links_of old) { first = link_set (links_of old).first n.0 (option_map number_of to) }
 links_of-first old new n to some c = λ i. record {
   parent = λ q. untouched old new n (with_first to) (λ node. node.parent) (λ node. refl) c q i;
   first = λ q. written old new n (with_first to) (λ node. node.first) to (λ node. refl) some c q i;
@@ -74,7 +74,7 @@ links_of-first old new n to some c = λ i. record {
 }
 
 pub links_of-last : (old new : Slots) (n : NodeId) (to : Option NodeId) → IsLive old n → Changes old new n (with_last to) →
-    links_of new ≡ record (links_of old) { last = set (links_of old).last n.0 (option_map number_of to) }
+    links_of new ≡ record (links_of old) { last = link_set (links_of old).last n.0 (option_map number_of to) }
 links_of-last old new n to some c = λ i. record {
   parent = λ q. untouched old new n (with_last to) (λ node. node.parent) (λ node. refl) c q i;
   first = λ q. untouched old new n (with_last to) (λ node. node.first) (λ node. refl) c q i;
@@ -84,7 +84,7 @@ links_of-last old new n to some c = λ i. record {
 }
 
 pub links_of-before : (old new : Slots) (n : NodeId) (to : Option NodeId) → IsLive old n → Changes old new n (with_before to) →
-    links_of new ≡ record (links_of old) { before = set (links_of old).before n.0 (option_map number_of to) }
+    links_of new ≡ record (links_of old) { before = link_set (links_of old).before n.0 (option_map number_of to) }
 links_of-before old new n to some c = λ i. record {
   parent = λ q. untouched old new n (with_before to) (λ node. node.parent) (λ node. refl) c q i;
   first = λ q. untouched old new n (with_before to) (λ node. node.first) (λ node. refl) c q i;
@@ -94,7 +94,7 @@ links_of-before old new n to some c = λ i. record {
 }
 
 pub links_of-after : (old new : Slots) (n : NodeId) (to : Option NodeId) → IsLive old n → Changes old new n (with_after to) →
-    links_of new ≡ record (links_of old) { after = set (links_of old).after n.0 (option_map number_of to) }
+    links_of new ≡ record (links_of old) { after = link_set (links_of old).after n.0 (option_map number_of to) }
 links_of-after old new n to some c = λ i. record {
   parent = λ q. untouched old new n (with_after to) (λ node. node.parent) (λ node. refl) c q i;
   first = λ q. untouched old new n (with_after to) (λ node. node.first) (λ node. refl) c q i;

@@ -1,4 +1,4 @@
--- A cursor at a place of a tree.
+-- A cursor at a position of a tree.
 use Rattle.std.proofs.Common.{◌≡◌, ◌+◌, ℕ, Option, Some, None, IsSome, List, [], ◌∷◌, ◌++◌, map, option_map, refl, sym, ap, ◌∙◌, subst, append-nil}
 use Rattle.model_items.specs.declared.plain_item.PlainItem.{PlainItem}
 use Rattle.model_items.specs.Tree.{item_count}
@@ -22,7 +22,7 @@ use Rattle.ve_repair.specs.Scene.{open_round}
 use Rattle.ve_repair.proofs.CursorLemmas.{Slots, framed_at, whole_runs, past-branch}
 use Rattle.ve_repair.proofs.CursorsLemmas.{at_start}
 
--- the nodes round a place, as a cursor knows them
+-- the nodes round a position, as a cursor knows them
 abbrev pub rounds_of : ℕ → List Round → List cursors.Round
 rounds_of root [] = []
 rounds_of root (r ∷ rs) = record { kind = r.kind; outer = parent_in root rs; later = r.after } ∷ rounds_of root rs

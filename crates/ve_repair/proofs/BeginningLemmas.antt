@@ -1,4 +1,5 @@
--- Which node begins at an item: an opening begins a node of its kind, and a letter that follows no letter begins a text.
+-- Which node begins at an item: an opening begins a node of its kind, and a letter that follows no
+-- letter begins a text.
 use Rattle.std.proofs.Common.{◌≡◌, ℕ, zero, suc, ◌+◌, ◌<◌, ◌-◌, Bool, true, false, nat_lt, if◌then◌else◌, Option, Some, None, List, [], ◌∷◌, ◌++◌, length, replicate, refl, sym, ap, ◌∙◌, subst, ◌⊎◌, inl, inr, arith, Contains}
 use Rattle.std.proofs.lemmas.Bool.{true≢false, ltb-true, ltb-false}
 use Rattle.std.proofs.lemmas.Option.{same_Some, none-some}
@@ -23,7 +24,7 @@ begun before Letter = if is_letter before then None else Some what.Run
 begun before (Begin kind) = Some (what.Node kind)
 begun before (End kind) = None
 
--- and at a place of a list that stands behind an item
+-- and at a position of a list that stands behind an item
 abbrev pub begun_at : Option Shape → List Shape → ℕ → Option NodeWhat
 begun_at before [] i = None
 begun_at before (s ∷ ss) zero = begun before s
@@ -157,7 +158,7 @@ place_begins (NamedBranch h kind inside later) p at before y whole fresh c =
         (later_begun _ (Some (End kind)) (End kind ∷ []) (shapes (unnumbered later)) (suc at + item_count (unnumbered inside))
         (at + (item_count (unnumbered inside) + 2)) y refl (omega arith) r)
 
--- a node of some siblings, and of those inside them, that begins at a place
+-- a node of some siblings, and of those inside them, that begins at a position
 pub record StartsThere (all : List NodePlace) (from : ℕ) (sort : NodeWhat) : Type 0 where
   pub place : NodePlace
   pub listed : Contains all place
@@ -179,7 +180,7 @@ among all more from from' sort wider e s = record {
   some_long = s.some_long;
 }
 
--- a place is one of the first so many, or lies so far past them
+-- a position is one of the first so many, or lies so far past them
 pub part : (n i : ℕ) → (i < n) ⊎ ((j : ℕ) × (i ≡ n + j))
 part n i = go (nat_lt i n) refl
   where

@@ -32,7 +32,7 @@ use Rattle.ve_repair.proofs.ChangedLemmas.{tokens-signs}
 use Rattle.ve_repair.proofs.NestedLemmas.{place-append, open-append}
 use Rattle.ve_repair.proofs.CursorLemmas.{signs-at}
 
--- places and open nodes
+-- positions and open nodes
 place-forest : (f : Named) (ss : List Sign) (at : ℕ) → place_after (signs_of f ++ ss) at ≡ place_after ss (at + item_count (unnumbered f))
 place-forest NoNode ss at = ap (place_after ss) (let e : at ≡ at + 0 = omega arith in e)
 place-forest (NamedRun n count later) ss at =
@@ -81,7 +81,7 @@ open-passed root rs done =
     ∙ ap (λ l. open_after l (begun_round root rs) (start_in rs)) (sym (append-nil (signs_of done)))
     ∙ open-forest done [] (begun_round root rs) (start_in rs)
 
--- the numbers that are passed round a place
+-- the numbers that are passed round a position
 abbrev seen_numbers : ℕ → List Round → List ℕ
 seen_numbers root [] = root ∷ []
 seen_numbers root (r ∷ rs) = r.number ∷ (node_numbers r.before ++ seen_numbers root rs)

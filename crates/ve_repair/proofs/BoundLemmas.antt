@@ -118,7 +118,8 @@ seen_back : (t : Transaction) (ns : List Numbered) → map (new_seen t) ns ≡ m
 seen_back t [] = refl
 seen_back t (n ∷ ns) = ap (λ l. seen_by (inverse t) n.node ∷ l) (seen_back t ns)
 
--- The script with what is kept round it, and the lengths of all new nodes, cost at most eight for each touched node.
+-- The script with what is kept round it, and the lengths of all new nodes, cost at most eight for
+-- each touched node.
 module _ (supply : ℕ → ℕ) (root : NodeId) (old slots : List (Option ArenaNode)) (items others : List PlainItem) (tree : IsTree old root items) (lefts ss rights : List Sign) (acts : List Act)
     (t : Transaction) (before : List PlainItem) (c : IsChangeBy supply root old items others tree lefts ss rights acts t before) where
   abbrev script : List W.Step

@@ -1,4 +1,4 @@
--- What the planning of a script needs: its nodes are there, and places and lengths fit.
+-- Conditions of planning a script: its nodes are there, and positions and lengths fit.
 use Rattle.std.proofs.Common.{◌≡◌, ◌≤◌, ◌<◌, ◌+◌, ◌^◌, ℕ, Option, Some, None, IsSome, List, [], ◌∷◌, ◌++◌, length, map, take, drop, option_map, zero, suc, append_assoc, refl, sym, ap, ◌∙◌, subst, arith, append-nil}
 use Rattle.std.proofs.lemmas.List.{length-map, length-append, drop-map}
 use Rattle.ve_base.specs.declared.value.Value.{Value}
@@ -168,7 +168,7 @@ news_live : (slots : Slots) (xs : List Step) (s : Sizing) → StepsAreLive slots
 news_live slots [] s l h = h
 news_live slots (x ∷ xs) s l h = news_live slots xs (sized slots x s) l.1 (open_live slots x s l.0 h)
 
--- places and items
+-- positions and items
 items_place : (ss : List Sign) (at : ℕ) → place_after ss at ≡ at + items_in ss
 items_place [] at = omega arith
 items_place (BeginOf n kind ∷ ss) at = let e = items_place ss (suc at) in omega (arith, e)

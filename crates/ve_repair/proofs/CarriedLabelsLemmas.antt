@@ -1,4 +1,5 @@
--- What nodes of a tree are, and how long, where others are made, lengths are written and nodes are freed.
+-- Sorts and lengths of a tree's nodes, where others are made, lengths are written and nodes are
+-- freed.
 use Rattle.std.proofs.Common.{◌≡◌, ◌≢◌, ℕ, ◌+◌, Bool, true, false, if◌then◌else◌, Option, None, Some, IsSome, List, [], ◌∷◌, ◌++◌, map, option_map, refl, sym, ap, ◌∙◌, eqb}
 use Rattle.std.proofs.lemmas.Bool.{eqb-true, eqb-false}
 use Rattle.ve_arena.specs.declared.node.NodeId.{NodeId}

@@ -1,4 +1,5 @@
--- Once all planned writes are made and what goes is freed, the script of a changed range is carried out.
+-- Once all planned writes are made and what goes is freed, the script of a changed range is carried
+-- out.
 use Rattle.std.proofs.Common.{◌≡◌, List, map, subst}
 use Rattle.model_items.specs.declared.item.Item.{Item}
 use Rattle.ve_arena.specs.declared.node.NodeId.{NodeId}

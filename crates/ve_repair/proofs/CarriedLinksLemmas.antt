@@ -1,4 +1,4 @@
--- What the writes of a repair make of the old tree's links.
+-- The links of the old tree after the writes of a repair.
 use Rattle.std.proofs.Common.{◌≡◌, ℕ, List, [], ◌∷◌, ◌++◌, map, sym, ap, ◌∙◌, subst}
 use Rattle.model_items.specs.declared.plain_item.PlainItem.{PlainItem}
 use Rattle.ve_arena.specs.declared.node.NodeId.{NodeId}

@@ -1,4 +1,5 @@
--- What an arena has once a script is carried out: lengths and sorts of the new tree's nodes, and no node besides.
+-- The arena once a script is carried out: lengths and sorts of the new tree's nodes, and no node
+-- besides.
 use Rattle.std.proofs.Common.{◌≡◌, ℕ, None, Some, List, [], ◌∷◌, ◌++◌, length, map, option_map, sym, ap, ◌∙◌, subst, append-nil, arith}
 use Rattle.ve_kinds.specs.declared.kind.Kind.TheVariants.{Root}
 use Rattle.model_items.specs.declared.plain_item.PlainItem.{PlainItem}

@@ -1,4 +1,4 @@
--- What a transaction makes of a list, as a walk over its operations reads it.
+-- The result of a transaction on a list, as a walk over its operations reads it.
 use Rattle.std.proofs.Common.{◌≡◌, ℕ, suc, ◌+◌, ◌-◌, ◌<◌, ◌≤◌, ◌^◌, Bool, true, false, ◌&&◌, if◌then◌else◌, nat_lt, not, inl, inr, List, [], ◌∷◌, ◌++◌, length, get_or, take, drop, map, slice_range, slice_get, Some, Result, Ok, Err, refl, sym, ap, ◌∙◌, subst, arith, take-append-drop, drop-cons, length-take-le}
 use Rattle.std.specs.Prelude.{OnOk, IfErr}
 use Rattle.std.proofs.Math.Seq.{take-add, drop-append_seam}
@@ -16,7 +16,7 @@ use Rattle.model_items.specs.declared.law_fault.LawFault.{LawFault}
 use Rattle.model_items.specs.declared.law_fault.LawFault.TheVariants.{Unlawful, TooDeep}
 use Rattle.model_items.specs.Plain.{plain, plain_list}
 use Rattle.model_items.specs.Tree.{shape_of}
-use Rattle.model_items.specs.Law.{State, start, finish, top, may_open, opened, closed, step, fault_place, fault_moved, outcome_moved, followed, verdict_at, verdict, Lawful}
+use Rattle.model_items.specs.Law.{State, start, finish, top, may_open, state_opened, state_closed, step, fault_place, fault_moved, outcome_moved, outcome_then, verdict_at, verdict, Lawful}
 use Rattle.model_items.specs.Law as law
 use Rattle.model_items.proofs.LawLemmas.{after_whole, after_parts, Ok-same, piece_fails}
 use Rattle.model_change.specs.Attributes.{AttrChange, item_changed}
@@ -33,7 +33,7 @@ use Rattle.ve_tx.specs.declared.op.Op.TheVariants as op
 use Rattle.ve_tx.specs.Normal.{are_reduced, are_normal, total_size}
 use Rattle.ve_tx.specs.Checked.{old_size}
 use Rattle.ve_tx.proofs.NormalLemmas.{normal-bare}
-use Rattle.ve_repair.specs.Change.{CanApply, new_list, piece_of, taken, given, pieces}
+use Rattle.ve_repair.specs.Change.{CanApply, new_list, piece_of, items_taken, items_made, pieces}
 
 -- shapes
 shape-plain : (values others : List Value) (x : Item) → shape_of (plain values x) ≡ shape_of (plain others x)
@@ -115,7 +115,7 @@ if_at_once : (b : Bool) (r q : Result State LawFault) → AtOnce r → AtOnce q 
 if_at_once true r q p p' = p
 if_at_once false r q p p' = p'
 
-closed_at_once : (stack : List Kind) (seen : Bool) (k : Kind) → AtOnce (closed stack seen k)
+closed_at_once : (stack : List Kind) (seen : Bool) (k : Kind) → AtOnce (state_closed stack seen k)
 closed_at_once [] seen k = err_at_once (Unlawful 0) refl
 closed_at_once (inner ∷ outer) seen k = if_at_once (kind_same inner k) _ _ (ok_at_once _) (err_at_once (Unlawful 0) refl)
 
@@ -137,7 +137,7 @@ fails_within (x ∷ xs) s f h = go (step s x) refl h (fails_within xs)
     inner (Ok t) e = cc
     inner (Err g) e = let same : fault_moved 1 g ≡ f = cc in (g, refl, same)
 
-    go : (r : Result State LawFault) → step s x ≡ r → followed 1 r (λ next. law.after next xs) ≡ Err f → ((t : State) (g : LawFault) → law.after t xs ≡ Err g → fault_place g < length xs) →
+    go : (r : Result State LawFault) → step s x ≡ r → outcome_then 1 r (λ next. law.after next xs) ≡ Err f → ((t : State) (g : LawFault) → law.after t xs ≡ Err g → fault_place g < length xs) →
         fault_place f < length (x ∷ xs)
     go (Err g) e h rec = let same : g ≡ f = cc in let at = step_at_once s x g e in let here = ap fault_place same in omega (arith, at, here)
     go (Ok t) e h rec =
@@ -153,7 +153,7 @@ fails_inside items s f h =
     let long = length-map items (plain []) in
     omega (arith, within, long)
 
--- a range, as it is lent
+-- a range, as it is borrowed
 pub lent_piece : (items piece : List Item) (at count done n : ℕ) → done + n ≤ count → piece ≡ slice_range items (at + done) (at + done + n) →
     piece ≡ slice_range (take count (drop at items)) done (done + n)
 lent_piece items piece at count done n h lent =
@@ -176,12 +176,12 @@ pub record Walk (items : List Item) (ops : List Op) (k at new_at : ℕ) (state :
   pub room : new_at + total_size (drop k ops) ≤ 2 ^ 60
   pub small : length items ≤ 2 ^ 60
 
-old-cons : (o : Op) (ops : List Op) → old_size (o ∷ ops) ≡ taken o + old_size ops
+old-cons : (o : Op) (ops : List Op) → old_size (o ∷ ops) ≡ items_taken o + old_size ops
 old-cons (op.Retain count) ops = refl
 old-cons (op.Replace removed inserted) ops = refl
 old-cons (op.Attribute name from to) ops = omega arith
 
-new-cons : (o : Op) (ops : List Op) → given o + total_size ops ≤ total_size (o ∷ ops)
+new-cons : (o : Op) (ops : List Op) → items_made o + total_size ops ≤ total_size (o ∷ ops)
 new-cons (op.Retain count) ops = omega arith
 new-cons (op.Replace removed inserted) ops = omega arith
 new-cons (op.Attribute name from to) ops = omega arith
@@ -216,7 +216,7 @@ walk_start items ops old room =
     record { behind = refl; within = omega arith; before = refl; old = omega (arith, old); room = omega (arith, room); small = small }
 
 -- what an operation puts is as long as it says
-piece-length : (o : Op) (items : List Item) → taken o ≤ length items → length (piece_of o items) ≡ given o
+piece-length : (o : Op) (items : List Item) → items_taken o ≤ length items → length (piece_of o items) ≡ items_made o
 piece-length (op.Retain count) items h = length-take-le count items h
 piece-length (op.Replace removed inserted) items h = refl
 piece-length (op.Attribute name from to) items h = refl
@@ -224,9 +224,9 @@ piece-length (op.Attribute name from to) items h = refl
 -- an operation, and the parts of the new list round what it puts
 pub record Parts (items : List Item) (ops : List Op) (k at new_at : ℕ) (o : Op) : Type 0 where
   pub ops_are : drop k ops ≡ o ∷ drop (suc k) ops
-  pub fits : at + taken o ≤ length items
-  pub long : length (piece_of o (drop at items)) ≡ given o
-  pub list : pieces ops items ≡ take new_at (pieces ops items) ++ (piece_of o (drop at items) ++ pieces (drop (suc k) ops) (drop (at + taken o) items))
+  pub fits : at + items_taken o ≤ length items
+  pub long : length (piece_of o (drop at items)) ≡ items_made o
+  pub list : pieces ops items ≡ take new_at (pieces ops items) ++ (piece_of o (drop at items) ++ pieces (drop (suc k) ops) (drop (at + items_taken o) items))
 
 pub parts : (items : List Item) (ops : List Op) (k at new_at : ℕ) (state : State) (o : Op) → k < length ops → o ≡ get_or ops k o → Walk items ops k at new_at state → Parts items ops k at new_at o
 parts items ops k at new_at state o within is w = record {
@@ -236,24 +236,24 @@ parts items ops k at new_at state o within is w = record {
   list = sym (take-append-drop new_at (pieces ops items))
       ∙ ap (λ l. take new_at (pieces ops items) ++ l)
       (w.behind ∙ ap (λ l. pieces l (drop at items)) ops_are
-      ∙ ap (λ l. piece_of o (drop at items) ++ pieces (drop (suc k) ops) l) (drop-drop (taken o) at items));
+      ∙ ap (λ l. piece_of o (drop at items) ++ pieces (drop (suc k) ops) l) (drop-drop (items_taken o) at items));
 }
   where
     ops_are : drop k ops ≡ o ∷ drop (suc k) ops
     ops_are = drop-cons ops k o within ∙ ap (λ x. x ∷ drop (suc k) ops) (sym is)
 
-    fits : at + taken o ≤ length items
+    fits : at + items_taken o ≤ length items
     fits = let old = w.old in let cons = ap old_size ops_are ∙ old-cons o (drop (suc k) ops) in omega (arith, old, cons)
 
 pub walk_on : (items : List Item) (ops : List Op) (k at new_at : ℕ) (state next : State) (o : Op) → k < length ops → o ≡ get_or ops k o → Walk items ops k at new_at state →
-    after state (piece_of o (drop at items)) ≡ Ok next → Walk items ops (k + 1) (at + taken o) (new_at + given o) next
+    after state (piece_of o (drop at items)) ≡ Ok next → Walk items ops (k + 1) (at + items_taken o) (new_at + items_made o) next
 walk_on items ops k at new_at state next o within is w went =
-    subst (λ m. Walk items ops m (at + taken o) (new_at + given o) next) (let e : suc k ≡ k + 1 = omega arith in e) (record {
-      behind = sym (drop-drop (given o) new_at E) ∙ ap (drop (given o)) behind ∙ ap (λ n. drop n (P ++ R)) (sym p.long) ∙ drop-append_seam P R;
+    subst (λ m. Walk items ops m (at + items_taken o) (new_at + items_made o) next) (let e : suc k ≡ k + 1 = omega arith in e) (record {
+      behind = sym (drop-drop (items_made o) new_at E) ∙ ap (drop (items_made o)) behind ∙ ap (λ n. drop n (P ++ R)) (sym p.long) ∙ drop-append_seam P R;
       within = let all = ap length behind ∙ length-append P R in let d = length-drop new_at E in let l = p.long in omega (arith, all, d, l, w.within);
       before =
           ap (λ l. law.after start (plain_list [] l))
-          (take-add new_at (given o) E ∙ ap (λ l. take new_at E ++ l) (ap (take (given o)) behind ∙ ap (λ n. take n (P ++ R)) (sym p.long) ∙ take_seam P R))
+          (take-add new_at (items_made o) E ∙ ap (λ l. take new_at E ++ l) (ap (take (items_made o)) behind ∙ ap (λ n. take n (P ++ R)) (sym p.long) ∙ take_seam P R))
           ∙ ap (law.after start) (plain-append (take new_at E) P)
           ∙ after_whole (plain_list [] (take new_at E)) (plain_list [] P) start state next w.before went;
       old = let old = w.old in let cons = ap old_size p.ops_are ∙ old-cons o (drop (suc k) ops) in omega (arith, old, cons);
@@ -271,11 +271,11 @@ walk_on items ops k at new_at state next o within is w went =
     P = piece_of o (drop at items)
 
     R : List Item
-    R = pieces (drop (suc k) ops) (drop (at + taken o) items)
+    R = pieces (drop (suc k) ops) (drop (at + items_taken o) items)
 
     behind : drop new_at E ≡ P ++ R
     behind = w.behind ∙ ap (λ l. pieces l (drop at items)) p.ops_are
-        ∙ ap (λ l. P ++ pieces (drop (suc k) ops) l) (drop-drop (taken o) at items)
+        ∙ ap (λ l. P ++ pieces (drop (suc k) ops) l) (drop-drop (items_taken o) at items)
 
     take_seam : (xs ys : List Item) → take (length xs) (xs ++ ys) ≡ xs
     take_seam [] ys = refl
@@ -299,7 +299,7 @@ walk_stops items ops k at new_at state o fault within is w fails =
     P = piece_of o (drop at items)
 
     R : List Item
-    R = pieces (drop (suc k) ops) (drop (at + taken o) items)
+    R = pieces (drop (suc k) ops) (drop (at + items_taken o) items)
 
 pub walk_end : (items : List Item) (ops : List Op) (k at new_at : ℕ) (state : State) → length ops ≤ k → Walk items ops k at new_at state →
     uncited.verdict (pieces ops items) ≡ verdict_at new_at (Ok state)
@@ -338,7 +338,7 @@ retained_same items at count s t p q =
     let same : s ≡ cut.0 = Ok-same {E = LawFault} s cut.0 (sym p ∙ cut.1) in
     ap (λ u. law.after u (plain_list [] (take count (drop at items)))) same ∙ cut.2
 
--- two stacks alike place by place
+-- two stacks alike position by position
 pub same_stacks : (xs ys : List Kind) → length xs ≡ length ys → ((n : ℕ) → n < length xs → slice_get xs n ≡ slice_get ys n) → xs ≡ ys
 same_stacks [] [] l h = refl
 same_stacks [] (y ∷ ys) l h = absurd (omega (arith, l))

@@ -1,4 +1,4 @@
--- What is read is a change of the tree, whatever the values are.
+-- The reader's script is a change of the tree, whatever the values are.
 use Rattle.std.proofs.Common.{◌≡◌, ℕ, List, [], ◌∷◌, ◌++◌, map, sym, ap, ◌∙◌, subst, refl}
 use Rattle.model_items.specs.declared.item.Item.{Item}
 use Rattle.model_items.specs.Tree.{shape_of}

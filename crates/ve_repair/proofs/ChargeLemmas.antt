@@ -1,4 +1,4 @@
--- What the code writes for a script costs no more than the script.
+-- The code's writes for a script cost no more than the script.
 use Rattle.std.proofs.Common.{◌≡◌, ◌≤◌, ℕ, ◌+◌, Bool, true, false, if◌then◌else◌, Option, Some, List, [], ◌∷◌, ◌++◌, map, drop, refl, sym, ap, ◌∙◌, subst, arith, append_assoc, append-nil}
 use Rattle.ve_arena.specs.declared.node.NodeId.{NodeId}
 use Rattle.ve_tree.specs.Named.{Named, NoNode, NamedRun, NamedBranch, heads}
@@ -230,7 +230,8 @@ grown_open (Begin n ∷ ts) g = grown_open ts (grown_by (Begin n) g)
 grown_open (Letters n ∷ ts) g = grown_open ts (grown_by (Letters n) g)
 grown_open (End ∷ ts) g = grown_open ts (grown_by End g)
 
--- All writes of links for a script and for what is open at its end, with the nodes that are made and freed, cost no more than the script with all that stands left and right of it kept.
+-- All writes of links for a script and for what is open at its end, with the nodes that are made
+-- and freed. They cost no more than the script with all that stands left and right of it kept.
 pub links_cost : (lefts rights : List Token) (root : ℕ) (xs : List Step) (fs : List Named) (s : Stacks) → olds_of s ≡ open_behind lefts (root ∷ []) →
     news_of s ≡ open_behind lefts (root ∷ []) →
     right_tokens fs ≡ rights →

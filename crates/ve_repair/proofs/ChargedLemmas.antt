@@ -1,4 +1,5 @@
--- The nodes that a script lists are pieces that fit, and what the script costs is at most their weight.
+-- The nodes that a script lists are pieces that fit, and what the script costs is at most their
+-- weight.
 use Rattle.std.proofs.Common.{◌≡◌, ◌≢◌, ◌≤◌, ℕ, suc, ◌+◌, Bool, true, false, ◌||◌, ◌==◌, nat_eq, if◌then◌else◌, Option, Some, List, [], ◌∷◌, ◌++◌, map, drop, refl, sym, ap, ◌∙◌, subst, arith, append_assoc}
 use Rattle.std.specs.List.{list_any}
 use Rattle.std.proofs.Math.Dec.{eqb}

@@ -1,4 +1,4 @@
--- What comes, as a reader reads it.
+-- Nodes that come, as a reader reads them.
 use Rattle.std.proofs.Common.{◌≡◌, ◌≤◌, ◌<◌, ◌+◌, ℕ, Some, List, [], ◌∷◌, ◌++◌, length, get_or, take, option_map, refl, sym, ap, ◌∙◌, subst, arith, append-nil}
 use Rattle.std.proofs.lemmas.List.{length-append, take_more}
 use Rattle.ve_kinds.specs.declared.kind.Kind.{Kind}

@@ -10,7 +10,7 @@ use Rattle.ve_repair.specs.declared.script.Step.{Step}
 use Rattle.ve_repair.specs.declared.read.TextRun.{TextRun}
 use Rattle.ve_repair.specs.Work as W
 use Rattle.ve_repair.specs.Agree.{step_of, steps_of}
-use Rattle.ve_repair.specs.Script.{Reader, run_end, ended, script_for, first_reader}
+use Rattle.ve_repair.specs.Script.{ChangeReader, run_end, ended, script_for, first_reader}
 use Rattle.ve_repair.specs.Acts.{Act, Stay, Go, ComeLetter, ComeBegin, ComeEnd, marks}
 use Rattle.ve_repair.specs.Cursors.{Spot, one_past, past, items_in, IsAt}
 use Rattle.ve_repair.specs.Reader.{Reading, running_of, letters_in, end_of, end_steps, Keeps, IsMadeText, IsEndText, RunEnds}
@@ -114,7 +114,7 @@ read_on c old new r acts k more xs r1 h n = record {
 -- A bracket of the new list: a run ends at it.
 pub record Bracket (c : Course) (acts : List Act) (k more : ℕ) (x : Step) : Type 0 where
   pub part : part_of (step_of x) ≡ Ends
-  pub script : (supply : ℕ → ℕ) (later : List Act) (rd : Reader) →
+  pub script : (supply : ℕ → ℕ) (later : List Act) (rd : ChangeReader) →
       script_for supply (marks (acts ++ later) c.spot.rest) rd ≡ run_end supply rd.run rd.made (step_of x ∷ script_for supply (marks later (past k c.spot).rest) (ended rd))
   pub items : items_in (past k c.spot).rest ≤ c.bound + more
   pub count : old_count acts ≡ k

@@ -1,4 +1,4 @@
--- What the links tell at a place between two siblings.
+-- The links at a position between two siblings.
 use Rattle.std.proofs.Common.{◌≡◌, ℕ, true, false, Option, Some, None, List, [], ◌∷◌, ◌++◌, refl, sym, ap, ◌∙◌, subst, append_assoc, append-nil}
 use Rattle.ve_kinds.specs.declared.kind.Kind.{Kind}
 use Rattle.ve_kinds.specs.declared.kind.Kind.TheVariants.{Root}
@@ -25,7 +25,7 @@ use Rattle.ve_repair.specs.Cursor.{left_signs, right_signs}
 abbrev pub Slots : Type 0
 Slots = List (Option ArenaNode)
 
--- all that stands round a place of a tree
+-- all that stands round a position of a tree
 pub framed_at : {slots : Slots} {root : NodeId} {items : List PlainItem} (tree : IsTree slots root items) (rs : List Round) (x : Named) → tree.named ≡ within rs x → Framed slots root.0 rs x
 framed_at {slots = slots} {root = root} {items = items} tree rs x whole =
     framed_of slots root.0 rs x (subst (Shows slots) whole tree.shown)

@@ -1,4 +1,4 @@
--- A cursor in a tree: what comes next there, and the place behind it.
+-- A cursor in a tree: what comes next there, and the position behind it.
 use Rattle.std.proofs.Common.{◌≡◌, ◌≤◌, ◌<◌, ◌+◌, ◌-◌, ℕ, zero, suc, true, false, nat_eq, Option, Some, None, is_some, IsSome, List, [], ◌∷◌, ◌++◌, map, option_map, refl, sym, ap, ◌∙◌, subst, arith, tests, unwrap_or, append_assoc}
 use Rattle.ve_kinds.specs.declared.kind.Kind.{Kind}
 use Rattle.model_items.specs.Tree.{HasWholeRuns, begins_with_run, item_count}
@@ -261,7 +261,7 @@ pass_all slots at n node most spot few t =
     alike : (a : ℕ) → nat_eq a a ≡ true
     alike a = grind (arith, tests)
 
--- at some place, the links lead to nodes
+-- at some position, the links lead to nodes
 pub closing_live : (slots : Slots) (at : Cursor) (count : ℕ) → at.next ≡ None → 1 ≤ count → IsAtSome slots at count → IsLive slots at.parent
 closing_live slots at count none some h = by_row h.is_at.row h.is_at.rounds (none_next slots at.parent.0 at.next h.is_at.row none (first_row slots at.parent.0 at.next h.is_at.row h.is_at.rounds h.is_at.rows)) h.is_at.rows h.is_at.rest_is
   where

@@ -1,4 +1,5 @@
--- The nodes that a script frees: they are there, and none is named twice; and links lead to nodes once nodes were made.
+-- The nodes that a script frees: they are there, and none is named twice; and links lead to nodes
+-- once nodes were made.
 use Rattle.std.proofs.Common.{◌≡◌, ℕ, IsSome, List, [], ◌∷◌, map, All, sym, ◌∙◌, subst, arith}
 use Rattle.std.proofs.lemmas.List.Elements.{All-cons}
 use Rattle.ve_arena.specs.declared.node.NodeId.{NodeId}

@@ -1,4 +1,4 @@
--- What stands right of a script fits the levels that are open at its end.
+-- The tokens right of a script fit the levels that are open at its end.
 use Rattle.std.proofs.Common.{◌≡◌, ◌≢◌, ℕ, List, [], ◌∷◌, ◌++◌, drop, refl, sym, ap, ◌∙◌, subst, append_assoc, append-nil}
 use Rattle.ve_tree.specs.Links.{Apart, AllApart}
 use Rattle.ve_tree.specs.Named.{Named, NoNode, NamedRun, NamedBranch}
@@ -135,7 +135,8 @@ fit (f ∷ (g ∷ fs)) old new o n a =
       fit (g ∷ fs) (drop 1 old) (drop 1 new) o.1 n.1 (from_drop new (nums (right_tokens (g ∷ fs))) (from_rs new (nums (tokens f)) (nums (right_tokens (g ∷ fs))) all)),
     )
 
--- Where a script stands in both trees, the rows right of it fit the levels that are open at its end.
+-- Where a script stands in both trees, the rows right of it fit the levels that are open at its
+-- end.
 pub rows_fit : (root : ℕ) (lefts right : List Token) (ss : List Step) (old new : Named) (fs : List Named) → right_tokens fs ≡ right →
     tokens old ≡ lefts ++ old_side ss right → tokens new ≡ lefts ++ new_side ss right → AllApart (root ∷ nums (lefts ++ new_side ss right)) →
     Fit fs (after_script ss (work_at root lefts (old_side ss right))).old (after_script ss (work_at root lefts (old_side ss right))).new

@@ -80,7 +80,7 @@ passed_on how old now before steps x rest all is f =
       cost_is = let c = f.cost_is in let l = ap length list in omega (arith, c, l);
     }
 
--- at a place of the script
+-- at a position of the script
 at_step : (all : List Step) (k : ℕ) (x : Step) → k < length all → x ≡ get_or all k x → drop k all ≡ x ∷ drop (suc k) all
 at_step all k x within is = drop-cons all k x within ∙ ap (λ y. y ∷ drop (suc k) all) (sym is)
 

@@ -7,7 +7,7 @@ use Rattle.ve_tree.specs.Named.{Named}
 use Rattle.ve_repair.specs.Work.{Keep, Put, Step, Enter, Leave}
 use Rattle.ve_repair.specs.Tokens.{puts}
 use Rattle.ve_repair.specs.Spelled.{Sign, BeginOf, LettersOf, EndOf, AllFrom, sign_shapes}
-use Rattle.ve_repair.specs.Script.{Mark, KeptLetter, CutLetter, NewLetter, KeptBegin, CutBegin, NewBegin, KeptEnd, CutEnd, NewEnd, Running, NoRun, InRun, Reader, is_seen, one_more, run_end, ended, keep_step, kept_reader, cut_step, script_for, first_reader}
+use Rattle.ve_repair.specs.Script.{Mark, KeptLetter, CutLetter, NewLetter, KeptBegin, CutBegin, NewBegin, KeptEnd, CutEnd, NewEnd, Running, NoRun, InRun, ChangeReader, is_seen, one_more, run_end, ended, keep_step, kept_reader, cut_step, script_for, first_reader}
 use Rattle.ve_repair.specs.Acts.{Act, Stay, Go, ComeLetter, ComeBegin, ComeEnd, marks, Use, new_piece}
 use Rattle.ve_repair.specs.Changed.{IsChangeOf}
 use Rattle.ve_repair.specs.Sizes.{place_after}
@@ -124,7 +124,7 @@ count_cut known false t xs = refl
 count_cut true true t xs = refl
 count_cut false true t xs = refl
 
-same_count : (supply other f : ℕ → ℕ) (k : ℕ) (ms : List Mark) (r : Reader) →
+same_count : (supply other f : ℕ → ℕ) (k : ℕ) (ms : List Mark) (r : ChangeReader) →
     length (puts (script_for supply ms r)) ≡ length (puts (script_for other (remarked f k ms) r))
 same_count supply other f k [] r = count_end supply other r.run r.made [] [] refl
 same_count supply other f k (KeptLetter t ends ∷ ms) r =
@@ -199,7 +199,7 @@ distinct_end b k (InRun more None any) made xs h = record {
   apart = (text_before b k made (odd_from b made) (puts xs) refl h.later, h.apart);
 }
 
-distinct_all : (b k : ℕ) (ms : List Mark) (r : Reader) → Distinct b k r.made (puts (script_for (odd_from b) (remarked (even_from b) k ms) r))
+distinct_all : (b k : ℕ) (ms : List Mark) (r : ChangeReader) → Distinct b k r.made (puts (script_for (odd_from b) (remarked (even_from b) k ms) r))
 distinct_all b k [] r = distinct_end b k r.run r.made [] (record { later = tt; apart = tt })
 distinct_all b k (KeptLetter t ends ∷ ms) r =
     subst (Distinct b k r.made) (sym (count_keep (is_seen r.seen t) t (one_more r.run) (script_for (odd_from b) (remarked (even_from b) k ms) (kept_reader t r)))) (distinct_all b k ms (kept_reader t r))
@@ -239,7 +239,8 @@ none_above b k j (x ∷ xs) ns h l = (one l.0, none_above b k j xs ns h l.1)
     one (Opens i d e) = apart_above x ns (omega (arith, h, e))
     one (Writes i d e) = apart_above x ns (omega (arith, h, e))
 
--- A script with numbers of its own makes as many nodes, and their numbers are distinct and none of those given.
+-- A script with numbers of its own makes as many nodes, and their numbers are distinct and none of
+-- those given.
 pub record NewNumbers (numbers : List ℕ) (acts acts' : List Act) (ss : List Sign) (supply supply' : ℕ → ℕ) : Type 0 where
   pub distinct : AllApart (puts (script_for supply' (marks acts' ss) (first_reader 0)))
   pub made : AllFrom (puts (script_for supply' (marks acts' ss) (first_reader 0))) numbers

@@ -1,4 +1,5 @@
--- From a listed node of a tree to the nodes that it stands in, and back; the sibling before a place.
+-- From a listed node of a tree to the nodes that it stands in, and back; the sibling before a
+-- position.
 use Rattle.std.proofs.Common.{◌≡◌, ◌+◌, inl, inr, ℕ, suc, Option, Some, None, List, [], ◌∷◌, ◌++◌, Contains, option_map, refl, sym, ap, ◌∙◌, subst, arith}
 use Rattle.std.proofs.lemmas.List.Elements.{Contains-append_cases, Contains-append_left, Contains-append_right}
 use Rattle.ve_kinds.specs.declared.kind.Kind.{Kind}
@@ -85,7 +86,7 @@ pub round_listed : (root : ℕ) (r : Round) (rs : List Round) (x : Named) → Co
 round_listed root r rs x =
     listed_within root rs (beside r.before (NamedBranch r.number r.kind x r.after)) _ (listed_beside r.before (NamedBranch r.number r.kind x r.after) (parent_in root rs) (start_in rs) _ (contains-here _ _))
 
--- siblings from a place on
+-- siblings from a position on
 pub siblings_at : (slots : Slots) (root : ℕ) (rs : List Round) (done row : Named) (n : ℕ) (later : List ℕ) → Framed slots root rs (beside done row) → heads row ≡ n ∷ later →
     AreSiblings (links_of slots).parent (links_of slots).before (links_of slots).after (parent_in root rs) (last_or None (heads done)) (n ∷ later) None
 siblings_at slots root rs done row n later f e =

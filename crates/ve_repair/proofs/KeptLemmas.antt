@@ -1,4 +1,4 @@
--- What stays and what goes, as a reader reads it.
+-- Nodes that stay and nodes that go, as a reader reads them.
 use Rattle.std.proofs.Common.{◌≡◌, ◌≤◌, ◌<◌, ◌+◌, ℕ, zero, suc, Bool, true, false, nat_eq, Option, Some, None, List, [], ◌∷◌, ◌++◌, replicate, option_map, refl, sym, ap, ◌∙◌, subst, arith, tests}
 use Rattle.ve_kinds.specs.declared.kind.Kind.{Kind}
 use Rattle.ve_arena.specs.declared.node.NodeId.{NodeId}

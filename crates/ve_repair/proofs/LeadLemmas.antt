@@ -1,4 +1,5 @@
--- Links that lead to nodes still do after a node is taken from its parent's children, or put among another's.
+-- Links that lead to nodes still do after a node is taken from its parent's children, or put among
+-- another's.
 use Rattle.std.proofs.Common.{◌≡◌, ℕ, List, Option, Some, None, IsSome, IfSome, option_map, sym, subst}
 use Rattle.std.proofs.lemmas.Map.{update_here}
 use Rattle.ve_arena.specs.declared.node.NodeId.{NodeId}
@@ -6,7 +7,7 @@ use Rattle.ve_arena.specs.declared.node.ArenaNode.{ArenaNode}
 use Rattle.ve_arena.specs.Arena.{slot_at, IsLive}
 use Rattle.ve_tree.specs.Links.{Links, number_of, links_of}
 use Rattle.ve_tree.specs.Nodes.{LeadsToNode}
-use Rattle.ve_repair.specs.Relink.{set, set_right, set_left, right_of, unlinked, with_own, linked}
+use Rattle.ve_repair.specs.Relink.{link_set, set_right, set_left, right_of, unlinked, with_own, linked}
 use Rattle.ve_repair.specs.Labels.{SameLabels, AllLead, StayLive}
 use Rattle.ve_repair.proofs.RelinkLemmas.{by_case, set-elsewhere}
 use Rattle.ve_repair.proofs.ArenaLemmas.{labels-live}
@@ -22,9 +23,9 @@ record Lead (slots : Slots) (a : Links) : Type 0 where
   before : (q : ℕ) → LeadsToNode slots (a.before q)
   after : (q : ℕ) → LeadsToNode slots (a.after q)
 
-set-leads : (slots : Slots) (f : ℕ → Option ℕ) (n : ℕ) (to : Option ℕ) → ((q : ℕ) → LeadsToNode slots (f q)) → LeadsToNode slots to → (q : ℕ) → LeadsToNode slots (set f n to q)
+set-leads : (slots : Slots) (f : ℕ → Option ℕ) (n : ℕ) (to : Option ℕ) → ((q : ℕ) → LeadsToNode slots (f q)) → LeadsToNode slots to → (q : ℕ) → LeadsToNode slots (link_set f n to q)
 set-leads slots f n to all one q = by_case n q
-    (λ e. subst (λ q. LeadsToNode slots (set f n to q)) e (subst (LeadsToNode slots) (sym (update_here f n to)) one))
+    (λ e. subst (λ q. LeadsToNode slots (link_set f n to q)) e (subst (LeadsToNode slots) (sym (update_here f n to)) one))
     (λ h. subst (LeadsToNode slots) (sym (set-elsewhere f n to q h)) (all q))
 
 set_right-leads : (slots : Slots) (p : ℕ) (left to : Option ℕ) (a : Links) → Lead slots a → LeadsToNode slots to → Lead slots (set_right p left to a)

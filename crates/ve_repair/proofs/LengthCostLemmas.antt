@@ -1,4 +1,4 @@
--- What is written for lengths costs no more than the new tree's nodes.
+-- The writes of lengths cost no more than the new tree's nodes.
 use Rattle.std.proofs.Common.{◌≡◌, ◌≤◌, ℕ, suc, ◌+◌, ◌-◌, Option, List, [], ◌∷◌, ◌++◌, map, length, Some, refl, sym, ap, ◌∙◌, subst, arith}
 use Rattle.model_items.specs.Tree.{item_count}
 use Rattle.model_change.specs.Touch.{NodeName, TheRoot, Opened}
@@ -61,7 +61,8 @@ lengths-append : (slots : Slots) (ms ns : List Numbered) → lengths_cost slots 
 lengths-append slots [] ns = omega arith
 lengths-append slots (m ∷ ms) ns = let r = lengths-append slots ms ns in omega (arith, r)
 
--- the lengths of a forest, in the order of the nodes' ends, are those of its nodes in the order of their starts
+-- the lengths of a forest, in the order of the nodes' ends, are those of its nodes in the order of
+-- their starts
 forest_cost : (slots : Slots) (f : Named) (above : ℕ) (parent : NodeName) (at : ℕ) →
     sized_cost slots (forest_sizes f) ≡ lengths_cost slots (numbered_from above parent at f)
 forest_cost slots NoNode above parent at = refl

@@ -1,4 +1,5 @@
--- What is kept right of the range: only the nodes side by side at an open level are linked anew, and those only where the level's node is another one.
+-- The tokens kept right of the range: only the nodes side by side at an open level are linked anew,
+-- and those only where the level's node is another one.
 use Rattle.std.proofs.Common.{◌≡◌, ◌≢◌, ℕ, if◌then◌else◌, Option, Some, None, List, [], ◌∷◌, ◌++◌, drop, map, refl, sym, ap, ◌∙◌, subst}
 use Rattle.std.proofs.lemmas.Bool.{eq-eqb}
 use Rattle.ve_tree.specs.Links.{Links, last_or, Apart}

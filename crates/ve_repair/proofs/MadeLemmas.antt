@@ -11,7 +11,7 @@ use Rattle.ve_tree.specs.Grown.{AllVacant}
 use Rattle.ve_repair.specs.declared.script.How.TheVariants.{Put}
 use Rattle.ve_repair.specs.Work as W
 use Rattle.ve_repair.specs.Spelled.{Sign, BeginOf, LettersOf, EndOf}
-use Rattle.ve_repair.specs.Script.{Mark, KeptLetter, CutLetter, NewLetter, KeptBegin, CutBegin, NewBegin, KeptEnd, CutEnd, NewEnd, Running, NoRun, InRun, Reader, is_seen, one_more, run_end, ended, kept_run, keep_step, kept_reader, cut_step, script_for, run_sign, signs_for, first_reader}
+use Rattle.ve_repair.specs.Script.{Mark, KeptLetter, CutLetter, NewLetter, KeptBegin, CutBegin, NewBegin, KeptEnd, CutEnd, NewEnd, Running, NoRun, InRun, ChangeReader, is_seen, one_more, run_end, ended, kept_run, keep_step, kept_reader, cut_step, script_for, run_sign, signs_for, first_reader}
 use Rattle.ve_repair.specs.Sizes.{signs_of, HasSort, HaveSorts}
 use Rattle.ve_repair.specs.Acts.{Act, Stay, Go, ComeLetter, ComeBegin, ComeEnd, marks}
 use Rattle.ve_repair.specs.Frees.{nodes_of, freed_slot}
@@ -101,7 +101,7 @@ cut_texts slots known false t xs h = h
 cut_texts slots true true t xs h = h
 cut_texts slots false true t xs h = h
 
-signs_sorts : (slots : Slots) (supply : ℕ → ℕ) (ms : List Mark) (r : Reader) → MarksHaveSorts slots ms → RunHasSort slots r.run → TextsAreRuns slots (script_for supply ms r) → SignsHaveSorts slots (signs_for supply ms r)
+signs_sorts : (slots : Slots) (supply : ℕ → ℕ) (ms : List Mark) (r : ChangeReader) → MarksHaveSorts slots ms → RunHasSort slots r.run → TextsAreRuns slots (script_for supply ms r) → SignsHaveSorts slots (signs_for supply ms r)
 signs_sorts slots supply [] r m k t = ended_sorts slots supply r.run r.made [] [] k t (λ h. h)
 signs_sorts slots supply (KeptLetter s ends ∷ ms) r m k t =
     signs_sorts slots supply ms (kept_reader s r) m.1 (kept_sort slots (is_seen r.seen s) s (one_more r.run) m.0 (more_sort slots r.run k))

@@ -16,7 +16,7 @@ use Rattle.ve_repair.specs.Agree.{steps_of}
 use Rattle.ve_repair.specs.Charged.{made_count}
 use Rattle.ve_repair.specs.Partly.{unnumbered_act, makes_of, made_at_end, made_by}
 use Rattle.ve_repair.specs.Reader.{running_of}
-use Rattle.ve_repair.specs.Script.{Reader, Running, NoRun, InRun, is_seen, one_more, run_end, ended, kept_reader, keep_step, cut_step, script_for, first_reader}
+use Rattle.ve_repair.specs.Script.{ChangeReader, Running, NoRun, InRun, is_seen, one_more, run_end, ended, kept_reader, keep_step, cut_step, script_for, first_reader}
 use Rattle.ve_repair.specs.Spelled.{Sign, BeginOf, LettersOf, EndOf}
 use Rattle.ve_repair.specs.Tokens.{puts}
 
@@ -46,22 +46,22 @@ makes_cut true true t ss = refl
 makes_cut false true t ss = refl
 
 -- the same nodes are made for the same acts
-abbrev Same : (ℕ → ℕ) → List Act → List Sign → Reader → Type 0
+abbrev Same : (ℕ → ℕ) → List Act → List Sign → ChangeReader → Type 0
 Same supply acts ss r = makes (script_for supply (marks acts ss) r) ≡ makes (script_for (λ k. 0) (marks (map unnumbered_act acts) ss) r)
 
-at_bracket : (supply : ℕ → ℕ) (r : Reader) (xs ys : List W.Step) → makes xs ≡ makes ys → makes (run_end supply r.run r.made xs) ≡ makes (run_end (λ k. 0) r.run r.made ys)
+at_bracket : (supply : ℕ → ℕ) (r : ChangeReader) (xs ys : List W.Step) → makes xs ≡ makes ys → makes (run_end supply r.run r.made xs) ≡ makes (run_end (λ k. 0) r.run r.made ys)
 at_bracket supply r xs ys e =
     let a = makes_run supply r.run r.made xs in
     let b = makes_run (λ k. 0) r.run r.made ys in
     omega (arith, a, b, e)
 
-at_letter : (r : Reader) (t : ℕ) (xs ys : List W.Step) → makes xs ≡ makes ys → makes (keep_step (is_seen r.seen t) t (one_more r.run) xs) ≡ makes (keep_step (is_seen r.seen t) t (one_more r.run) ys)
+at_letter : (r : ChangeReader) (t : ℕ) (xs ys : List W.Step) → makes xs ≡ makes ys → makes (keep_step (is_seen r.seen t) t (one_more r.run) xs) ≡ makes (keep_step (is_seen r.seen t) t (one_more r.run) ys)
 at_letter r t xs ys e = makes_keep (is_seen r.seen t) t (one_more r.run) xs ∙ e ∙ sym (makes_keep (is_seen r.seen t) t (one_more r.run) ys)
 
-at_cut : (r : Reader) (ends : Bool) (t : ℕ) (xs ys : List W.Step) → makes xs ≡ makes ys → makes (cut_step (is_seen r.seen t) ends t xs) ≡ makes (cut_step (is_seen r.seen t) ends t ys)
+at_cut : (r : ChangeReader) (ends : Bool) (t : ℕ) (xs ys : List W.Step) → makes xs ≡ makes ys → makes (cut_step (is_seen r.seen t) ends t xs) ≡ makes (cut_step (is_seen r.seen t) ends t ys)
 at_cut r ends t xs ys e = makes_cut (is_seen r.seen t) ends t xs ∙ e ∙ sym (makes_cut (is_seen r.seen t) ends t ys)
 
-pub same_makes : (supply : ℕ → ℕ) (acts : List Act) (ss : List Sign) (r : Reader) → Same supply acts ss r
+pub same_makes : (supply : ℕ → ℕ) (acts : List Act) (ss : List Sign) (r : ChangeReader) → Same supply acts ss r
 same_makes supply [] ss r = at_bracket supply r [] [] refl
 same_makes supply (ComeLetter ∷ acts) ss r = same_makes supply acts ss (record r { run = one_more r.run })
 same_makes supply (ComeBegin n kind ∷ acts) ss r = at_bracket supply r _ _ (let e = same_makes supply acts ss (ended r) in omega (arith, e))

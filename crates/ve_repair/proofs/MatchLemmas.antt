@@ -13,7 +13,7 @@ use Rattle.ve_repair.proofs.PlaceLemmas.{by_order, place_back, place_forth, in_r
 use Rattle.ve_repair.proofs.StandLemmas.{number_in, one_at, one_numbered, not_listed, are_once, opening_number}
 use Rattle.ve_repair.proofs.TracedLemmas.{OneOne}
 
--- a retained item has one old place
+-- a retained item has one old position
 pub one_one : (t : Transaction) → OneOne (new_place t)
 one_one t p x q e e' = same_Some p x (sym (place_back t [] p q e) ∙ place_back t [] x q e')
 
@@ -120,7 +120,8 @@ opening_apart old n at m i a e = not_listed old 0 (BeginOf n i.kind) at m i.stan
 text_apart : (old : List Sign) (n at count m : ℕ) → IsText old n at count → Apart m (nums (map token_of old)) → n ≢ m
 text_apart old n at count m i a e = not_listed old 0 (LettersOf n count) at m i (ap (λ (k : ℕ). Some k) e) a
 
--- Where the new list's nodes are traced to the old one's, an old and a new node match exactly where their numbers are equal.
+-- Where the new list's nodes are traced to the old one's, an old and a new node match exactly where
+-- their numbers are equal.
 module _ (t : Transaction) (old new : List Sign) (root : ℕ) (apart : AllApart (root ∷ nums (map token_of old))) (traced : AllTraced (new_place t) old (root ∷ nums (map token_of old)) new 0) where
   opening_of : (n at : ℕ) → IsOpening new n at → KeptOpening (new_place t) old n at ⊎ NewOpening (new_place t) (root ∷ nums (map token_of old)) n at
   opening_of n at i = opening_traced (new_place t) old (root ∷ nums (map token_of old)) new 0 n at (BeginOf n i.kind) traced i.stands refl

@@ -79,7 +79,7 @@ module _ (old new : Slots) (root : NodeId) (tx : List Operation) (items : List I
           × ((q : ℕ) → r.to < start → q + r.to ≡ start + (r.from + r.len) → IsAt new root n q)
       stand = nodes_stand old new root tx items can.values r.from r.to r.len can.applies was (is can.values) keeps outside n start at
 
--- numbers of places behind it fit
+-- numbers of positions behind it fit
 pub to_fits : (tx : List Operation) (items : List Item) (r : ChangedRange) → CanApply tx items → IsNormal tx → IsChangedRange (map bare tx) r → r.to + 1 < 2 ^ 64
 to_fits tx items r can normal range =
     let outside = spares (map bare tx) r range tx items can.values refl can.applies in

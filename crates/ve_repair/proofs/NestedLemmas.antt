@@ -1,4 +1,5 @@
--- Signs in which every closing has its opening: what is open between two parts, and how far to the right it ends.
+-- Signs in which every closing has its opening: what is open between two parts, and how far to the
+-- right it ends.
 use Rattle.std.proofs.Common.{◌≡◌, ℕ, zero, suc, ◌+◌, ◌≤◌, List, [], ◌∷◌, ◌++◌, length, map, refl, sym, subst, append_assoc, append-nil, arith}
 use Rattle.ve_tree.specs.Named.{Named, NoNode, NamedRun, NamedBranch}
 use Rattle.ve_repair.specs.Spelled.{Sign, BeginOf, LettersOf, EndOf, token_of}
@@ -8,7 +9,7 @@ use Rattle.ve_repair.specs.SizesRight.{inner_sizes, ends}
 use Rattle.ve_repair.proofs.WalkedLemmas.{AllBegunBy}
 use Rattle.ve_repair.proofs.CountLemmas.{times}
 
--- so many more close than begin, and none too many at any place
+-- so many more close than begin, and none too many at any position
 abbrev pub Nested : ℕ → List Sign → Type 0
 Nested d [] = d ≡ 0
 Nested d (BeginOf n kind ∷ ss) = Nested (suc d) ss
@@ -55,7 +56,7 @@ ends-begun (EndOf kind ∷ ss) (b ∷ begun) at d h =
 pub ends-length : (ss : List Sign) (d : ℕ) → Nested d ss → length (ends ss [] 0) ≡ d
 ends-length ss d h = ends-begun ss [] 0 d (subst (λ m. Nested m ss) (let e : d ≡ 0 + d = omega arith in e) h)
 
--- places
+-- positions
 begun_more : (bs : List Begun) (a b : ℕ) → a ≤ b → AllBegunBy bs a → AllBegunBy bs b
 begun_more [] a b le h = tt
 begun_more (x ∷ bs) a b le h = (omega (arith, le, h.0), begun_more bs a b le h.1)

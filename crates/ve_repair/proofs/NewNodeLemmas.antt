@@ -15,7 +15,7 @@ use Rattle.ve_repair.specs.Tokens.{puts}
 use Rattle.ve_repair.specs.Agree.{steps_of}
 use Rattle.ve_repair.specs.Frees.{nodes_of}
 use Rattle.ve_repair.specs.Spelled.{Sign, BeginOf, LettersOf, EndOf}
-use Rattle.ve_repair.specs.Script.{Mark, KeptLetter, CutLetter, NewLetter, KeptBegin, CutBegin, NewBegin, KeptEnd, CutEnd, NewEnd, Running, NoRun, InRun, Reader, is_seen, one_more, run_end, ended, keep_step, kept_reader, cut_step, script_for, first_reader}
+use Rattle.ve_repair.specs.Script.{Mark, KeptLetter, CutLetter, NewLetter, KeptBegin, CutBegin, NewBegin, KeptEnd, CutEnd, NewEnd, Running, NoRun, InRun, ChangeReader, is_seen, one_more, run_end, ended, keep_step, kept_reader, cut_step, script_for, first_reader}
 use Rattle.ve_repair.specs.Acts.{Act, Stay, Go, ComeLetter, ComeBegin, ComeEnd, marks}
 use Rattle.ve_repair.specs.Courses.{AreBegun, AreTexts}
 use Rattle.ve_repair.specs.Made.{ComeWithSorts, TextsAreRuns}
@@ -77,7 +77,7 @@ cut_new slots known false s xs t h = h t
 cut_new slots true true s xs t h = h t
 cut_new slots false true s xs t h = h t.1
 
-puts_new : (slots : Slots) (supply : ℕ → ℕ) (ms : List Mark) (r : Reader) → MarksBegun slots ms → AreTexts slots (script_for supply ms r) → AreNew slots (puts (script_for supply ms r))
+puts_new : (slots : Slots) (supply : ℕ → ℕ) (ms : List Mark) (r : ChangeReader) → MarksBegun slots ms → AreTexts slots (script_for supply ms r) → AreNew slots (puts (script_for supply ms r))
 puts_new slots supply [] r m t = run_new slots supply r.run r.made [] t (λ _. tt)
 puts_new slots supply (KeptLetter s ends ∷ ms) r m t =
     keep_new slots (is_seen r.seen s) s (one_more r.run) (script_for supply ms (kept_reader s r)) t (puts_new slots supply ms (kept_reader s r) m)

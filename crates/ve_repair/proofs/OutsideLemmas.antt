@@ -53,7 +53,7 @@ beside_after t from to len count (suc at) zero s h k e = absurd (omega (arith, h
 beside_after t from to len count (suc at) (suc q) s h k e =
     (s.after at q (omega (arith, h)) (omega (arith, k)) (omega (arith, e)), s.after (suc at) (suc q) (omega (arith, h)) k (omega (arith, e)))
 
--- what begins at a place, by the item there and the one before
+-- what begins at a position, by the item there and the one before
 begun_first : (ss : List Shape) (s : Shape) (before : Option Shape) → slice_get ss 0 ≡ Some s → begun_at before ss 0 ≡ begun before s
 begun_first [] s before e = absurd (none-some s e)
 begun_first (x ∷ ss) s before e = ap (begun before) (same_Some x s e)
@@ -101,7 +101,7 @@ same_begun t items (suc at) (suc to) b within =
     begun_next (map shape_of (edited t items)) h.shape k.shape None to h.is k.is
     ∙ sym (begun_next (map shape_of items) h.shape k.shape None at h.was k.was)
 
--- a retained place that both nodes begin with is the first retained of both
+-- a retained position that both nodes begin with is the first retained of both
 first_here : (t : Transaction) (at count to : ℕ) → 0 < count → new_place t at ≡ Some to → first_retained t at count ≡ Some to
 first_here t at zero to some e = absurd (omega (arith, some))
 first_here t at (suc count) to some e = ap (λ o. or_next o (first_retained t (suc at) count)) e

@@ -1,4 +1,5 @@
--- The signs of a tree: they spell its list, its texts are as long as can be, and no number is twice among them.
+-- The signs of a tree: they spell its list, its texts are as long as can be, and no number is twice
+-- among them.
 use Rattle.std.proofs.Common.{false, ◌≡◌, ℕ, zero, suc, Option, List, [], ◌∷◌, ◌++◌, map, replicate, refl, sym, ap, ◌∙◌, subst, arith, append-nil, append_assoc}
 use Rattle.std.proofs.lemmas.Bool.{true≢false}
 use Rattle.model_items.specs.declared.plain_item.PlainItem.{PlainItem}

@@ -1,4 +1,4 @@
--- Places through a transaction, and when two texts match.
+-- Positions through a transaction, and when two texts match.
 use Rattle.std.proofs.Common.{◌≡◌, ℕ, zero, suc, ◌+◌, ◌-◌, ◌<◌, ◌≤◌, Bool, true, false, nat_lt, nat_le, ◌&&◌, if◌then◌else◌, Option, Some, None, option_map, List, [], ◌∷◌, ◌++◌, length, refl, sym, ap, ◌∙◌, subst, ◌⊎◌, inl, inr, arith}
 use Rattle.std.proofs.lemmas.Bool.{ltb-true, lt-ltb, leb-true, and_parts, true≢false}
 use Rattle.std.proofs.lemmas.Option.{same_Some, none-some}
@@ -7,7 +7,7 @@ use Rattle.model_change.specs.Inverse.{attribute_ops, inverse_after, inverse}
 use Rattle.model_change.specs.Attributes.{AttrChange, change_back}
 use Rattle.model_change.specs.Touch.{new_place, or_next, first_retained, lies_in}
 
--- a place in a block of m items that stays in front of (or is) what follows
+-- a position in a block of m items that stays in front of (or is) what follows
 abbrev pub moved_by : ℕ → Option ℕ → Option ℕ
 moved_by n o = option_map (λ p. n + p) o
 
@@ -34,7 +34,7 @@ if_ge p c x y h = go (nat_lt p c) refl
     go true e = let l = ltb-true p c e in absurd (omega (arith, h, l))
     go false e = refl
 
--- a retained place is kept, or lies beyond
+-- a retained position is kept, or lies beyond
 cases_retain : (c p q : ℕ) (ops : Transaction) → new_place (Retain c ∷ ops) p ≡ Some q → ((p < c) × (q ≡ p)) ⊎ Split c c p q ops
 cases_retain c p q ops e = go (nat_lt p c) refl
   where
@@ -69,7 +69,7 @@ only_attributes : (changes : List AttrChange) (p : ℕ) → new_place (attribute
 only_attributes [] p = refl
 only_attributes (c ∷ changes) p = only_attributes changes p
 
--- a retained item's new place is, for the inverse, retained to the old one
+-- a retained item's new position is, for the inverse, retained to the old one
 pub place_back : (t : Transaction) (changes : List AttrChange) (p q : ℕ) → new_place t p ≡ Some q → new_place (inverse_after changes t) q ≡ Some p
 place_back [] changes p q e = absurd (none-some q e)
 place_back (Attribute change ∷ ops) changes p q e = place_back ops (change_back change ∷ changes) p q e
@@ -139,7 +139,7 @@ in_order (Replace removed inserted ∷ ops) p p' q q' e e' l =
     go (beyond p1 q1 hp hq e1) (beyond p1' q1' hp' hq' e1') rec =
         let r = rec p1 p1' q1 q1' e1 e1' (omega (arith, hp, hp', l)) in omega (arith, r, hq, hq')
 
--- the first retained place of a range
+-- the first retained position of a range
 pub record IsFirst (t : Transaction) (from count p q : ℕ) : Type 0 where
   pub after_start : from ≤ p
   pub before_end : p < from + count

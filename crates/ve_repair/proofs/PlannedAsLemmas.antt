@@ -1,4 +1,5 @@
--- The rows that are found right of a script are what stands there, and the code's stacks and places are those of the piece.
+-- The rows that are found right of a script are what stands there, and the code's stacks and
+-- positions are those of the piece.
 use Rattle.std.proofs.Common.{◌≡◌, ℕ, Option, Some, None, List, [], ◌∷◌, ◌++◌, map, option_map, refl, sym, ap, ◌∙◌, subst}
 use Rattle.std.proofs.lemmas.List.{map-append}
 use Rattle.ve_base.specs.declared.value.Value.{Value}

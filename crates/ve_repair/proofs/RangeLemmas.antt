@@ -14,7 +14,7 @@ use Rattle.ve_tx.specs.Operation.{Operation, Retain, Replace, Attribute, by_valu
 use Rattle.ve_tx.specs.Normal.{total_size}
 use Rattle.ve_tx.specs.Checked.{old_size}
 use Rattle.ve_repair.specs.declared.range.ChangedRange.{ChangedRange}
-use Rattle.ve_repair.specs.Change.{taken, given}
+use Rattle.ve_repair.specs.Change.{items_taken, items_made}
 use Rattle.ve_repair.specs.Outside.{Spares}
 use Rattle.ve_repair.specs.Range.{is_replace, KeepItems, all_taken, all_given, begins_with_replace, ends_with_replace, IsChangedRange, SparesOutside, FindsRange, HasSeen, BeginsBefore}
 use Rattle.ve_repair.proofs.BeginningLemmas.{part}
@@ -30,12 +30,12 @@ pub given-append : (xs ys : List Op) → all_given (xs ++ ys) ≡ all_given xs +
 given-append [] ys = omega arith
 given-append (x ∷ xs) ys = let r = given-append xs ys in omega (arith, r)
 
-taken_more : (ops : List Op) (k : ℕ) (d : Op) → k < length ops → all_taken (take k ops) + taken (get_or ops k d) ≤ all_taken ops
+taken_more : (ops : List Op) (k : ℕ) (d : Op) → k < length ops → all_taken (take k ops) + items_taken (get_or ops k d) ≤ all_taken ops
 taken_more [] k d h = absurd (omega (arith, h))
 taken_more (o ∷ ops) zero d h = omega arith
 taken_more (o ∷ ops) (suc k) d h = let r = taken_more ops k d (omega (arith, h)) in omega (arith, r)
 
-given_more : (ops : List Op) (k : ℕ) (d : Op) → k < length ops → all_given (take k ops) + given (get_or ops k d) ≤ all_given ops
+given_more : (ops : List Op) (k : ℕ) (d : Op) → k < length ops → all_given (take k ops) + items_made (get_or ops k d) ≤ all_given ops
 given_more [] k d h = absurd (omega (arith, h))
 given_more (o ∷ ops) zero d h = omega arith
 given_more (o ∷ ops) (suc k) d h = let r = given_more ops k d (omega (arith, h)) in omega (arith, r)
@@ -81,19 +81,19 @@ given_in_total (op.Attribute name from to ∷ ops) = let r = given_in_total ops 
 
 -- one more operation still counts within the limit
 pub taken_fits : (ops : List Op) (k at : ℕ) (o : Op) → total_size ops ≤ 2 ^ 60 → k < length ops → o ≡ get_or ops k o → at ≡ all_taken (take k ops) →
-    at + taken o < 2 ^ 64
+    at + items_taken o < 2 ^ 64
 taken_fits ops k at o fits within is e =
     let more = taken_more ops k o within in
     let all = taken_in_total ops in
-    let same : taken o ≡ taken (get_or ops k o) = ap taken is in
+    let same : items_taken o ≡ items_taken (get_or ops k o) = ap items_taken is in
     omega (arith, more, all, same, fits, e)
 
 pub given_fits : (ops : List Op) (k at : ℕ) (o : Op) → total_size ops ≤ 2 ^ 60 → k < length ops → o ≡ get_or ops k o → at ≡ all_given (take k ops) →
-    at + given o < 2 ^ 64
+    at + items_made o < 2 ^ 64
 given_fits ops k at o fits within is e =
     let more = given_more ops k o within in
     let all = given_in_total ops in
-    let same : given o ≡ given (get_or ops k o) = ap given is in
+    let same : items_made o ≡ items_made (get_or ops k o) = ap items_made is in
     omega (arith, more, all, same, fits, e)
 
 pub begins_before : (ops : List Op) (found : Option ChangedRange) (k at new_at : ℕ) → HasSeen ops found k at new_at → BeginsBefore found at new_at
@@ -134,7 +134,7 @@ empty_range k at = record { first = k; last = k; from = at; to = at; len = 0 }
 
 -- and a replace is the last of it
 abbrev pub range_with : ChangedRange → ℕ → ℕ → ℕ → Op → ChangedRange
-range_with start k at new_at o = record { first = start.first; last = k + 1; from = start.from; to = at + taken o; len = (new_at + given o) - start.from }
+range_with start k at new_at o = record { first = start.first; last = k + 1; from = start.from; to = at + items_taken o; len = (new_at + items_made o) - start.from }
 
 pub grown_range : (ops : List Op) (found : Option ChangedRange) (k at new_at : ℕ) (o : Op) → HasSeen ops found k at new_at → is_replace o ≡ true →
     IsChangedRange (ops ++ (o ∷ [])) (range_with (unwrap_or found (empty_range k at)) k at new_at o)
@@ -184,7 +184,7 @@ grown_range ops (Some r) k at new_at o s e =
           omega (arith, all, one, sums, f.from_is, s.new_at_is);
     }
 
--- places behind operations, by those of what follows
+-- positions behind operations, by those of what follows
 module _ (values : List Value) where
   past : (tx more : List Operation) (r q : ℕ) → new_place (by_value values more) r ≡ Some q →
       new_place (by_value values (tx ++ more)) (all_taken (map bare tx) + r) ≡ Some (all_given (map bare tx) + q)
@@ -287,17 +287,17 @@ spares_found ops None f = tt
 spares_found ops (Some r) f = spares ops r f
 
 -- by what the calls returned
-pub put_in : (ops : List Op) (start start' : ChangedRange) (k at new_at m n : ℕ) (o : Op) → start ≡ start' → m ≡ taken o → n ≡ given o →
+pub put_in : (ops : List Op) (start start' : ChangedRange) (k at new_at m n : ℕ) (o : Op) → start ≡ start' → m ≡ items_taken o → n ≡ items_made o →
     IsChangedRange ops (range_with start' k at new_at o) →
     IsChangedRange ops (record { first = start.first; last = k + 1; from = start.from; to = at + m; len = (new_at + n) - start.from })
 put_in ops start start' k at new_at m n o e em en is =
     subst (λ s. IsChangedRange ops (record { first = s.first; last = k + 1; from = s.from; to = at + m; len = (new_at + n) - s.from })) (sym e)
     (subst (λ m. IsChangedRange ops (record { first = start'.first; last = k + 1; from = start'.from; to = at + m; len = (new_at + n) - start'.from })) (sym em)
-    (subst (λ n. IsChangedRange ops (record { first = start'.first; last = k + 1; from = start'.from; to = at + taken o; len = (new_at + n) - start'.from })) (sym en) is))
+    (subst (λ n. IsChangedRange ops (record { first = start'.first; last = k + 1; from = start'.from; to = at + items_taken o; len = (new_at + n) - start'.from })) (sym en) is))
 
 -- a loop over operations
-pub seen_more : (ops : List Op) (found next : Option ChangedRange) (k at new_at m n : ℕ) (o : Op) → k < length ops → o ≡ get_or ops k o → m ≡ taken o →
-    n ≡ given o →
+pub seen_more : (ops : List Op) (found next : Option ChangedRange) (k at new_at m n : ℕ) (o : Op) → k < length ops → o ≡ get_or ops k o → m ≡ items_taken o →
+    n ≡ items_made o →
     HasSeen (take k ops) found k at new_at → FindsRange (take k ops ++ (o ∷ [])) next → HasSeen (take (k + 1) ops) next (k + 1) (at + m) (new_at + n)
 seen_more ops found next k at new_at m n o within is em en s finds =
     subst (λ l. HasSeen l next (k + 1) (at + m) (new_at + n)) (sym more) (record {

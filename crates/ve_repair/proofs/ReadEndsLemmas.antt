@@ -29,7 +29,7 @@ row_items : (f : Named) (rs : List Round) → item_count (unnumbered f) ≤ item
 row_items f [] = let e = items_signs f [] in let s = ap items_in (append-nil (signs_of f)) in omega (arith, e, s)
 row_items f (r ∷ rs) = let e = items_signs f (EndOf r.kind ∷ left_signs r.later rs) in omega (arith, e)
 
--- What is right of a cursor before a bracket, level by level.
+-- The tokens right of a cursor before a bracket, level by level.
 rows_left : (slots : Slots) (most : ℕ) (p : NodeId) (next : Option NodeId) (f : Named) (rs : List Round) (os : List NodeId) → AreRows slots p.0 next f rs → items_in (left_signs f rs) ≤ most →
     map number_of os ≡ map outer_of rs → ((q : ℕ) → last_of p.0 (map outer_of rs) ≡ q → IsSome (slot_at slots q)) → AreLeft slots most (p ∷ os) next (f ∷ map (λ r. r.later) rs)
 rows_left slots most p next f [] [] h few same root = (row_from slots p.0 next f h, (let e = row_items f [] in omega (arith, e, few)), root p.0 refl, λ node here. tt)

@@ -1,4 +1,4 @@
--- What the reader's steps make of its state.
+-- The reader's state after its steps.
 use Rattle.std.proofs.Common.{◌≡◌, None, [], ◌++◌, refl, sym, ap, ◌∙◌, subst, append-nil}
 use Rattle.ve_tree.specs.Grown.{id_of}
 use Rattle.ve_tree.proofs.WalkLemmas.{Slots}

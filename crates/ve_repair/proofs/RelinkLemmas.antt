@@ -3,27 +3,27 @@ use Rattle.std.proofs.Common.{◌≡◌, ◌≢◌, ℕ, Bool, true, false, Opti
 use Rattle.std.proofs.lemmas.Bool.{eqb-true, eqb-false}
 use Rattle.std.proofs.lemmas.Map.{update_here, update_apart}
 use Rattle.ve_tree.specs.Links.{Links, first_or, last_of, last_or, AreSiblings, Apart, AllApart, Children}
-use Rattle.ve_repair.specs.Relink.{set, LeftPart, RightPart, set_right, set_left, right_of, unlinked, with_own, linked}
+use Rattle.ve_repair.specs.Relink.{link_set, LeftPart, RightPart, set_right, set_left, right_of, unlinked, with_own, linked}
 use Rattle.ve_tree.specs.Fits.{Fits}
 
 -- a write to one field at x doesn't change the others
-pub set-elsewhere : (f : ℕ → Option ℕ) (x : ℕ) (to : Option ℕ) (m : ℕ) → x ≢ m → set f x to m ≡ f m
+pub set-elsewhere : (f : ℕ → Option ℕ) (x : ℕ) (to : Option ℕ) (m : ℕ) → x ≢ m → link_set f x to m ≡ f m
 set-elsewhere f x to m h = update_apart f x to m (λ e. h (sym e))
 
 pub row-parent : (x : ℕ) (to : Option ℕ) (q b a : ℕ → Option ℕ) (p : ℕ) (start : Option ℕ) (ns : List ℕ) (end : Option ℕ) →
-    Apart x ns → AreSiblings q b a p start ns end → AreSiblings (set q x to) b a p start ns end
+    Apart x ns → AreSiblings q b a p start ns end → AreSiblings (link_set q x to) b a p start ns end
 row-parent x to q b a p start [] end h r = tt
 row-parent x to q b a p start (n ∷ ns) end h r =
     (set-elsewhere q x to n h.0 ∙ r.0, r.1, r.2, row-parent x to q b a p (Some n) ns end h.1 r.3)
 
 pub row-before : (x : ℕ) (to : Option ℕ) (q b a : ℕ → Option ℕ) (p : ℕ) (start : Option ℕ) (ns : List ℕ) (end : Option ℕ) →
-    Apart x ns → AreSiblings q b a p start ns end → AreSiblings q (set b x to) a p start ns end
+    Apart x ns → AreSiblings q b a p start ns end → AreSiblings q (link_set b x to) a p start ns end
 row-before x to q b a p start [] end h r = tt
 row-before x to q b a p start (n ∷ ns) end h r =
     (r.0, set-elsewhere b x to n h.0 ∙ r.1, r.2, row-before x to q b a p (Some n) ns end h.1 r.3)
 
 pub row-after : (x : ℕ) (to : Option ℕ) (q b a : ℕ → Option ℕ) (p : ℕ) (start : Option ℕ) (ns : List ℕ) (end : Option ℕ) →
-    Apart x ns → AreSiblings q b a p start ns end → AreSiblings q b (set a x to) p start ns end
+    Apart x ns → AreSiblings q b a p start ns end → AreSiblings q b (link_set a x to) p start ns end
 row-after x to q b a p start [] end h r = tt
 row-after x to q b a p start (n ∷ ns) end h r =
     (r.0, r.1, set-elsewhere a x to n h.0 ∙ r.2, row-after x to q b a p (Some n) ns end h.1 r.3)
@@ -96,7 +96,8 @@ pub all-rs : (ls rs : List ℕ) → AllApart (ls ++ rs) → AllApart rs
 all-rs [] rs h = h
 all-rs (n ∷ ls) rs h = all-rs ls rs h.1
 
--- the last of the left ones is none of the right ones, and the first of the right ones none of the left ones
+-- the last of the left ones is none of the right ones, and the first of the right ones none of the
+-- left ones
 last-apart : (n : ℕ) (ls rs : List ℕ) → AllApart (n ∷ (ls ++ rs)) → Apart (last_of n ls) rs
 last-apart n [] rs h = h.0
 last-apart n (m ∷ ls) rs h = last-apart m ls rs h.1
@@ -120,7 +121,7 @@ apart-last n m (k ∷ ms) h = apart-last n k ms h.1
 
 -- the two sides of a gap under the two writes
 row-retarget : (to : Option ℕ) (q b a : ℕ → Option ℕ) (p : ℕ) (start : Option ℕ) (n : ℕ) (ls : List ℕ) (end : Option ℕ) →
-    AllApart (n ∷ ls) → AreSiblings q b a p start (n ∷ ls) end → AreSiblings q b (set a (last_of n ls) to) p start (n ∷ ls) to
+    AllApart (n ∷ ls) → AreSiblings q b a p start (n ∷ ls) end → AreSiblings q b (link_set a (last_of n ls) to) p start (n ∷ ls) to
 row-retarget to q b a p start n [] end h r = (r.0, r.1, update_here a n to, tt)
 row-retarget to q b a p start n (m ∷ ls) end h r =
     (r.0, r.1, set-elsewhere a (last_of m ls) to n (apart-last n m ls h.0) ∙ r.2, row-retarget to q b a p (Some n) m ls end h.1 r.3)
@@ -268,8 +269,8 @@ children-with_own : (a : Links) (p n : ℕ) (left right : Option ℕ) (q : ℕ) 
 children-with_own a p n left right q qs h c = record {
   first = c.first;
   last = c.last;
-  row = row-after n right (set a.parent n (Some p)) (set a.before n left) a.after q None qs None h
-      (row-before n left (set a.parent n (Some p)) a.before a.after q None qs None h
+  row = row-after n right (link_set a.parent n (Some p)) (link_set a.before n left) a.after q None qs None h
+      (row-before n left (link_set a.parent n (Some p)) a.before a.after q None qs None h
       (row-parent n (Some p) a.parent a.before a.after q None qs None h c.row));
 }
 

@@ -1,4 +1,4 @@
--- What the nodes are once a script's writes are made, and how many steps that took.
+-- The nodes once a script's writes are made, and how many steps that took.
 use Rattle.std.proofs.Common.{◌≡◌, ◌≤◌, ◌+◌, ◌*◌, ℕ, Option, Some, None, IsSome, option_map, List, [], ◌∷◌, length, map, All, refl, sym, ap, ◌∙◌, subst, arith, append-nil}
 use Rattle.model_items.specs.declared.item.Item.{Item}
 use Rattle.model_items.specs.Plain.{plain_list}

@@ -1,4 +1,4 @@
--- What writes of lengths leave, where each node is written once.
+-- The arena after writes of lengths, where each node is written once.
 use Rattle.std.proofs.Common.{◌≡◌, ◌≢◌, ℕ, nat_eq, Bool, true, false, if◌then◌else◌, Option, Some, None, IsSome, List, [], ◌∷◌, ◌++◌, option_map, refl, sym, ap, ◌∙◌, eqb, arith}
 use Rattle.std.proofs.lemmas.Bool.{eq-eqb, eqb-true}
 use Rattle.ve_arena.specs.declared.node.ArenaNode.{ArenaNode}

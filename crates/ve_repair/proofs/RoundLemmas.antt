@@ -1,4 +1,4 @@
--- From a node up to the root by its links: the nodes that are open round a place.
+-- From a node up to the root by its links: the nodes that are open round a position.
 use Rattle.std.proofs.Common.{Result, Ok, Err, OnOk, ◌≡◌, ◌≤◌, ◌<◌, ◌+◌, ◌-◌, ℕ, suc, Option, Some, None, List, [], ◌∷◌, length, map, Contains, option_map, refl, sym, ap, ◌∙◌, subst, arith}
 use Rattle.model_items.specs.declared.plain_item.PlainItem.{PlainItem}
 use Rattle.model_items.specs.Tree.{item_count}
@@ -104,7 +104,7 @@ up_from {slots = slots} {root = root} tree n node r rs x here whole number =
 no_way_up : {slots : Slots} {root : NodeId} {items : List PlainItem} (tree : IsTree slots root items) (n : NodeId) (node : ArenaNode) → slot_at slots n.0 ≡ Some node → n.0 ≡ root.0 → option_map number_of node.parent ≡ None
 no_way_up {slots = slots} tree n node here number = sym (ap (link_in (λ node. node.parent)) here) ∙ ap (links_of slots).parent number ∙ tree.root_alone.no_parent
 
--- what was found of a node is so of its place
+-- what was found of a node is so of its position
 from_of : {slots : Slots} {root : NodeId} {items : List PlainItem} (tree : IsTree slots root items) (n : NodeId) (range : ℕ × ℕ) (y : NodePlace) → OfItsPlace slots root n (λ place. ◌≡◌ {A = ℕ × ℕ} range (place.from, place.to)) →
     Contains (tree_places tree) y → y.number ≡ n.0 → range.0 ≡ y.from
 from_of {items = items} tree n range y found c number = ap (λ (q : ℕ × ℕ). q.0) (found items tree y c number)
@@ -153,7 +153,7 @@ pub both_ok : {A : Type 0} {E : Type 0} (r : Result A E) (P Q S : Type 0) → On
 both_ok (Ok a) P Q S p q go = go p q
 both_ok (Err e) P Q S p q go = tt
 
--- the range begins at the place, with these nodes open
+-- the range begins at the position, with these nodes open
 pub starts : {slots : Slots} {root : NodeId} (x : ℕ) (edge : Edge) (stacks : Stacks) (z0 z1 : Sizing) → IsEdgeOf slots root x edge → OpensRound slots root edge.node edge.last stacks z0 → z1 ≡ started edge.place z0 →
     StartsRange slots root x (record { parent = edge.node; next = edge.next; place = edge.place }) stacks z1
 starts {root = root} x edge stacks z0 z1 is open_ sizes items tree within_ =

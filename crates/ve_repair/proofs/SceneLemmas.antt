@@ -1,4 +1,4 @@
--- What the parts of a repair give each other.
+-- The parts of a repair, and how each meets the conditions of the next.
 use Rattle.std.proofs.Common.{◌≡◌, ◌≤◌, ◌+◌, ◌-◌, ◌^◌, ℕ, None, inl, inr, replicate, append_assoc, List, [], ◌++◌, length, map, All, refl, sym, ap, ◌∙◌, subst, arith}
 use Rattle.model_items.specs.declared.item.Item.{Item}
 use Rattle.ve_arena.specs.declared.node.NodeId.{NodeId}

@@ -7,7 +7,7 @@ use Rattle.ve_repair.specs.Work as W
 use Rattle.ve_repair.specs.Tokens.{Token, old_side}
 use Rattle.ve_repair.specs.Tokens as T
 use Rattle.ve_repair.specs.Spelled.{Sign, BeginOf, LettersOf, EndOf, token_of}
-use Rattle.ve_repair.specs.Script.{Mark, KeptLetter, CutLetter, NewLetter, KeptBegin, CutBegin, NewBegin, KeptEnd, CutEnd, NewEnd, Running, NoRun, InRun, Reader, is_seen, one_more, run_end, ended, keep_step, kept_reader, cut_step, script_for, run_sign, signs_for}
+use Rattle.ve_repair.specs.Script.{Mark, KeptLetter, CutLetter, NewLetter, KeptBegin, CutBegin, NewBegin, KeptEnd, CutEnd, NewEnd, Running, NoRun, InRun, ChangeReader, is_seen, one_more, run_end, ended, keep_step, kept_reader, cut_step, script_for, run_sign, signs_for}
 use Rattle.ve_repair.specs.Sizes.{Begun, sizes, open_after, place_after, HaveSizes}
 use Rattle.ve_repair.specs.Labels.{len_in}
 use Rattle.ve_repair.specs.Lengths.{kindless, new_signs}
@@ -29,7 +29,7 @@ cut known false t xs = refl
 cut true true t xs = refl
 cut false true t xs = refl
 
-pub makes_signs : (supply : ℕ → ℕ) (ms : List Mark) (r : Reader) → new_signs (script_for supply ms r) ≡ kindless (signs_for supply ms r)
+pub makes_signs : (supply : ℕ → ℕ) (ms : List Mark) (r : ChangeReader) → new_signs (script_for supply ms r) ≡ kindless (signs_for supply ms r)
 makes_signs supply [] r = ran supply r.run r.made [] [] refl
 makes_signs supply (KeptLetter t ends ∷ ms) r =
     kept (is_seen r.seen t) t (one_more r.run) (script_for supply ms (kept_reader t r)) ∙ makes_signs supply ms (kept_reader t r)

@@ -1,4 +1,5 @@
--- The signs of a tree: no text is empty, no two are neighbours, and they take as many items as its list.
+-- The signs of a tree: no text is empty, no two are neighbours, and they take as many items as its
+-- list.
 use Rattle.std.proofs.Common.{◌≡◌, ◌≤◌, ◌+◌, ℕ, zero, suc, false, List, [], ◌∷◌, ◌++◌, length, sym, ap, ◌∙◌, subst, arith, append-nil, append_assoc}
 use Rattle.model_items.specs.declared.plain_item.PlainItem.{PlainItem}
 use Rattle.model_items.specs.Tree.{begins_with_run, item_count, HasWholeRuns}

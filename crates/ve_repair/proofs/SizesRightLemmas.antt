@@ -31,7 +31,7 @@ closing slots (EndOf kind ∷ ss) [] [] at h = tt
 closing slots (EndOf kind ∷ ss) [] (b ∷ open_) at h = (h.0, closing slots ss [] open_ (suc at) h.1)
 closing slots (EndOf kind ∷ ss) (b ∷ begun) open_ at h = closing slots ss begun open_ (suc at) h.1
 
--- the same so many places on
+-- the same so many positions on
 further : ℕ → List Begun → List Begun
 further d [] = []
 further d (b ∷ begun) = record { node = b.node; from = d + b.from } ∷ further d begun

@@ -11,7 +11,7 @@ use Rattle.ve_repair.specs.Sizing.{Sizing, sized, sized_all, size_writes, sizes_
 abbrev Slots : Type 0
 Slots = List (Option ArenaNode)
 
--- places only grow
+-- positions only grow
 fits_before : (slots : Slots) (x : Step) (s : Sizing) → PlacesFit (sized slots x s) → PlacesFit s
 fits_before slots (Enter Keep n) s h = (omega (arith, h.0), omega (arith, h.1))
 fits_before slots (Enter Cut n) s h = (omega (arith, h.0), h.1)

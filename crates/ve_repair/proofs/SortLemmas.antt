@@ -1,4 +1,4 @@
--- What the nodes of the new piece are: those that stay are as before, and the others were made so.
+-- The sorts of the new piece's nodes: those that stay are as before, and the others were made so.
 use Rattle.std.proofs.Common.{◌≡◌, ℕ, zero, suc, Bool, true, false, Option, Some, None, IsSome, List, [], ◌∷◌, ◌++◌, option_map, refl, sym, ap, ◌∙◌, subst, append_assoc}
 use Rattle.ve_arena.specs.declared.node.NodeWhat.{NodeWhat}
 use Rattle.ve_arena.specs.declared.node.NodeWhat.TheVariants as what
@@ -13,7 +13,7 @@ use Rattle.ve_repair.specs.Agree.{steps_of}
 use Rattle.ve_repair.specs.Spelled.{Sign, BeginOf, LettersOf, EndOf}
 use Rattle.ve_repair.specs.Sizes.{signs_of, HasSort}
 use Rattle.ve_repair.specs.Sizing.{StepsAreLive}
-use Rattle.ve_repair.specs.Script.{Mark, KeptLetter, CutLetter, NewLetter, KeptBegin, CutBegin, NewBegin, KeptEnd, CutEnd, NewEnd, Running, NoRun, InRun, Reader, is_seen, one_more, run_end, ended, kept_run, keep_step, kept_reader, cut_step, script_for, first_reader}
+use Rattle.ve_repair.specs.Script.{Mark, KeptLetter, CutLetter, NewLetter, KeptBegin, CutBegin, NewBegin, KeptEnd, CutEnd, NewEnd, Running, NoRun, InRun, ChangeReader, is_seen, one_more, run_end, ended, kept_run, keep_step, kept_reader, cut_step, script_for, first_reader}
 use Rattle.ve_repair.specs.Acts.{Act, Stay, Go, ComeLetter, ComeBegin, ComeEnd, marks}
 use Rattle.ve_repair.specs.Reader.{Keeps}
 use Rattle.ve_repair.specs.Courses.{AreBegun, AreTexts}
@@ -151,7 +151,7 @@ cut_live slots known false t ss l h = h
 cut_live slots true true t ss l h = h
 cut_live slots false true t ss l h = (l, h)
 
-steps_live : (slots : Slots) (supply : ℕ → ℕ) (ms : List Mark) (r : Reader) → MarksSort slots ms → RunSort slots r.run → AreTexts slots (script_for supply ms r) → AllLive slots (script_for supply ms r)
+steps_live : (slots : Slots) (supply : ℕ → ℕ) (ms : List Mark) (r : ChangeReader) → MarksSort slots ms → RunSort slots r.run → AreTexts slots (script_for supply ms r) → AllLive slots (script_for supply ms r)
 steps_live slots supply [] r m h t = run_live slots supply r.run r.made [] h t (λ _. tt)
 steps_live slots supply (KeptLetter n ends ∷ ms) r m h t =
     keep_live slots (is_seen r.seen n) n (one_more r.run) _ (sort_live slots n _ m.0)

@@ -1,4 +1,4 @@
--- The spot of an offset as a place between two siblings, or in a text.
+-- The spot of an offset as a position between two siblings, or in a text.
 use Rattle.std.proofs.Common.{◌≡◌, ◌≤◌, ◌<◌, ◌+◌, ◌-◌, ◌⊎◌, inl, inr, ℕ, zero, suc, Option, Some, None, List, [], ◌∷◌, length, Contains, option_map, refl, sym, ap, ◌∙◌, subst, arith}
 use Rattle.ve_kinds.specs.declared.kind.Kind.{Kind}
 use Rattle.ve_kinds.specs.declared.kind.Kind.TheVariants.{Root}
@@ -50,7 +50,7 @@ child_at {root = root} tree x spot child is next =
     let above : ◌≡◌ {A = Option ℕ} (Some spot.node.0) (Some (parent_in root.0 s.round)) = s.parent_is in
     record { y = y; stands = s; number_is = refl; parent_is = cc; begins = c.begins; reach = c.ends; inside = c.inside }
 
--- the place in front of it, or of what comes before the offset of a text
+-- the position in front of it, or of what comes before the offset of a text
 abbrev pub edge_of : Spot → ArenaNode → ℕ → Edge
 edge_of spot node place = record { node = spot.node; last = node.before; next = spot.next; place = place }
 

@@ -1,4 +1,4 @@
--- Signs that stand at places: no two share a place, and no two have one number.
+-- Signs that stand at positions: no two share a position, and no two have one number.
 use Rattle.std.proofs.Common.{◌≡◌, ◌≤◌, ◌<◌, ◌⊎◌, inl, inr, ℕ, suc, ◌+◌, Option, Some, None, List, [], ◌∷◌, ◌++◌, map, refl, sym, ap, ◌∙◌, subst, arith}
 use Rattle.std.proofs.lemmas.Option.{same_Some, none-some}
 use Rattle.ve_tree.specs.Links.{Apart, AllApart}
@@ -48,7 +48,7 @@ place_grows (BeginOf n kind ∷ xs) at = let r = place_grows xs (suc at) in omeg
 place_grows (LettersOf n count ∷ xs) at = let r = place_grows xs (at + count) in omega (arith, r)
 place_grows (EndOf kind ∷ xs) at = let r = place_grows xs (suc at) in omega (arith, r)
 
--- where two signs share a place, they are one
+-- where two signs share a position, they are one
 pub record Same (s s' : Sign) (at at' : ℕ) : Type 0 where
   pub sign : s ≡ s'
   pub place : at ≡ at'

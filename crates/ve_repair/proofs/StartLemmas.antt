@@ -1,4 +1,4 @@
--- The start of a changed range as a place between two siblings, and the text before it.
+-- The start of a changed range as a position between two siblings, and the text before it.
 use Rattle.std.proofs.Common.{◌≡◌, ◌≤◌, ◌+◌, ◌-◌, inl, inr, ℕ, false, Option, Some, None, List, option_map, refl, sym, ap, ◌∙◌, arith}
 use Rattle.ve_kinds.specs.declared.kind.Kind.{Kind}
 use Rattle.model_items.specs.declared.plain_item.PlainItem.{PlainItem}
@@ -36,12 +36,12 @@ next_number NoNode y child first number = absurd first
 next_number (NamedRun n count later) y child first number = ap Some (sym number ∙ first.0)
 next_number (NamedBranch n kind inside later) y child first number = ap Some (sym number ∙ first.0)
 
--- the node round a place
+-- the node round a position
 pub edge_live : {slots : Slots} {root : NodeId} {items : List PlainItem} (tree : IsTree slots root items) (edge : Edge) → IsBetween tree.named root.0 edge → IsLive slots edge.node
 edge_live {slots = slots} tree edge b =
     let f = framed_at tree b.place.round (beside b.place.done b.place.row) b.whole in shown_live slots edge.node _ _ _ _ b.at.parent_is f.inner
 
--- the node before a place, which the rest of the siblings begins with
+-- the node before a position, which the rest of the siblings begins with
 record Sibling (f : Named) (rs : List Round) (done : Named) (n : ℕ) : Type 0 where
   left : Named
   row : Named
@@ -98,7 +98,7 @@ none_before NoNode e = refl
 none_before (NamedRun n count later) e = absurd (cc)
 none_before (NamedBranch n kind inside later) e = absurd (cc)
 
--- A place between two siblings, and the node before it.
+-- A position between two siblings, and the node before it.
 before : {slots : Slots} {root : NodeId} {items : List PlainItem} (tree : IsTree slots root items) (edge : Edge) (b : IsBetween tree.named root.0 edge) (text : NodeId) → edge.last ≡ Some text →
     Sibling tree.named b.place.round b.place.done text.0
 before tree edge b text is = sibling tree.named b.place.round b.place.done b.place.row text.0 b.whole (sym (ap (option_map number_of) is) ∙ b.last_is)

@@ -34,7 +34,8 @@ use Rattle.ve_repair.proofs.MakesLemmas.{makes, makes_run, makes_are, makes_then
 use Rattle.ve_repair.proofs.OpsLemmas.{Doing, sizes_more}
 use Rattle.ve_repair.proofs.PassedLemmas.{past_few, replicate-add, Passing}
 
--- the whole script has the nodes that were made so far, and those that are made for the acts to come
+-- the whole script has the nodes that were made so far, and those that are made for the acts to
+-- come
 whole_makes : (c : Course) (slots : Slots) (r : Reading) (later : List Act) → HasRead c slots r →
     makes_of (c.acts ++ later) c.start.rest ≡ made_count r.script + makes (script_for (supply_of (steps_of r.script ++ [])) (marks later c.spot.rest) (reader_of r))
 whole_makes c slots r later h =

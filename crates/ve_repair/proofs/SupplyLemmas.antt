@@ -8,7 +8,7 @@ use Rattle.ve_repair.specs.declared.read.TextRun.{TextRun}
 use Rattle.ve_repair.specs.Work as W
 use Rattle.ve_repair.specs.Agree.{step_of, steps_of}
 use Rattle.ve_repair.specs.Spelled.{Sign, LettersOf}
-use Rattle.ve_repair.specs.Script.{InRun, Reader, is_seen, one_more, run_end, kept_run, keep_step, cut_step, script_for}
+use Rattle.ve_repair.specs.Script.{InRun, ChangeReader, is_seen, one_more, run_end, kept_run, keep_step, cut_step, script_for}
 use Rattle.ve_repair.specs.Acts.{Act, Stay, Go, marks}
 use Rattle.ve_repair.specs.Cursors.{spot_of, past}
 use Rattle.ve_repair.specs.Reader.{running_of, end_of, end_steps}
@@ -97,7 +97,7 @@ keep_known supply (suc k) (suc (suc d)) t os ss later more kept made h =
     ∙ ap (λ m. script_for supply (marks later (past k (spot_of os (LettersOf t (suc d) ∷ ss))).rest) (record { seen = Some t; run = InRun m kept true; made = made })) e
 
 -- and letters of any text: after the first one of them is retained
-pub keep_letters : (supply : ℕ → ℕ) (k d t : ℕ) (os : List ℕ) (ss : List Sign) (later : List Act) (r : Reader) (more : ℕ) (kept : Option ℕ) →
+pub keep_letters : (supply : ℕ → ℕ) (k d t : ℕ) (os : List ℕ) (ss : List Sign) (later : List Act) (r : ChangeReader) (more : ℕ) (kept : Option ℕ) →
     kept_run (is_seen r.seen t) t (one_more r.run) ≡ InRun more kept true → suc k ≤ d →
     script_for supply (marks (replicate (suc k) Stay ++ later) (LettersOf t d ∷ ss)) r
     ≡ keep_step (is_seen r.seen t) t (one_more r.run)
@@ -113,7 +113,7 @@ keep_letters supply k (suc (suc d)) t os ss later r more kept e h =
     ∙ ap (keep_step (is_seen r.seen t) t (one_more r.run)) (keep_known supply k (suc d) t os ss later more kept r.made (omega (arith, h)))
 
 -- some letters of a text go, but not its last one
-pub cut_some : (supply : ℕ → ℕ) (k d t : ℕ) (os : List ℕ) (ss : List Sign) (later : List Act) (r : Reader) → k < d →
+pub cut_some : (supply : ℕ → ℕ) (k d t : ℕ) (os : List ℕ) (ss : List Sign) (later : List Act) (r : ChangeReader) → k < d →
     script_for supply (marks (replicate k Go ++ later) (LettersOf t d ∷ ss)) r ≡ script_for supply (marks later (past k (spot_of os (LettersOf t d ∷ ss))).rest) r
 cut_some supply zero d t os ss later r h = refl
 cut_some supply (suc k) zero t os ss later r h = absurd (omega (arith, h))
@@ -124,7 +124,7 @@ cut_some supply (suc k) (suc (suc d)) t os ss later r h = part (is_seen r.seen t
     part known xs = refl
 
 -- and all that are left
-pub cut_all : (supply : ℕ → ℕ) (d t : ℕ) (os : List ℕ) (ss : List Sign) (later : List Act) (r : Reader) → 1 ≤ d →
+pub cut_all : (supply : ℕ → ℕ) (d t : ℕ) (os : List ℕ) (ss : List Sign) (later : List Act) (r : ChangeReader) → 1 ≤ d →
     script_for supply (marks (replicate d Go ++ later) (LettersOf t d ∷ ss)) r ≡ cut_step (is_seen r.seen t) true t (script_for supply (marks later (past d (spot_of os (LettersOf t d ∷ ss))).rest) r)
 cut_all supply zero t os ss later r h = absurd (omega (arith, h))
 cut_all supply (suc zero) t os ss later r h = refl

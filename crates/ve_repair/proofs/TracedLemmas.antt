@@ -5,7 +5,7 @@ use Rattle.std.proofs.lemmas.Option.{same_Some, none-some}
 use Rattle.ve_repair.specs.Work.{Keep, Put, Step, Enter, Leave}
 use Rattle.ve_repair.specs.Tokens.{puts}
 use Rattle.ve_repair.specs.Spelled.{Sign, BeginOf, EndOf, AllFrom}
-use Rattle.ve_repair.specs.Script.{Mark, KeptLetter, CutLetter, NewLetter, KeptBegin, CutBegin, NewBegin, KeptEnd, CutEnd, NewEnd, Running, NoRun, InRun, Reader, is_seen, one_more, run_end, ended, kept_run, keep_step, kept_reader, cut_step, script_for, run_sign, signs_for}
+use Rattle.ve_repair.specs.Script.{Mark, KeptLetter, CutLetter, NewLetter, KeptBegin, CutBegin, NewBegin, KeptEnd, CutEnd, NewEnd, Running, NoRun, InRun, ChangeReader, is_seen, one_more, run_end, ended, kept_run, keep_step, kept_reader, cut_step, script_for, run_sign, signs_for}
 use Rattle.ve_repair.proofs.PlaceLemmas.{by_order}
 use Rattle.ve_repair.specs.Traced.{IsText, InText, NoText, NoneAt, NoneIn, AllGo, FirstOfBoth, KeptText, AllTraced, Goes, AreOnce}
 
@@ -274,7 +274,7 @@ module _ (place : Places) (old : List Sign) (once : AreOnce old) (inj : OneOne p
   abbrev End : ℕ → ℕ → Type 0
   End p q = AllTraced place old numbers rights q
 
-  pub marks_traced : (ms : List Mark) (r : Reader) (p s q : ℕ) → SeenIs place old r.seen p → RunIs place old r.run s q → Goes place old End ms p q →
+  pub marks_traced : (ms : List Mark) (r : ChangeReader) (p s q : ℕ) → SeenIs place old r.seen p → RunIs place old r.run s q → Goes place old End ms p q →
       AllFrom (puts (script_for supply ms r)) numbers → AllTraced place old numbers (signs_for supply ms r ++ rights) s
   marks_traced [] r p s q h run g m = run_traced place old once inj numbers supply r.run r.made s q [] [] rights run m g
   marks_traced (KeptLetter t ends ∷ ms) r p s q h run g m =

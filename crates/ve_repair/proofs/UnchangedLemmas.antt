@@ -1,4 +1,5 @@
--- Without a replace no item comes or goes: the tree is the new list's, and its nodes match themselves.
+-- Without a replace no item comes or goes: the tree is the new list's, and its nodes match
+-- themselves.
 use Rattle.std.proofs.Common.{◌≡◌, ℕ, suc, ◌+◌, ◌<◌, ◌≤◌, ◌-◌, true, ◌&&◌, Option, Some, None, List, [], ◌∷◌, ◌++◌, map, take, drop, refl, sym, ap, ◌∙◌, subst, inl, inr, arith, Contains, take-append-drop}
 use Rattle.std.proofs.lemmas.Bool.{true≢false}
 use Rattle.std.proofs.lemmas.Option.{same_Some, none-some}
@@ -51,7 +52,7 @@ pub tree_stays : (slots : Slots) (root : NodeId) (tx : List Operation) (items : 
     IsTreeAfter slots root tx items
 tree_stays slots root tx items k tree values = tree_reads_shapes slots root (unvalued items) (new_list values tx items) tree (sym (same_shapes values tx items k))
 
--- a place is retained to itself, with all before it
+-- a position is retained to itself, with all before it
 stays : (values : List Value) (tx : List Operation) (p q r : ℕ) → KeepItems (map bare tx) → new_place (by_value values tx) p ≡ Some q → r ≤ p →
     new_place (by_value values tx) r ≡ Some r
 stays values [] p q r k e h = absurd (none-some q e)
@@ -88,7 +89,7 @@ first_is_start_back values tx at count p q k f =
       | inr more ↦ (let e = more.1 in omega (arith, e))
     ]
 
--- nodes that match begin at one place
+-- nodes that match begin at one position
 match_start : (values : List Value) (tx : List Operation) (y z : NodePlace) (a b : ℕ) → KeepItems (map bare tx) → y.parent ≡ Some a → z.parent ≡ Some b →
     Match (by_value values tx) y z → y.from ≡ z.from
 match_start values tx y z a b k parent_y parent_z m = by_sort y.parent z.parent y.sort z.sort parent_y parent_z m
@@ -153,7 +154,7 @@ lies f p at y runs c =
     let long = forest-length (unnumbered f) in
     (omega (arith, r.from_is), omega (arith, r.from_is, within, long))
 
--- a place of a branch: its own, one inside it, or one after it
+-- a position of a branch: its own, one inside it, or one after it
 data Which (p at h : ℕ) (kind : Kind) (inside later : Named) (x : NodePlace) : Type 0 where
   Itself : at ≡ x.from → h ≡ x.number → Which p at h kind inside later x
   Inner : Contains (node_places h (suc at) inside) x → Which p at h kind inside later x
@@ -192,7 +193,7 @@ one_of_branch p at h kind inside later y z runs e ins lat (Later a) (Inner b) =
     absurd (omega (arith, l, r, e))
 one_of_branch p at h kind inside later y z runs e ins lat (Later a) (Later b) = lat a b
 
--- no two nodes begin at one place
+-- no two nodes begin at one position
 one_start : (f : Named) (p at : ℕ) (y z : NodePlace) → HasWholeRuns (unnumbered f) → Contains (node_places p at f) y → Contains (node_places p at f) z →
     y.from ≡ z.from →
     y.number ≡ z.number

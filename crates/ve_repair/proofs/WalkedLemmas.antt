@@ -1,4 +1,4 @@
--- What the code finds along a script, in words of its two sides.
+-- The findings of the code along a script, in words of its two sides.
 use Rattle.std.proofs.Common.{◌≡◌, ℕ, suc, ◌+◌, ◌-◌, ◌≤◌, Option, List, [], ◌∷◌, ◌++◌, map, refl, sym, ap, ◌∙◌, subst, add-one, append_assoc, arith}
 use Rattle.ve_arena.specs.declared.node.ArenaNode.{ArenaNode}
 use Rattle.ve_tree.specs.Grown.{id_of}
@@ -35,7 +35,7 @@ Walked slots xs s passed made olds news a b =
     × ((sized_all slots xs s).new_at ≡ place_after made b)
     × (sizes_writes slots xs s ≡ resizes slots (sizes made news b))
 
--- by its sides, where the state is one and the places are others
+-- by its sides, where the state is one and the positions are others
 abbrev Leads : List (Option ArenaNode) → List Step → Sizing → List OpenFrom → List OpenFrom → ℕ → ℕ → Type 0
 Leads slots xs s os bs a b = Walked slots xs s (old_signs (lens slots) (steps_of xs)) (new_signs (steps_of xs)) (map begun_of os) (map begun_of bs) a b
 

@@ -1,4 +1,5 @@
--- A script keeps it true that the children of every node are those placed so far and then those not passed yet.
+-- A script keeps it true that the children of every node are those placed so far and then those not
+-- passed yet.
 use Rattle.std.proofs.Common.{◌≡◌, ◌≢◌, ℕ, Bool, true, false, if◌then◌else◌, Some, None, List, [], ◌∷◌, ◌++◌, drop, refl, sym, ap, ◌∙◌, subst, append_assoc, eqb}
 use Rattle.std.proofs.lemmas.Bool.{eqb-true, eq-eqb}
 use Rattle.ve_tree.specs.Links.{Links, last_or, AreSiblings, Apart, AllApart, Children}

@@ -25,7 +25,7 @@ pub record MayRead (slots : List (Option ArenaNode)) (r : Reading) (front : ℕ)
   pub enough : front + old_size ops ≤ items_in course.spot.rest
   pub room : course.bound + come_size ops < 2 ^ 64
 
--- The nodes that a script names are there, and all places and lengths fit.
+-- The nodes that a script names are there, and all positions and lengths fit.
 pub record CanPlan (slots : List (Option ArenaNode)) (root : NodeId) (r : Reading) (s : Stacks) (z : Sizing) : Type 0 where
   pub root_live : IsLive slots root
   pub left : AreSomeLeft slots (len_under slots root) (script_stacks r.script s).old r.at.next

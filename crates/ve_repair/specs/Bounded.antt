@@ -26,7 +26,8 @@ use Rattle.ve_repair.specs.Changed.{IsChangeOf}
 use Rattle.ve_repair.specs.Matching.{IsChanged}
 use Rattle.ve_repair.specs.Charged.{made_count, freed_count}
 
--- A piece of the tree of a list is changed as a transaction says, and this is a list with the same brackets and characters.
+-- A piece of the tree of a list is changed as a transaction says, and this is a list with the same
+-- brackets and characters.
 pub record IsChangeBy (supply : ℕ → ℕ) (root : NodeId) (old : List (Option ArenaNode)) (items others : List PlainItem) (tree : IsTree old root items) (lefts ss rights : List Sign) (acts : List Act)
     (t : Transaction) (before : List PlainItem) : Type 0 where
   pub changed : IsChanged supply root old items others tree lefts ss rights acts
@@ -42,7 +43,8 @@ pub record IsPlanned (root : NodeId) (lefts rights : List Sign) (xs : List Step)
   pub rows : right_tokens fs ≡ map token_of rights
   pub starts : StartsAt root.0 lefts z
 
--- Then the nodes that are made, all writes of links and lengths, and the nodes that are freed are at most eight for each touched node, whatever arena has the old nodes' lengths.
+-- Then a count is at most eight for each touched node: the nodes that are made, all writes of links
+-- and lengths, and the nodes that are freed. This is so whatever arena has the old nodes' lengths.
 abbrev pub StepsAreBounded : Type 0
 StepsAreBounded = (supply : ℕ → ℕ) (root : NodeId) (old slots : List (Option ArenaNode)) (items others : List PlainItem) (tree : IsTree old root items) (lefts ss rights : List Sign) (acts : List Act)
     (t : Transaction) (before : List PlainItem) → IsChangeBy supply root old items others tree lefts ss rights acts t before →
@@ -58,7 +60,8 @@ pub record IsPieceBy (root : NodeId) (old : List (Option ArenaNode)) (items othe
   pub old_shapes : map shape_of before ≡ map shape_of items
   pub new_shapes : map shape_of (edited t before) ≡ map shape_of others
 
--- The nodes that are made for a part of the script, and freed again, are within the bound too, whatever their numbers are.
+-- The nodes that are made for a part of the script, and freed again, are within the bound too,
+-- whatever their numbers are.
 abbrev pub MadeAreBounded : Type 0
 MadeAreBounded = (supply : ℕ → ℕ) (root : NodeId) (old : List (Option ArenaNode)) (items others : List PlainItem) (tree : IsTree old root items) (lefts ss rights : List Sign) (acts : List Act)
     (t : Transaction) (before : List PlainItem) → IsPieceBy root old items others tree lefts ss rights acts t before →

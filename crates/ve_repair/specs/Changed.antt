@@ -18,8 +18,9 @@ NoLettersLast (LettersOf n count ∷ []) = ⊥
 NoLettersLast (EndOf kind ∷ []) = Unit {0}
 NoLettersLast (s ∷ t ∷ ss) = NoLettersLast (t ∷ ss)
 
--- A piece of the old tree between two parts that no text reaches into, and what is done with each of its items: the new list is lawful, and its shapes are
--- those of the two parts with the new piece between them.
+-- A piece of the old tree between two parts that no text reaches into, and the acts on each of its
+-- items. The new list is lawful, and its shapes are those of the two parts with the new piece
+-- between them.
 pub record IsChangeOf (old : Named) (lefts ss rights : List Sign) (acts : List Act) (others : List PlainItem) : Type 0 where
   pub signs : signs_of old ≡ lefts ++ (ss ++ rights)
   pub proper : Proper (lefts ++ (ss ++ rights))
@@ -30,7 +31,8 @@ pub record IsChangeOf (old : Named) (lefts ss rights : List Sign) (acts : List A
   pub lawful : Lawful others
   pub shapes : sign_shapes lefts ++ (new_piece acts (sign_shapes ss) ++ sign_shapes rights) ≡ map shape_of others
 
--- Then there is a forest of the new list in which the script's new side stands where its old side stands in the old tree.
+-- Then there is a forest of the new list in which the script's new side stands where its old side
+-- stands in the old tree.
 pub record HasForest (supply : ℕ → ℕ) (old : Named) (lefts ss rights : List Sign) (acts : List Act) (others : List PlainItem) : Type 0 where
   pub named : Named
   pub old_tokens : tokens old ≡ map token_of lefts ++ old_side (script_for supply (marks acts ss) (first_reader 0)) (map token_of rights)

@@ -1,4 +1,5 @@
--- What a script costs in writes of links, nodes that are made and nodes that are freed, by the open nodes of both lists.
+-- The cost of a script in writes of links, nodes that are made and nodes that are freed, by the
+-- open nodes of both lists.
 use Rattle.std.specs.Prelude.{ℕ, ◌+◌, if◌then◌else◌, Option, Some, None, List, [], ◌∷◌, drop, length}
 use Rattle.std.proofs.Math.Dec.{eqb}
 use Rattle.ve_repair.specs.declared.script.How.TheVariants as how
@@ -17,8 +18,8 @@ moved_if None new = 7
 moved_if (Some o) None = 7
 moved_if (Some o) (Some n) = if eqb o n then 0 else 7
 
--- A node that stays under its parent costs nothing, and under another one two for the unlinking and five for the linking. One that goes is unlinked and
--- freed, and one that comes is made and linked.
+-- A node that stays under its parent costs nothing, and under another one two for the unlinking and
+-- five for the linking. One that goes is unlinked and freed, and one that comes is made and linked.
 abbrev pub place_cost : How → List ℕ → List ℕ → ℕ
 place_cost Keep old new = moved_if (top old) (top new)
 place_cost Drop old new = 3

@@ -1,4 +1,5 @@
--- What is left at the levels that are open at the end of a script: the siblings there go to the new node, where that is another one.
+-- The rest at the levels that are open at the end of a script: the siblings there go to the new
+-- node, where that is another one.
 use Rattle.std.specs.Prelude.{◌≡◌, ◌≤◌, ℕ, if◌then◌else◌, Option, Some, None, List, [], ◌∷◌, ◌++◌, drop, map, option_map}
 use Rattle.ve_arena.specs.declared.node.NodeId.{NodeId}
 use Rattle.ve_arena.specs.declared.node.ArenaNode.{ArenaNode}
@@ -47,7 +48,7 @@ pub record IsRoomyRow (slots : List (Option ArenaNode)) (next : Option NodeId) (
   pub row : IsRowFrom slots next forest
   pub room : item_count (unnumbered forest) ≤ most
 
--- what keeping a row of no more items than `most` makes of the stacks, and of the writes
+-- the stacks and the writes after keeping a row of no more items than `most`
 abbrev pub StacksForRow : List (Option ArenaNode) → Option NodeId → ℕ → Stacks → Stacks → Type 0
 StacksForRow slots first most was is = (f : Named) → IsRowFrom slots first f → item_count (unnumbered f) ≤ most → is ≡ script_stacks (row_steps f) was
 
@@ -55,7 +56,8 @@ abbrev pub WritesForRow : List (Option ArenaNode) → Option NodeId → ℕ → 
 WritesForRow slots first most s was is =
     (f : Named) → IsRowFrom slots first f → item_count (unnumbered f) ≤ most → is ≡ was ++ script_writes (row_steps f) s
 
--- The rows that are left, from the innermost open node outwards: the first begins with `next`, and each other with the sibling behind the open node inside it.
+-- The rows that are left, from the innermost open node outwards: the first begins with `next`, and
+-- each other with the sibling behind the open node inside it.
 abbrev pub AreLeft : List (Option ArenaNode) → ℕ → List NodeId → Option NodeId → List Named → Type 0
 AreLeft slots most [] next [] = Unit {0}
 AreLeft slots most [] next (f ∷ fs) = ⊥

@@ -1,4 +1,4 @@
--- What a reader has read of a tree, and that its script so far is the one of the acts so far.
+-- The part of a tree that a reader has read. Its script so far is the one of the acts so far.
 use Rattle.std.specs.Prelude.{◌≡◌, ◌≤◌, ◌<◌, ℕ, zero, suc, ◌+◌, ◌^◌, Option, Some, None, unwrap_or, List, [], ◌∷◌, ◌++◌, length, replicate, option_map}
 use Rattle.model_items.specs.declared.item.Item.{Item}
 use Rattle.model_items.specs.declared.item.Item.TheVariants as item
@@ -12,7 +12,7 @@ use Rattle.ve_tx.specs.Checked.{old_size}
 use Rattle.ve_repair.specs.Work as W
 use Rattle.ve_repair.specs.Agree.{steps_of}
 use Rattle.ve_repair.specs.Spelled.{NoLetters}
-use Rattle.ve_repair.specs.Script.{Reader, script_for, first_reader}
+use Rattle.ve_repair.specs.Script.{ChangeReader, script_for, first_reader}
 use Rattle.ve_repair.specs.Acts.{Act, Stay, Go, ComeLetter, ComeBegin, ComeEnd, marks, come, acts_of}
 use Rattle.ve_repair.specs.declared.cursor.Passed.{Passed}
 use Rattle.ve_repair.specs.Cursors.{Spot, past, items_in, IsAt, IsPassed}
@@ -65,7 +65,7 @@ supply_of ss k = unwrap_or (text_at ss k) 0
 abbrev pub IsFresh : List W.Step → Type 0
 IsFresh ss = text_at ss (ends_in ss) ≡ None
 
-abbrev pub reader_of : Reading → Reader
+abbrev pub reader_of : Reading → ChangeReader
 reader_of r = record { seen = option_map number_of r.seen; run = running_of r.run; made = ends_in (steps_of r.script) }
 
 -- how many items of the old list acts are of
@@ -96,14 +96,16 @@ abbrev pub AreTexts : List (Option ArenaNode) → List W.Step → Type 0
 AreTexts slots [] = Unit {0}
 AreTexts slots (s ∷ ss) = IsText slots (part_of s) × AreTexts slots ss
 
--- from where to where was read, what was done, and what letters and items still to come may add up to
+-- from where to where was read, what was done, and what letters and items still to come may add up
+-- to
 pub record Course : Type 0 where
   pub start : Spot
   pub acts : List Act
   pub spot : Spot
   pub bound : ℕ
 
--- The reader is at the place, and whatever acts and steps come later, its script is the beginning of the script of all acts.
+-- The reader is at the position, and whatever acts and steps come later, its script is the
+-- beginning of the script of all acts.
 pub record HasRead (c : Course) (slots : List (Option ArenaNode)) (r : Reading) : Type 0 where
   pub at : IsAt slots r.at c.spot
   pub script : (more : List W.Step) (later : List Act) →
@@ -130,12 +132,12 @@ abbrev pub RetainsPassed : List (Option ArenaNode) → Reading → Passed → Li
 RetainsPassed before was passed after is =
     (c : Course) (most : ℕ) → HasRead c before was → IsPassed before most c.spot passed → HasRead (with_stays passed.count c) after is
 
--- what the cursor passed goes, wherever it is
+-- the passed token goes, wherever the cursor is
 abbrev pub RemovesPassed : Reading → Passed → Reading → Type 0
 RemovesPassed was passed is =
     (c : Course) (slots : List (Option ArenaNode)) (most : ℕ) → HasRead c slots was → IsPassed slots most c.spot passed → HasRead (with_gone passed.count c) slots is
 
--- there is a place, so many items follow, and so many may come
+-- there is a position, so many items follow, and so many may come
 pub record IsReading (slots : List (Option ArenaNode)) (r : Reading) (count more : ℕ) : Type 0 where
   pub course : Course
   pub read : HasRead course slots r
@@ -178,7 +180,8 @@ pub record AreDone (ops : List Op) (c : Course) (slots : List (Option ArenaNode)
   pub counted : length numbers ≡ all_openings ops
   pub read : HasRead (with_acts (acts_of ops numbers) (old_size ops) (come_size ops) c) slots r
 
--- All that was to be read was read, up to the end of the text that the cursor was in: the script is whole.
+-- All that was to be read was read, up to the end of the text that the cursor was in: the script is
+-- whole.
 pub record IsReadOut (c : Course) (slots : List (Option ArenaNode)) (r : Reading) : Type 0 where
   pub tail : ℕ
   pub few : tail ≤ items_in c.spot.rest
@@ -195,7 +198,8 @@ pub record AreReadOut (ops : List Op) (c : Course) (slots : List (Option ArenaNo
   pub counted : length numbers ≡ all_openings ops
   pub read : IsReadOut (with_acts (acts_of ops numbers) (old_size ops) (come_size ops) c) slots r
 
--- Wherever the reader was, with enough items there for those in front and for the operations, all of them were read.
+-- Wherever the reader was, with enough items there for those in front and for the operations, all
+-- of them were read.
 abbrev pub ReadsOut : List (Option ArenaNode) → Reading → ℕ → List Op → List (Option ArenaNode) → Reading → Type 0
 ReadsOut before was front ops after is =
     (c : Course) → HasRead c before was → front + old_size ops ≤ items_in c.spot.rest → AreReadOut ops (with_stays front c) after is

@@ -14,7 +14,8 @@ use Rattle.ve_repair.specs.declared.cursor.Ahead.{Ahead}
 use Rattle.ve_repair.specs.declared.cursor.Ahead.TheVariants.{Opening, Chars, Closing}
 use Rattle.ve_repair.specs.declared.cursor.Passed.{Passed}
 
--- A place in a tree: the open nodes, innermost first, and the signs from there on. A text of which letters are passed is a shorter text.
+-- A position in a tree: the open nodes, innermost first, and the signs from there on. A text of
+-- which letters are passed is a shorter text.
 pub record Spot : Type 0 where
   pub open_nodes : List ℕ
   pub rest : List Sign
@@ -85,7 +86,7 @@ IsInside k NoNode = k ≡ 0
 IsInside k (NamedRun n count later) = k < count
 IsInside k (NamedBranch n kind inside later) = k ≡ 0
 
--- The cursor is at the place.
+-- The cursor is at the position.
 pub record IsAt (slots : List (Option ArenaNode)) (at : Cursor) (spot : Spot) : Type 0 where
   pub row : Named
   pub rounds : List Round
@@ -94,13 +95,13 @@ pub record IsAt (slots : List (Option ArenaNode)) (at : Cursor) (spot : Spot) : 
   pub rest_is : spot.rest ≡ cut_by at.inside (left_signs row rounds)
   pub open_is : spot.open_nodes ≡ at.parent.0 ∷ map outer_of rounds
 
--- It is at some place where so many items follow.
+-- It is at some position where so many items follow.
 pub record IsAtSome (slots : List (Option ArenaNode)) (at : Cursor) (count : ℕ) : Type 0 where
   pub spot : Spot
   pub is_at : IsAt slots at spot
   pub enough : count ≤ items_in spot.rest
 
--- what comes first in signs, and whether so many items are all of it
+-- the first of the signs, and whether so many items are all of it
 abbrev pub ComesFirst : Ahead → ℕ → List Sign → Type 0
 ComesFirst (Opening n) k ss = (kind : Kind) × (later : List Sign) × (ss ≡ BeginOf n.0 kind ∷ later) × (k ≡ 1)
 ComesFirst (Chars n ends) k ss = (count : ℕ) × (later : List Sign) × (ss ≡ LettersOf n.0 count ∷ later) × (k ≤ count) × (ends ≡ nat_eq k count)

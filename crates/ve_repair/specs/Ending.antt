@@ -1,4 +1,5 @@
--- The writes at the levels that are open at a script's end do what keeping all that follows would do.
+-- The writes at the levels that are open at a script's end do what keeping all that follows would
+-- do.
 use Rattle.std.specs.Prelude.{◌≡◌, ◌≢◌, ℕ, List, [], ◌∷◌, ◌++◌, drop}
 use Rattle.ve_tree.specs.Links.{Links, AllApart}
 use Rattle.ve_tree.specs.Named.{Named, node_numbers}
@@ -17,7 +18,8 @@ right_tokens [] = []
 right_tokens (f ∷ []) = tokens f
 right_tokens (f ∷ (g ∷ fs)) = tokens f ++ End ∷ right_tokens (g ∷ fs)
 
--- For each row a node is open in both lists, and no open node of the new list is one of the row or inside it.
+-- For each row a node is open in both lists, and no open node of the new list is one of the row or
+-- inside it.
 abbrev pub Fit : List Named → List ℕ → List ℕ → Type 0
 Fit [] old new = Unit {0}
 Fit (f ∷ fs) old new = (old ≢ []) × (new ≢ []) × AllFrom new (node_numbers f) × Fit fs (drop 1 old) (drop 1 new)
@@ -26,7 +28,8 @@ abbrev pub CloseIsKept : Type 0
 CloseIsKept = (fs : List Named) (s : Stacks) (w : Work) (a : Links) → OldAgree s.old w.old → NewAgree s.new w.new w.done → AllApart w.new → Fit fs w.old w.new →
     write_all (close_writes fs s) a ≡ script_links (keeps (right_tokens fs)) w a
 
--- All writes of links that are planned, for a script and for what is open at its end, make the links that the script makes with all that follows kept.
+-- All writes of links that are planned, for a script and for what is open at its end, make the
+-- links that the script makes with all that follows kept.
 abbrev pub PlanIsWhole : Type 0
 PlanIsWhole = (xs : List Step) (fs : List Named) (s : Stacks) (w : Work) (past : List ℕ) (a : Links) → Agrees s w past → Ready (steps_of xs) w past →
     Fit fs (after_script (steps_of xs) w).old (after_script (steps_of xs) w).new →

@@ -15,7 +15,7 @@ use Rattle.ve_tree.specs.Places.{NodePlace, tree_places}
 use Rattle.ve_tx.specs.Operation.{Operation, by_value}
 use Rattle.ve_repair.specs.Change.{new_list}
 
--- what the model calls a node of the tree: the root has no parent
+-- the model's name of a node of the tree: the root has no parent
 abbrev pub named_by : Option ℕ → NodeWhat → ℕ → NodeName
 named_by None sort at = TheRoot
 named_by (Some parent) what.Run at = Text at
@@ -34,7 +34,8 @@ Match t old new =
     (name_of new) (image (inverse t) (name_of new) (count_of new)) (count_of new)
     ≡ true
 
--- The new node of each matching pair stands under the number of the old one, whatever the values are.
+-- The new node of each matching pair stands under the number of the old one, whatever the values
+-- are.
 abbrev pub KeepsNumbers : (old new : List (Option ArenaNode)) → NodeId → List Operation → List Item → Type 0
 KeepsNumbers old new root tx items =
     (values : List Value) (was : IsTree old root (plain_list values items)) (is : IsTree new root (new_list values tx items))

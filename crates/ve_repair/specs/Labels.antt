@@ -1,11 +1,11 @@
--- What an arena's nodes say of themselves, beside their links; and links that lead to nodes.
+-- The nodes of an arena without their links: kinds and lengths; and links that lead to nodes.
 use Rattle.std.specs.Prelude.{◌≡◌, ℕ, Option, Some, None, List, IsSome, option_map}
 use Rattle.ve_arena.specs.declared.node.NodeWhat.{NodeWhat}
 use Rattle.ve_arena.specs.declared.node.ArenaNode.{ArenaNode}
 use Rattle.ve_arena.specs.Arena.{slot_at}
 use Rattle.ve_tree.specs.Nodes.{LinksLead}
 
--- what a node is, and how long
+-- the sort and the length of a node
 pub record Label : Type 0 where
   pub sort : NodeWhat
   pub len : ℕ

@@ -55,7 +55,8 @@ whole_writes slots xs s =
     sizes_writes slots xs s
     ++ open_writes slots (sized_all slots xs s).old_open (sized_all slots xs s).new_open (sized_all slots xs s).old_at (sized_all slots xs s).new_at
 
--- The script leads from one forest to the other: its old side is a piece of the first, between two parts that stay, and its new side one of the second.
+-- The script leads from one forest to the other. Its old side is a piece of the first, between two
+-- parts that stay, and its new side one of the second.
 pub record LeadsOn (old new : Named) (lefts ss news rights : List Sign) (xs : List Step) : Type 0 where
   pub old_signs : signs_of old ≡ lefts ++ (ss ++ rights)
   pub new_signs_are : signs_of new ≡ lefts ++ (news ++ rights)
@@ -67,7 +68,8 @@ pub record HaveLengths (slots : List (Option ArenaNode)) (root : ℕ) (f : Named
   pub nodes : HaveSizes slots (sizes (signs_of f) [] 0)
   pub all : option_map (λ node. node.len) (slot_at slots root) ≡ Some (place_after (signs_of f) 0)
 
--- From the lengths of the old forest the writes lead to those of the new one, where its nodes are there and distinct.
+-- From the lengths of the old forest the writes lead to those of the new one, where its nodes are
+-- there and distinct.
 abbrev pub LengthsAreWritten : Type 0
 LengthsAreWritten = (slots after : List (Option ArenaNode)) (root : ℕ) (old new : Named) (lefts ss news rights : List Sign) (xs : List Step) (s : Sizing) →
     LeadsOn old new lefts ss news rights xs → StartsAt root lefts s → HaveLengths slots root old →

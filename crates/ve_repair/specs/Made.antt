@@ -1,4 +1,5 @@
--- The nodes that a script puts into the new list, in an arena that has them and is otherwise as before.
+-- The nodes that a script puts into the new list, in an arena that has them and is otherwise as
+-- before.
 use Rattle.std.specs.Prelude.{◌≡◌, ℕ, Option, List, [], ◌∷◌, map}
 use Rattle.ve_arena.specs.declared.node.NodeWhat.TheVariants as what
 use Rattle.ve_arena.specs.declared.node.ArenaNode.{ArenaNode}
@@ -18,7 +19,8 @@ use Rattle.ve_repair.specs.Frees.{nodes_of, IsFreed}
 abbrev pub put_numbers : List Step → List ℕ
 put_numbers script = map number_of (nodes_of Put script)
 
--- those nodes are there now, each under a number of its own that had none, and every other is as it was
+-- those nodes are there now, each under a number of its own that had none, and every other is as it
+-- was
 pub record MadeFor (old new : List (Option ArenaNode)) (script : List Step) : Type 0 where
   pub live : AreLive new (nodes_of Put script)
   pub apart : AllApart (put_numbers script)

@@ -31,7 +31,8 @@ pub record IsRepaired (supply : ℕ → ℕ) (root : NodeId) (old new : List (Op
   pub changed : IsChanged supply root old items others tree lefts ss rights acts
   pub carried : IsCarriedOut root lefts rights (script_of supply acts ss) old new changed.forest.named others
 
--- Where the acts are what a transaction does with each item, an old and a new node match exactly where their numbers are equal, of whatever lists the two arenas are the trees.
+-- Where the acts are those of a transaction, an old and a new node match exactly where their
+-- numbers are equal. This is so whatever lists the two arenas are the trees of.
 abbrev pub NumbersMatch : Type 0
 NumbersMatch = (supply : ℕ → ℕ) (root : NodeId) (old new : List (Option ArenaNode)) (items others : List PlainItem) (tree : IsTree old root items) (lefts ss rights : List Sign) (acts : List Act) →
     IsRepaired supply root old new items others tree lefts ss rights acts → (t : Transaction) → Moves (new_place t) lefts acts rights →

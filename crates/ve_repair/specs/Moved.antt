@@ -14,12 +14,13 @@ act_place (ComeLetter ∷ acts) p = option_map suc (act_place acts p)
 act_place (ComeBegin n kind ∷ acts) p = option_map suc (act_place acts p)
 act_place (ComeEnd kind ∷ acts) p = option_map suc (act_place acts p)
 
--- Acts that begin at p of the old list and at q of the new one say of all items from there on where they go; those before p stay before q.
+-- Acts that begin at p of the old list and at q of the new one. They say of all items from there on
+-- where they go; those before p stay before q.
 pub record Follows (place : ℕ → Option ℕ) (acts : List Act) (p q : ℕ) : Type 0 where
   pub ahead : (x : ℕ) → place (p + x) ≡ option_map (λ y. q + y) (act_place acts x)
   pub behind : (x y : ℕ) → x < p → place x ≡ Some y → y < q
 
--- What is done with all items: those of the two parts stay, and these acts are of the piece between them.
+-- The acts on all items: those of the two parts stay, and these acts are of the piece between them.
 abbrev pub all_acts : List Sign → List Act → List Sign → List Act
 all_acts lefts acts rights = replicate (place_after lefts 0) Stay ++ (acts ++ replicate (place_after rights 0) Stay)
 

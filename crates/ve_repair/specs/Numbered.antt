@@ -16,7 +16,7 @@ pub record Numbered : Type 0 where
   pub above : ℕ
   pub node : Node
 
--- what both speak of: a node's number, its name and its length
+-- a node in both readings: its number, its name and its length
 pub record Brief : Type 0 where
   pub number : ℕ
   pub name : NodeName
@@ -28,7 +28,7 @@ brief n = record { number = n.number; name = n.node.name; count = n.node.count }
 abbrev pub place_brief : NodePlace → Brief
 place_brief y = record { number = y.number; name = name_of y; count = count_of y }
 
--- the nodes of a forest that stands under a node from a place on, in the order of their starts
+-- the nodes of a forest that stands under a node from a position on, in the order of their starts
 abbrev pub numbered_from : ℕ → NodeName → ℕ → Named → List Numbered
 numbered_from above parent at NoNode = []
 numbered_from above parent at (NamedRun n count later) =
@@ -42,7 +42,8 @@ abbrev pub numbered_of : ℕ → ℕ → Named → List Numbered
 numbered_of root count f =
     record { number = root; above = root; node = record { name = TheRoot; parent = TheRoot; count = count } } ∷ numbered_from root TheRoot 0 f
 
--- The nodes of a list, in order, are the nodes of its tree, each with its number, its name and its length.
+-- The nodes of a list, in order, are the nodes of its tree, each with its number, its name and its
+-- length.
 pub record AreNumbered {slots : List (Option ArenaNode)} {root : NodeId} {items : List PlainItem} (tree : IsTree slots root items) : Type 0 where
   pub nodes : map (λ (n : Numbered). n.node) (numbered_of root.0 (length items) tree.named) ≡ nodes_of items
   pub numbers : map (λ (n : Numbered). n.number) (numbered_of root.0 (length items) tree.named) ≡ root.0 ∷ node_numbers tree.named

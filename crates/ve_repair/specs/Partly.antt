@@ -29,7 +29,8 @@ unnumbered_act (ComeEnd kind) = ComeEnd kind
 abbrev pub makes_of : List Act → List Sign → ℕ
 makes_of acts ss = length (puts (script_for (λ k. 0) (marks (map unnumbered_act acts) ss) (first_reader 0)))
 
--- A script has no more nodes that are made than that of these acts behind the course has, whatever comes later.
+-- A script has no more nodes that are made than that of these acts behind the course has, whatever
+-- comes later.
 abbrev pub IsPart : Course → List Act → List Step → Type 0
 IsPart c acts xs = (later : List Act) → made_count xs ≤ makes_of (c.acts ++ (acts ++ later)) c.start.rest
 
@@ -54,7 +55,8 @@ pub record IsPartEnd (ops : List Op) (c : Course) (xs : List Step) : Type 0 wher
 abbrev pub IsPartOut : List Op → Course → List Step → Type 0
 IsPartOut ops c xs = Proper (past (old_size ops) c.spot).rest → IsPartEnd ops c xs
 
--- Wherever the reader was, with enough items there for those in front and for the operations, it stopped among these.
+-- Wherever the reader was, with enough items there for those in front and for the operations, it
+-- stopped among these.
 abbrev pub StopsAmong : List (Option ArenaNode) → Reading → ℕ → List Op → List Step → Type 0
 StopsAmong before was front ops xs =
     (c : Course) → HasRead c before was → front + old_size ops ≤ items_in c.spot.rest → IsPartOut ops (with_stays front c) xs

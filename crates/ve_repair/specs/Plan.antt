@@ -1,4 +1,5 @@
--- The writes of links that a script asks for, as the code finds them: by the open nodes of both lists, and the last child so far of each new one.
+-- The writes of links that a script asks for, as the code finds them: by the open nodes of both
+-- lists, and the last child so far of each new one.
 use Rattle.std.specs.Prelude.{nat_eq, Bool, false, if◌then◌else◌, Some, None, List, [], ◌∷◌, ◌++◌, drop}
 use Rattle.ve_arena.specs.declared.node.NodeId.{NodeId}
 use Rattle.ve_repair.specs.declared.write.Write.{Write}

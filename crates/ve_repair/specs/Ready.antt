@@ -1,4 +1,5 @@
--- That a script finds its nodes open, and enters each new one once, is told by the trees of both lists.
+-- That a script finds its nodes open, and enters each new one once, is told by the trees of both
+-- lists.
 use Rattle.std.specs.Prelude.{◌≡◌, ℕ, List, [], ◌∷◌, ◌++◌}
 use Rattle.ve_tree.specs.Links.{AllApart}
 use Rattle.ve_tree.specs.Named.{Named, node_numbers}

@@ -1,4 +1,4 @@
--- What a repair has to do, and what it then gives.
+-- The task of a repair, and its result.
 use Rattle.std.specs.Prelude.{◌≡◌, ℕ, Option, None, List, ◌∷◌, ◌++◌, length}
 use Rattle.ve_kinds.specs.declared.kind.Kind.TheVariants.{Root}
 use Rattle.model_items.specs.declared.plain_item.PlainItem.{PlainItem}
@@ -16,8 +16,9 @@ use Rattle.ve_repair.specs.Work.{Step, script_links}
 use Rattle.ve_repair.specs.Tokens.{Token, tokens, old_side, new_side, puts, drops, freed_all, keeps, Free, work_at}
 use Rattle.ve_repair.specs.Spelled.{AllFrom}
 
--- The script's old side stands in the tree of one list, and its new side in that of another: what it keeps, takes away and puts, with what is free
--- for that, and then the labels and the nodes that there are.
+-- The script's old side stands in the tree of one list, and its new side in that of another. Next
+-- come what it keeps, takes away and puts, with the numbers that are free for that, and then the
+-- labels and the nodes that there are.
 pub record IsRepair (root : NodeId) (left : List Token) (script : List Step) (right : List Token) (old new : List (Option ArenaNode)) (items others : List PlainItem) (tree : IsTree old root items) (named : Named) : Type 0 where
   pub old_tokens : tokens tree.named ≡ left ++ old_side script right
   pub new_tokens : tokens named ≡ left ++ new_side script right
@@ -26,7 +27,7 @@ pub record IsRepair (root : NodeId) (left : List Token) (script : List Step) (ri
   pub apart : AllApart (root.0 ∷ node_numbers named)
   pub free : Free (puts script) (work_at root.0 left (old_side script right)).done (work_at root.0 left (old_side script right)).rest
   pub root_free : Apart root.0 (puts script)
-  -- what goes is freed at the end
+  -- nodes that go are freed at the end
   pub gone : AllFrom (drops script) (root.0 ∷ node_numbers named)
   pub links : links_of new ≡ freed_all (drops script) (script_links (script ++ keeps right) (work_at root.0 left (old_side script right)) (links_of old))
   pub labelled : AreLabelled new named

@@ -1,4 +1,4 @@
--- What a repair answers, and what it leaves.
+-- The answer of a repair, and the tree that it leaves.
 use Rattle.std.specs.Prelude.{◌≡◌, ℕ, ◌+◌, ◌*◌, ◌≤◌, Option, List, map}
 use Rattle.ve_base.specs.declared.value.Value.{Value}
 use Rattle.model_items.specs.declared.item.Item.{Item}
@@ -52,6 +52,7 @@ CostsNone before after Memory = Unit {0}
 abbrev pub IsWithinTouch : ℕ → ℕ → List Operation → List Item → Type 0
 IsWithinTouch before after tx items = (values : List Value) → after ≤ before + 8 * (touch (by_value values tx) (plain_list values items) + 2)
 
--- Nodes are the tree of a list exactly as of every other that differs in what no tree shows: letters, heads, marks and white text.
+-- Nodes are the tree of a list exactly as of every other that differs in what no tree shows:
+-- letters, heads, marks and white text.
 abbrev pub TreeReadsShapes : Type 0
 TreeReadsShapes = (slots : List (Option ArenaNode)) (root : NodeId) (items others : List PlainItem) → IsTree slots root items → map shape_of items ≡ map shape_of others → IsTree slots root others

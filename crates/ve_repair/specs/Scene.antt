@@ -1,4 +1,5 @@
--- Where a transaction's changes begin in a tree, and what its operations do with each item from there on.
+-- Where a transaction's changes begin in a tree, and what its operations do with each item from
+-- there on.
 use Rattle.std.specs.Prelude.{◌≡◌, ℕ, Option, List, [], ◌∷◌, ◌++◌, length, map, replicate}
 use Rattle.model_items.specs.declared.item.Item.{Item}
 use Rattle.ve_arena.specs.declared.node.NodeId.{NodeId}
@@ -28,7 +29,8 @@ use Rattle.ve_repair.specs.Spelled.{Sign, NoLetters, token_of}
 use Rattle.ve_repair.specs.Start.{IsStart}
 use Rattle.ve_repair.specs.Whole.{script_of}
 
--- The nodes are the tree of a list, a transaction applies to it and leads to a lawful list, and what it changes begins here.
+-- The nodes are the tree of a list, a transaction applies to it and leads to a lawful list, and
+-- what it changes begins here.
 pub record Scene (old : List (Option ArenaNode)) (root : NodeId) (items : List Item) (tx : List Operation) (r : ChangedRange) (start : Start) (s : Stacks) (z : Sizing) : Type 0 where
   pub tree : IsTree old root (unvalued items)
   pub applies : CanApply tx items
@@ -37,12 +39,12 @@ pub record Scene (old : List (Option ArenaNode)) (root : NodeId) (items : List I
   pub range : IsChangedRange (map bare tx) r
   pub starts : IsStart tree.named root.0 r.from start s z
 
--- the nodes round a place, the innermost first, and the root
+-- the nodes round a position, the innermost first, and the root
 abbrev pub open_round : ℕ → List Round → List ℕ
 open_round root [] = root ∷ []
 open_round root (r ∷ rs) = r.number ∷ open_round root rs
 
--- a reader at a place of a tree that has read nothing
+-- a reader at a position of a tree that has read nothing
 abbrev pub first_course : ℕ → Place → Course
 first_course root p = record {
   start = spot_of (open_round root p.round) (coming_signs p);

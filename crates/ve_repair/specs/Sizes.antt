@@ -1,4 +1,5 @@
--- The length of each node, read off brackets and texts in one pass: from the place where a node begins to the place where it ends.
+-- The length of each node, read off brackets and texts in one pass: from the position where a node
+-- begins to the position where it ends.
 use Rattle.std.specs.Prelude.{◌≡◌, ℕ, suc, ◌+◌, ◌-◌, Option, Some, List, [], ◌∷◌, ◌++◌, option_map}
 use Rattle.model_items.specs.Tree.{item_count}
 use Rattle.ve_arena.specs.declared.node.NodeWhat.{NodeWhat}
@@ -9,7 +10,7 @@ use Rattle.ve_tree.specs.Named.{Named, NoNode, NamedRun, NamedBranch, unnumbered
 use Rattle.ve_tree.specs.Fits.{AreLabelled}
 use Rattle.ve_repair.specs.Spelled.{Sign, BeginOf, LettersOf, EndOf}
 
--- a node with its length, and an open one with the place where it begins
+-- a node with its length, and an open one with the position where it begins
 pub record Sized : Type 0 where
   pub node : ℕ
   pub len : ℕ
@@ -18,7 +19,8 @@ pub record Begun : Type 0 where
   pub node : ℕ
   pub from : ℕ
 
--- the lengths of the nodes that end, in the order of their ends; `at` is the place of the first sign
+-- the lengths of the nodes that end, in the order of their ends; `at` is the position of the first
+-- sign
 abbrev pub sizes : List Sign → List Begun → ℕ → List Sized
 sizes [] open_ at = []
 sizes (BeginOf n kind ∷ ss) open_ at = sizes ss (record { node = n; from = at } ∷ open_) (suc at)
@@ -26,7 +28,7 @@ sizes (LettersOf n count ∷ ss) open_ at = record { node = n; len = count } ∷
 sizes (EndOf kind ∷ ss) [] at = sizes ss [] (suc at)
 sizes (EndOf kind ∷ ss) (b ∷ open_) at = record { node = b.node; len = suc at - b.from } ∷ sizes ss open_ (suc at)
 
--- what is open then, and the place
+-- the nodes that are open then, and the position
 abbrev pub open_after : List Sign → List Begun → ℕ → List Begun
 open_after [] open_ at = open_
 open_after (BeginOf n kind ∷ ss) open_ at = open_after ss (record { node = n; from = at } ∷ open_) (suc at)

@@ -1,4 +1,5 @@
--- The lengths that a script gives to nodes, as the code finds them: by the open nodes of both lists, the places where they begin, and the place in each list.
+-- The lengths that a script gives to nodes, as the code finds them: by the open nodes of both
+-- lists, the positions where they begin, and the position in each list.
 use Rattle.std.specs.Prelude.{ℕ, ◌+◌, ◌-◌, ◌<◌, ◌^◌, nat_eq, if◌then◌else◌, Option, List, [], ◌∷◌, ◌++◌, drop}
 use Rattle.ve_arena.specs.declared.node.NodeId.{NodeId}
 use Rattle.ve_arena.specs.declared.node.ArenaNode.{ArenaNode}
@@ -12,7 +13,7 @@ use Rattle.ve_repair.specs.declared.script.Step.{Step}
 use Rattle.ve_repair.specs.declared.script.Step.TheVariants.{Enter, Leave, Text, Count}
 use Rattle.ve_repair.specs.declared.sizes.OpenFrom.{OpenFrom}
 
--- the open nodes of both lists, innermost first, and both places
+-- the open nodes of both lists, innermost first, and both positions
 pub record Sizing : Type 0 where
   pub old_open : List OpenFrom
   pub new_open : List OpenFrom
@@ -30,7 +31,7 @@ open_from n at = record { node = n; from = at }
 abbrev pub with_level : OpenFrom → Sizing → Sizing
 with_level b s = record { old_open = b ∷ s.old_open; new_open = b ∷ s.new_open; old_at = s.old_at; new_at = s.new_at }
 
--- both lists are at a place
+-- both lists are at a position
 abbrev pub started : ℕ → Sizing → Sizing
 started place s = record { old_open = s.old_open; new_open = s.new_open; old_at = place; new_at = place }
 
@@ -67,7 +68,7 @@ sized_all slots (step ∷ steps) s = sized_all slots steps (sized slots step s)
 abbrev pub resize_of : List (Option ArenaNode) → NodeId → ℕ → List Write
 resize_of slots n len = if nat_eq (len_under slots n) len then [] else Resize n len ∷ []
 
--- the innermost open node ends at a place
+-- the innermost open node ends at a position
 abbrev pub end_writes : List (Option ArenaNode) → List OpenFrom → ℕ → List Write
 end_writes slots [] at = []
 end_writes slots (b ∷ open_) at = resize_of slots b.node (at - b.from)
@@ -87,7 +88,7 @@ abbrev pub sizes_writes : List (Option ArenaNode) → List Step → Sizing → L
 sizes_writes slots [] s = []
 sizes_writes slots (step ∷ steps) s = size_writes slots step s ++ sizes_writes slots steps (sized slots step s)
 
--- What is open at the end: what follows in the old list follows in the new one.
+-- The writes at the end of the range: what follows in the old list follows in the new one.
 abbrev pub open_writes : List (Option ArenaNode) → List OpenFrom → List OpenFrom → ℕ → ℕ → List Write
 open_writes slots [] new old_at new_at = []
 open_writes slots (o ∷ os) [] old_at new_at = []
@@ -109,7 +110,7 @@ abbrev pub StepsAreLive : List (Option ArenaNode) → List Step → Type 0
 StepsAreLive slots [] = Unit {0}
 StepsAreLive slots (step ∷ steps) = StepIsLive slots step × StepsAreLive slots steps
 
--- both places are numbers of places
+-- both positions are numbers of positions
 abbrev pub PlacesFit : Sizing → Type 0
 PlacesFit s = (s.old_at < 2 ^ 64) × (s.new_at < 2 ^ 64)
 

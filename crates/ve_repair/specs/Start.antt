@@ -48,7 +48,8 @@ TextReaches NoNode more = ⊥
 TextReaches (NamedRun n count later) more = more ≤ count
 TextReaches (NamedBranch n kind inside later) more = ⊥
 
--- It is at the place x, or in front of the text in which x lies or at whose end; what is left of it ends with no text.
+-- It is at the position x, or in front of the text in which x lies or at whose end; what is left of
+-- it ends with no text.
 pub record IsStart (f : Named) (root x : ℕ) (start : Start) (stacks : Stacks) (s : Sizing) : Type 0 where
   pub place : Place
   pub whole : f ≡ whole_of place
@@ -67,7 +68,7 @@ pub record IsStart (f : Named) (root x : ℕ) (start : Start) (stacks : Stacks) 
 abbrev pub StartsRange : List (Option ArenaNode) → NodeId → ℕ → Start → Stacks → Sizing → Type 0
 StartsRange slots root x start stacks s = (items : List PlainItem) (tree : IsTree slots root items) → x ≤ length items → IsStart tree.named root.0 x start stacks s
 
--- The code's place lies between two siblings of the forest.
+-- The code's position lies between two siblings of the forest.
 pub record IsBetween (f : Named) (root : ℕ) (edge : Edge) : Type 0 where
   pub place : Place
   pub whole : f ≡ whole_of place
@@ -79,7 +80,8 @@ pub record IsBetween (f : Named) (root : ℕ) (edge : Edge) : Type 0 where
 abbrev pub IsBetweenOf : List (Option ArenaNode) → NodeId → Edge → Type 0
 IsBetweenOf slots root edge = (items : List PlainItem) (tree : IsTree slots root items) → IsBetween tree.named root.0 edge
 
--- It is at the place x, or in front of the text in which x lies or at whose end; what is left of it ends with no text.
+-- It is at the position x, or in front of the text in which x lies or at whose end; what is left of
+-- it ends with no text.
 pub record IsEdge (f : Named) (root x : ℕ) (edge : Edge) : Type 0 where
   pub between : IsBetween f root edge
   pub near : (x ≡ edge.place) ⊎ ((more : ℕ) × (x ≡ edge.place + more) × TextReaches between.place.row more)
@@ -88,7 +90,7 @@ pub record IsEdge (f : Named) (root x : ℕ) (edge : Edge) : Type 0 where
 abbrev pub IsEdgeOf : List (Option ArenaNode) → NodeId → ℕ → Edge → Type 0
 IsEdgeOf slots root x edge = (items : List PlainItem) (tree : IsTree slots root items) → IsEdge tree.named root.0 x edge
 
--- the root and the nodes round a place are open, and no other
+-- the root and the nodes round a position are open, and no other
 pub record AreOpen (root : ℕ) (rs : List Round) (last : Option ℕ) (stacks : Stacks) (s : Sizing) : Type 0 where
   pub old : OldRound root rs stacks.old
   pub new : NewRound root rs last stacks.new

@@ -5,7 +5,7 @@ use Rattle.ve_tree.specs.Links.{Apart}
 use Rattle.ve_repair.specs.Spelled.{Sign, BeginOf, LettersOf, EndOf}
 use Rattle.ve_repair.specs.Script.{Mark, KeptLetter, CutLetter, NewLetter, KeptBegin, CutBegin, NewBegin, KeptEnd, CutEnd, NewEnd}
 
--- a sign of the list, of which the first stands at `from`, stands at a place
+-- a sign of the list, of which the first stands at `from`, stands at a position
 abbrev pub Stands : List Sign → ℕ → Sign → ℕ → Type 0
 Stands [] from s at = ⊥
 Stands (BeginOf n kind ∷ ss) from s at = ((BeginOf n kind ≡ s) × (from ≡ at)) ⊎ Stands ss (suc from) s at
@@ -20,7 +20,7 @@ pub record IsOpening (old : List Sign) (n at : ℕ) : Type 0 where
   pub kind : Kind
   pub stands : Stands old 0 (BeginOf n kind) at
 
--- the place is in the text
+-- the position is in the text
 pub record InText (old : List Sign) (t p : ℕ) : Type 0 where
   pub at : ℕ
   pub count : ℕ
@@ -31,7 +31,8 @@ pub record InText (old : List Sign) (t p : ℕ) : Type 0 where
 abbrev pub NoText : List Sign → ℕ → Type 0
 NoText old p = (t at count : ℕ) → IsText old t at count → at ≤ p → p < at + count → ⊥
 
--- `place` says where an item of the old list stands in the new one. No item stands there that was in the old list:
+-- `place` says where an item of the old list stands in the new one. No item stands there that was
+-- in the old list:
 abbrev pub NoneAt : (ℕ → Option ℕ) → ℕ → Type 0
 NoneAt place q = (p : ℕ) → place p ≢ Some q
 
@@ -55,7 +56,8 @@ pub record FirstOfBoth (place : ℕ → Option ℕ) (at count at' count' : ℕ) 
   pub before' : here < at' + count'
   pub first' : NoneIn place at' here
 
--- A text of the new list is one of the old list where one item is the first of both; or its number is new, and no text of the old list is that.
+-- A text of the new list is one of the old list where one item is the first of both. Or its number
+-- is new, and no text of the old list is that.
 pub record KeptText (place : ℕ → Option ℕ) (old : List Sign) (n at' count' : ℕ) : Type 0 where
   pub at : ℕ
   pub count : ℕ
@@ -84,7 +86,7 @@ AllTraced place old numbers (LettersOf n count ∷ ss) at =
     (KeptText place old n at count ⊎ NewText place old numbers n at count) × AllTraced place old numbers ss (at + count)
 AllTraced place old numbers (EndOf kind ∷ ss) at = AllTraced place old numbers ss (suc at)
 
--- Marks that stand at these places of both lists, and what is said of the places behind them.
+-- Marks that stand at these positions of both lists, and what is said of the positions behind them.
 abbrev pub Goes : (ℕ → Option ℕ) → List Sign → (ℕ → ℕ → Type 0) → List Mark → ℕ → ℕ → Type 0
 Goes place old end [] p q = end p q
 Goes place old end (KeptLetter t ends ∷ ms) p q = (place p ≡ Some q) × InText old t p × Goes place old end ms (suc p) (suc q)
@@ -97,7 +99,7 @@ Goes place old end (KeptEnd kind ∷ ms) p q = NoText old p × Goes place old en
 Goes place old end (CutEnd ∷ ms) p q = (place p ≡ None) × Goes place old end ms (suc p) q
 Goes place old end (NewEnd kind ∷ ms) p q = Goes place old end ms p (suc q)
 
--- No two signs of the old list share a place, and no two texts a number.
+-- No two signs of the old list share a position, and no two texts a number.
 pub record AreOnce (old : List Sign) : Type 0 where
   pub by_place : (t at count t' at' count' p : ℕ) → IsText old t at count → IsText old t' at' count' → at ≤ p → p < at + count → at' ≤ p → p < at' + count' →
       t ≡ t'

@@ -1,4 +1,5 @@
--- What is left for the code to show: the links that a script makes, the labels of the new forest, and that no node stands besides.
+-- Obligations of the code: the links that a script makes, the labels of the new forest, and that no
+-- node stands besides.
 use Rattle.std.specs.Prelude.{◌≡◌, ℕ, Option, None, List, [], ◌∷◌, ◌++◌, length, map}
 use Rattle.ve_kinds.specs.declared.kind.Kind.TheVariants.{Root}
 use Rattle.model_items.specs.declared.plain_item.PlainItem.{PlainItem}
@@ -22,7 +23,7 @@ use Rattle.ve_repair.specs.Changed.{IsChangeOf, HasForest}
 abbrev pub script_of : (ℕ → ℕ) → List Act → List Sign → List Step
 script_of supply acts ss = script_for supply (marks acts ss) (first_reader 0)
 
--- what an arena has once a script is carried out, for a forest of the new list
+-- the arena once a script is carried out, for a forest of the new list
 pub record IsCarriedOut (root : NodeId) (lefts rights : List Sign) (script : List Step) (old new : List (Option ArenaNode)) (named : Named) (others : List PlainItem) : Type 0 where
   pub links : links_of new
       ≡ freed_all (drops script) (script_links (script ++ keeps (map token_of rights)) (work_at root.0 (map token_of lefts) (old_side script (map token_of rights))) (links_of old))
@@ -31,7 +32,8 @@ pub record IsCarriedOut (root : NodeId) (lefts rights : List Sign) (script : Lis
   pub root_labelled : IsLabelled new root.0 (what.Node Root) (length others)
   pub only : (q : ℕ) → Apart q (root.0 ∷ node_numbers named) → slot_at new q ≡ None
 
--- Then it has the tree of the new list, where the numbers of made nodes are distinct and none of the old tree's.
+-- Then it has the tree of the new list, where the numbers of made nodes are distinct and none of
+-- the old tree's.
 abbrev pub ChangeRepairs : Type 0
 ChangeRepairs = (supply : ℕ → ℕ) (root : NodeId) (old new : List (Option ArenaNode)) (items others : List PlainItem) (tree : IsTree old root items) (lefts ss rights : List Sign) (acts : List Act)
     (change : IsChangeOf tree.named lefts ss rights acts others) (forest : HasForest supply tree.named lefts ss rights acts others) →

@@ -18,7 +18,7 @@ use crate::cursor::Cursor;
 use crate::free::free_nodes;
 use crate::plan::Plan;
 use crate::range::ChangedRange;
-use crate::read::Reader;
+use crate::read::ChangeReader;
 use crate::script::How;
 use crate::sizes::Sizes;
 use crate::start::Start;
@@ -38,9 +38,10 @@ pub(crate) struct Begun {
     pub sizes: Sizes,
 }
 
-/// The script of operations, with so many items in front of them that stand in one text with theirs.
+/// The script of operations, with so many items in front of them that stand in one text with
+/// theirs.
 fn read_all<L: Ledger>(
-    reader: &mut Reader,
+    reader: &mut ChangeReader,
     arena: &mut Arena,
     front: usize,
     ops: &[Op],
@@ -50,24 +51,27 @@ fn read_all<L: Ledger>(
     ensures read { OnOk result (ReadsOut arena.old reader.old front ops.now arena.new reader.new) }
     ensures made { MakesOn arena.old reader.old.script arena.new reader.new.script }
     ensures paid { OnOk result (IsPaid steps.old reader.old.script steps.new reader.new.script) }
-    ensures at_most { OnErr result (IsPaidOrOne steps.old reader.old.script steps.new reader.new.script) }
+    ensures at_most { OnErr result (
+        IsPaidOrOne steps.old reader.old.script steps.new reader.new.script) }
     ensures part { OnErr result (StopsAmong arena.old reader.old front ops.now reader.new.script) }
 {
     reader.retain(arena, front, steps)?;
     reader.read(arena, ops, steps)
 }
 
-/// The writes that a script asks for: links, and then lengths. It reads the old tree, and writes nothing.
+/// The writes that a script asks for: links, and then lengths. It reads the old tree, and writes
+/// nothing.
 fn planned(
     arena: &Arena,
     root: NodeId,
-    reader: &Reader,
+    reader: &ChangeReader,
     plan: Plan,
     sizes: Sizes,
 ) -> Result<Vec<Write>, Memory>
     requires can { CanPlan arena.now root reader.now plan.stacks sizes }
     requires nothing { plan.writes ≡ [] }
-    ensures { IfOk result (λ ws. AreAllWrites arena.now root reader.now plan.stacks sizes ws.items) }
+    ensures { IfOk result (λ ws.
+        AreAllWrites arena.now root reader.now plan.stacks sizes ws.items) }
 {
     let mut plan = plan;
     let mut sizes = sizes;
@@ -80,9 +84,15 @@ fn planned(
 }
 
 /// Want of memory: the nodes that were made for a script are freed.
-fn undone<L: Ledger>(arena: &mut Arena, reader: &Reader, steps: &mut Steps<L>) -> Result<(), Memory>
+fn undone<L: Ledger>(
+    arena: &mut Arena,
+    reader: &ChangeReader,
+    steps: &mut Steps<L>,
+) -> Result<(), Memory>
     requires made { SomeMade arena.old reader.now.script }
-    ensures same { (before : Slots) → HasMade before arena.old (nodes_of How.Put reader.now.script) → SameNodes before arena.new }
+    ensures same { (before : Slots)
+        → HasMade before arena.old (nodes_of How.Put reader.now.script)
+        → SameNodes before arena.new }
     ensures err { OnOk result ⊥ }
     ensures steps { steps.new ≡ steps.old + length (nodes_of How.Put reader.now.script) }
 {
@@ -90,8 +100,9 @@ fn undone<L: Ledger>(arena: &mut Arena, reader: &Reader, steps: &mut Steps<L>) -
     Err(Memory)
 }
 
-/// Makes the nodes of a list's tree those of the list that a transaction gives, which is lawful; the transaction has a
-/// replace. `list` is the old list, which no code reads. At `Memory` each node is as before.
+/// Makes the nodes of a list's tree those of the list that a transaction gives, which is lawful;
+/// the transaction has a replace. `list` is the old list, which no code reads. At `Memory` each
+/// node is as before.
 pub(crate) fn relink_nodes<L: Ledger>(
     alloc: Global,
     arena: &mut Arena,
@@ -106,7 +117,8 @@ pub(crate) fn relink_nodes<L: Ledger>(
     requires applies { CanApply tx.now list.now.items }
     requires lawful { LawfulAfter tx.now list.now.items }
     requires range { IsChangedRange (map bare tx.now) range }
-    requires start { StartsRange arena.old root range.from begun.start begun.plan.stacks begun.sizes }
+    requires start { StartsRange arena.old root range.from begun.start begun.plan.stacks
+        begun.sizes }
     requires nothing { begun.plan.writes ≡ [] }
     ensures links { OnOk result (IsTreeAfter arena.new root tx.now list.now.items) }
     ensures numbers { OnOk result (KeepsNumbers arena.old arena.new root tx.now list.now.items) }
@@ -116,7 +128,7 @@ pub(crate) fn relink_nodes<L: Ledger>(
 {
     let ops = tx.ops();
     let start = begun.start;
-    let mut reader = Reader::new(
+    let mut reader = ChangeReader::new(
         alloc,
         Cursor {
             parent: start.parent,

@@ -1,4 +1,4 @@
-// What is open when a script ends.
+// The levels that are open when a script ends.
 ghost use Rattle.std.specs.Prelude.{◌≡◌, ◌≤◌, ◌++◌, OnOk, List};
 ghost use Rattle.model_items.specs.Tree.{item_count};
 ghost use Rattle.ve_tree.specs.Named.{Named, unnumbered};
@@ -9,7 +9,8 @@ use crate::script::How;
 use ve_arena::{Arena, NodeId};
 use ve_base::Memory;
 
-/// The siblings from one on become the last children so far of the innermost new node, one after the other. `most` is no less than the items that they take.
+/// The siblings from one on become the last children so far of the innermost new node, one after
+/// the other. `most` is no less than the items that they take.
 fn keep_rest(
     plan: &mut Plan,
     arena: &Arena,
@@ -17,8 +18,10 @@ fn keep_rest(
     most: usize,
 ) -> Result<(), Memory>
     requires row { IsRoomyRow arena.now first most }
-    ensures stacks { OnOk result (StacksForRow arena.now first most plan.old.stacks plan.new.stacks) }
-    ensures writes { OnOk result (WritesForRow arena.now first most plan.old.stacks plan.old.writes plan.new.writes) }
+    ensures stacks { OnOk result (
+        StacksForRow arena.now first most plan.old.stacks plan.new.stacks) }
+    ensures writes { OnOk result (
+        WritesForRow arena.now first most plan.old.stacks plan.old.writes plan.new.writes) }
 {
     let mut next = first;
     let mut left = most;
@@ -40,7 +43,11 @@ fn keep_level(
 ) -> Result<(), Memory>
     requires row { IsRoomyRow arena.now first most }
     ensures outer { OnOk result (outer_stacks plan.new.stacks ≡ outer_stacks plan.old.stacks) }
-    ensures writes { OnOk result ((f : Named) → IsRowFrom arena.now first f → item_count (unnumbered f) ≤ most → plan.new.writes ≡ plan.old.writes ++ level_writes f plan.old.stacks) }
+    ensures writes { OnOk result (
+        (f : Named)
+        → IsRowFrom arena.now first f
+        → item_count (unnumbered f) ≤ most
+        → plan.new.writes ≡ plan.old.writes ++ level_writes f plan.old.stacks) }
 {
     if plan.is_same_parent() {
         return Ok(());
@@ -48,7 +55,8 @@ fn keep_level(
     keep_rest(plan, arena, first, most)
 }
 
-/// All levels that are open, from the innermost outwards: `first` is what comes next in the innermost one.
+/// All levels that are open, from the innermost outwards: `first` is what comes next in the
+/// innermost one.
 pub(crate) fn close_all(
     plan: &mut Plan,
     arena: &Arena,
@@ -56,7 +64,10 @@ pub(crate) fn close_all(
     most: usize,
 ) -> Result<(), Memory>
     requires left { AreSomeLeft arena.now most plan.old.stacks.old first }
-    ensures writes { OnOk result ((fs : List Named) → AreLeft arena.now most plan.old.stacks.old first fs → plan.new.writes ≡ plan.old.writes ++ close_writes fs plan.old.stacks) }
+    ensures writes { OnOk result (
+        (fs : List Named)
+        → AreLeft arena.now most plan.old.stacks.old first fs
+        → plan.new.writes ≡ plan.old.writes ++ close_writes fs plan.old.stacks) }
 {
     let mut next = first;
     while let Some(open) = plan.innermost() {

@@ -4,7 +4,8 @@ ghost use Rattle.ve_repair.specs.Cursors.{Spot, IsAt, IsAtSome, IsPassed, IsRest
 
 use ve_arena::{Arena, NodeId, NodeWhat};
 
-/// A place in the old tree: the innermost open node, its child that comes next, and how many characters of that child are passed.
+/// A position in the old tree: the innermost open node, its child that comes next, and how many
+/// characters of that child are passed.
 #[derive(Clone, Copy, Drop)]
 pub struct Cursor {
     pub parent: NodeId,
@@ -12,7 +13,7 @@ pub struct Cursor {
     pub inside: usize,
 }
 
-/// What comes next in the old list.
+/// The next token of the old list.
 #[derive(Clone, Copy, Drop)]
 pub enum Ahead {
     /// A node begins.
@@ -23,7 +24,7 @@ pub enum Ahead {
     Closing,
 }
 
-/// What is passed, how many items it takes, and the place behind it.
+/// The passed token, how many items it takes, and the position behind it.
 #[derive(Clone, Copy, Drop)]
 pub struct Passed {
     pub what: Ahead,
@@ -36,7 +37,10 @@ impl Cursor {
     pub(crate) fn pass(self, arena: &Arena, most: usize) -> Passed
         requires some { 1 ≤ most }
         requires at { IsAtSome arena.now self most }
-        ensures { (spot : Spot) → IsAt arena.now self spot → most ≤ items_in spot.rest → IsPassed arena.now most spot result }
+        ensures { (spot : Spot)
+            → IsAt arena.now self spot
+            → most ≤ items_in spot.rest
+            → IsPassed arena.now most spot result }
     {
         let Some(n) = self.next else {
             let node = arena.node(self.parent);

@@ -3,7 +3,7 @@ ghost use Rattle.std.specs.Prelude.{◌≡◌, ◌≤◌, ◌<◌, ◌+◌, ◌^
 ghost use Rattle.model_items.specs.Law as law;
 ghost use Rattle.ve_lawful.specs.Uncited.{after};
 ghost use Rattle.ve_offsets.specs.Docs.{IsDoc};
-ghost use Rattle.ve_repair.specs.Change.{CanApply, LawfulAfter, FailsAfter, piece_of, taken, given};
+ghost use Rattle.ve_repair.specs.Change.{CanApply, LawfulAfter, FailsAfter, piece_of, items_taken, items_made};
 
 use model_items::{Item, LawFault};
 use ve_items::Linear;
@@ -34,12 +34,14 @@ fn pass(state: &mut State, items: &[Item]) -> Result<(), LawFault>
     Ok(())
 }
 
-/// Goes on by so many items of a list from a place on, as it lends them.
+/// Goes on by so many items of a list from a position on, as it lends them.
 fn pass_range(state: &mut State, list: &Linear, at: usize, count: usize) -> Result<(), LawFault>
     requires within { at + count ≤ length list.now.items }
     requires fits { at + count < 2 ^ 64 }
-    ensures ok { OnOk result (after state.old (take count (drop at list.now.items)) ≡ Ok state.new) }
-    ensures err { IfErr result (λ fault. after state.old (take count (drop at list.now.items)) ≡ Err fault) }
+    ensures ok { OnOk result (
+        after state.old (take count (drop at list.now.items)) ≡ Ok state.new) }
+    ensures err { IfErr result (λ fault.
+        after state.old (take count (drop at list.now.items)) ≡ Err fault) }
 {
     let mut done = 0;
     while done < count {
@@ -71,8 +73,8 @@ fn is_same(one: &State, other: &State) -> bool
     }
 }
 
-/// Goes on by items that stay. Where the state before them is the old list's, the state behind them is too: many are then
-/// skipped, and so are the first and the last of a list.
+/// Goes on by items that stay. Where the state before them is the old list's, the state behind them
+/// is too: many are then skipped, and so are the first and the last of a list.
 fn pass_retained(
     state: &mut State,
     doc: Doc<'_>,
@@ -83,8 +85,10 @@ fn pass_retained(
     requires doc { IsDoc doc }
     requires within { at + count ≤ length doc.list.now.items }
     requires fits { at + count < 2 ^ 64 }
-    ensures ok { OnOk result (after state.old (take count (drop at doc.entry.list.now.items)) ≡ Ok state.new) }
-    ensures err { IfErr result (λ fault. after state.old (take count (drop at doc.entry.list.now.items)) ≡ Err fault) }
+    ensures ok { OnOk result (
+        after state.old (take count (drop at doc.entry.list.now.items)) ≡ Ok state.new) }
+    ensures err { IfErr result (λ fault.
+        after state.old (take count (drop at doc.entry.list.now.items)) ≡ Err fault) }
 {
     if is_outer || count > NEAR {
         let old = state_at(doc, at);
@@ -96,7 +100,7 @@ fn pass_retained(
     pass_range(state, doc.list, at, count)
 }
 
-/// Goes on by what an operation puts into the new list.
+/// Goes on by the items that an operation puts into the new list.
 fn pass_op(
     state: &mut State,
     doc: Doc<'_>,
@@ -105,10 +109,12 @@ fn pass_op(
     is_outer: bool,
 ) -> Result<(), LawFault>
     requires doc { IsDoc doc }
-    requires within { at + taken op.now ≤ length doc.list.now.items }
-    requires fits { at + taken op.now < 2 ^ 64 }
-    ensures ok { OnOk result (after state.old (piece_of op.now (drop at doc.entry.list.now.items)) ≡ Ok state.new) }
-    ensures err { IfErr result (λ fault. after state.old (piece_of op.now (drop at doc.entry.list.now.items)) ≡ Err fault) }
+    requires within { at + items_taken op.now ≤ length doc.list.now.items }
+    requires fits { at + items_taken op.now < 2 ^ 64 }
+    ensures ok { OnOk result (
+        after state.old (piece_of op.now (drop at doc.entry.list.now.items)) ≡ Ok state.new) }
+    ensures err { IfErr result (λ fault.
+        after state.old (piece_of op.now (drop at doc.entry.list.now.items)) ≡ Err fault) }
 {
     match op {
         Op::Retain(count) => pass_retained(state, doc, at, *count, is_outer),
@@ -118,7 +124,7 @@ fn pass_op(
 }
 
 pub(crate) fn taken(op: &Op) -> usize
-    ensures { result ≡ taken op.now }
+    ensures { result ≡ items_taken op.now }
 {
     match op {
         Op::Retain(count) => *count,
@@ -128,7 +134,7 @@ pub(crate) fn taken(op: &Op) -> usize
 }
 
 pub(crate) fn given(op: &Op) -> usize
-    ensures { result ≡ given op.now }
+    ensures { result ≡ items_made op.now }
 {
     match op {
         Op::Retain(count) => *count,
@@ -149,10 +155,11 @@ fn ended(state: &State, len: usize) -> Result<(), LawFault>
     }
 }
 
-/// Whether the list is lawful once a transaction is made, or the first place of the new list where it is not. It takes no
-/// memory, and writes nothing. Items that stay before the first change it doesn't read, and those behind the last change
-/// only where the list isn't lawful. Of those that stay between two changes it reads up to 64 in a row, and a longer row
-/// only where the new list has other nodes open there than the old one.
+/// Whether the list is lawful once a transaction is made, or the first position of the new list
+/// where it is not. It takes no memory, and writes nothing. Items that stay before the first change
+/// it doesn't read, and those behind the last change only where the list isn't lawful. Of those
+/// that stay between two changes it reads up to 64 in a row. A longer row it reads only where the
+/// new list has other nodes open there than the old one.
 pub fn check_change(doc: Doc<'_>, tx: &Transaction) -> Result<(), LawFault>
     requires doc { IsDoc doc }
     requires applies { CanApply tx.now doc.list.now.items }

@@ -24,10 +24,10 @@ use ve_store::Store;
 use ve_tree::Tree;
 use ve_tx::Transaction;
 
-/// Makes the tree of a list that of the list which a transaction gives, where that one is lawful; `list` is the old
-/// one. Nodes that stay keep their numbers, and the landmarks follow.
-/// It takes at most eight steps for each node that the transaction touches, and sixteen more, at an `Err` too. The only
-/// refusal is `Memory`: after it the tree is as before, node by node.
+/// Makes the tree of a list that of the list which a transaction gives, where that one is lawful;
+/// `list` is the old one. Nodes that stay keep their numbers, and the landmarks follow. It takes at
+/// most eight steps for each node that the transaction touches, and sixteen more, at an `Err` too.
+/// The only refusal is `Memory`: after it the tree is as before, node by node.
 pub fn relink<L: Ledger>(
     alloc: Global,
     tree: &mut Tree,
@@ -39,9 +39,11 @@ pub fn relink<L: Ledger>(
     requires applies { CanApply tx.now list.now.items }
     requires lawful { LawfulAfter tx.now list.now.items }
     ensures tree { OnOk result (IsTreeOfAfter tree.new tx.now list.now.items) }
-    ensures numbers { OnOk result (KeepsNumbers tree.old.arena tree.new.arena tree.old.root tx.now list.now.items) }
+    ensures numbers { OnOk result (
+        KeepsNumbers tree.old.arena tree.new.arena tree.old.root tx.now list.now.items) }
     ensures root { tree.new.root ≡ tree.old.root }
-    ensures kept { OnErr result ((others : List PlainItem) → IsTreeOf tree.old others → IsTreeOf tree.new others) }
+    ensures kept { OnErr result (
+        (others : List PlainItem) → IsTreeOf tree.old others → IsTreeOf tree.new others) }
     ensures same { OnErr result (SameNodes tree.old.arena tree.new.arena) }
     ensures counted { steps.old ≤ steps.new }
     ensures steps { IsWithinTouch steps.old steps.new tx.now list.now.items }
@@ -77,10 +79,11 @@ fn fault_of(fault: LawFault) -> RepairFault
     }
 }
 
-/// Makes the tree of a list that of the list which a transaction gives; `list` is the old one. It is refused where the
-/// new list is not lawful, as `Unlawful` or `TooDeep` with its first offence and the place of that in the new list, in
-/// items: then nothing is written, and no step is taken. At want of memory it is refused as `Memory`, and the new list
-/// is lawful. After each refusal the tree is as before, node by node. It takes at most eight steps for each node that the
+/// Makes the tree of a list that of the list which a transaction gives; `list` is the old one.
+/// Where the new list is not lawful it is refused as `Unlawful` or `TooDeep`, with its first
+/// offence and the position of that in the new list, in items. Then nothing is written, and no step
+/// is taken. At want of memory it is refused as `Memory`, and the new list is lawful. After each
+/// refusal the tree is as before, node by node. It takes at most eight steps for each node that the
 /// transaction touches, and sixteen more.
 pub fn repair<L: Ledger>(
     alloc: Global,
@@ -93,9 +96,11 @@ pub fn repair<L: Ledger>(
     requires applies { CanApply tx.now list.now.items }
     ensures tree { OnOk result (IsTreeOfAfter tree.new tx.now list.now.items) }
     ensures cause { IfErr result (IsCause tx.now list.now.items) }
-    ensures numbers { OnOk result (KeepsNumbers tree.old.arena tree.new.arena tree.old.root tx.now list.now.items) }
+    ensures numbers { OnOk result (
+        KeepsNumbers tree.old.arena tree.new.arena tree.old.root tx.now list.now.items) }
     ensures root { tree.new.root ≡ tree.old.root }
-    ensures kept { OnErr result ((others : List PlainItem) → IsTreeOf tree.old others → IsTreeOf tree.new others) }
+    ensures kept { OnErr result (
+        (others : List PlainItem) → IsTreeOf tree.old others → IsTreeOf tree.new others) }
     ensures same { OnErr result (SameNodes tree.old.arena tree.new.arena) }
     ensures none { IfErr result (CostsNone steps.old steps.new) }
     ensures counted { steps.old ≤ steps.new }

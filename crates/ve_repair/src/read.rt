@@ -1,4 +1,5 @@
-// The script of a change: one pass over its operations, with a cursor in the old tree. Nothing is written but the nodes that it makes.
+// The script of a change: one pass over its operations, with a cursor in the old tree. Nothing is
+// written but the nodes that it makes.
 ghost use Rattle.std.specs.Prelude.{◌≡◌, ◌≤◌, ℕ, ◌<◌, ◌+◌, ◌^◌, [], ◌∷◌, ◌++◌, None, Some, IfOk, OnOk, OnErr, length, replicate, option_map};
 ghost use Rattle.ve_arena.specs.Arena.{slot_at, new_node};
 ghost use Rattle.ve_tree.specs.Links.{number_of};
@@ -35,16 +36,17 @@ pub struct TextRun {
     pub any: bool,
 }
 
-/// The cursor in the old tree, the text node of the last retained character, the run of the new list, and the script so far.
+/// The cursor in the old tree, the text node of the last retained character, the run of the new
+/// list, and the script so far.
 #[derive(Drop)]
-pub(crate) struct Reader {
+pub(crate) struct ChangeReader {
     at: Cursor,
     seen: Option<NodeId>,
     run: Option<TextRun>,
     script: Vec<Step>,
 }
 
-impl Model for Reader {
+impl Model for ChangeReader {
     ghost use Rattle.ve_repair.specs.Reader.{Reading};
 
     ghost Value = { Reading };
@@ -71,12 +73,12 @@ fn is_same(one: Option<NodeId>, n: NodeId) -> bool
     }
 }
 
-impl Reader {
+impl ChangeReader {
     /// Nothing is read, from a cursor on. It takes no memory.
-    pub(crate) fn new(alloc: Global, at: Cursor) -> Reader
+    pub(crate) fn new(alloc: Global, at: Cursor) -> ChangeReader
         ensures { result ≡ record { at = at; seen = None; run = None; script = [] } }
     {
-        Reader {
+        ChangeReader {
             at,
             seen: None,
             run: None,
@@ -110,7 +112,8 @@ impl Reader {
         ensures keeps { Keeps arena.old arena.new }
         ensures made { MakesOn arena.old self.old.script arena.new self.new.script }
         ensures paid { OnOk result (IsPaid steps.old self.old.script steps.new self.new.script) }
-        ensures at_most { OnErr result (IsPaidOrOne steps.old self.old.script steps.new self.new.script) }
+        ensures at_most { OnErr result (
+            IsPaidOrOne steps.old self.old.script steps.new self.new.script) }
         ensures same { OnErr result (self.new.script ≡ self.old.script) }
     {
         self.script.reserve(1)?;
@@ -143,14 +146,15 @@ impl Reader {
     }
 }
 
-impl Reader {
+impl ChangeReader {
     /// The run of the new list ends: its text is the one that it keeps, or one that is made.
     fn end_run<L: Ledger>(&mut self, arena: &mut Arena, steps: &mut Steps<L>) -> Result<(), Memory>
         requires { letters_in self.old.run < 2 ^ 64 }
         ensures ends { OnOk result (RunEnds arena.old arena.new self.old [] self.new) }
         ensures made { MakesOn arena.old self.old.script arena.new self.new.script }
         ensures paid { OnOk result (IsPaid steps.old self.old.script steps.new self.new.script) }
-        ensures at_most { OnErr result (IsPaidOrOne steps.old self.old.script steps.new self.new.script) }
+        ensures at_most { OnErr result (
+            IsPaidOrOne steps.old self.old.script steps.new self.new.script) }
         ensures stopped { OnErr result (made_count self.new.script ≤ made_when_ended self.old) }
     {
         let Some(run) = self.run else {
@@ -175,7 +179,8 @@ impl Reader {
         ensures ends { OnOk result (RunEnds arena.old arena.new self.old (step ∷ []) self.new) }
         ensures made { MakesOn arena.old self.old.script arena.new self.new.script }
         ensures paid { OnOk result (IsPaid steps.old self.old.script steps.new self.new.script) }
-        ensures at_most { OnErr result (IsPaidOrOne steps.old self.old.script steps.new self.new.script) }
+        ensures at_most { OnErr result (
+            IsPaidOrOne steps.old self.old.script steps.new self.new.script) }
         ensures stopped { OnErr result (made_count self.new.script ≤ made_when_ended self.old) }
     {
         self.end_run(arena, steps)?;
@@ -190,11 +195,15 @@ impl Reader {
         steps: &mut Steps<L>,
     ) -> Result<NodeId, Memory>
         requires { letters_in self.old.run < 2 ^ 64 }
-        ensures ends { IfOk result (λ n. RunEnds arena.old arena.new self.old (put_step (NodeWhat.Node kind) n ∷ []) self.new) }
-        ensures node { IfOk result (λ n. slot_at arena.new n.0 ≡ Some (new_node (NodeWhat.Node kind))) }
+        ensures ends { IfOk result (λ n.
+            RunEnds arena.old arena.new self.old (put_step (NodeWhat.Node kind) n ∷ [])
+            self.new) }
+        ensures node { IfOk result (λ n.
+            slot_at arena.new n.0 ≡ Some (new_node (NodeWhat.Node kind))) }
         ensures made { MakesOn arena.old self.old.script arena.new self.new.script }
         ensures paid { OnOk result (IsPaid steps.old self.old.script steps.new self.new.script) }
-        ensures at_most { OnErr result (IsPaidOrOne steps.old self.old.script steps.new self.new.script) }
+        ensures at_most { OnErr result (
+            IsPaidOrOne steps.old self.old.script steps.new self.new.script) }
         ensures stopped { OnErr result (made_count self.new.script ≤ made_when_ended self.old) }
     {
         self.end_run(arena, steps)?;
@@ -221,7 +230,8 @@ impl Reader {
         };
     }
 
-    /// Of a text that had a retained character before nothing is noted; of another one, that it stays where the run keeps none, and else that it goes.
+    /// Of a text that had a retained character before nothing is noted; of another one, that it
+    /// stays where the run keeps none, and else that it goes.
     fn note_text(&mut self, n: NodeId, run: TextRun) -> Result<(), Memory>
         requires { self.old.run ≡ Some run }
         ensures reader { OnOk result (self.new ≡ kept_text n self.old) }
@@ -257,8 +267,8 @@ impl Reader {
     }
 }
 
-impl Reader {
-    /// What the cursor passes stays.
+impl ChangeReader {
+    /// Retains the token that the cursor passes.
     fn retain_passed<L: Ledger>(
         &mut self,
         arena: &mut Arena,
@@ -270,7 +280,8 @@ impl Reader {
         ensures read { OnOk result (RetainsPassed arena.old self.old passed arena.new self.new) }
         ensures made { MakesOn arena.old self.old.script arena.new self.new.script }
         ensures paid { OnOk result (IsPaid steps.old self.old.script steps.new self.new.script) }
-        ensures at_most { OnErr result (IsPaidOrOne steps.old self.old.script steps.new self.new.script) }
+        ensures at_most { OnErr result (
+            IsPaidOrOne steps.old self.old.script steps.new self.new.script) }
         ensures part { OnErr result (StopsAtPassed arena.old self.old passed self.new.script) }
     {
         self.at = passed.at;
@@ -297,11 +308,20 @@ impl Reader {
         requires reads { IsReading arena.old self.old most 0 }
         ensures some { IfOk result (λ k. 1 ≤ k) }
         ensures few { IfOk result (λ k. k ≤ most) }
-        ensures read { IfOk result (λ k. (c : Course) → HasRead c arena.old self.old → most ≤ items_in c.spot.rest → HasRead (with_stays k c) arena.new self.new) }
+        ensures read { IfOk result (λ k.
+            (c : Course)
+            → HasRead c arena.old self.old
+            → most ≤ items_in c.spot.rest
+            → HasRead (with_stays k c) arena.new self.new) }
         ensures made { MakesOn arena.old self.old.script arena.new self.new.script }
         ensures paid { OnOk result (IsPaid steps.old self.old.script steps.new self.new.script) }
-        ensures at_most { OnErr result (IsPaidOrOne steps.old self.old.script steps.new self.new.script) }
-        ensures part { OnErr result ((c : Course) → HasRead c arena.old self.old → most ≤ items_in c.spot.rest → IsPart c (replicate most Stay) self.new.script) }
+        ensures at_most { OnErr result (
+            IsPaidOrOne steps.old self.old.script steps.new self.new.script) }
+        ensures part { OnErr result (
+            (c : Course)
+            → HasRead c arena.old self.old
+            → most ≤ items_in c.spot.rest
+            → IsPart c (replicate most Stay) self.new.script) }
     {
         let passed = self.at.pass(arena, most);
         self.retain_passed(arena, passed, steps)?;
@@ -316,11 +336,20 @@ impl Reader {
         steps: &mut Steps<L>,
     ) -> Result<(), Memory>
         requires reads { IsReading arena.old self.old count 0 }
-        ensures read { OnOk result ((c : Course) → HasRead c arena.old self.old → count ≤ items_in c.spot.rest → HasRead (with_stays count c) arena.new self.new) }
+        ensures read { OnOk result (
+            (c : Course)
+            → HasRead c arena.old self.old
+            → count ≤ items_in c.spot.rest
+            → HasRead (with_stays count c) arena.new self.new) }
         ensures made { MakesOn arena.old self.old.script arena.new self.new.script }
         ensures paid { OnOk result (IsPaid steps.old self.old.script steps.new self.new.script) }
-        ensures at_most { OnErr result (IsPaidOrOne steps.old self.old.script steps.new self.new.script) }
-        ensures part { OnErr result ((c : Course) → HasRead c arena.old self.old → count ≤ items_in c.spot.rest → IsPart c (replicate count Stay) self.new.script) }
+        ensures at_most { OnErr result (
+            IsPaidOrOne steps.old self.old.script steps.new self.new.script) }
+        ensures part { OnErr result (
+            (c : Course)
+            → HasRead c arena.old self.old
+            → count ≤ items_in c.spot.rest
+            → IsPart c (replicate count Stay) self.new.script) }
     {
         let mut left = count;
         while left > 0 {
@@ -332,7 +361,10 @@ impl Reader {
 
     /// Characters of a text go. Its node goes with the last of them, unless one was retained.
     fn cut_text(&mut self, n: NodeId, ends: bool) -> Result<(), Memory>
-        ensures reader { OnOk result (self.new ≡ with_steps (cut_steps (is_seen (option_map number_of self.old.seen) n.0) ends n) self.old) }
+        ensures reader { OnOk result (
+            self.new
+            ≡ with_steps (cut_steps (is_seen (option_map number_of self.old.seen) n.0) ends n)
+            self.old) }
         ensures same { MakesSame self.old.script self.new.script }
     {
         if !ends || is_same(self.seen, n) {
@@ -341,7 +373,7 @@ impl Reader {
         self.note(Step::Text { how: How::Cut, n })
     }
 
-    /// What the cursor passes goes.
+    /// Removes the token that the cursor passes.
     fn remove_passed(&mut self, passed: Passed) -> Result<(), Memory>
         ensures read { OnOk result (RemovesPassed self.old passed self.new) }
         ensures same { MakesSame self.old.script self.new.script }
@@ -360,7 +392,11 @@ impl Reader {
         requires reads { IsReading arena.now self.old most 0 }
         ensures some { IfOk result (λ k. 1 ≤ k) }
         ensures few { IfOk result (λ k. k ≤ most) }
-        ensures read { IfOk result (λ k. (c : Course) → HasRead c arena.now self.old → most ≤ items_in c.spot.rest → HasRead (with_gone k c) arena.now self.new) }
+        ensures read { IfOk result (λ k.
+            (c : Course)
+            → HasRead c arena.now self.old
+            → most ≤ items_in c.spot.rest
+            → HasRead (with_gone k c) arena.now self.new) }
         ensures same { MakesSame self.old.script self.new.script }
     {
         let passed = self.at.pass(arena, most);
@@ -371,7 +407,11 @@ impl Reader {
     /// So many items go.
     pub(crate) fn remove(&mut self, arena: &Arena, count: usize) -> Result<(), Memory>
         requires reads { IsReading arena.now self.old count 0 }
-        ensures read { OnOk result ((c : Course) → HasRead c arena.now self.old → count ≤ items_in c.spot.rest → HasRead (with_gone count c) arena.now self.new) }
+        ensures read { OnOk result (
+            (c : Course)
+            → HasRead c arena.now self.old
+            → count ≤ items_in c.spot.rest
+            → HasRead (with_gone count c) arena.now self.new) }
         ensures same { MakesSame self.old.script self.new.script }
     {
         let mut left = count;
@@ -383,7 +423,7 @@ impl Reader {
     }
 }
 
-impl Reader {
+impl ChangeReader {
     /// An item comes.
     fn come<L: Ledger>(
         &mut self,
@@ -392,11 +432,18 @@ impl Reader {
         steps: &mut Steps<L>,
     ) -> Result<(), Memory>
         requires reads { IsReading arena.old self.old 0 1 }
-        ensures read { OnOk result ((c : Course) → HasRead c arena.old self.old → HaveCome (item ∷ []) c arena.new self.new) }
+        ensures read { OnOk result (
+            (c : Course)
+            → HasRead c arena.old self.old
+            → HaveCome (item ∷ []) c arena.new self.new) }
         ensures made { MakesOn arena.old self.old.script arena.new self.new.script }
         ensures paid { OnOk result (IsPaid steps.old self.old.script steps.new self.new.script) }
-        ensures at_most { OnErr result (IsPaidOrOne steps.old self.old.script steps.new self.new.script) }
-        ensures part { OnErr result ((c : Course) → HasRead c arena.old self.old → IsPart c (come (item ∷ []) []) self.new.script) }
+        ensures at_most { OnErr result (
+            IsPaidOrOne steps.old self.old.script steps.new self.new.script) }
+        ensures part { OnErr result (
+            (c : Course)
+            → HasRead c arena.old self.old
+            → IsPart c (come (item ∷ []) []) self.new.script) }
     {
         match item {
             Item::Char { .. } => {
@@ -419,11 +466,18 @@ impl Reader {
         steps: &mut Steps<L>,
     ) -> Result<(), Memory>
         requires reads { IsReading arena.old self.old 0 (length items.now) }
-        ensures read { OnOk result ((c : Course) → HasRead c arena.old self.old → HaveCome items.now c arena.new self.new) }
+        ensures read { OnOk result (
+            (c : Course)
+            → HasRead c arena.old self.old
+            → HaveCome items.now c arena.new self.new) }
         ensures made { MakesOn arena.old self.old.script arena.new self.new.script }
         ensures paid { OnOk result (IsPaid steps.old self.old.script steps.new self.new.script) }
-        ensures at_most { OnErr result (IsPaidOrOne steps.old self.old.script steps.new self.new.script) }
-        ensures part { OnErr result ((c : Course) → HasRead c arena.old self.old → IsPart c (come items.now []) self.new.script) }
+        ensures at_most { OnErr result (
+            IsPaidOrOne steps.old self.old.script steps.new self.new.script) }
+        ensures part { OnErr result (
+            (c : Course)
+            → HasRead c arena.old self.old
+            → IsPart c (come items.now []) self.new.script) }
     {
         for item in items {
             self.come(arena, *item, steps)?;
@@ -432,7 +486,7 @@ impl Reader {
     }
 }
 
-impl Reader {
+impl ChangeReader {
     /// The text that the cursor is in stays to its end, and the run ends.
     fn rest_of_run<L: Ledger>(
         &mut self,
@@ -440,11 +494,14 @@ impl Reader {
         steps: &mut Steps<L>,
     ) -> Result<(), Memory>
         requires reads { IsReading arena.old self.old 0 0 }
-        ensures read { OnOk result ((c : Course) → HasRead c arena.old self.old → IsReadOut c arena.new self.new) }
+        ensures read { OnOk result (
+            (c : Course) → HasRead c arena.old self.old → IsReadOut c arena.new self.new) }
         ensures made { MakesOn arena.old self.old.script arena.new self.new.script }
         ensures paid { OnOk result (IsPaid steps.old self.old.script steps.new self.new.script) }
-        ensures at_most { OnErr result (IsPaidOrOne steps.old self.old.script steps.new self.new.script) }
-        ensures part { OnErr result ((c : Course) → HasRead c arena.old self.old → IsPartOut [] c self.new.script) }
+        ensures at_most { OnErr result (
+            IsPaidOrOne steps.old self.old.script steps.new self.new.script) }
+        ensures part { OnErr result (
+            (c : Course) → HasRead c arena.old self.old → IsPartOut [] c self.new.script) }
     {
         let count = self.at.rest_of_text(arena);
         self.retain(arena, count, steps)?;
@@ -460,11 +517,17 @@ impl Reader {
         steps: &mut Steps<L>,
     ) -> Result<(), Memory>
         requires reads { IsReading arena.old self.old removed (length inserted.now) }
-        ensures read { OnOk result ((c : Course) → HasRead c arena.old self.old → removed ≤ items_in c.spot.rest → HaveCome inserted.now (with_gone removed c) arena.new self.new) }
+        ensures read { OnOk result (
+            (c : Course)
+            → HasRead c arena.old self.old
+            → removed ≤ items_in c.spot.rest
+            → HaveCome inserted.now (with_gone removed c) arena.new self.new) }
         ensures made { MakesOn arena.old self.old.script arena.new self.new.script }
         ensures paid { OnOk result (IsPaid steps.old self.old.script steps.new self.new.script) }
-        ensures at_most { OnErr result (IsPaidOrOne steps.old self.old.script steps.new self.new.script) }
-        ensures part { OnErr result (StopsAtReplace arena.old self.old removed inserted.now self.new.script) }
+        ensures at_most { OnErr result (
+            IsPaidOrOne steps.old self.old.script steps.new self.new.script) }
+        ensures part { OnErr result (
+            StopsAtReplace arena.old self.old removed inserted.now self.new.script) }
     {
         self.remove(arena, removed)?;
         self.insert(arena, inserted, steps)
@@ -476,12 +539,22 @@ impl Reader {
         op: &Op,
         steps: &mut Steps<L>,
     ) -> Result<(), Memory>
-        requires reads { IsReading arena.old self.old (old_size (op.now ∷ [])) (come_size (op.now ∷ [])) }
-        ensures read { OnOk result ((c : Course) → HasRead c arena.old self.old → old_size (op.now ∷ []) ≤ items_in c.spot.rest → AreDone (op.now ∷ []) c arena.new self.new) }
+        requires reads { IsReading arena.old self.old (old_size (op.now ∷ [])) (
+            come_size (op.now ∷ [])) }
+        ensures read { OnOk result (
+            (c : Course)
+            → HasRead c arena.old self.old
+            → old_size (op.now ∷ []) ≤ items_in c.spot.rest
+            → AreDone (op.now ∷ []) c arena.new self.new) }
         ensures made { MakesOn arena.old self.old.script arena.new self.new.script }
         ensures paid { OnOk result (IsPaid steps.old self.old.script steps.new self.new.script) }
-        ensures at_most { OnErr result (IsPaidOrOne steps.old self.old.script steps.new self.new.script) }
-        ensures part { OnErr result ((c : Course) → HasRead c arena.old self.old → old_size (op.now ∷ []) ≤ items_in c.spot.rest → IsPart c (acts_of (op.now ∷ []) []) self.new.script) }
+        ensures at_most { OnErr result (
+            IsPaidOrOne steps.old self.old.script steps.new self.new.script) }
+        ensures part { OnErr result (
+            (c : Course)
+            → HasRead c arena.old self.old
+            → old_size (op.now ∷ []) ≤ items_in c.spot.rest
+            → IsPart c (acts_of (op.now ∷ []) []) self.new.script) }
     {
         match op {
             Op::Retain(count) => self.retain(arena, *count, steps),
@@ -500,11 +573,20 @@ impl Reader {
         steps: &mut Steps<L>,
     ) -> Result<(), Memory>
         requires reads { IsReading arena.old self.old (old_size ops.now) (come_size ops.now) }
-        ensures read { OnOk result ((c : Course) → HasRead c arena.old self.old → old_size ops.now ≤ items_in c.spot.rest → AreDone ops.now c arena.new self.new) }
+        ensures read { OnOk result (
+            (c : Course)
+            → HasRead c arena.old self.old
+            → old_size ops.now ≤ items_in c.spot.rest
+            → AreDone ops.now c arena.new self.new) }
         ensures made { MakesOn arena.old self.old.script arena.new self.new.script }
         ensures paid { OnOk result (IsPaid steps.old self.old.script steps.new self.new.script) }
-        ensures at_most { OnErr result (IsPaidOrOne steps.old self.old.script steps.new self.new.script) }
-        ensures part { OnErr result ((c : Course) → HasRead c arena.old self.old → old_size ops.now ≤ items_in c.spot.rest → IsPart c (acts_of ops.now []) self.new.script) }
+        ensures at_most { OnErr result (
+            IsPaidOrOne steps.old self.old.script steps.new self.new.script) }
+        ensures part { OnErr result (
+            (c : Course)
+            → HasRead c arena.old self.old
+            → old_size ops.now ≤ items_in c.spot.rest
+            → IsPart c (acts_of ops.now []) self.new.script) }
     {
         for op in ops {
             self.pass_op(arena, op, steps)?;
@@ -512,7 +594,8 @@ impl Reader {
         Ok(())
     }
 
-    /// The operations from the first replace to the last, and then the rest of the text that they end in.
+    /// The operations from the first replace to the last, and then the rest of the text that they
+    /// end in.
     pub(crate) fn read<L: Ledger>(
         &mut self,
         arena: &mut Arena,
@@ -520,11 +603,20 @@ impl Reader {
         steps: &mut Steps<L>,
     ) -> Result<(), Memory>
         requires reads { IsReading arena.old self.old (old_size ops.now) (come_size ops.now) }
-        ensures read { OnOk result ((c : Course) → HasRead c arena.old self.old → old_size ops.now ≤ items_in c.spot.rest → AreReadOut ops.now c arena.new self.new) }
+        ensures read { OnOk result (
+            (c : Course)
+            → HasRead c arena.old self.old
+            → old_size ops.now ≤ items_in c.spot.rest
+            → AreReadOut ops.now c arena.new self.new) }
         ensures made { MakesOn arena.old self.old.script arena.new self.new.script }
         ensures paid { OnOk result (IsPaid steps.old self.old.script steps.new self.new.script) }
-        ensures at_most { OnErr result (IsPaidOrOne steps.old self.old.script steps.new self.new.script) }
-        ensures part { OnErr result ((c : Course) → HasRead c arena.old self.old → old_size ops.now ≤ items_in c.spot.rest → IsPartOut ops.now c self.new.script) }
+        ensures at_most { OnErr result (
+            IsPaidOrOne steps.old self.old.script steps.new self.new.script) }
+        ensures part { OnErr result (
+            (c : Course)
+            → HasRead c arena.old self.old
+            → old_size ops.now ≤ items_in c.spot.rest
+            → IsPartOut ops.now c self.new.script) }
     {
         self.pass_ops(arena, ops, steps)?;
         self.rest_of_run(arena, steps)

@@ -12,14 +12,14 @@ use std::marker::Model;
 use ve_arena::{Arena, NodeId};
 use ve_base::Memory;
 
-/// An open node, and the place of its list where it begins.
+/// An open node, and the position of its list where it begins.
 #[derive(Clone, Copy, Drop)]
 pub struct OpenFrom {
     pub node: NodeId,
     pub from: usize,
 }
 
-/// The open nodes of both lists, and both places.
+/// The open nodes of both lists, and both positions.
 #[derive(Drop)]
 pub(crate) struct Sizes {
     old_open: Stack<OpenFrom>,
@@ -47,7 +47,7 @@ fn resize(arena: &Arena, n: NodeId, len: usize, writes: &mut Vec<Write>) -> Resu
     Ok(())
 }
 
-/// The innermost open node ends at a place.
+/// The innermost open node ends at a position.
 fn end_at(
     arena: &Arena,
     levels: &Stack<OpenFrom>,
@@ -55,7 +55,8 @@ fn end_at(
     writes: &mut Vec<Write>,
 ) -> Result<(), Memory>
     requires { AllOpenLive arena.now levels.now }
-    ensures { OnOk result (writes.new.items ≡ writes.old.items ++ end_writes arena.now levels.now at) }
+    ensures { OnOk result (
+        writes.new.items ≡ writes.old.items ++ end_writes arena.now levels.now at) }
 {
     match levels.top() {
         Some(level) => resize(arena, level.node, at.saturating_sub(level.from), writes),
@@ -77,7 +78,7 @@ impl Sizes {
         }
     }
 
-    /// Both lists are at a place.
+    /// Both lists are at a position.
     pub(crate) fn start(&mut self, place: usize)
         ensures { self.new ≡ started place self.old }
     {
@@ -85,7 +86,8 @@ impl Sizes {
         self.new_at = place;
     }
 
-    /// A node that is open in both lists where the changed range begins, inside those that are open already.
+    /// A node that is open in both lists where the changed range begins, inside those that are open
+    /// already.
     pub(crate) fn begin(&mut self, level: OpenFrom) -> Result<(), Memory>
         ensures { OnOk result (self.new ≡ with_level level self.old) }
     {
@@ -143,7 +145,8 @@ impl Sizes {
         requires live { AllOpenLive arena.now self.old.new_open }
         requires fits { PlacesFit (left How.Put self.old) }
         ensures sizes { OnOk result (self.new ≡ left How.Put self.old) }
-        ensures writes { OnOk result (writes.new.items ≡ writes.old.items ++ left_writes arena.now How.Put self.old) }
+        ensures writes { OnOk result (
+            writes.new.items ≡ writes.old.items ++ left_writes arena.now How.Put self.old) }
     {
         self.new_at += 1;
         end_at(arena, &self.new_open, self.new_at, writes)?;
@@ -155,7 +158,8 @@ impl Sizes {
         requires live { AllOpenLive arena.now self.old.new_open }
         requires fits { PlacesFit (left how self.old) }
         ensures sizes { OnOk result (self.new ≡ left how self.old) }
-        ensures writes { OnOk result (writes.new.items ≡ writes.old.items ++ left_writes arena.now how self.old) }
+        ensures writes { OnOk result (
+            writes.new.items ≡ writes.old.items ++ left_writes arena.now how self.old) }
     {
         match how {
             How::Keep => {
@@ -194,7 +198,8 @@ impl Sizes {
         requires named { StepIsLive arena.now step }
         requires fits { PlacesFit (sized arena.now step self.old) }
         ensures sizes { OnOk result (self.new ≡ sized arena.now step self.old) }
-        ensures writes { OnOk result (writes.new.items ≡ writes.old.items ++ size_writes arena.now step self.old) }
+        ensures writes { OnOk result (
+            writes.new.items ≡ writes.old.items ++ size_writes arena.now step self.old) }
     {
         match step {
             Step::Enter { how, n } => self.enter(how, n),
@@ -221,7 +226,8 @@ impl Sizes {
         requires named { StepsAreLive arena.now script.now }
         requires fits { PlacesFit (sized_all arena.now script.now self.old) }
         ensures sizes { OnOk result (self.new ≡ sized_all arena.now script.now self.old) }
-        ensures writes { OnOk result (writes.new.items ≡ writes.old.items ++ sizes_writes arena.now script.now self.old) }
+        ensures writes { OnOk result (
+            writes.new.items ≡ writes.old.items ++ sizes_writes arena.now script.now self.old) }
     {
         for step in script {
             self.step(arena, *step, writes)?;
@@ -229,12 +235,17 @@ impl Sizes {
         Ok(())
     }
 
-    /// What is open at the end of the range, innermost first: what follows in the old list is as long as before.
+    /// Notes the lengths of the nodes that are open at the end of the range, innermost first: the
+    /// rest of the old list is as long as before.
     pub(crate) fn close(&mut self, arena: &Arena, writes: &mut Vec<Write>) -> Result<(), Memory>
         requires old { AllOpenLive arena.now self.old.old_open }
         requires new { AllOpenLive arena.now self.old.new_open }
         requires fits { LengthsFit arena.now self.old.old_open self.old.new_at }
-        ensures { OnOk result (writes.new.items ≡ writes.old.items ++ open_writes arena.now self.old.old_open self.old.new_open self.old.old_at self.old.new_at) }
+        ensures { OnOk result (
+            writes.new.items
+            ≡ writes.old.items
+            ++ open_writes arena.now self.old.old_open self.old.new_open self.old.old_at
+            self.old.new_at) }
     {
         while let Some(outer) = self.old_open.top() {
             let Some(begun) = self.new_open.top() else {

@@ -12,7 +12,8 @@ use ve_arena::{NodeId, NodeWhat};
 use ve_base::Memory;
 use ve_tree::Tree;
 
-/// The start of the changed range, where it is widened to whole texts: the innermost node that is open there, the child that comes next, and the place.
+/// The start of the changed range, where it is widened to whole texts: the innermost node that is
+/// open there, the child that comes next, and the position.
 #[derive(Clone, Copy, Drop)]
 pub struct Start {
     pub parent: NodeId,
@@ -20,7 +21,7 @@ pub struct Start {
     pub place: usize,
 }
 
-/// An open node, the place of its opening, and the last of its children so far.
+/// An open node, the position of its opening, and the last of its children so far.
 #[derive(Clone, Copy, Drop)]
 pub(crate) struct Opened {
     node: NodeId,
@@ -28,7 +29,8 @@ pub(crate) struct Opened {
     last: Option<NodeId>,
 }
 
-/// A place between two children of a node: the node, the child before it, the child that comes next, and the place in the list.
+/// A position between two children of a node: the node, the child before it, the child that comes
+/// next, and the position in the list.
 #[derive(Clone, Copy)]
 pub(crate) struct Edge {
     node: NodeId,
@@ -37,7 +39,7 @@ pub(crate) struct Edge {
     place: usize,
 }
 
-/// The place, or the start of the text that ends at it.
+/// The position, or the start of the text that ends at it.
 fn before_text(tree: &Tree, edge: Edge) -> Edge
     requires tree { IsSomeTree tree.now.arena tree.now.root }
     requires between { IsBetweenOf tree.now.arena tree.now.root edge }
@@ -58,7 +60,7 @@ fn before_text(tree: &Tree, edge: Edge) -> Edge
     }
 }
 
-/// A place of the list, or the start of the text that it lies in or that ends at it.
+/// A position of the list, or the start of the text that it lies in or that ends at it.
 fn edge_at(tree: &Tree, x: usize) -> Edge
     requires { HasOffset tree.now x }
     ensures { IsEdgeOf tree.now.arena tree.now.root x result }
@@ -95,7 +97,8 @@ fn edge_at(tree: &Tree, x: usize) -> Edge
 
 /// The node is open in both lists, inside those that are.
 fn begin(inner: Opened, plan: &mut Plan, sizes: &mut Sizes) -> Result<(), Memory>
-    ensures stacks { OnOk result (plan.new.stacks ≡ begun_stacks (opened_level inner) plan.old.stacks) }
+    ensures stacks { OnOk result (
+        plan.new.stacks ≡ begun_stacks (opened_level inner) plan.old.stacks) }
     ensures writes { OnOk result (plan.new.writes ≡ plan.old.writes) }
     ensures sizes { OnOk result (sizes.new ≡ with_level (opened_from inner) sizes.old) }
 {
@@ -109,7 +112,8 @@ fn begin(inner: Opened, plan: &mut Plan, sizes: &mut Sizes) -> Result<(), Memory
     })
 }
 
-/// The nodes from the root down to this one are open in both lists. It calls itself once for each, and they stand no deeper than the law allows.
+/// The nodes from the root down to this one are open in both lists. It calls itself once for each,
+/// and they stand no deeper than the law allows.
 fn begin_round(
     tree: &Tree,
     n: NodeId,
@@ -122,7 +126,8 @@ fn begin_round(
     requires new { plan.old.stacks.new ≡ [] }
     requires old_open { sizes.old.old_open ≡ [] }
     requires new_open { sizes.old.new_open ≡ [] }
-    ensures open_nodes { OnOk result (OpensRound tree.now.arena tree.now.root n last plan.new.stacks sizes.new) }
+    ensures open_nodes { OnOk result (
+        OpensRound tree.now.arena tree.now.root n last plan.new.stacks sizes.new) }
     ensures writes { OnOk result (plan.new.writes ≡ plan.old.writes) }
 {
     let inner = Opened {
@@ -137,7 +142,8 @@ fn begin_round(
     begin(inner, plan, sizes)
 }
 
-/// The start of a range that begins at a place of the list. It is looked up from the landmarks near it, so its cost doesn't grow with the page.
+/// The start of a range that begins at a position of the list. It is looked up from the landmarks
+/// near it, so its cost doesn't grow with the page.
 pub(crate) fn start_at(
     tree: &Tree,
     x: usize,
@@ -149,7 +155,8 @@ pub(crate) fn start_at(
     requires new { plan.old.stacks.new ≡ [] }
     requires old_open { sizes.old.old_open ≡ [] }
     requires new_open { sizes.old.new_open ≡ [] }
-    ensures start { IfOk result (λ start. StartsRange tree.now.arena tree.now.root x start plan.new.stacks sizes.new) }
+    ensures start { IfOk result (λ start.
+        StartsRange tree.now.arena tree.now.root x start plan.new.stacks sizes.new) }
     ensures writes { OnOk result (plan.new.writes ≡ plan.old.writes) }
 {
     let edge = edge_at(tree, x);

@@ -1,4 +1,4 @@
-// What a repair writes, in order, once it is planned.
+// The writes of a repair, in order, once it is planned.
 ghost use Rattle.std.specs.Prelude.{◌≡◌, ◌+◌, All};
 ghost use Rattle.ve_repair.specs.Labels.{AllLead};
 ghost use Rattle.ve_repair.specs.Writes.{NamesLive, Wrote, CarriedOut, cost, weight};

@@ -5,7 +5,7 @@ use Rattle.std.proofs.KnownBytes.{Appends-nil, Consumes-nil}
 use Rattle.ve_base.specs.Outside.{Rose}
 use Rattle.model_script.specs.Output.{Meaning}
 use Rattle.model_world.specs.declared.reply.Reply.{Reply}
-use Rattle.ve_words.specs.Words.{Meant, Asks, Refused, HelpWanted, meant}
+use Rattle.ve_words.specs.Words.{Meant, Asks, Refused, HelpWanted, meaning_of}
 use Rattle.ve_words.specs.declared.read.Mode.TheVariants.{Run, Make, Soak}
 use Rattle.ve_run.specs.declared.status.Status.{Status}
 use Rattle.ve_run.specs.declared.status.Status.TheVariants.{Done, Usage, ReadFault, WriteFault, InputTooLong, Memory, Help}
@@ -15,7 +15,7 @@ use Rattle.ve_run.specs.Run.{Scene, AppendsPrefix, Took, Starved, WrotePrefix}
 
 -- ---- words
 
-pub means : (words : List (List ℕ)) (x : Meant) → meant words ≡ x → asked_for words ≡ x
+pub means : (words : List (List ℕ)) (x : Meant) → meaning_of words ≡ x → asked_for words ≡ x
 unfolding asked_for
 means words x h = h
 

@@ -1,4 +1,4 @@
--- What a run has done, by the words that asked for it and the status that it ended with.
+-- The end of a run, by the words that asked for it and its status.
 use Rattle.std.specs.Prelude.{◌≡◌, ℕ, ◌<◌, ◌≤◌, ◌⊎◌, List, [], ◌∷◌, length, Option}
 use Rattle.std.specs.Io.KnownBytes.{Appends}
 use Rattle.ve_base.specs.Limits.{max_script}
@@ -32,7 +32,8 @@ moment scene left reads_failed writes_failed =
 -- The lines of the source were to be answered:
 --   Done          the source was read to its end, and every line was answered
 --   ReadFault     the source failed, and all lines that had ended by then were answered
---   InputTooLong  as many bytes as a script may have and one more were taken, and all lines that end before that one were answered
+-- InputTooLong  as many bytes as a script may have and one more were taken, and all lines that end
+-- before that one were answered
 --   WriteFault    the sink failed: the lines whose replies were written were taken, and the one whose reply was not, or not whole
 --   Memory        there was no memory to go on, and the replies to some lines from the first on were written
 abbrev pub LinesEnded : {W : Type 0} → Meaning W Reply → (before after : Moment W) → Status → Type 0
@@ -56,7 +57,8 @@ TextEnded so text held_before held failed_before failed status = (status ≡ so)
 abbrev pub WroteText : {W : Type 0} → (so : Status) → (text : List ℕ) → (before after : Moment W) → Status → Type 0
 WroteText so text before after status = TextEnded so text before.scene.held after.scene.held before.writes_failed after.writes_failed status
 
--- The lines of a generated script were taken, unless memory was wanting, and their replies were to be summed up.
+-- The lines of a generated script were taken, unless memory was wanting, and their replies were to
+-- be summed up.
 pub record SoakEnded {W : Type 0} (m : Meaning W Reply) (lines : List (List ℕ)) (before after : Moment W) (status : Status) : Type 0 where
   pub text : WroteText Done (soak_text m before.scene.world lines) before after status
   pub took : (status ≡ Memory → ⊥) → TookLines m before.scene.world after.scene.world before.scene.steps after.scene.steps lines
@@ -78,7 +80,8 @@ pub record EndsByLength (script : List ℕ) (status : Status) : Type 0 where
   pub whole : length script ≤ max_script → (status ≡ Done) ⊎ (status ≡ Memory)
   pub too_long : max_script < length script → (status ≡ InputTooLong) ⊎ (status ≡ Memory)
 
--- Where no write fails, the words and memory alone decide the status, but for the lines of a source.
+-- Where no write fails, the words and memory alone decide the status, but for the lines of a
+-- source.
 abbrev pub EndsByWords : Meant → Status → Type 0
 EndsByWords (Asks _ start edits) status = (status ≡ Done) ⊎ (status ≡ Memory)
 EndsByWords Refused status = (status ≡ Usage) ⊎ (status ≡ Memory)

@@ -12,7 +12,7 @@ use Rattle.model_world.specs.Spelled.{reply_text}
 abbrev pub reply_line : Reply → List ℕ
 reply_line reply = reply_text reply ++ newline ∷ []
 
--- What the calls of a run change, at one moment.
+-- The state that the calls of a run change, at one moment.
 pub record Scene (W : Type 0) : Type 0 where
   -- the machine's state
   pub world : W
@@ -49,12 +49,14 @@ pub record Answered {W : Type 0} (m : Meaning W Reply) (before after : Scene W) 
 abbrev pub NoFaults : (reads_before reads writes_before writes : ℕ) → Type 0
 NoFaults reads_before reads writes_before writes = (Rose reads_before reads → ⊥) × (Rose writes_before writes → ⊥)
 
--- `line` is the next one in `more`: a newline ends it; or it is all of `more` and isn't empty, and nothing can follow.
+-- `line` is the next one in `more`: a newline ends it; or it is all of `more` and isn't empty, and
+-- nothing can follow.
 abbrev pub IsNextLine : List ℕ → List ℕ → Type 0 → Type 0
 IsNextLine line more is_end =
     ((later : List ℕ) × (more ≡ line ++ newline ∷ later)) ⊎ (is_end × (0 < length line) × (more ≡ line))
 
--- A write failed within the reply to `line`: the lines before it were answered, the machine took it, and a prefix of its reply was written.
+-- A write failed within the reply to `line`: the lines before it were answered, the machine took
+-- it, and a prefix of its reply was written.
 pub record BrokeOff {W : Type 0} (m : Meaning W Reply) (before after : Scene W) (script : List ℕ) (is_end : Type 0) : Type 0 where
   pub lines : List (List ℕ)
   pub line : List ℕ
@@ -69,7 +71,8 @@ pub record BrokeOff {W : Type 0} (m : Meaning W Reply) (before after : Scene W) 
   pub stepped : Stepped m turn after line
   pub written : AppendsPrefix turn.held after.held (reply_line (m.reply turn.world line))
 
--- It had no memory to go on: the replies to some lines from the first on were written, whole, and nothing else.
+-- It had no memory to go on: the replies to some lines from the first on were written, whole, and
+-- nothing else.
 pub record GaveUp {W : Type 0} (m : Meaning W Reply) (before after : Scene W) (script : List ℕ) : Type 0 where
   pub lines : List (List ℕ)
   pub more : List ℕ
@@ -77,7 +80,8 @@ pub record GaveUp {W : Type 0} (m : Meaning W Reply) (before after : Scene W) (s
   pub whole : AreLines lines
   pub written : Appends before.held after.held (written reply_text m before.world lines)
 
--- `script` and then `extra` were taken from the source: at most as many bytes as a script may have, and one more only after as many.
+-- `script` and then `extra` were taken from the source: at most as many bytes as a script may have,
+-- and one more only after as many.
 pub record Took (left_before left : Option (List ℕ)) (script extra : List ℕ) : Type 0 where
   pub consumed : Consumes left_before left (script ++ extra)
   pub short : length script ≤ max_script

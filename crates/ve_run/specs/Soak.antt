@@ -1,4 +1,4 @@
--- What is written of the replies to a generated script.
+-- The text that sums the replies to a generated script up.
 use Rattle.std.specs.Prelude.{◌≡◌, ℕ, ◌+◌, ◌≤◌, ◌==◌, Bool, List, [], ◌∷◌, ◌++◌, length, map, codes, decimal, count_by}
 use Rattle.std.specs.List.{concat, starts_with}
 use Rattle.hex.specs.Hex.{encode_lower}
@@ -20,7 +20,8 @@ begins word line = starts_with ◌==◌ line word
 abbrev pub how_many_begin : (word : List ℕ) → (answers : List (List ℕ)) → ℕ
 how_many_begin word answers = count_by (begins word) answers
 
--- four lines: how many lines there were, how many replies begin `ok` and how many `no`, and a digest in hexadecimal digits
+-- four lines: how many lines there were, how many replies begin `ok` and how many `no`, and a
+-- digest in hexadecimal digits
 abbrev pub four_lines : (lines accepted refused : ℕ) → (digest : List ℕ) → List ℕ
 four_lines lines accepted refused digest =
     codes "lines " ++ decimal lines ++ codes "\nok " ++ decimal accepted ++ codes "\nno " ++ decimal refused

@@ -23,8 +23,8 @@ pub fn write_all<K: Sink>(sink: &mut K, piece: &[u8]) -> Result<(), Failed>
     Ok(())
 }
 
-/// Steps the machine with a line, and writes its reply as one piece. It is spelled in `reply`, in place of what stood
-/// there.
+/// Steps the machine with a line, and writes its reply as one piece. It is written into `reply`,
+/// over its former content.
 pub fn answer<K: Sink, M: Machine, L: Ledger>(
     line: &[u8],
     reply: &mut Bytes,

@@ -11,7 +11,7 @@ use crate::stop::Stop;
 use std::sync::ledger::Ledger;
 use ve_base::{Bytes, Sink, Steps};
 
-/// What ends a line.
+/// The end of a line.
 const NEWLINE: u8 = b'\n';
 
 /// The bytes before the first newline, and those after it.

@@ -12,10 +12,13 @@ use std::alloc::Global;
 use ve_base::{Bytes, Sink};
 use ve_gen::Lines;
 
-/// Writes all lines that are still to come, each with its newline as one piece. They are spelled in `line`.
+/// Writes all lines that are still to come, each with its newline as one piece. They are made in
+/// `line`.
 fn write_lines<K: Sink>(lines: &mut Lines, line: &mut Bytes, sink: &mut K) -> Result<(), Stop>
-    ensures ok { OnOk result (Appends (K.held sink.old) (K.held sink.new) (with_newlines lines.old)) }
-    ensures err { OnErr result (AppendsPrefix (K.held sink.old) (K.held sink.new) (with_newlines lines.old)) }
+    ensures ok { OnOk result (
+        Appends (K.held sink.old) (K.held sink.new) (with_newlines lines.old)) }
+    ensures err { OnErr result (
+        AppendsPrefix (K.held sink.old) (K.held sink.new) (with_newlines lines.old)) }
     ensures rose { IsErrOf result Stop.WriteFault → Rose (K.faults sink.old) (K.faults sink.new) }
     ensures sink_alone { IsErrOf result Stop.ReadFault ⊎ IsErrOf result Stop.InputTooLong → ⊥ }
     ensures later { K.faults sink.old ≤ K.faults sink.new }
@@ -30,7 +33,8 @@ fn write_lines<K: Sink>(lines: &mut Lines, line: &mut Bytes, sink: &mut K) -> Re
 /// Writes the script from this start, with so many edits.
 pub fn make<K: Sink>(alloc: Global, start: u64, edits: u32, sink: &mut K) -> Result<(), Stop>
     ensures ok { OnOk result (Appends (K.held sink.old) (K.held sink.new) (script start edits)) }
-    ensures err { OnErr result (AppendsPrefix (K.held sink.old) (K.held sink.new) (script start edits)) }
+    ensures err { OnErr result (
+        AppendsPrefix (K.held sink.old) (K.held sink.new) (script start edits)) }
     ensures rose { IsErrOf result Stop.WriteFault → Rose (K.faults sink.old) (K.faults sink.new) }
     ensures sink_alone { IsErrOf result Stop.ReadFault ⊎ IsErrOf result Stop.InputTooLong → ⊥ }
     ensures later { K.faults sink.old ≤ K.faults sink.new }

@@ -30,7 +30,8 @@ fn read_at_most<S: Source>(source: &mut S, buffer: &mut [u8], most: usize) -> Re
     }
 }
 
-/// Reads to the end, answers each line that a newline ends, and keeps what follows the last of them.
+/// Reads to the end, answers each line that a newline ends, and keeps the rest after the last of
+/// them.
 fn read_lines<S: Source, K: Sink, M: Machine, L: Ledger>(
     source: &mut S,
     kept: &mut Bytes,
@@ -46,12 +47,14 @@ fn read_lines<S: Source, K: Sink, M: Machine, L: Ledger>(
     ensures end { OnOk result (IsAtEnd (S.left source.new)) }
     ensures read_fault { IsErrOf result Stop.ReadFault → Stopped M.meaning (S.left source.old) (S.left source.new)
         (scene world.old steps.old (K.held sink.old)) (scene world.new steps.new (K.held sink.new)) [] }
-    ensures read_cause { IsErrOf result Stop.ReadFault → Rose (S.faults source.old) (S.faults source.new) }
+    ensures read_cause { IsErrOf result Stop.ReadFault
+        → Rose (S.faults source.old) (S.faults source.new) }
     ensures too_long { IsErrOf result Stop.InputTooLong → (extra : ℕ) × Stopped M.meaning (S.left source.old) (S.left source.new)
         (scene world.old steps.old (K.held sink.old)) (scene world.new steps.new (K.held sink.new)) (extra ∷ []) }
     ensures write_fault { IsErrOf result Stop.WriteFault → Broke M.meaning (S.left source.old) (S.left source.new)
         (scene world.old steps.old (K.held sink.old)) (scene world.new steps.new (K.held sink.new)) }
-    ensures write_cause { IsErrOf result Stop.WriteFault → Rose (K.faults sink.old) (K.faults sink.new) }
+    ensures write_cause { IsErrOf result Stop.WriteFault
+        → Rose (K.faults sink.old) (K.faults sink.new) }
     ensures starved { IsErrOf result Stop.Memory → Starved M.meaning (S.left source.old) (S.left source.new)
         (scene world.old steps.old (K.held sink.old)) (scene world.new steps.new (K.held sink.new)) }
     ensures source_later { S.faults source.old ≤ S.faults source.new }
@@ -90,12 +93,14 @@ pub fn run_script<S: Source, K: Sink, M: Machine, L: Ledger>(
         (scene world.old steps.old (K.held sink.old)) (scene world.new steps.new (K.held sink.new))) }
     ensures read_fault { IsErrOf result Stop.ReadFault → Stopped M.meaning (S.left source.old) (S.left source.new)
         (scene world.old steps.old (K.held sink.old)) (scene world.new steps.new (K.held sink.new)) [] }
-    ensures read_cause { IsErrOf result Stop.ReadFault → Rose (S.faults source.old) (S.faults source.new) }
+    ensures read_cause { IsErrOf result Stop.ReadFault
+        → Rose (S.faults source.old) (S.faults source.new) }
     ensures too_long { IsErrOf result Stop.InputTooLong → (extra : ℕ) × Stopped M.meaning (S.left source.old) (S.left source.new)
         (scene world.old steps.old (K.held sink.old)) (scene world.new steps.new (K.held sink.new)) (extra ∷ []) }
     ensures write_fault { IsErrOf result Stop.WriteFault → Broke M.meaning (S.left source.old) (S.left source.new)
         (scene world.old steps.old (K.held sink.old)) (scene world.new steps.new (K.held sink.new)) }
-    ensures write_cause { IsErrOf result Stop.WriteFault → Rose (K.faults sink.old) (K.faults sink.new) }
+    ensures write_cause { IsErrOf result Stop.WriteFault
+        → Rose (K.faults sink.old) (K.faults sink.new) }
     ensures starved { IsErrOf result Stop.Memory → Starved M.meaning (S.left source.old) (S.left source.new)
         (scene world.old steps.old (K.held sink.old)) (scene world.new steps.new (K.held sink.new)) }
     ensures source_later { S.faults source.old ≤ S.faults source.new }

@@ -15,8 +15,8 @@ use std::sync::ledger::Ledger;
 use ve_base::{Bytes, Memory, Sink, Steps};
 use ve_gen::Lines;
 
-/// Steps the machine with all lines that are still to come, and counts and hashes its replies. A line and its reply are
-/// spelled in the two buffers.
+/// Steps the machine with all lines that are still to come, and counts and hashes its replies. A
+/// line and its reply are made in the two buffers.
 fn step_lines<M: Machine, L: Ledger>(
     lines: &mut Lines,
     line: &mut Bytes,
@@ -28,7 +28,8 @@ fn step_lines<M: Machine, L: Ledger>(
     requires few { length lines.old < 2 ^ 63 }
     requires none { IsTally tally.old [] }
     ensures tally { OnOk result (IsTally tally.new (reply_lines M.meaning world.old lines.old)) }
-    ensures took { OnOk result (TookLines M.meaning world.old world.new steps.old steps.new lines.old) }
+    ensures took { OnOk result (
+        TookLines M.meaning world.old world.new steps.old steps.new lines.old) }
     ensures counted { steps.old ≤ steps.new }
 {
     'lines: while lines.next(line)? {
@@ -39,7 +40,7 @@ fn step_lines<M: Machine, L: Ledger>(
     Ok(())
 }
 
-/// Steps the machine with the lines of the script, and appends what its replies are summed up as.
+/// Steps the machine with the lines of the script, and appends the sums of its replies.
 fn sum_up<M: Machine, L: Ledger>(
     alloc: Global,
     start: u64,
@@ -48,8 +49,11 @@ fn sum_up<M: Machine, L: Ledger>(
     world: &mut M,
     steps: &mut Steps<L>,
 ) -> Result<(), Memory>
-    ensures text { OnOk result (out.new ≡ out.old ++ soak_text M.meaning world.old (script_lines start edits)) }
-    ensures took { OnOk result (TookLines M.meaning world.old world.new steps.old steps.new (script_lines start edits)) }
+    ensures text { OnOk result (
+        out.new ≡ out.old ++ soak_text M.meaning world.old (script_lines start edits)) }
+    ensures took { OnOk result (
+        TookLines M.meaning world.old world.new steps.old steps.new (
+        script_lines start edits)) }
     ensures counted { steps.old ≤ steps.new }
 {
     let mut lines = Lines::new(start, edits);
@@ -60,8 +64,8 @@ fn sum_up<M: Machine, L: Ledger>(
     tally.push_text(alloc, out)
 }
 
-/// Steps the machine with the lines of the script from this start, with so many edits, one at a time, and writes what its
-/// replies are summed up as.
+/// Steps the machine with the lines of the script from this start, with so many edits, one at a
+/// time, and writes the sums of its replies.
 pub fn soak<K: Sink, M: Machine, L: Ledger>(
     alloc: Global,
     start: u64,

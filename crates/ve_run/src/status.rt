@@ -7,7 +7,8 @@ use crate::stop::Stop;
 /// How a run ended.
 #[derive(Clone, Copy, Debug, PartialEq, Eq)]
 pub enum Status {
-    /// In mode `run` the script was read to its end, and every reply was written; else the whole text was written.
+    /// In mode `run` the script was read to its end, and every reply was written; else the whole
+    /// text was written.
     Done,
     /// The words weren't understood, and the usage line was written.
     Usage,
@@ -15,7 +16,8 @@ pub enum Status {
     ReadFault,
     /// The sink failed. What was written is a prefix of the output.
     WriteFault,
-    /// The script is longer than 2^26 bytes. The replies to all lines that end within these were written.
+    /// The script is longer than 2^26 bytes. The replies to all lines that end within these were
+    /// written.
     InputTooLong,
     /// Memory was wanting. What was written is a prefix of the output.
     Memory,

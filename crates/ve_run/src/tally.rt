@@ -1,4 +1,4 @@
-// What is counted and hashed of replies.
+// Counts and hashes of replies.
 ghost use Rattle.std.specs.Prelude.{◌≡◌, ◌<◌, ◌≤◌, ◌++◌, ◌∷◌, [], ◌^◌, ℕ, List, codes, decimal, OnOk, ◌+◌, if◌then◌else◌};
 ghost use Rattle.ve_run.specs.Soak.{begins, four_lines, IsTally, summed_up};
 
@@ -6,7 +6,8 @@ use sha2::{Digest, Sha256};
 use std::alloc::Global;
 use ve_base::{Bytes, Memory};
 
-/// How many reply lines there were, how many of them begin `ok` and how many `no`, and the hasher that holds all of them.
+/// How many reply lines there were, how many of them begin `ok` and how many `no`, and the hasher
+/// that holds all of them.
 #[derive(Drop)]
 pub struct Tally {
     pub lines: u64,
@@ -52,7 +53,9 @@ impl Tally {
         requires few { self.old.lines < 2 ^ 63 }
         requires few_accepted { self.old.accepted < 2 ^ 63 }
         requires few_refused { self.old.refused < 2 ^ 63 }
-        ensures { (answers : List (List ℕ)) → IsTally self.old answers → IsTally self.new (answers ++ reply.now ∷ []) }
+        ensures { (answers : List (List ℕ))
+            → IsTally self.old answers
+            → IsTally self.new (answers ++ reply.now ∷ []) }
     {
         self.lines = counted(self.lines, true);
         self.accepted = counted(self.accepted, begins(reply, OK));
@@ -60,9 +63,12 @@ impl Tally {
         self.hashed.update(reply);
     }
 
-    /// Appends the four lines on what was counted and hashed.
+    /// Appends the four lines of the counts and the hash.
     pub fn push_text(self, alloc: Global, out: &mut Bytes) -> Result<(), Memory>
-        ensures { OnOk result ((answers : List (List ℕ)) → IsTally self answers → out.new ≡ out.old ++ summed_up answers) }
+        ensures { OnOk result (
+            (answers : List (List ℕ))
+            → IsTally self answers
+            → out.new ≡ out.old ++ summed_up answers) }
     {
         let Tally {
             lines,

@@ -27,7 +27,8 @@ const USAGE: &[u8] = b"usage: vemodel run | make | soak [--start N] [--edits N]\
 /// Writes the usage line, and then ends so.
 fn write_usage<K: Sink>(so: Status, sink: &mut K) -> Status
     requires { (so ≡ Status.Usage) ⊎ (so ≡ Status.Help) }
-    ensures ended { TextEnded so usage_line (K.held sink.old) (K.held sink.new) (K.faults sink.old) (K.faults sink.new) result }
+    ensures ended { TextEnded so usage_line (K.held sink.old) (K.held sink.new) (K.faults sink.old)
+        (K.faults sink.new) result }
     ensures later { K.faults sink.old ≤ K.faults sink.new }
 {
     match write_all(sink, USAGE) {
@@ -77,7 +78,7 @@ fn end_make<K: Sink>(alloc: Global, start: u64, edits: u32, sink: &mut K) -> Sta
     }
 }
 
-/// Answers the lines of the generated script, and writes what the replies are summed up as.
+/// Answers the lines of the generated script, and writes the sums of the replies.
 fn end_soak<S: Source, K: Sink, M: Machine, L: Ledger>(
     alloc: Global,
     start: u64,
@@ -99,13 +100,14 @@ fn end_soak<S: Source, K: Sink, M: Machine, L: Ledger>(
     }
 }
 
-/// Does what the words after the program's name ask for.
+/// Runs the mode that the words after the program's name ask for.
 ///
-/// - In mode `run` it reads lines, steps the machine with each, and writes each reply before the next step. At most
-///   [`MAX_SCRIPT`](ve_base::MAX_SCRIPT) bytes and one more are taken from the source, and each reply is written as one
-///   piece with its newline.
+/// - In mode `run` it reads lines, steps the machine with each, and writes each reply before the
+///   next step. At most [`MAX_SCRIPT`](ve_base::MAX_SCRIPT) bytes and one more are taken from the
+///   source, and each reply is written as one piece with its newline.
 /// - In mode `make` it writes the generated script.
-/// - In mode `soak` it steps the machine with each line of the generated script, and writes four lines on its replies.
+/// - In mode `soak` it steps the machine with each line of the generated script, and writes four
+///   lines on its replies.
 /// - Where the words are refused or ask for help, it writes the usage line.
 pub fn run<S: Source, K: Sink, M: Machine, L: Ledger>(
     alloc: Global,
@@ -115,7 +117,8 @@ pub fn run<S: Source, K: Sink, M: Machine, L: Ledger>(
     world: &mut M,
     steps: &mut Steps<L>,
 ) -> Status
-    // Whatever bytes the source has left, the machine's replies to their lines are written, and nothing else.
+    // Whatever bytes the source has left, the machine's replies to their lines are written, and
+    // nothing else.
     ensures headline { IsRun words.now → result ≡ Status.Done → IfSome (S.left source.old) (λ script.
         Appends (K.held sink.old) (K.held sink.new) (output reply_text M.meaning world.old script)
         × (S.left source.new ≡ Some [])
@@ -124,13 +127,15 @@ pub fn run<S: Source, K: Sink, M: Machine, L: Ledger>(
     ensures ended { Ended M.meaning words.now
         (moment (scene world.old steps.old (K.held sink.old)) (S.left source.old) (S.faults source.old) (K.faults sink.old))
         (moment (scene world.new steps.new (K.held sink.new)) (S.left source.new) (S.faults source.new) (K.faults sink.new)) result }
-    // At every status what was written is a prefix of the output of the bytes taken.
+    // At every status the output is a prefix of that of the bytes taken.
     ensures prefix { IsRun words.now → WrotePrefix M.meaning (S.left source.old) (S.left source.new)
         (scene world.old steps.old (K.held sink.old)) (scene world.new steps.new (K.held sink.new)) }
 
     // The source is asked in mode `run` alone, and the machine in modes `run` and `soak`.
     ensures unread { (IsRun words.now → ⊥) → source.new ≡ source.old }
-    ensures unmoved { (IsRun words.now → ⊥) → (IsSoak words.now → ⊥) → (world.new ≡ world.old) × (steps.new ≡ steps.old) }
+    ensures unmoved { (IsRun words.now → ⊥)
+        → (IsSoak words.now → ⊥)
+        → (world.new ≡ world.old) × (steps.new ≡ steps.old) }
 
     // It doesn't give up by itself.
     ensures complete { IsRun words.now → NoFaults (S.faults source.old) (S.faults source.new) (K.faults sink.old) (K.faults sink.new)

@@ -26,7 +26,7 @@ struct Tag {
 
 /// The items that were read, the offset of the mark, and the tag that has no end yet.
 #[derive(Drop)]
-struct Reader {
+struct LineReader {
     items: Items,
     offset: Option<usize>,
     tag: Option<Tag>,
@@ -69,7 +69,7 @@ fn put_tag(items: &mut Items, tag: &Tag) -> Result<(), Memory>
     Ok(())
 }
 
-impl Reader {
+impl LineReader {
     /// Reads one more character.
     fn read(&mut self, alloc: Global, ch: char) -> Result<(), Memory>
         requires cites { CitesNothing self.old.items }
@@ -100,11 +100,11 @@ impl Reader {
     }
 }
 
-fn read_all(alloc: Global, line: &str) -> Result<Reader, Memory>
+fn read_all(alloc: Global, line: &str) -> Result<LineReader, Memory>
     ensures cites { IfOk result (λ reader. CitesNothing reader.items) }
     ensures offset { IfOk result (λ reader. IfSome reader.offset (λ o. o ≤ length reader.items)) }
 {
-    let mut reader = Reader {
+    let mut reader = LineReader {
         items: Items::new(alloc),
         offset: None,
         tag: None,
@@ -145,7 +145,8 @@ fn page_of(alloc: Global, items: &Items) -> Result<Linear, Memory>
 /// The page that a line spells, with the internal list at its end, and the offset of its mark.
 pub fn sample(alloc: Global, line: &str) -> Result<MarkedPage, Memory>
     ensures cites { IfOk result (λ sample. CitesNothing sample.list.items) }
-    ensures offset { IfOk result (λ sample. IfSome sample.offset (λ o. o ≤ length sample.list.items)) }
+    ensures offset { IfOk result (λ sample.
+        IfSome sample.offset (λ o. o ≤ length sample.list.items)) }
 {
     let mut reader = read_all(alloc, line)?;
     put_internal_list(&mut reader.items)?;

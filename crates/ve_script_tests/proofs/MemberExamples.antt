@@ -1,12 +1,12 @@
--- Worked members of commands and parts of replies, beside the scripts of model_world: each tells a call from one that is wrong
--- in the way that is said above it.
+-- Worked members of commands and parts of replies, beside the scripts of model_world: each tells a
+-- call from one that is wrong in the way that is said above it.
 use Rattle.std.proofs.Common.{◌≡◌, true, false, List, [], ◌∷◌, length, replicate, refl}
 use Rattle.std.specs.Prelude.{codes, nat_le}
 use Rattle.ve_base.specs.Limits.{max_marks}
 use Rattle.ve_base.specs.declared.marks.Mark.{Mark}
 use Rattle.ve_kinds.specs.declared.kind.Kind.TheVariants.{AlienBlock, AlienInline, TransBlock}
-use Rattle.model_world.specs.declared.change.Change.{Change}
-use Rattle.model_world.specs.declared.change.Change.TheVariants.{Split}
+use Rattle.model_world.specs.declared.edit_command.EditCommand.{EditCommand}
+use Rattle.model_world.specs.declared.edit_command.EditCommand.TheVariants.{Split}
 use Rattle.model_world.specs.Commands.{is_batch}
 use Rattle.model_world.specs.ItemWords.{may_open}
 use Rattle.model_world.specs.Names.{kind_name}

@@ -1,5 +1,5 @@
-// Scripts on a machine of the tests' own, from sources that give pieces of all sizes and fail once, to sinks that take
-// a byte at a time and fail once. After its fault each source and sink would go on.
+// Scripts on a machine of the tests' own. Sources give pieces of all sizes and fail once; sinks
+// take a byte at a time and fail once. After its fault each source and sink would go on.
 ghost use Rattle.std.specs.Prelude.{◌≡◌};
 
 use std::alloc::Global;
@@ -157,7 +157,8 @@ fn words_of(alloc: Global, case: &Case) -> Result<Vec<Text>, Memory> {
     Ok(words)
 }
 
-/// How a run ended, what it wrote, how many lines its machine answered, and how many reads and writes there were.
+/// How a run ended, what it wrote, how many lines its machine answered, and how many reads and
+/// writes there were.
 #[derive(Drop)]
 struct Outcome {
     status: Status,
@@ -167,7 +168,7 @@ struct Outcome {
     writes: usize,
 }
 
-/// What a sink holds.
+/// The bytes that a sink holds.
 fn held(alloc: Global, sink: &MemSink<'_>) -> Result<Bytes, Memory> {
     let mut written = Bytes::new(alloc);
     written.push(sink.held())?;
@@ -339,7 +340,8 @@ const CASES: [Case; 17] = [
         writes: 2,
         ..USUAL
     },
-    // a write that failed is not tried again, and a line whose piece has come is answered before the next piece is read
+    // a write that failed is not tried again, and a line whose piece has come is answered before
+    // the next piece is read
     Case {
         failed_write: Some(1),
         status: Status::WriteFault,

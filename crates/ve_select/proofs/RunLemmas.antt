@@ -47,7 +47,7 @@ first_chars-within (Char ch marks ∷ xs) = let rest = first_chars-within xs in 
 first_chars-within (Opening kind generated head marks pre origin ∷ xs) = omega arith
 first_chars-within (Closing kind pre ∷ xs) = omega arith
 
--- a lent piece, and what follows
+-- a borrowed piece, and what follows
 pub piece_first : (items piece : List Item) (at : ℕ) → piece ≡ slice_range items at (at + length piece) → drop at items ≡ piece ++ drop (at + length piece) items
 piece_first items piece at e =
     let many : at + length piece - at ≡ length piece = omega arith in

@@ -5,7 +5,8 @@ use Rattle.model_edit.specs.declared.selection.Bias.{Bias}
 use Rattle.ve_tx.specs.declared.op.Op.{Op}
 use Rattle.ve_tx.specs.declared.op.Op.TheVariants.{Retain, Replace, Attribute}
 
--- how many of the items that the operations leave come before an offset of the old list, whose items up to `at` are passed
+-- how many of the items that the operations leave come before an offset of the old list, whose
+-- items up to `at` are passed
 abbrev pub passed_before : Bias → (offset at : ℕ) → List Op → ℕ
 passed_before bias offset at [] = 0
 passed_before bias offset at (Retain count ∷ ops) = min count (offset - at) + passed_before bias offset (at + count) ops

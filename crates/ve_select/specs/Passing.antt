@@ -1,4 +1,4 @@
--- The boundaries on either side of a place in a run of characters.
+-- The boundaries on either side of a position in a run of characters.
 use Rattle.std.specs.Prelude.{◌≡◌, ℕ, ◌+◌, ◌≤◌, List, [], ◌∷◌, length, Option}
 use Rattle.std.specs.Option.{option_or}
 use Rattle.std.specs.Str.{chars}
@@ -13,8 +13,8 @@ abbrev pub char_total : List (List ℕ) → ℕ
 char_total [] = 0
 char_total (piece ∷ pieces) = length (chars piece) + char_total pieces
 
--- Where `end` characters are passed and some pieces are left, the boundary above the bound is one to come, and that below it is one to
--- come or the last one found.
+-- Here `end` characters are passed and some pieces are left. The boundary above the bound is one to
+-- come, and that below it is one to come or the last one found.
 pub record IsPassing (bound : ℕ) (all left : List (List ℕ)) (end : ℕ) (found : Option ℕ) : Type 0 where
   pub above : first_above bound (ends end left) ≡ first_above bound (cuts all)
   pub below : option_or (last_below bound (ends end left)) found ≡ last_below bound (cuts all)

@@ -1,4 +1,4 @@
-// The boundaries on either side of a place in a text.
+// The boundaries on either side of a position in a text.
 ghost use Rattle.std.specs.Prelude.{◌≡◌, ◌≤◌, true, nat_lt, if◌then◌else◌, Some, None, length};
 ghost use Rattle.std.specs.Option.{ForSome};
 ghost use Rattle.std.specs.Str.{chars};
@@ -10,7 +10,7 @@ ghost use Rattle.ve_select.specs.Passing.{cuts};
 use model_edit::By;
 use unicode_segmentation::UnicodeSegmentation;
 
-/// The boundaries next to a place, counted in characters.
+/// The boundaries next to a position, counted in characters.
 #[derive(Drop)]
 pub struct Neighbours {
     pub below: Option<usize>,
@@ -66,7 +66,7 @@ fn words_beside(text: &str, bound: usize) -> Neighbours
     Neighbours { below, above: None }
 }
 
-/// The boundaries next to a place in a text. Nothing past the one above is cut.
+/// The boundaries next to a position in a text. Nothing past the one above is cut.
 pub fn boundaries_beside(by: By, text: &str, bound: usize) -> Neighbours
     ensures below { result.below ≡ last_below bound (cuts (cutting by text.now)) }
     ensures above { result.above ≡ first_above bound (cuts (cutting by text.now)) }

@@ -1,13 +1,15 @@
-//! Where offsets and selections stand after a transaction, and where a caret goes. `translate_offset` and `translate_range`
-//! walk the operations of a transaction, read no list and take no memory. `next_cluster` and `next_word` read the run of
-//! characters beside the caret, and take memory for its text. It knows no site: that an end of a selection which then stands
-//! inside a leaf moves out of it is done where selections are kept.
+//! Translation of offsets and selections over a transaction, and the moves of a caret.
+//! `translate_offset` and `translate_range` walk the operations of a transaction, read no list and
+//! take no memory. `next_cluster` and `next_word` read the run of characters beside the caret, and
+//! take memory for its text. It keeps no selection: an end that then stands inside a leaf is moved
+//! out of it where selections are kept.
 //!
-//! What they mean stands in `model_edit`'s `Translate` and `Next`; boundaries are those of `unicode_segmentation`. The
-//! definitions here serve private functions: `Passed` is the translation over operations whose items cite values, `Runs`
-//! the characters of such items, and `Passing` what one pass over the pieces of a text keeps. There is no law of its own:
-//! those of `model_edit_law` (offsets keep their order and their neighbours, a selection never turns round, a caret stays in
-//! its branch) hold of the results by the clauses alone.
+//! Their meaning stands in `model_edit`'s `Translate` and `Next`; boundaries are those of
+//! `unicode_segmentation`. The definitions here serve private functions: `Passed` is the
+//! translation over operations whose items cite values, `Runs` the characters of such items, and
+//! `Passing` the state of one pass over the pieces of a text. There is no law of its own: those of
+//! `model_edit_law` hold of the results by the clauses alone. By these laws offsets keep their
+//! order and their neighbours, a selection never turns round, and a caret stays in its branch.
 #![tactic(auto)]
 
 mod beside;

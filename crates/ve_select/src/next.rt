@@ -17,7 +17,7 @@ use ve_base::Memory;
 use ve_items::{Item, Linear};
 use ve_offsets::Doc;
 
-/// A place that is counted from the start of a run.
+/// A position that is counted from the start of a run.
 fn counted_from(start: usize, found: Option<usize>) -> Option<usize>
     requires { ForSome found (λ n. start + n < 2 ^ 64) }
     ensures { result ≡ option_map (λ n. start + n) found }
@@ -28,7 +28,8 @@ fn counted_from(start: usize, found: Option<usize>) -> Option<usize>
     }
 }
 
-/// The next boundary of the run of characters round an offset. The text of the run is all the memory that it takes.
+/// The next boundary of the run of characters round an offset. The text of the run is all the
+/// memory that it takes.
 fn boundary_at(
     alloc: Global,
     list: &Linear,
@@ -37,7 +38,11 @@ fn boundary_at(
     by: By,
 ) -> Result<Option<usize>, Memory>
     requires { offset ≤ length list.now.items }
-    ensures { IfOk result (λ place. (values : _) → place ≡ model.boundary_at dir (cutting by) (plain_list values list.entry.now.items) offset) }
+    ensures { IfOk result (λ place.
+        (values : _)
+        → place
+        ≡ model.boundary_at dir (cutting by) (plain_list values list.entry.now.items)
+        offset) }
 {
     let len = list.len();
     prove!(offset <= len);
@@ -50,11 +55,13 @@ fn boundary_at(
     }
 }
 
-/// The next place ahead, by the item after the offset: a leaf is passed whole.
+/// The next position ahead, by the item after the offset: a leaf is passed whole.
 fn next_ahead(alloc: Global, doc: Doc<'_>, offset: usize, by: By) -> Result<Option<usize>, Memory>
     requires doc { IsDoc doc }
     requires within { offset ≤ length doc.list.now.items }
-    ensures { IfOk result (λ place. (values : _) → place ≡ next (plain_list values doc.entry.list.now.items) offset Ahead by) }
+    ensures { IfOk result (λ place.
+        (values : _)
+        → place ≡ next (plain_list values doc.entry.list.now.items) offset Ahead by) }
 {
     let len = doc.list.len();
     if offset == len {
@@ -70,10 +77,12 @@ fn next_ahead(alloc: Global, doc: Doc<'_>, offset: usize, by: By) -> Result<Opti
     }
 }
 
-/// The next place back, by the item before the offset: a leaf is passed whole.
+/// The next position back, by the item before the offset: a leaf is passed whole.
 fn next_back(alloc: Global, doc: Doc<'_>, offset: usize, by: By) -> Result<Option<usize>, Memory>
     requires { offset ≤ length doc.list.now.items }
-    ensures { IfOk result (λ place. (values : _) → place ≡ next (plain_list values doc.entry.list.now.items) offset Back by) }
+    ensures { IfOk result (λ place.
+        (values : _)
+        → place ≡ next (plain_list values doc.entry.list.now.items) offset Back by) }
 {
     let before = offset.saturating_sub(1);
     if before >= doc.list.len() {
@@ -89,7 +98,7 @@ fn next_back(alloc: Global, doc: Doc<'_>, offset: usize, by: By) -> Result<Optio
     }
 }
 
-/// The next place in a direction: what stands beside the offset there decides.
+/// The next position in a direction: what stands beside the offset there decides.
 fn next_place(
     alloc: Global,
     doc: Doc<'_>,
@@ -99,7 +108,9 @@ fn next_place(
 ) -> Result<Option<usize>, Memory>
     requires doc { IsDoc doc }
     requires within { offset ≤ length doc.list.now.items }
-    ensures { IfOk result (λ place. (values : _) → place ≡ next (plain_list values doc.entry.list.now.items) offset dir by) }
+    ensures { IfOk result (λ place.
+        (values : _)
+        → place ≡ next (plain_list values doc.entry.list.now.items) offset dir by) }
 {
     match dir {
         Dir::Back => {
@@ -113,9 +124,10 @@ fn next_place(
     }
 }
 
-/// Where a caret at a content offset goes by one grapheme cluster (Unicode, UAX #29, extended): past a leaf whole, or to the
-/// next boundary of the run of characters beside it. None comes at the end of its content branch in that direction. It reads
-/// of the list that run, and takes memory for its text alone.
+/// The next offset of a caret at a content offset, by one grapheme cluster (Unicode, UAX #29,
+/// extended). It goes past a leaf whole, or to the next boundary of the run of characters beside
+/// it. None comes at the end of its content branch in that direction. It reads of the list that
+/// run, and takes memory for its text alone.
 pub fn next_cluster(
     alloc: Global,
     doc: Doc<'_>,
@@ -124,12 +136,15 @@ pub fn next_cluster(
 ) -> Result<Option<usize>, Memory>
     requires doc { IsDoc doc }
     requires within { offset ≤ length doc.list.now.items }
-    ensures { IfOk result (λ place. (values : _) → place ≡ next (plain_list values doc.entry.list.now.items) offset dir Cluster) }
+    ensures { IfOk result (λ place.
+        (values : _)
+        → place ≡ next (plain_list values doc.entry.list.now.items) offset dir Cluster) }
 {
     next_place(alloc, doc, offset, dir, By::Cluster)
 }
 
-/// Where a caret at a content offset goes by one word: as `next_cluster`, to the next word boundary (Unicode, UAX #29).
+/// Where a caret at a content offset goes by one word: as `next_cluster`, to the next word boundary
+/// (Unicode, UAX #29).
 pub fn next_word(
     alloc: Global,
     doc: Doc<'_>,
@@ -138,7 +153,9 @@ pub fn next_word(
 ) -> Result<Option<usize>, Memory>
     requires doc { IsDoc doc }
     requires within { offset ≤ length doc.list.now.items }
-    ensures { IfOk result (λ place. (values : _) → place ≡ next (plain_list values doc.entry.list.now.items) offset dir Word) }
+    ensures { IfOk result (λ place.
+        (values : _)
+        → place ≡ next (plain_list values doc.entry.list.now.items) offset dir Word) }
 {
     next_place(alloc, doc, offset, dir, By::Word)
 }

@@ -10,7 +10,7 @@ ghost use Rattle.ve_select.specs.Passed.{passed_before};
 use crate::{Bias, Selection};
 use ve_tx::{Op, Transaction};
 
-/// Whether what is inserted at a place comes before an offset that keeps to this side.
+/// Whether an insertion at a position comes before an offset that keeps to this side.
 fn is_before(bias: Bias, place: usize, offset: usize) -> bool
     ensures { result ≡ model.is_before bias place offset }
 {
@@ -45,9 +45,10 @@ fn items_before(ops: &[Op], offset: usize, bias: Bias) -> usize
     before
 }
 
-/// Where an offset of the old list stands in the new one: as many items come before it as come from old items before it,
-/// or were inserted at a place before it, or at its own place where it keeps to the right. What a replace inserts is
-/// inserted where the replace begins. It takes no memory and walks the operations alone.
+/// Where an offset of the old list stands in the new one. Items come before it that come from old
+/// items before it, and those inserted at a position before it. Those inserted at its own position
+/// do where it keeps to the right. The items of a replace are inserted where the replace begins. It
+/// takes no memory and walks the operations alone.
 pub fn translate_offset(tx: &Transaction, offset: usize, bias: Bias) -> usize
     ensures { (values : _) → result ≡ translate (by_value values tx.now) offset bias }
 {
@@ -56,7 +57,10 @@ pub fn translate_offset(tx: &Transaction, offset: usize, bias: Bias) -> usize
 
 /// Where both ends of a selection stand in the new list, each keeping to its side.
 fn with_sides(tx: &Transaction, s: Selection, anchor: Bias, focus: Bias) -> Selection
-    ensures { (values : _) → result ≡ between (translate (by_value values tx.now) s.anchor anchor) (translate (by_value values tx.now) s.focus focus) }
+    ensures { (values : _)
+        → result
+        ≡ between (translate (by_value values tx.now) s.anchor anchor)
+        (translate (by_value values tx.now) s.focus focus) }
 {
     Selection {
         anchor: translate_offset(tx, s.anchor, anchor),
@@ -64,9 +68,10 @@ fn with_sides(tx: &Transaction, s: Selection, anchor: Bias, focus: Bias) -> Sele
     }
 }
 
-/// Where a selection stands in the new list. The lower end keeps to the right of what is inserted at it and the higher to
-/// the left, so that nothing new is selected at the ends; a collapsed selection keeps to the left. It takes no memory and
-/// walks the operations alone. An end may then stand inside a leaf.
+/// Where a selection stands in the new list. The lower end keeps to the right of an insertion there
+/// and the higher to the left, so that nothing new is selected at the ends. A collapsed selection
+/// keeps to the left. It takes no memory and walks the operations alone. An end may then stand
+/// inside a leaf.
 pub fn translate_range(tx: &Transaction, s: Selection) -> Selection
     ensures { (values : _) → result ≡ model.translate_range (by_value values tx.now) s }
 {

@@ -15,7 +15,7 @@ use Rattle.ve_rebase.specs.Lists.{RunFromOneLength}
 use Rattle.ve_rebase.specs.Until.{joined_until}
 use Rattle.ve_server.specs.declared.feed.Feed.{Feed}
 use Rattle.ve_server.specs.Fed.{feed_of}
-use Rattle.ve_server.specs.Serving.{Serving, all_queued, first_of, fed, served}
+use Rattle.ve_server.specs.Serving.{Serving, all_queued, first_of, first_feed, after_serving}
 use Rattle.ve_server.specs.Waiting.{Waiting, feeds_in, released, all_staged}
 
 flattened_by_value : (ps : List SentParcel) → parcels_by_value ps ≡ flattened (map parcel_by_value ps)
@@ -110,7 +110,7 @@ all_ready n ready feeds e =
 
 pub is_fed : (k : ℕ) (committed : List Parcel) (ws : List Waiting) (v w : Waiting) (next : Option SiteFeed) → k < length ws → v ≡ get_or ws k v →
     (next, w.feeds) ≡ first_of v.feeds →
-    ◌≡◌ {A = Option SiteFeed × Serving} (next, record { committed = committed; queues = feeds_in (set ws k w) }) (fed k (record { committed = committed; queues = feeds_in ws }))
+    ◌≡◌ {A = Option SiteFeed × Serving} (next, record { committed = committed; queues = feeds_in (set ws k w) }) (first_feed k (record { committed = committed; queues = feeds_in ws }))
 is_fed k committed ws v w next lt read e =
     let there : v.feeds ≡ get_or (feeds_in ws) k [] = ap (λ q. q.feeds) read ∙ sym (get_or-map (λ (q : Waiting). q.feeds) ws k v [] lt) in
     let left : Option SiteFeed × List SiteFeed → Option SiteFeed × Serving = λ r. (r.0, record { committed = committed; queues = set (feeds_in ws) k r.1 }) in
@@ -125,7 +125,7 @@ first_lent None (suc k) n (f ∷ fs) some within count is at = let e = is.1 (ome
 first_lent (Some x) (suc k) n (f ∷ fs) some within count is at = ap (λ y. Some (feed_of y)) at
 
 pub is_next : (k : ℕ) (committed : List Parcel) (ws : List Waiting) (v : Waiting) (next : Option SiteFeed) → k < length ws → v ≡ get_or ws k v →
-    next ≡ (first_of v.feeds).0 → next ≡ (fed k (record { committed = committed; queues = feeds_in ws })).0
+    next ≡ (first_of v.feeds).0 → next ≡ (first_feed k (record { committed = committed; queues = feeds_in ws })).0
 is_next k committed ws v next lt read e =
     e ∙ ap (λ q. (first_of q).0) (ap (λ q. q.feeds) read ∙ sym (get_or-map (λ (q : Waiting). q.feeds) ws k v [] lt))
 
@@ -137,7 +137,7 @@ one_more n ws w e f =
 
 pub is_served : (sender : ℕ) (s : Submission) (committed kept after : List Parcel) (old staged new : List Waiting) → kept ≡ (accepted_of committed s).kept →
     after ≡ committed ++ kept → staged ≡ all_staged sender 0 kept old → new ≡ map released staged →
-    ◌≡◌ {A = Serving} (record { committed = after; queues = feeds_in new }) (served sender s (record { committed = committed; queues = feeds_in old }))
+    ◌≡◌ {A = Serving} (record { committed = after; queues = feeds_in new }) (after_serving sender s (record { committed = committed; queues = feeds_in old }))
 is_served sender s committed kept after old staged new k a f r =
     let fed_all : List Parcel → Serving = λ more. record { committed = committed ++ more; queues = all_queued sender 0 more (feeds_in old) } in
     ap (λ qs. record { committed = after; queues = feeds_in qs }) (r ∙ ap (map released) f)

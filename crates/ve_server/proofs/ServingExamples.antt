@@ -7,7 +7,7 @@ use Rattle.model_site.specs.Entries.{Parcel}
 use Rattle.model_site.specs.Site.{Site, Submission}
 use Rattle.model_site.specs.Session.{Foreign, Ack, accepted_of, served_as}
 use Rattle.ve_server.specs.Laws.{site_with}
-use Rattle.ve_server.specs.Serving.{Serving, all_queued, served, first_of, fed}
+use Rattle.ve_server.specs.Serving.{Serving, all_queued, after_serving, first_of, first_feed}
 use Rattle.ve_server.specs.Waiting.{Waiting, feeds_in, released, all_staged}
 
 -- entries on lists of letters: one letter put in, or letters taken out, between so many
@@ -24,12 +24,14 @@ first = inserts 2 65 3
 abbrev begun : Serving
 begun = record { committed = first ∷ []; queues = [] ∷ [] ∷ (Foreign (first ∷ []) ∷ []) ∷ [] }
 
--- On the five letters site 1 puts one after the fourth, takes the second and the third out, and puts one at the end.
+-- On the five letters site 1 puts one after the fourth, takes the second and the third out, and
+-- puts one at the end.
 abbrev three : Submission
 three = record { base = 0; entries = inserts 4 66 1 ∷ removes 1 (Char 98 [] ∷ Char 99 [] ∷ []) 3 ∷ inserts 4 67 0 ∷ [] }
 
--- The first goes after the committed letter. The second takes out what stands round that, so it and the third are refused.
-one_of_three : served 1 three begun ≡ record {
+-- The first goes after the committed letter. The second takes out what stands round that, so it and
+-- the third are refused.
+one_of_three : after_serving 1 three begun ≡ record {
   committed = first ∷ inserts 5 66 1 ∷ [];
   queues = (Foreign (inserts 5 66 1 ∷ []) ∷ []) ∷ (Ack 1 ∷ []) ∷ (Foreign (first ∷ []) ∷ Foreign (inserts 5 66 1 ∷ []) ∷ []) ∷ [];
 }
@@ -39,7 +41,7 @@ told : served_as (accepted_of begun.committed three) three ≡ record { accepted
 told = refl
 
 -- made on the list with the committed letter, it conflicts with nothing
-later : served 1 (record { base = 1; entries = removes 1 (Char 98 [] ∷ Char 65 [] ∷ []) 3 ∷ [] }) begun
+later : after_serving 1 (record { base = 1; entries = removes 1 (Char 98 [] ∷ Char 65 [] ∷ []) 3 ∷ [] }) begun
     ≡ record {
       committed = first ∷ removes 1 (Char 98 [] ∷ Char 65 [] ∷ []) 3 ∷ [];
       queues = (Foreign (removes 1 (Char 98 [] ∷ Char 65 [] ∷ []) 3 ∷ []) ∷ [])
@@ -50,7 +52,7 @@ later : served 1 (record { base = 1; entries = removes 1 (Char 98 [] ∷ Char 65
 later = refl
 
 -- where none is accepted, only the sender is told
-none_accepted : served 2 (record { base = 0; entries = removes 1 (Char 98 [] ∷ Char 99 [] ∷ []) 2 ∷ [] }) begun
+none_accepted : after_serving 2 (record { base = 0; entries = removes 1 (Char 98 [] ∷ Char 99 [] ∷ []) 2 ∷ [] }) begun
     ≡ record { committed = first ∷ []; queues = [] ∷ [] ∷ (Foreign (first ∷ []) ∷ Ack 0 ∷ []) ∷ [] }
 none_accepted = refl
 
@@ -62,14 +64,15 @@ sender_is_told = refl
 first_in_first_out : first_of (Ack 1 ∷ Ack 2 ∷ []) ≡ (Some (Ack 1), Ack 2 ∷ [])
 first_in_first_out = refl
 
-fed_once : fed 2 begun ≡ (Some (Foreign (first ∷ [])), record { committed = first ∷ []; queues = [] ∷ [] ∷ [] ∷ [] })
+fed_once : first_feed 2 begun ≡ (Some (Foreign (first ∷ [])), record { committed = first ∷ []; queues = [] ∷ [] ∷ [] ∷ [] })
 fed_once = refl
 
-nothing_to_feed : fed 0 begun ≡ (None, begun)
+nothing_to_feed : first_feed 0 begun ≡ (None, begun)
 nothing_to_feed = refl
 
--- a site by the feed that is handed out: as it was, where there is none, and with what it sent committed, where that was answered
-no_feed : (s : Site) → site_with (fed 0 begun).0 s ≡ s
+-- a site by the feed that is handed out: as it was, where there is none, and with what it sent
+-- committed, where that was answered
+no_feed : (s : Site) → site_with (first_feed 0 begun).0 s ≡ s
 no_feed s = refl
 
 answered : (s : Site) → site_with (Some (Ack 1)) s ≡ record s { seen = s.seen + length s.sent; sent = []; undone = []; in_flight = None }

@@ -3,7 +3,7 @@ use Rattle.std.proofs.Common.{◌≡◌, ℕ, zero, suc, List, [], ◌∷◌, �
 use Rattle.model_site.specs.Entries.{Parcel}
 use Rattle.model_site.specs.Session.{Member, SiteFeed, all_fed, feed_for, put_member, accepted_of, take_first, site_after}
 use Rattle.model_site.specs.Events.{after_turn}
-use Rattle.ve_server.specs.Serving.{Serving, serving_of, all_queued, first_of, fed}
+use Rattle.ve_server.specs.Serving.{Serving, serving_of, all_queued, first_of, first_feed}
 use Rattle.model_site.specs.Site.{Site}
 use Rattle.ve_server.specs.Laws.{TurnsServe, TurnsFeed, TurnsTake, site_with, sites_of}
 
@@ -46,7 +46,7 @@ turns_feed k m w at = along m.feeds (got k m w.members at) (put_back k m w.membe
     left feeds = record { committed = w.committed; queues = slice_set (queues_of w.members) k (first_of feeds).1 }
 
     along : (feeds : List SiteFeed) → feeds_at k w.members ≡ feeds → slice_set (queues_of w.members) k feeds ≡ queues_of w.members →
-        serving_of (after_turn w (take_first k m feeds w)) ≡ (fed k (serving_of w)).1
+        serving_of (after_turn w (take_first k m feeds w)) ≡ (first_feed k (serving_of w)).1
     along [] e same = ap (λ qs. record { committed = w.committed; queues = qs }) (sym same) ∙ ap left (sym e)
     along (f ∷ later) e same =
         ap (λ qs. record { committed = w.committed; queues = qs }) (put_is_set k (record m { site = site_after f m.site; feeds = later }) w.members) ∙ ap left (sym e)
@@ -68,6 +68,6 @@ turns_take k m w at = along m.feeds (got k m w.members at)
     with_first feeds = slice_set (sites_of w.members) k (site_with (first_of feeds).0 m.site)
 
     along : (feeds : List SiteFeed) → feeds_at k w.members ≡ feeds →
-        sites_of (after_turn w (take_first k m feeds w)).members ≡ slice_set (sites_of w.members) k (site_with (fed k (serving_of w)).0 m.site)
+        sites_of (after_turn w (take_first k m feeds w)).members ≡ slice_set (sites_of w.members) k (site_with (first_feed k (serving_of w)).0 m.site)
     along [] e = site_stays k m w.members at ∙ ap with_first (sym e)
     along (f ∷ later) e = site_is_set k (record m { site = site_after f m.site; feeds = later }) w.members ∙ ap with_first (sym e)

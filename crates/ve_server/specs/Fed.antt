@@ -1,4 +1,4 @@
--- What goes between sites and server, by value.
+-- Messages between sites and server, by value.
 use Rattle.std.specs.Prelude.{List, [], ◌∷◌, Option, Some, None}
 use Rattle.model_site.specs.Site.{Submission}
 use Rattle.model_site.specs.Session.{SiteFeed}

@@ -16,7 +16,8 @@ feeds_in = map (λ w. w.feeds)
 abbrev pub released : Waiting → Waiting
 released w = record { feeds = w.feeds ++ w.staged; staged = [] }
 
--- with what the site at k gets when these entries of the sender are accepted staged in the place of what was staged
+-- with what the site at k gets when these entries of the sender are accepted staged in the place of
+-- what was staged
 abbrev pub all_staged : (sender k : ℕ) → List Parcel → List Waiting → List Waiting
 all_staged sender k entries [] = []
 all_staged sender k entries (w ∷ ws) = record { feeds = w.feeds; staged = feed_for sender k entries } ∷ all_staged sender (suc k) entries ws

@@ -1,7 +1,7 @@
-// What goes between sites and server.
+// Messages between sites and server.
 use crate::Parcels;
 
-/// What a site sends: its entries, made on a list with the first `base` committed entries.
+/// A submission of a site: its entries, made on a list with the first `base` committed entries.
 #[derive(Drop)]
 pub struct Submit {
     /// The number of the site that sends it.
@@ -10,7 +10,7 @@ pub struct Submit {
     pub parcels: Parcels,
 }
 
-/// What the server sends to a site.
+/// A message of the server to a site.
 #[derive(Drop)]
 pub enum Feed {
     /// Entries of another site, at least one.

@@ -6,7 +6,8 @@ use std::marker::Model;
 use ve_base::{Memory, TryCopy};
 use ve_tx::{Parcel, ParcelList};
 
-/// Parcels, each of which cites its own values. They are seen by value: a list of entries, each a list of transactions.
+/// Parcels, each of which cites its own values. They are seen by value: a list of entries, each a
+/// list of transactions.
 #[derive(Drop)]
 pub struct Parcels {
     list: ParcelList,

@@ -10,8 +10,9 @@ use std::collections::VecDeque;
 use std::marker::Model;
 use ve_base::Memory;
 
-/// What a site is to be fed, first in and first out. Behind it there may be feeds that are staged: these can
-/// be dropped, or released without memory, so that several queues are fed together or not at all.
+/// The queue to a site, first in and first out. Behind the feeds that wait there may be staged
+/// ones. These can be dropped, or released without memory, so that several queues are fed together
+/// or not at all.
 #[derive(Drop)]
 pub struct Queue {
     feeds: VecDeque<Feed>,
@@ -42,7 +43,8 @@ impl Queue {
         }
     }
 
-    /// Puts a feed, if there is one, in the place of what is staged. What can be taken stays, whatever comes.
+    /// Puts a feed, if there is one, in the place of what is staged. What can be taken stays,
+    /// whatever comes.
     pub fn stage(&mut self, feed: Option<Feed>) -> Result<(), Memory>
         ensures feeds { self.new.feeds ≡ self.old.feeds }
         ensures staged { OnOk result (self.new.staged ≡ feeds_of feed) }

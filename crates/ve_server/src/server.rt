@@ -4,7 +4,7 @@ ghost use Rattle.model_change.specs.Replay.{flattened};
 ghost use Rattle.model_site.specs.Session.{accepted_of, clash_of, feed_for as model_feed_for};
 ghost use Rattle.ve_rebase.specs.Lists.{RunFromOneLength};
 ghost use Rattle.ve_server.specs.Fed.{feed_of, feeds_of, submission_of};
-ghost use Rattle.ve_server.specs.Serving.{answer_to, fed, served};
+ghost use Rattle.ve_server.specs.Serving.{answer_to, first_feed, after_serving};
 ghost use Rattle.ve_server.specs.Waiting.{all_staged, feeds_in, released};
 
 use crate::queue::Queue;
@@ -15,7 +15,7 @@ use std::marker::Model;
 use ve_base::{Memory, TryCopy};
 use ve_rebase::{JoinedEntries, entries_over_list};
 
-/// The committed entries, and for each site what it is to be fed, the next one first.
+/// The committed entries, and for each site its feeds, the next one first.
 #[derive(Drop)]
 pub struct Server {
     committed: Parcels,
@@ -31,23 +31,27 @@ impl Model for Server {
     ghost view = { λ s. record { committed = s.committed; queues = feeds_in s.queues.items } };
 }
 
-/// A submission's entries joined over those committed since its base, up to the first conflict, and the ranges that conflict.
+/// A submission's entries joined over those committed since its base, up to the first conflict, and
+/// the ranges that conflict.
 fn accepted(
     alloc: Global,
     committed: &Parcels,
     submit: &Submit,
 ) -> Result<(Parcels, Option<Clash>), Memory>
     requires base { submit.now.base ≤ length committed.now }
-    requires run { RunFromOneLength (flattened (drop submit.now.base committed.now)) (flattened submit.now.parcels) }
-    ensures kept { IfOk result (λ two. two.0 ≡ (accepted_of committed.now (submission_of submit.now)).kept) }
-    ensures clash { IfOk result (λ two. two.1 ≡ clash_of (accepted_of committed.now (submission_of submit.now)).clash) }
+    requires run { RunFromOneLength (flattened (drop submit.now.base committed.now))
+        (flattened submit.now.parcels) }
+    ensures kept { IfOk result (λ two.
+        two.0 ≡ (accepted_of committed.now (submission_of submit.now)).kept) }
+    ensures clash { IfOk result (λ two.
+        two.1 ≡ clash_of (accepted_of committed.now (submission_of submit.now)).clash) }
 {
     let since = &committed.as_slice()[submit.base..];
     let JoinedEntries { kept, clash } = entries_over_list(alloc, since, submit.parcels.as_slice())?;
     Ok((Parcels::from_list(kept), clash))
 }
 
-/// What the site at a place is fed when entries of the sender are accepted: the sender their number, any
+/// The feed to one site when entries of the sender are accepted: to the sender their number, to any
 /// other site the entries, if there is one.
 fn feed_for(
     alloc: Global,
@@ -66,7 +70,8 @@ fn feed_for(
     Ok(Some(Feed::Foreign(entries.copy(alloc)?)))
 }
 
-/// Stages in each queue what its site is fed when these entries of the sender are accepted. What can be taken stays, whatever comes.
+/// Stages in each queue what its site is fed when these entries of the sender are accepted. What
+/// can be taken stays, whatever comes.
 fn stage_all(
     alloc: Global,
     queues: &mut [Queue],
@@ -95,7 +100,8 @@ fn release_all(queues: &mut [Queue])
 impl Server {
     /// A server of so many sites, which has no entry yet.
     pub fn new(alloc: Global, sites: usize) -> Result<Server, Memory>
-        ensures { IfOk result (λ server. server ≡ record { committed = []; queues = replicate sites [] }) }
+        ensures { IfOk result (λ server.
+            server ≡ record { committed = []; queues = replicate sites [] }) }
     {
         let mut queues = Vec::new(alloc);
         for _site in 0..sites {
@@ -114,17 +120,20 @@ impl Server {
         &self.committed
     }
 
-    /// Joins a submission's entries, one after the other, over those committed since its base. At the first
-    /// conflict that entry and the rest are refused. The accepted ones are committed; the sender is told
-    /// their number, and each other site gets them, if there is one. The answer says how many were accepted
-    /// of how many, and which ranges are in conflict.
+    /// Joins a submission's entries, one after the other, over those committed since its base. At
+    /// the first conflict that entry and the rest are refused. The accepted ones are committed; the
+    /// sender is told their number, and each other site gets them, if there is one. The answer says
+    /// how many were accepted of how many, and which ranges are in conflict.
     ///
-    /// Only memory can be short, and then nothing changes.
+    /// The only `Err` is want of memory, and then nothing changes.
     pub fn serve(&mut self, submit: &Submit) -> Result<Served, Memory>
         requires base { submit.now.base ≤ length self.old.committed }
-        requires run { RunFromOneLength (flattened (drop submit.now.base self.old.committed)) (flattened submit.now.parcels) }
-        ensures server { OnOk result (self.new ≡ served submit.now.site (submission_of submit.now) self.old) }
-        ensures answer { IfOk result (λ answer. answer ≡ answer_to (submission_of submit.now) self.old) }
+        requires run { RunFromOneLength (flattened (drop submit.now.base self.old.committed))
+            (flattened submit.now.parcels) }
+        ensures server { OnOk result (
+            self.new ≡ after_serving submit.now.site (submission_of submit.now) self.old) }
+        ensures answer { IfOk result (λ answer.
+            answer ≡ answer_to (submission_of submit.now) self.old) }
         ensures kept { OnErr result (self.new ≡ self.old) }
     {
         let alloc = *self.queues.allocator();
@@ -144,7 +153,7 @@ impl Server {
     /// Lends the next feed of a site, if there is one, and takes nothing.
     pub fn next_feed(&self, site: u32) -> Option<&Feed>
         requires { site < length self.now.queues }
-        ensures { option_map feed_of (option_copied result) ≡ (fed site self.now).0 }
+        ensures { option_map feed_of (option_copied result) ≡ (first_feed site self.now).0 }
     {
         self.queues[site as usize].first()
     }
@@ -152,7 +161,7 @@ impl Server {
     /// Takes the next feed of a site, if there is one. It takes no memory.
     pub fn feed(&mut self, site: u32) -> Option<Feed>
         requires { site < length self.old.queues }
-        ensures { (option_map feed_of result, self.new) ≡ fed site self.old }
+        ensures { (option_map feed_of result, self.new) ≡ first_feed site self.old }
     {
         self.queues[site as usize].pop()
     }

@@ -11,12 +11,12 @@ use Rattle.model_page.specs.PageItems.{Opened}
 use Rattle.model_site.specs.Entries.{Parcel}
 use Rattle.model_site.specs.Session.{Member}
 use Rattle.model_site_law.specs.Sound.{Sound}
-use Rattle.model_world.specs.declared.change.Change.TheVariants as change
+use Rattle.model_world.specs.declared.edit_command.EditCommand.TheVariants as change
 use Rattle.model_world.specs.declared.command.Request.{Request}
 use Rattle.model_world.specs.declared.command.Request.TheVariants as request
 use Rattle.model_world.specs.declared.refusal.Refusal.{Refusal}
-use Rattle.model_world.specs.Answers.{asked, erased_or_no, higher, lower, performed_or_no, to_erase}
-use Rattle.model_world.specs.Edits.{allowed, change_of}
+use Rattle.model_world.specs.Answers.{request_outcome, erased_or_no, higher, lower, performed_or_no, to_erase}
+use Rattle.model_world.specs.Edits.{checked_transaction, change_of}
 use Rattle.model_world.specs.Refusals.{refused_as}
 use Rattle.model_world_law.specs.Fit.{Fit, MovesFit}
 use Rattle.ve_changes.specs.declared.faults.ChangeStop.{ChangeStop}
@@ -125,11 +125,11 @@ module _ (k : ℕ) (old : Shared) (dir : Dir) (by : By) (s : Selection) (e : to_
   same_change : change.Remove (lower s) (higher s) ≡ change.Remove from to
   same_change = ap (λ n. change.Remove n (higher s)) (sym first) ∙ ap (λ n. change.Remove from n) (sym last)
 
-  pub erases : (page : Opened) → asked (asker page old k) (request.Erase dir by)
-      ≡ performed_or_no (asker page old k) (allowed (site_at old k).replica (change_of (site_at old k).replica.items (change.Remove from to)))
+  pub erases : (page : Opened) → request_outcome (asker page old k) (request.Erase dir by)
+      ≡ performed_or_no (asker page old k) (checked_transaction (site_at old k).replica (change_of (site_at old k).replica.items (change.Remove from to)))
   erases page =
       ap (erased_or_no (asker page old k)) e
-      ∙ ap (λ c. performed_or_no (asker page old k) (allowed (site_at old k).replica (change_of (site_at old k).replica.items c))) same_change
+      ∙ ap (λ c. performed_or_no (asker page old k) (checked_transaction (site_at old k).replica (change_of (site_at old k).replica.items c))) same_change
 
   pub erase_steps : (before after : ℕ) → after ≤ before + steps_to_perform (site_at old k).replica.items (change_of (site_at old k).replica.items (change.Remove from to)) →
       after ≤ before + steps_to_erase (site_at old k).replica.items (to_erase (site_at old k).replica dir by)

@@ -1,4 +1,4 @@
--- What is lent of the page that was first read, over a store that begins with the first one.
+-- The borrowed page that was first read, over a store that begins with the first one.
 use Rattle.std.proofs.Common.{◌≡◌, ◌<◌, ℕ, List, length, drop, ap, subst, sym, Some}
 use Rattle.ve_base.specs.declared.value.Value.{Value}
 use Rattle.model_items.specs.declared.plain_item.PlainItem.{PlainItem}

@@ -19,7 +19,7 @@ use Rattle.ve_answers.specs.Asked.{HtmlIsAsked}
 use Rattle.ve_answers.specs.Replies.{html_reply}
 use Rattle.ve_write.specs.Originals.{opened_over, IsFirst}
 use Rattle.ve_origin.specs.Origins.{FirstRead}
-use Rattle.ve_session.specs.Asked.{asker, kept_or_new, obeyed}
+use Rattle.ve_session.specs.Asked.{asker, kept_or_new, reply_and_world}
 use Rattle.ve_session.specs.Laws.{UneditedIsTold}
 use Rattle.ve_session.specs.Opened.{page_on, world_on, IsLed, IsOpen, OnPage}
 use Rattle.ve_session.proofs.FirstLemmas.{first_grown, first_same, page_same}
@@ -29,7 +29,7 @@ use Rattle.ve_session.proofs.WorldLemmas.{obeyed_is}
 use Rattle.ve_sites.specs.Shared.{Shared, site_at, sites}
 
 pub html_told : HtmlIsAsked → (page : Opened) (s : Shared) (k : ℕ) → k < sites s →
-    obeyed (Open page s.session) (Ask request.Html k) ≡ (html_reply page (site_at s k).replica.items, Open page s.session)
+    reply_and_world (Open page s.session) (Ask request.Html k) ≡ (html_reply page (site_at s k).replica.items, Open page s.session)
 html_told law page s k within =
     obeyed_is page s k request.Html within
     ∙ ap (λ (x : Reply × Session). (x.0, Open page x.1))
@@ -43,7 +43,7 @@ module _ (o : FirstRead) (s : Shared) (k : ℕ) (within : k < sites s) (is : IsO
       (subst (λ (v : List Value). IsFirst v o) (sym same) (first_grown s.session.base.store (site_at s k).replica.store o (extends o s k within is every) is.first))
 
   pub html_is : HtmlIsAsked → (items : List PlainItem) (told : Reply) → items ≡ (site_at s k).replica.items → told ≡ html_reply (opened_over store origins) items →
-      told ≡ (obeyed (world_on (page_on o s.session)) (Ask request.Html k)).0
+      told ≡ (reply_and_world (world_on (page_on o s.session)) (Ask request.Html k)).0
   html_is law items told as_items e =
       e
       ∙ ap (λ (x : FirstRead). html_reply (opened_over store x) items) lent
@@ -68,7 +68,7 @@ items_at s k items within e =
 -- so the page is told as it was opened
 pub opened_told : UneditedIsTold → (p : OnPage) (k : ℕ) (text : List ℕ) → k < length p.session.members → IsLed (world_on p) →
     option_map (λ (m : Member). m.site.replica.items) (slice_get p.session.members k) ≡ Some p.page.items → text ≡ p.page.page →
-    reply.Page (chars text) ≡ (obeyed (world_on p) (Ask request.Html k)).0
+    reply.Page (chars text) ≡ (reply_and_world (world_on p) (Ask request.Html k)).0
 opened_told law p k text within led unedited whole =
     let m = slice_index_or p.session.members k (joining p.session.base) in
     let there = slice_get-get_or p.session.members k (joining p.session.base) within in

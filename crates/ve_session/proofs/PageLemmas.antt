@@ -40,7 +40,7 @@ use Rattle.ve_json.specs.declared.answer.Answer.TheVariants as answer
 use Rattle.ve_json.specs.Answers.{reply_of}
 use Rattle.ve_tree.specs.TreeOf.{most_steps}
 use Rattle.ve_tx.specs.Making.{Extends}
-use Rattle.ve_session.specs.Asked.{obeyed, IsAnswered, IsAsked}
+use Rattle.ve_session.specs.Asked.{reply_and_world, IsAnswered, IsAsked}
 use Rattle.ve_session.specs.Cost.{steps_of, steps_to_answer, steps_to_open}
 use Rattle.ve_session.specs.Opened.{lent_of, page_on, world_on, IsLed, IsOpen, MayOpen, OnPage}
 use Rattle.ve_session.specs.Turning.{CaretStands, MayTurn}
@@ -136,7 +136,7 @@ module _ (o : FirstRead) (old : Shared) (k : ℕ) (within : k < sites old) (is :
       first = subst (λ (b : Replica). IsFirst b.store o) (sym by.base) is.first;
     }
 
-    pub world_is : (new : Shared) (answer : Answer) → IsAnswered r k old answer new → world_on (page_on o new.session) ≡ (obeyed (world_on (page_on o old.session)) (Ask r k)).1
+    pub world_is : (new : Shared) (answer : Answer) → IsAnswered r k old answer new → world_on (page_on o new.session) ≡ (reply_and_world (world_on (page_on o old.session)) (Ask r k)).1
     world_is new answer by =
         ap (λ (b : Replica). Open (opened_over b.store o) new.session) by.base
         ∙ sym (ap (λ (x : Reply × World). x.1) (obeyed_so page_of_it old k r within new answer by))
@@ -217,7 +217,7 @@ fields_on text body rows refs s = page_on (lent_of text body rows s.first refs) 
 module _ (text : List ℕ) (body : Span) (rows : List OriginRow) (refs : List RefRow) (old : Shared) (k : ℕ) (within : k < sites old)
     (is : IsOpen (lent_of text body rows old.first refs) old.session) (r : Request) where
   pub replied : (new : Shared) (answer : Answer) → IsAnswered r k old answer new →
-      (obeyed (world_on (fields_on text body rows refs old)) (Ask r k)).0 ≡ reply_of answer
+      (reply_and_world (world_on (fields_on text body rows refs old)) (Ask r k)).0 ≡ reply_of answer
   replied new answer by = ap (λ (x : Reply × World). x.0) (obeyed_so (fields_on text body rows refs old).page old k r within new answer by)
 
   pub cost_within : (before after : ℕ) → after ≤ before + steps_to_answer r old.session.committed (member_at old k) →
@@ -230,14 +230,14 @@ module _ (text : List ℕ) (body : Span) (rows : List OriginRow) (refs : List Re
       (stays_open (lent_of text body rows old.first refs) old k within is r asked new answer by)
 
   pub after_world : IsAsked (Ask r k) → (new : Shared) (answer : Answer) → IsAnswered r k old answer new →
-      world_on (fields_on text body rows refs new) ≡ (obeyed (world_on (fields_on text body rows refs old)) (Ask r k)).1
+      world_on (fields_on text body rows refs new) ≡ (reply_and_world (world_on (fields_on text body rows refs old)) (Ask r k)).1
   after_world asked new answer by =
       ap (λ (first : List Item). world_on (page_on (lent_of text body rows first refs) new.session)) by.first
       ∙ world_is (lent_of text body rows old.first refs) old k within is r asked new answer by
 
   -- a reply that changes nothing
   pub shown_world : (answer : Answer) → IsAnswered r k old answer old →
-      (obeyed (world_on (fields_on text body rows refs old)) (Ask r k)).1 ≡ world_on (fields_on text body rows refs old)
+      (reply_and_world (world_on (fields_on text body rows refs old)) (Ask r k)).1 ≡ world_on (fields_on text body rows refs old)
   shown_world answer by = ap (λ (x : Reply × World). x.1) (obeyed_so (fields_on text body rows refs old).page old k r within old answer by)
 
 -- what is so in any case is so where it went well

@@ -1,4 +1,4 @@
--- What goes between a site and the server is what the model answers.
+-- Turns between a site and the server are answered as the model answers them.
 use Rattle.std.proofs.Common.{◌≡◌, ℕ, List, [], ◌∷◌, ap, sym, ◌∙◌, Option, Some, None}
 use Rattle.std.specs.Prelude.{Ok}
 use Rattle.model_site.specs.declared.served.Served.{Served}

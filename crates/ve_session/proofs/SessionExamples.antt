@@ -1,4 +1,4 @@
--- What comes of a command, and what it may cost, computed from the definitions.
+-- The outcome of a command, and what it may cost, computed from the definitions.
 use Rattle.std.proofs.Common.{◌≡◌, refl, true, false, []}
 use Rattle.std.specs.Prelude.{Ok, Err, None}
 use Rattle.model_site.specs.Replica.{opened_with}
@@ -8,13 +8,13 @@ use Rattle.model_world.specs.declared.command.Command.TheVariants.{Ask}
 use Rattle.model_world.specs.declared.refusal.Refusal.TheVariants.{NotOpen, NothingQueued, NothingToUndo}
 use Rattle.model_world.specs.declared.reply.Reply.TheVariants.{Caret, No}
 use Rattle.model_world.specs.World.{Closed}
-use Rattle.ve_session.specs.Asked.{is_shown, kept_or_new, obeyed}
+use Rattle.ve_session.specs.Asked.{is_shown, kept_or_new, reply_and_world}
 use Rattle.ve_session.specs.Cost.{steps_of, steps_to_answer, steps_to_erase, steps_to_open, steps_to_perform}
 use Rattle.ve_session.specs.Opened.{replica_in}
 use Rattle.ve_session.specs.Turning.{CaretStands}
 
 -- without a page `html` is refused, and takes no step; no site has a replica
-closed : obeyed Closed (Ask request.Html 0) ≡ (No NotOpen, Closed)
+closed : reply_and_world Closed (Ask request.Html 0) ≡ (No NotOpen, Closed)
 closed = refl
 
 no_step : steps_of Closed (Ok (Ask request.Html 0)) ≡ 0
@@ -37,7 +37,8 @@ refusal_keeps = refl
 reply_brings : kept_or_new (started (opened_with []) 1) (Ok (Caret 0 0, started (opened_with []) 2)) ≡ (Caret 0 0, started (opened_with []) 2)
 reply_brings = refl
 
--- where nothing is unsent, undoing builds the tree of a copy at most; a turn without a feed takes no step
+-- where nothing is unsent, undoing builds the tree of a copy at most; a turn without a feed takes
+-- no step
 nothing_erased : steps_to_erase [] (Err NothingToUndo) ≡ 0
 nothing_erased = refl
 

@@ -1,4 +1,4 @@
--- What is replied to a request that changes nothing is what comes of it.
+-- The reply to a request that changes nothing is its outcome.
 use Rattle.std.proofs.Common.{◌≡◌, ℕ, true, false, Bool, refl, ap, ◌∙◌, sym}
 use Rattle.std.specs.Prelude.{if◌then◌else◌, List, Result, Ok, Err, IfOk}
 use Rattle.model_items.specs.declared.plain_item.PlainItem.{PlainItem}
@@ -6,7 +6,7 @@ use Rattle.model_site.specs.Session.{Session}
 use Rattle.model_page.specs.PageItems.{Opened}
 use Rattle.model_world.specs.declared.command.Request.{Request}
 use Rattle.model_world.specs.declared.reply.Reply.{Reply}
-use Rattle.model_world.specs.Answers.{asked}
+use Rattle.model_world.specs.Answers.{request_outcome}
 use Rattle.model_world.specs.Laws.{is_refusal}
 use Rattle.ve_answers.specs.Asked.{outcome_of}
 use Rattle.ve_json.specs.declared.answer.Answer.{Answer}
@@ -23,7 +23,7 @@ stays w r = by (is_refusal r)
     by false = refl
 
 pub is_shown : (r : Request) (k : ℕ) (s : Shared) (answer : Answer) (reply : Reply) →
-    ((page : Opened) → asked (asker page s k) r ≡ outcome_of s.session reply) → reply_of answer ≡ reply → AnswerCites answer → IsAnswered r k s answer s
+    ((page : Opened) → request_outcome (asker page s k) r ≡ outcome_of s.session reply) → reply_of answer ≡ reply → AnswerCites answer → IsAnswered r k s answer s
 is_shown r k s answer reply asks is cites = record {
   replies = λ page. ap (kept_or_new s.session) (asks page) ∙ stays s.session reply ∙ ap (λ (x : Reply). (x, s.session)) (sym is);
   first = refl;
@@ -33,7 +33,7 @@ is_shown r k s answer reply asks is cites = record {
 
 -- a reply that is told of the items that the site lends
 pub shown_over : (r : Request) (k : ℕ) (s : Shared) (told : List PlainItem → Reply) (lent : List PlainItem) →
-    ((page : Opened) → asked (asker page s k) r ≡ outcome_of s.session (told (site_at s k).replica.items)) → lent ≡ (site_at s k).replica.items →
+    ((page : Opened) → request_outcome (asker page s k) r ≡ outcome_of s.session (told (site_at s k).replica.items)) → lent ≡ (site_at s k).replica.items →
     (answer : Answer) → reply_of answer ≡ told lent → AnswerCites answer → IsAnswered r k s answer s
 shown_over r k s told lent asks same answer is cites = is_shown r k s answer (told (site_at s k).replica.items) asks (is ∙ ap told same) cites
 

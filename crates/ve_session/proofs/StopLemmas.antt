@@ -1,4 +1,4 @@
--- What the crates below refuse is what the request is refused for.
+-- A fault of the crates below is the refusal of the request.
 use Rattle.std.proofs.Common.{◌≡◌, ℕ, Bool, true, false, ap, ◌∙◌}
 use Rattle.std.specs.Prelude.{Result, nat_lt}
 use Rattle.model_change.specs.Replay.{revoke}
@@ -13,7 +13,7 @@ use Rattle.model_site.specs.declared.site_fault.SendFault.{SendFault}
 use Rattle.model_site.specs.declared.site_fault.SendFault.TheVariants as sent
 use Rattle.model_world.specs.declared.command.Request.TheVariants as request
 use Rattle.model_world.specs.declared.refusal.Refusal.TheVariants.{BadEntry}
-use Rattle.model_world.specs.Answers.{Asked, Outcome, asked, changed_or_no, refused, sent_or_no, site_of}
+use Rattle.model_world.specs.Answers.{Asked, Outcome, request_outcome, changed_or_no, refusal_outcome, sent_or_no, site_of}
 use Rattle.model_world.specs.Refusals.{open_refusal, redo_refusal, refused_as, revoke_refusal, send_refusal, undo_refusal}
 use Rattle.ve_changes.specs.Stops.{IsRefused}
 use Rattle.ve_html_tree.specs.declared.fault.HtmlFault.{HtmlFault}
@@ -69,16 +69,16 @@ send_stops sent.Memory k old e = tt
 
 revoked_by : Asked → ℕ → Bool → Outcome
 revoked_by a i seen = elim seen [
-  | false ↦ refused (BadEntry i (site_of a).seen)
+  | false ↦ refusal_outcome (BadEntry i (site_of a).seen)
   | true ↦ changed_or_no a (refused_as revoke_refusal (revoke_entry a.session.committed i (site_of a)))
 ]
 
 pub revokes : (a : Asked) (i : ℕ) → nat_lt i (site_of a).seen ≡ true →
-    asked a (request.Revoke i) ≡ changed_or_no a (refused_as revoke_refusal (revoke_entry a.session.committed i (site_of a)))
+    request_outcome a (request.Revoke i) ≡ changed_or_no a (refused_as revoke_refusal (revoke_entry a.session.committed i (site_of a)))
 unfolding revoked_by
 revokes a i seen = ap (revoked_by a i) seen
 
-pub no_entry : (a : Asked) (i : ℕ) → nat_lt i (site_of a).seen ≡ false → asked a (request.Revoke i) ≡ refused (BadEntry i (site_of a).seen)
+pub no_entry : (a : Asked) (i : ℕ) → nat_lt i (site_of a).seen ≡ false → request_outcome a (request.Revoke i) ≡ refusal_outcome (BadEntry i (site_of a).seen)
 unfolding revoked_by
 no_entry a i unseen = ap (revoked_by a i) unseen
 

@@ -1,4 +1,4 @@
--- What the turn of a site makes of its session is what the model answers.
+-- The session after the turn of a site is the model's.
 use Rattle.std.proofs.Common.{◌≡◌, ◌<◌, ℕ, zero, suc, List, [], ◌∷◌, length, refl, ap, sym, ◌∙◌, arith, Option, Some, None}
 use Rattle.std.specs.Prelude.{Result, Ok, Err, slice_index_or}
 use Rattle.model_change.specs.Transaction.{Transaction}
@@ -11,8 +11,8 @@ use Rattle.model_world.specs.declared.command.Request.{Request}
 use Rattle.model_world.specs.declared.refusal.Refusal.{Refusal}
 use Rattle.model_world.specs.declared.reply.Reply.{Reply}
 use Rattle.model_world.specs.declared.reply.Reply.TheVariants.{Length}
-use Rattle.model_world.specs.Answers.{asked, changed_or_no, performed_or_no}
-use Rattle.model_world.specs.Edits.{allowed, unless_faulty}
+use Rattle.model_world.specs.Answers.{request_outcome, changed_or_no, performed_or_no}
+use Rattle.model_world.specs.Edits.{checked_transaction, unless_faulty}
 use Rattle.ve_changes.specs.declared.faults.ChangeStop.{ChangeStop}
 use Rattle.ve_changes.specs.declared.faults.ChangeStop.TheVariants as stop
 use Rattle.ve_changes.specs.Stops.{IsRefused}
@@ -21,7 +21,7 @@ use Rattle.ve_json.specs.declared.answer.Answer.TheVariants as answer
 use Rattle.ve_session.specs.Asked.{asker, kept_or_new, IsAnswered, IsPerformed, IsStopped}
 use Rattle.ve_sites.specs.Shared.{Shared, member_at, site_at, sites, with_member_at, with_site_at}
 
--- ---- members put into place
+-- ---- members put into position
 
 pub put_there : (ms : List Member) (k : ℕ) (m d : Member) → k < length ms → slice_index_or (put_member k m ms) k d ≡ m
 put_there [] k m d within = absurd (let none : ⊥ = omega (arith, within) in none)
@@ -54,7 +54,7 @@ module _ (old new : Shared) (k : ℕ) (same : new ≡ with_site_at k (site_at ne
       ap (λ n. (Length n, (with_site_at k (site_at new k) old).session)) (sym counted) ∙ ap (λ (s : Shared). (Length count, s.session)) (sym same)
 
   pub is_changed : (r : Request) (given : Result Site Refusal) (count : ℕ) →
-      ((page : Opened) → asked (asker page old k) r ≡ changed_or_no (asker page old k) given) → given ≡ Ok (site_at new k) →
+      ((page : Opened) → request_outcome (asker page old k) r ≡ changed_or_no (asker page old k) given) → given ≡ Ok (site_at new k) →
       count ≡ length (site_at new k).replica.items → IsAnswered r k old (answer.Length count) new
   is_changed r given count asks gives counted = record {
     replies = λ page.
@@ -67,7 +67,7 @@ module _ (old new : Shared) (k : ℕ) (same : new ≡ with_site_at k (site_at ne
   }
 
 pub is_refused : (r : Request) (old : Shared) (k : ℕ) (given : Result Site Refusal) (why : Refusal) →
-    ((page : Opened) → asked (asker page old k) r ≡ changed_or_no (asker page old k) given) → given ≡ Err why → IsStopped r k old (stop.Refused why)
+    ((page : Opened) → request_outcome (asker page old k) r ≡ changed_or_no (asker page old k) given) → given ≡ Err why → IsStopped r k old (stop.Refused why)
 is_refused r old k given why asks gives = λ page. asks page ∙ ap (changed_or_no (asker page old k)) gives
 
 -- ---- a transaction that is performed
@@ -95,11 +95,11 @@ is_performed t k old new count e same counted =
 
 -- a request that is answered by performing the transaction that is meant, where it may be
 module _ (r : Request) (k : ℕ) (old : Shared) (meant : Result Transaction Refusal)
-    (asks : (page : Opened) → asked (asker page old k) r ≡ performed_or_no (asker page old k) (allowed (site_at old k).replica meant)) where
+    (asks : (page : Opened) → request_outcome (asker page old k) r ≡ performed_or_no (asker page old k) (checked_transaction (site_at old k).replica meant)) where
   pub answered_by : (t : Transaction) (a : Answer) (new : Shared) → meant ≡ Ok t → IsPerformed t k old a new → IsAnswered r k old a new
   answered_by t a new means is = record {
     replies = λ page.
-        ap (kept_or_new old.session) (asks page ∙ ap (λ m. performed_or_no (asker page old k) (allowed (site_at old k).replica m)) means)
+        ap (kept_or_new old.session) (asks page ∙ ap (λ m. performed_or_no (asker page old k) (checked_transaction (site_at old k).replica m)) means)
         ∙ is.replies page;
     first = is.first;
     base = is.base;
@@ -108,13 +108,13 @@ module _ (r : Request) (k : ℕ) (old : Shared) (meant : Result Transaction Refu
 
   -- nothing is meant
   pub unmeant : (why : ChangeStop) → IsRefused why meant → IsStopped r k old why
-  unmeant (stop.Refused why) e = λ page. asks page ∙ ap (λ m. performed_or_no (asker page old k) (allowed (site_at old k).replica m)) e
+  unmeant (stop.Refused why) e = λ page. asks page ∙ ap (λ m. performed_or_no (asker page old k) (checked_transaction (site_at old k).replica m)) e
   unmeant stop.Memory e = tt
 
   -- what is meant isn't performed
-  pub barred : (t : Transaction) (why : ChangeStop) → meant ≡ Ok t → IsRefused why (allowed (site_at old k).replica (Ok t)) → IsStopped r k old why
+  pub barred : (t : Transaction) (why : ChangeStop) → meant ≡ Ok t → IsRefused why (checked_transaction (site_at old k).replica (Ok t)) → IsStopped r k old why
   barred t (stop.Refused why) means e = λ page.
       asks page
-      ∙ ap (λ m. performed_or_no (asker page old k) (allowed (site_at old k).replica m)) means
+      ∙ ap (λ m. performed_or_no (asker page old k) (checked_transaction (site_at old k).replica m)) means
       ∙ ap (performed_or_no (asker page old k)) e
   barred t stop.Memory means e = tt

@@ -7,9 +7,9 @@ use Rattle.model_site.specs.Refused.{edit_cause}
 use Rattle.model_site.specs.Replica.{Replica}
 use Rattle.model_site.specs.Site.{Site, edit, with_entry}
 use Rattle.model_site.specs.declared.edit_fault.EditFault.{EditFault}
-use Rattle.model_world.specs.declared.change.Change.{Change}
-use Rattle.model_world.specs.declared.change.Change.TheVariants as change
-use Rattle.model_world.specs.declared.change.TextMarks.TheVariants.{Left}
+use Rattle.model_world.specs.declared.edit_command.EditCommand.{EditCommand}
+use Rattle.model_world.specs.declared.edit_command.EditCommand.TheVariants as change
+use Rattle.model_world.specs.declared.edit_command.TextMarks.TheVariants.{Left}
 use Rattle.model_world.specs.declared.command.Request.TheVariants as request
 use Rattle.model_world.specs.Answers.{lower, typed_or_no, typing}
 use Rattle.model_world.specs.Edits.{batch_on, change_of, change_on}
@@ -33,7 +33,7 @@ module _ (k : ℕ) (old : Shared) (text : List ℕ) (at : ℕ)
   r = (site_at old k).replica
 
   -- what typing is, as one change
-  abbrev pub put : Change
+  abbrev pub put : EditCommand
   put = change.Text at text Left
 
   is_typing : put ∷ [] ≡ typing r.selection text
@@ -46,7 +46,7 @@ module _ (k : ℕ) (old : Shared) (text : List ℕ) (at : ℕ)
   stopped (stop.Refused why) e = λ page. ap (typed_or_no (asker page old k)) (ap (batch_on r) (sym is_typing) ∙ lone_refused r put why e)
   stopped stop.Memory e = tt
 
-  -- there is no such change of the list that is lent
+  -- there is no such change of the list that is borrowed
   pub untyped : (why : ChangeStop) (lent : List PlainItem) → lent ≡ r.items → IsRefused why (change_of lent put) → IsStopped (request.TypeText text) k old why
   untyped why lent items e = stopped why (undrafted r lent put why items e)
 

@@ -1,4 +1,4 @@
--- What comes of a request in a world, and what holds of the site that is asked.
+-- The outcome of a request in a world, and the invariant of the site that is asked.
 use Rattle.std.proofs.Common.{◌≡◌, ◌≤◌, ◌<◌, ℕ, Bool, true, false, List, [], ◌∷◌, ◌++◌, length, refl, ap, sym, ◌∙◌, Some}
 use Rattle.std.proofs.lemmas.Option.{slice_get-get_or, slice_get_past}
 use Rattle.std.specs.Prelude.{nat_lt, Result, Ok, Err, slice_get}
@@ -13,13 +13,13 @@ use Rattle.model_world.specs.declared.refusal.Refusal.{Refusal}
 use Rattle.model_world.specs.declared.refusal.Refusal.TheVariants.{BadSite, LineTooLong}
 use Rattle.model_world.specs.declared.reply.Reply.{Reply}
 use Rattle.model_world.specs.declared.reply.Reply.TheVariants.{Length, No}
-use Rattle.model_world.specs.Answers.{Outcome, asked}
+use Rattle.model_world.specs.Answers.{Outcome, request_outcome}
 use Rattle.model_world.specs.Commands.{command}
 use Rattle.model_world.specs.Opening.{open_page, session_of}
-use Rattle.model_world.specs.World.{World, Closed, Open, Answer as WorldAnswer, answered_if, asked_of, meaning, on_page, opened_or_no, reply, settled, world_after}
+use Rattle.model_world.specs.World.{World, Closed, Open, Answer as WorldAnswer, answered_if, asked_of, meaning, on_page, opened_or_no, reply, reply_and_next, world_after}
 use Rattle.ve_json.specs.declared.answer.Answer.{Answer}
 use Rattle.ve_json.specs.Answers.{reply_of}
-use Rattle.ve_session.specs.Asked.{asker, kept_or_new, obeyed, IsAnswered, IsAsked}
+use Rattle.ve_session.specs.Asked.{asker, kept_or_new, reply_and_world, IsAnswered, IsAsked}
 use Rattle.ve_session.specs.Cost.{steps_at, steps_of, steps_to_answer, steps_to_open}
 use Rattle.ve_session.specs.Opened.{IsLed, MayOpen, OnPage, world_on}
 use Rattle.ve_sites.specs.Shared.{Shared, member_at, sites}
@@ -37,24 +37,24 @@ answer_by w line long read = elim long [
   | false ↦ answered_if w read
 ]
 
-pub reply_is : (w : World) (line : List ℕ) (c : Command) → nat_lt max_line (length line) ≡ false → command line ≡ Ok c → reply w line ≡ obeyed w c
+pub reply_is : (w : World) (line : List ℕ) (c : Command) → nat_lt max_line (length line) ≡ false → command line ≡ Ok c → reply w line ≡ reply_and_world w c
 unfolding answer_by
 reply_is w line c within asks =
-    ap (λ long. settled w (answer_by w line long (command line))) within
-    ∙ ap (λ read. settled w (answer_by w line false read)) asks
+    ap (λ long. reply_and_next w (answer_by w line long (command line))) within
+    ∙ ap (λ read. reply_and_next w (answer_by w line false read)) asks
 
 pub reply_refused : (w : World) (line : List ℕ) (why : Refusal) → nat_lt max_line (length line) ≡ false → command line ≡ Err why → reply w line ≡ (No why, w)
 unfolding answer_by
 reply_refused w line why within asks =
-    ap (λ long. settled w (answer_by w line long (command line))) within
-    ∙ ap (λ read. settled w (answer_by w line false read)) asks
+    ap (λ long. reply_and_next w (answer_by w line long (command line))) within
+    ∙ ap (λ read. reply_and_next w (answer_by w line false read)) asks
 
 pub reply_long : (w : World) (line : List ℕ) → nat_lt max_line (length line) ≡ true → reply w line ≡ (No (LineTooLong (length line)), w)
 unfolding answer_by
-reply_long w line long = ap (λ l. settled w (answer_by w line l (command line))) long
+reply_long w line long = ap (λ l. reply_and_next w (answer_by w line l (command line))) long
 
 leads_on : (w : World) (lines : List (List ℕ)) (line : List ℕ) (c : Command) → world_after Closed lines ≡ w → nat_lt max_line (length line) ≡ false → command line ≡ Ok c →
-    world_after Closed (lines ++ line ∷ []) ≡ (obeyed w c).1
+    world_after Closed (lines ++ line ∷ []) ≡ (reply_and_world w c).1
 leads_on w lines line c led within asks =
     state_on Closed lines (line ∷ [])
     ∙ ap (λ v. (reply v line).1) led
@@ -62,7 +62,7 @@ leads_on w lines line c led within asks =
 
 -- ---- so lines lead to what a command that is asked leads to
 
-pub led_after : (w : World) (c : Command) → IsLed w → IsAsked c → IsLed (obeyed w c).1
+pub led_after : (w : World) (c : Command) → IsLed w → IsAsked c → IsLed (reply_and_world w c).1
 led_after w c led asked = record {
   lines = led.lines ++ asked.line ∷ [];
   leads = leads_on w led.lines asked.line c led.leads asked.within asked.asks;
@@ -73,7 +73,7 @@ may_open w text sites led asked = record {
   lines = led.lines ++ asked.line ∷ [];
   leads = λ page opens.
       leads_on w led.lines asked.line (OpenPage text sites) led.leads asked.within asked.asks
-      ∙ ap (λ r. (settled w (opened_or_no sites r)).1) opens;
+      ∙ ap (λ r. (reply_and_next w (opened_or_no sites r)).1) opens;
 }
 
 pub closed_is_led : IsLed Closed
@@ -82,12 +82,12 @@ closed_is_led = record { lines = []; leads = refl }
 -- ---- a page that opens
 
 pub opened_is : (w : World) (text : List ℕ) (sites : ℕ) (p : OnPage) → open_page text ≡ Ok p.page → p.session ≡ session_of p.page sites →
-    obeyed w (OpenPage text sites) ≡ (Length (length p.page.items), world_on p)
+    reply_and_world w (OpenPage text sites) ≡ (Length (length p.page.items), world_on p)
 opened_is w text sites p opens session =
-    ap (λ r. settled w (opened_or_no sites r)) opens ∙ ap (λ (s : Session). (Length (length p.page.items), Open p.page s)) (sym session)
+    ap (λ r. reply_and_next w (opened_or_no sites r)) opens ∙ ap (λ (s : Session). (Length (length p.page.items), Open p.page s)) (sym session)
 
-pub unopened_is : (w : World) (text : List ℕ) (sites : ℕ) (why : Refusal) → open_page text ≡ Err why → obeyed w (OpenPage text sites) ≡ (No why, w)
-unopened_is w text sites why e = ap (λ r. settled w (opened_or_no sites r)) e
+pub unopened_is : (w : World) (text : List ℕ) (sites : ℕ) (why : Refusal) → open_page text ≡ Err why → reply_and_world w (OpenPage text sites) ≡ (No why, w)
+unopened_is w text sites why e = ap (λ r. reply_and_next w (opened_or_no sites r)) e
 
 pub opening_steps : (w : World) (text : List ℕ) (sites : ℕ) → steps_of w (Ok (OpenPage text sites)) ≡ steps_to_open sites (open_page text)
 opening_steps Closed text sites = refl
@@ -95,7 +95,7 @@ opening_steps (Open page session) text sites = refl
 
 -- ---- a site that is asked
 
-settles : (page : Opened) (w : Session) (o : Outcome) → settled (Open page w) (on_page page o) ≡ ((kept_or_new w o).0, Open page (kept_or_new w o).1)
+settles : (page : Opened) (w : Session) (o : Outcome) → reply_and_next (Open page w) (on_page page o) ≡ ((kept_or_new w o).0, Open page (kept_or_new w o).1)
 settles page w (Ok both) = refl
 settles page w (Err refused) = refl
 
@@ -103,13 +103,13 @@ module _ (page : Opened) (old : Shared) (k : ℕ) (r : Request) (within : k < si
   pub there : slice_get old.session.members k ≡ Some (member_at old k)
   there = slice_get-get_or old.session.members k (joining old.session.base) within
 
-  pub obeyed_is : obeyed (Open page old.session) (Ask r k)
-      ≡ ((kept_or_new old.session (asked (asker page old k) r)).0, Open page (kept_or_new old.session (asked (asker page old k) r)).1)
+  pub obeyed_is : reply_and_world (Open page old.session) (Ask r k)
+      ≡ ((kept_or_new old.session (request_outcome (asker page old k) r)).0, Open page (kept_or_new old.session (request_outcome (asker page old k) r)).1)
   obeyed_is =
-      ap (λ m. settled (Open page old.session) (asked_of page old.session r k m)) there
-      ∙ settles page old.session (asked (asker page old k) r)
+      ap (λ m. reply_and_next (Open page old.session) (asked_of page old.session r k m)) there
+      ∙ settles page old.session (request_outcome (asker page old k) r)
 
-  pub obeyed_so : (new : Shared) (answer : Answer) → IsAnswered r k old answer new → obeyed (Open page old.session) (Ask r k) ≡ (reply_of answer, Open page new.session)
+  pub obeyed_so : (new : Shared) (answer : Answer) → IsAnswered r k old answer new → reply_and_world (Open page old.session) (Ask r k) ≡ (reply_of answer, Open page new.session)
   obeyed_so new answer is = obeyed_is ∙ ap (λ (x : Reply × Session). (x.0, Open page x.1)) (is.replies page)
 
   pub steps_are : steps_of (Open page old.session) (Ok (Ask r k)) ≡ steps_to_answer r old.session.committed (member_at old k)
@@ -117,5 +117,5 @@ module _ (page : Opened) (old : Shared) (k : ℕ) (r : Request) (within : k < si
 
 -- there is no such site
 pub bad_site : (p : OnPage) (k : ℕ) (r : Request) → length p.session.members ≤ k →
-    obeyed (world_on p) (Ask r k) ≡ (No (BadSite (length p.session.members)), world_on p)
-bad_site p k r past = ap (λ m. settled (world_on p) (asked_of p.page p.session r k m)) (slice_get_past p.session.members k past)
+    reply_and_world (world_on p) (Ask r k) ≡ (No (BadSite (length p.session.members)), world_on p)
+bad_site p k r past = ap (λ m. reply_and_next (world_on p) (asked_of p.page p.session r k m)) (slice_get_past p.session.members k past)

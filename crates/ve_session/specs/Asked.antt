@@ -1,4 +1,4 @@
--- What is asked of a world or of one of its sites, and what comes of it.
+-- Requests to a world or to one of its sites, and their outcome.
 use Rattle.std.specs.Prelude.{◌≡◌, ℕ, nat_lt, Bool, true, false, List, length, Ok, Err}
 use Rattle.ve_base.specs.Limits.{max_line}
 use Rattle.model_page.specs.PageItems.{Opened}
@@ -9,10 +9,10 @@ use Rattle.model_world.specs.declared.command.Command.{Command}
 use Rattle.model_world.specs.declared.reply.Reply.{Reply}
 use Rattle.model_change.specs.Transaction.{Transaction}
 use Rattle.model_world.specs.declared.reply.Reply.TheVariants.{No}
-use Rattle.model_world.specs.Answers.{Asked, Outcome, asked, performed_or_no}
-use Rattle.model_world.specs.Edits.{allowed}
+use Rattle.model_world.specs.Answers.{Asked, Outcome, request_outcome, performed_or_no}
+use Rattle.model_world.specs.Edits.{checked_transaction}
 use Rattle.model_world.specs.Commands.{command}
-use Rattle.model_world.specs.World.{World, answered, settled}
+use Rattle.model_world.specs.World.{World, answer_of, reply_and_next}
 use Rattle.ve_json.specs.declared.answer.Answer.{Answer}
 use Rattle.ve_changes.specs.declared.faults.ChangeStop.{ChangeStop}
 use Rattle.ve_changes.specs.declared.faults.ChangeStop.TheVariants as stop
@@ -22,8 +22,8 @@ use Rattle.ve_sites.specs.Shared.{Shared, member_at, site_at}
 -- ---- a world
 
 -- the reply to a command, and the world after it
-abbrev pub obeyed : World → Command → Reply × World
-obeyed w c = settled w (answered w c)
+abbrev pub reply_and_world : World → Command → Reply × World
+reply_and_world w c = reply_and_next w (answer_of w c)
 
 -- Some line asks this, within a line's length.
 pub record IsAsked (c : Command) : Type 0 where
@@ -53,21 +53,22 @@ abbrev pub kept_or_new : Session → Outcome → Reply × Session
 kept_or_new w (Ok both) = both
 kept_or_new w (Err refused) = (refused, w)
 
--- The answer and the new session are what the model answers to the request, on whatever page it is asked.
+-- The answer and the new session are what the model answers to the request, on whatever page it is
+-- asked.
 pub record IsAnswered (r : Request) (k : ℕ) (old : Shared) (answer : Answer) (new : Shared) : Type 0 where
-  pub replies : (page : Opened) → kept_or_new old.session (asked (asker page old k) r) ≡ (reply_of answer, new.session)
+  pub replies : (page : Opened) → kept_or_new old.session (request_outcome (asker page old k) r) ≡ (reply_of answer, new.session)
   pub first : new.first ≡ old.first
   pub base : new.session.base ≡ old.session.base
   pub cites : AnswerCites answer
 
 -- So they are where the transaction is performed, if it may be.
 pub record IsPerformed (t : Transaction) (k : ℕ) (old : Shared) (answer : Answer) (new : Shared) : Type 0 where
-  pub replies : (page : Opened) → kept_or_new old.session (performed_or_no (asker page old k) (allowed (site_at old k).replica (Ok t))) ≡ (reply_of answer, new.session)
+  pub replies : (page : Opened) → kept_or_new old.session (performed_or_no (asker page old k) (checked_transaction (site_at old k).replica (Ok t))) ≡ (reply_of answer, new.session)
   pub first : new.first ≡ old.first
   pub base : new.session.base ≡ old.session.base
   pub cites : AnswerCites answer
 
 -- The request is refused; or memory is wanting, which may be at any time.
 abbrev pub IsStopped : Request → ℕ → Shared → ChangeStop → Type 0
-IsStopped r k old (stop.Refused why) = (page : Opened) → asked (asker page old k) r ≡ Err (No why)
+IsStopped r k old (stop.Refused why) = (page : Opened) → request_outcome (asker page old k) r ≡ Err (No why)
 IsStopped r k old stop.Memory = Unit {0}

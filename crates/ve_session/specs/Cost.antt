@@ -1,4 +1,5 @@
--- How many steps a line takes at most: those of the trees that are built for it, and of the transactions that it makes. And the machine that a world is.
+-- How many steps a line takes at most: those of the trees that are built for it, and of the
+-- transactions that it makes. And the machine that a world is.
 use Rattle.std.specs.Prelude.{ℕ, ◌*◌, if◌then◌else◌, nat_lt, List, length, [], ◌∷◌, Option, Some, None, Result, Ok, Err, slice_get}
 use Rattle.ve_base.specs.Limits.{max_line}
 use Rattle.model_items.specs.declared.plain_item.PlainItem.{PlainItem}
@@ -8,7 +9,7 @@ use Rattle.model_page.specs.PageItems.{Opened}
 use Rattle.model_script.specs.Output.{Meaning}
 use Rattle.model_site.specs.Entries.{Parcel}
 use Rattle.model_site.specs.Session.{Member}
-use Rattle.model_world.specs.declared.change.Change.TheVariants as change
+use Rattle.model_world.specs.declared.edit_command.EditCommand.TheVariants as change
 use Rattle.model_world.specs.declared.command.Request.{Request}
 use Rattle.model_world.specs.declared.command.Request.TheVariants as request
 use Rattle.model_world.specs.declared.command.Command.{Command}

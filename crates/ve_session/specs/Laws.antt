@@ -1,4 +1,4 @@
--- What a world replies, in the subject's words.
+-- Replies of a world, in the subject's words.
 use Rattle.std.specs.Prelude.{◌≡◌, ℕ, List, Some, chars, slice_get}
 use Rattle.model_script.specs.Output.{output, state_after}
 use Rattle.model_site.specs.Session.{Member}
@@ -7,16 +7,17 @@ use Rattle.model_world.specs.declared.command.Command.TheVariants.{Ask}
 use Rattle.model_world.specs.declared.reply.Reply.TheVariants as reply
 use Rattle.model_world.specs.Spelled.{reply_text}
 use Rattle.model_world.specs.World.{output_of, world_after}
-use Rattle.ve_session.specs.Asked.{obeyed}
+use Rattle.ve_session.specs.Asked.{reply_and_world}
 use Rattle.ve_session.specs.Cost.{meaning}
 use Rattle.ve_session.specs.Opened.{world_on, IsLed, OnPage}
 use Rattle.ve_session.specs.States.{State}
 
--- Where lines lead to a page, and a site's list is as it was opened, `html` gives that page to it, byte for byte.
+-- Where lines lead to a page, and a site's list is as it was opened, `html` gives that page to it,
+-- byte for byte.
 abbrev pub UneditedIsTold : Type 0
 UneditedIsTold =
     (p : OnPage) (k : ℕ) (m : Member) → IsLed (world_on p) → slice_get p.session.members k ≡ Some m →
-    m.site.replica.items ≡ p.page.items → obeyed (world_on p) (Ask request.Html k) ≡ (reply.Page (chars p.page.page), world_on p)
+    m.site.replica.items ≡ p.page.items → reply_and_world (world_on p) (Ask request.Html k) ≡ (reply.Page (chars p.page.page), world_on p)
 
 -- As a machine a world writes for each script what the plain machine of the definitions writes.
 abbrev pub WritesAsDefined : Type 0

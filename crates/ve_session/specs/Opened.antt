@@ -44,7 +44,7 @@ pub record MayOpen (text : List ℕ) (sites : ℕ) : Type 0 where
   pub lines : List (List ℕ)
   pub leads : (page : Opened) → open_page text ≡ Ok page → world_after Closed lines ≡ Open page (session_of page sites)
 
--- What is lent of the page that was first read, whose text has these characters.
+-- The borrowed page that was first read, whose text has these characters.
 abbrev pub lent_of : (text : List ℕ) (body : Span) (rows : List OriginRow) (first : List Item) (refs : List RefRow) → FirstRead
 lent_of text body rows first refs = first_read (encode_utf8_all text) body rows first refs
 
@@ -52,7 +52,8 @@ lent_of text body rows first refs = first_read (encode_utf8_all text) body rows 
 abbrev pub page_on : FirstRead → Session → OnPage
 page_on o w = record { page = opened_over w.base.store o; session = w }
 
--- What is always so of an open page: lines lead to it, and its origins' rows stand over the values of the base.
+-- The invariant of an open page: lines lead to it, and its origins' rows stand over the values of
+-- the base.
 pub record IsOpen (o : FirstRead) (w : Session) : Type 0 where
   pub led : IsLed (world_on (page_on o w))
   pub cut : IsCut o.page o.body

@@ -1,4 +1,4 @@
--- What a run of a new world does, in the words of the definitions.
+-- A run of a new world, in the words of the definitions.
 use Rattle.std.specs.Prelude.{◌≡◌, ℕ, List, Option}
 use Rattle.model_script.specs.Output.{Meaning}
 use Rattle.model_world.specs.declared.reply.Reply.{Reply}
@@ -9,8 +9,8 @@ use Rattle.ve_run.specs.Run.{scene, Took, AppendsPrefix}
 use Rattle.ve_session.specs.Cost.{steps_of_line}
 
 -- The plain machine of the definitions, with what a line takes here at most.
-abbrev pub counted : Meaning World Reply
-counted = record meaning { cost = λ w line. steps_of_line w line }
+abbrev pub counting_meaning : Meaning World Reply
+counting_meaning = record meaning { cost = λ w line. steps_of_line w line }
 
 -- All that the caller of a run can see of it, at one moment.
 pub record Seen : Type 0 where
@@ -22,8 +22,8 @@ pub record Seen : Type 0 where
   pub reads_failed : ℕ
   pub writes_failed : ℕ
 
-abbrev pub seen : ℕ → Option (List ℕ) → Option (List ℕ) → ℕ → ℕ → Seen
-seen steps left held reads_failed writes_failed =
+abbrev pub seen_of : ℕ → Option (List ℕ) → Option (List ℕ) → ℕ → ℕ → Seen
+seen_of steps left held reads_failed writes_failed =
     record { steps = steps; left = left; held = held; reads_failed = reads_failed; writes_failed = writes_failed }
 
 -- a world beside it
@@ -35,10 +35,11 @@ with_world w s = record {
   writes_failed = s.writes_failed;
 }
 
--- A run from a world without a page ended so, and this is what it has done, and the world that it left.
+-- A run from a world without a page ended so, and this is what it has done, and the world that it
+-- left.
 pub record EndedNew (words : List (List ℕ)) (before after : Seen) (status : Status) : Type 0 where
   pub world : World
-  pub ended : Ended counted words (with_world Closed before) (with_world world after) status
+  pub ended : Ended counting_meaning words (with_world Closed before) (with_world world after) status
 
 -- However it ended, a prefix of what the definitions write for the bytes taken was written.
 pub record WrotePrefixNew (before after : Seen) : Type 0 where

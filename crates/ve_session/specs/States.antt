@@ -1,4 +1,4 @@
--- What a world keeps between lines.
+-- The state that a world keeps between lines.
 use Rattle.std.specs.Prelude.{Bool, true, false, ℕ, List}
 use Rattle.model_world.specs.World.{World, Closed, reply}
 
@@ -8,11 +8,11 @@ pub record State : Type 0 where
   pub is_spent : Bool
 
 -- without a page
-abbrev pub begun : State
-begun = record { world = Closed; is_spent = false }
+abbrev pub closed_state : State
+closed_state = record { world = Closed; is_spent = false }
 
-abbrev pub spent : State
-spent = record { world = Closed; is_spent = true }
+abbrev pub spent_state : State
+spent_state = record { world = Closed; is_spent = true }
 
 -- after a line
 abbrev pub after : State → List ℕ → State

@@ -1,4 +1,4 @@
--- What the crates below refuse, as what stops a request.
+-- The faults of the crates below, as stops of a request.
 use Rattle.model_site.specs.declared.site_fault.UndoFault.{UndoFault}
 use Rattle.model_site.specs.declared.site_fault.UndoFault.TheVariants as undo
 use Rattle.model_site.specs.declared.site_fault.RedoFault.{RedoFault}

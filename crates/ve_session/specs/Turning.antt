@@ -1,4 +1,5 @@
--- When a site may be asked: what holds of every line that was read and of every site that lines lead to.
+-- When a site may be asked: what holds of every line that was read and of every site that lines
+-- lead to.
 use Rattle.std.specs.Prelude.{◌≡◌, ℕ, if◌then◌else◌, List, Ok}
 use Rattle.model_change.specs.Transaction.{Transaction}
 use Rattle.model_edit.specs.Translate.{between}

@@ -7,7 +7,7 @@ ghost use Rattle.ve_session.specs.Turning.{MayTurn};
 ghost use Rattle.ve_sites.specs.Shared.{member_at, site_at, sites};
 
 use crate::edits::len_at;
-use model_world::ChangeList;
+use model_world::EditCommandList;
 use std::alloc::Global;
 use std::sync::ledger::Ledger;
 use ve_base::Steps;
@@ -20,16 +20,20 @@ pub fn batch<L: Ledger>(
     alloc: Global,
     session: &mut Sites,
     k: usize,
-    changes: &ChangeList,
+    changes: &EditCommandList,
     steps: &mut Steps<L>,
 ) -> Result<Answer<'static>, ChangeStop>
     requires site { k < sites session.old }
     requires may { MayTurn (request.Batch changes.now) (site_at session.old k).replica }
-    ensures answer { IfOk result (λ answer. IsAnswered (request.Batch changes.now) k session.old answer session.new) }
+    ensures answer { IfOk result (λ answer.
+        IsAnswered (request.Batch changes.now) k session.old answer session.new) }
     ensures refused { IfErr result (IsStopped (request.Batch changes.now) k session.old) }
     ensures kept { OnErr result (session.new ≡ session.old) }
     ensures counted { steps.old ≤ steps.new }
-    ensures steps { steps.new ≤ steps.old + steps_to_answer (request.Batch changes.now) session.old.session.committed (member_at session.old k) }
+    ensures steps { steps.new
+        ≤ steps.old
+        + steps_to_answer (request.Batch changes.now) session.old.session.committed
+        (member_at session.old k) }
 {
     let batch = match perform_all(alloc, session.site(k).editor(), changes.as_slice(), steps) {
         Ok(batch) => batch,

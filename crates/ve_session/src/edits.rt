@@ -2,7 +2,7 @@
 ghost use Rattle.std.specs.Prelude.{◌≡◌, ◌<◌, ◌≤◌, ◌+◌, ◌∷◌, [], true, length, Ok, IfErr, IfOk, OnErr};
 ghost use Rattle.model_change.specs.Transaction.{InsertedApart};
 ghost use Rattle.model_world.specs.declared.command.Request.TheVariants as request;
-ghost use Rattle.model_world.specs.Edits.{allowed};
+ghost use Rattle.model_world.specs.Edits.{checked_transaction};
 ghost use Rattle.ve_changes.specs.Moves.{is_move};
 ghost use Rattle.ve_changes.specs.Stops.{IsRefused};
 ghost use Rattle.ve_editor.specs.Counted.{steps_after};
@@ -19,7 +19,7 @@ use model_world_law::layers_fit;
 use std::alloc::Global;
 use std::sync::ledger::Ledger;
 use ve_base::Steps;
-use ve_changes::{Change, ChangeStop, change_draft, erased_range, move_draft, moves_are_asked};
+use ve_changes::{ChangeStop, EditCommand, change_draft, erased_range, move_draft, moves_are_asked};
 use ve_json::{Answer, Request};
 use ve_offsets::Doc;
 use ve_sites::Sites;
@@ -53,11 +53,19 @@ fn perform<L: Ledger>(
     requires site { k < sites session.old }
     requires draft { IsDraftOf (site_at session.old k).replica.store draft.now }
     requires apart { InsertedApart (drafted (site_at session.old k).replica.store draft.now) }
-    ensures answer { IfOk result (λ answer. IsPerformed (drafted (site_at session.old k).replica.store draft.now) k session.old answer session.new) }
-    ensures refused { IfErr result (λ stop. IsRefused stop (allowed (site_at session.old k).replica (Ok (drafted (site_at session.old k).replica.store draft.now)))) }
+    ensures answer { IfOk result (λ answer.
+        IsPerformed (drafted (site_at session.old k).replica.store draft.now) k session.old
+        answer session.new) }
+    ensures refused { IfErr result (λ stop.
+        IsRefused stop (
+        checked_transaction (site_at session.old k).replica (
+        Ok (drafted (site_at session.old k).replica.store draft.now)))) }
     ensures kept { OnErr result (session.new ≡ session.old) }
     ensures counted { steps.old ≤ steps.new }
-    ensures steps { steps.new ≤ steps.old + steps_after (drafted (site_at session.old k).replica.store draft.now ∷ []) (site_at session.old k).replica.items }
+    ensures steps { steps.new
+        ≤ steps.old
+        + steps_after (drafted (site_at session.old k).replica.store draft.now ∷ [])
+        (site_at session.old k).replica.items }
 {
     match session.edit(k, draft, steps) {
         Ok(()) => Ok(Answer::Length(len_at(session, k))),
@@ -70,16 +78,20 @@ pub fn edit<L: Ledger>(
     alloc: Global,
     session: &mut Sites,
     k: usize,
-    change: &Change,
+    change: &EditCommand,
     steps: &mut Steps<L>,
 ) -> Result<Answer<'static>, ChangeStop>
     requires site { k < sites session.old }
     requires may { MayTurn (request.Edit change.now) (site_at session.old k).replica }
-    ensures answer { IfOk result (λ answer. IsAnswered (request.Edit change.now) k session.old answer session.new) }
+    ensures answer { IfOk result (λ answer.
+        IsAnswered (request.Edit change.now) k session.old answer session.new) }
     ensures refused { IfErr result (IsStopped (request.Edit change.now) k session.old) }
     ensures kept { OnErr result (session.new ≡ session.old) }
     ensures counted { steps.old ≤ steps.new }
-    ensures steps { steps.new ≤ steps.old + steps_to_answer (request.Edit change.now) session.old.session.committed (member_at session.old k) }
+    ensures steps { steps.new
+        ≤ steps.old
+        + steps_to_answer (request.Edit change.now) session.old.session.committed
+        (member_at session.old k) }
 {
     layers_fit();
     let draft = change_draft(alloc, doc_at(session, k), change)?;
@@ -97,11 +109,14 @@ pub fn move_part<L: Ledger>(
     requires site { k < sites session.old }
     requires moves { is_move request.now ≡ true }
     requires may { MayTurn request.now (site_at session.old k).replica }
-    ensures answer { IfOk result (λ answer. IsAnswered request.now k session.old answer session.new) }
+    ensures answer { IfOk result (λ answer.
+        IsAnswered request.now k session.old answer session.new) }
     ensures refused { IfErr result (IsStopped request.now k session.old) }
     ensures kept { OnErr result (session.new ≡ session.old) }
     ensures counted { steps.old ≤ steps.new }
-    ensures steps { steps.new ≤ steps.old + steps_to_answer request.now session.old.session.committed (member_at session.old k) }
+    ensures steps { steps.new
+        ≤ steps.old
+        + steps_to_answer request.now session.old.session.committed (member_at session.old k) }
 {
     layers_fit();
     moves_are_asked();
@@ -109,7 +124,7 @@ pub fn move_part<L: Ledger>(
     perform(session, k, &draft, steps)
 }
 
-/// What a site has selected taken out, or what stands from its caret to the next place.
+/// Erases the selection of a site, or the range from its caret to the next position.
 pub fn erase<L: Ledger>(
     alloc: Global,
     session: &mut Sites,
@@ -120,16 +135,20 @@ pub fn erase<L: Ledger>(
 ) -> Result<Answer<'static>, ChangeStop>
     requires site { k < sites session.old }
     requires may { MayTurn (request.Erase dir by) (site_at session.old k).replica }
-    ensures answer { IfOk result (λ answer. IsAnswered (request.Erase dir by) k session.old answer session.new) }
+    ensures answer { IfOk result (λ answer.
+        IsAnswered (request.Erase dir by) k session.old answer session.new) }
     ensures refused { IfErr result (IsStopped (request.Erase dir by) k session.old) }
     ensures kept { OnErr result (session.new ≡ session.old) }
     ensures counted { steps.old ≤ steps.new }
-    ensures steps { steps.new ≤ steps.old + steps_to_answer (request.Erase dir by) session.old.session.committed (member_at session.old k) }
+    ensures steps { steps.new
+        ≤ steps.old
+        + steps_to_answer (request.Erase dir by) session.old.session.committed
+        (member_at session.old k) }
 {
     layers_fit();
     let selection = session.site(k).editor().selection();
     let range = erased_range(alloc, doc_at(session, k), selection, dir, by)?;
-    let removal = Change::Remove {
+    let removal = EditCommand::Remove {
         from: range.anchor.min(range.focus),
         to: range.anchor.max(range.focus),
     };

@@ -1,4 +1,4 @@
-// What the crates below refuse, as what stops a request.
+// The faults of the crates below, as stops of a request.
 ghost use Rattle.std.specs.Prelude.{◌≡◌};
 ghost use Rattle.ve_session.specs.Stopped.{page_stop, redo_stop, revoke_stop, send_stop, undo_stop};
 

@@ -1,4 +1,4 @@
-// What a site takes back and makes again.
+// Undo and redo of a site.
 ghost use Rattle.std.specs.Prelude.{◌≡◌, ◌<◌, ◌≤◌, ◌+◌, IfErr, IfOk, OnErr};
 ghost use Rattle.model_world.specs.declared.command.Request.TheVariants as request;
 ghost use Rattle.ve_session.specs.Asked.{IsAnswered, IsStopped};
@@ -23,11 +23,14 @@ pub fn undo<L: Ledger>(
 ) -> Result<Answer<'static>, ChangeStop>
     requires site { k < sites session.old }
     requires may { MayTurn request.Undo (site_at session.old k).replica }
-    ensures answer { IfOk result (λ answer. IsAnswered request.Undo k session.old answer session.new) }
+    ensures answer { IfOk result (λ answer.
+        IsAnswered request.Undo k session.old answer session.new) }
     ensures refused { IfErr result (IsStopped request.Undo k session.old) }
     ensures kept { OnErr result (session.new ≡ session.old) }
     ensures counted { steps.old ≤ steps.new }
-    ensures steps { steps.new ≤ steps.old + steps_to_answer request.Undo session.old.session.committed (member_at session.old k) }
+    ensures steps { steps.new
+        ≤ steps.old
+        + steps_to_answer request.Undo session.old.session.committed (member_at session.old k) }
 {
     match session.undo(k, steps) {
         Ok(()) => Ok(Answer::Length(len_at(session, k))),
@@ -35,7 +38,7 @@ pub fn undo<L: Ledger>(
     }
 }
 
-/// What a site undid last made again.
+/// Makes the entry again that a site undid last.
 pub fn redo<L: Ledger>(
     session: &mut Sites,
     k: usize,
@@ -43,11 +46,14 @@ pub fn redo<L: Ledger>(
 ) -> Result<Answer<'static>, ChangeStop>
     requires site { k < sites session.old }
     requires may { MayTurn request.Redo (site_at session.old k).replica }
-    ensures answer { IfOk result (λ answer. IsAnswered request.Redo k session.old answer session.new) }
+    ensures answer { IfOk result (λ answer.
+        IsAnswered request.Redo k session.old answer session.new) }
     ensures refused { IfErr result (IsStopped request.Redo k session.old) }
     ensures kept { OnErr result (session.new ≡ session.old) }
     ensures counted { steps.old ≤ steps.new }
-    ensures steps { steps.new ≤ steps.old + steps_to_answer request.Redo session.old.session.committed (member_at session.old k) }
+    ensures steps { steps.new
+        ≤ steps.old
+        + steps_to_answer request.Redo session.old.session.committed (member_at session.old k) }
 {
     match session.redo(k, steps) {
         Ok(()) => Ok(Answer::Length(len_at(session, k))),
@@ -64,11 +70,15 @@ pub fn revoke<L: Ledger>(
 ) -> Result<Answer<'static>, ChangeStop>
     requires site { k < sites session.old }
     requires may { MayTurn (request.Revoke entry) (site_at session.old k).replica }
-    ensures answer { IfOk result (λ answer. IsAnswered (request.Revoke entry) k session.old answer session.new) }
+    ensures answer { IfOk result (λ answer.
+        IsAnswered (request.Revoke entry) k session.old answer session.new) }
     ensures refused { IfErr result (IsStopped (request.Revoke entry) k session.old) }
     ensures kept { OnErr result (session.new ≡ session.old) }
     ensures counted { steps.old ≤ steps.new }
-    ensures steps { steps.new ≤ steps.old + steps_to_answer (request.Revoke entry) session.old.session.committed (member_at session.old k) }
+    ensures steps { steps.new
+        ≤ steps.old
+        + steps_to_answer (request.Revoke entry) session.old.session.committed
+        (member_at session.old k) }
 {
     let seen = session.site(k).seen();
     if entry >= seen {

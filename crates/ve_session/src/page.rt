@@ -6,7 +6,7 @@ ghost use Rattle.model_world.specs.Opening.{open_page, session_of};
 ghost use Rattle.model_world.specs.Spelled.{reply_text};
 ghost use Rattle.ve_changes.specs.Stops.{IsRefused};
 ghost use Rattle.ve_read.specs.Pages.{HasPlaces, IsReadPage};
-ghost use Rattle.ve_session.specs.Asked.{is_shown, obeyed, IsAsked};
+ghost use Rattle.ve_session.specs.Asked.{is_shown, reply_and_world, IsAsked};
 ghost use Rattle.ve_session.specs.Cost.{steps_of, steps_to_open};
 ghost use Rattle.ve_session.specs.Opened.{world_on, HasUtf8Page, IsLed, MayOpen};
 
@@ -31,7 +31,8 @@ use ve_origin::{OriginTable, Origins};
 use ve_read::{PageRead, page, rows_stand};
 use ve_sites::Sites;
 
-/// A page that is open: its text, what was first read of it, and the sites that edit it.
+/// A page that is open: its text, the rest of the page that was first read, and the sites that edit
+/// it.
 #[derive(Drop)]
 pub struct OpenPage {
     text: Text,
@@ -53,7 +54,8 @@ impl Model for OpenPage {
 }
 
 impl OpenPage {
-    /// Opens a page for so many sites, each of which gets a tree of its list. It is refused as `page` refuses it.
+    /// Opens a page for so many sites, each of which gets a tree of its list. It is refused as
+    /// `page` refuses it.
     pub fn open<L: Ledger>(
         alloc: Global,
         text: Text,
@@ -61,7 +63,8 @@ impl OpenPage {
         steps: &mut Steps<L>,
     ) -> Result<OpenPage, ChangeStop>
         requires may { MayOpen text sites }
-        ensures ok { IfOk result (λ p. (open_page text ≡ Ok p.page) × (p.session ≡ session_of p.page sites)) }
+        ensures ok { IfOk result (λ p.
+            (open_page text ≡ Ok p.page) × (p.session ≡ session_of p.page sites)) }
         ensures refused { IfErr result (λ stop. IsRefused stop (open_page text)) }
         ensures counted { steps.old ≤ steps.new }
         ensures steps { steps.new ≤ steps.old + steps_to_open sites (open_page text) }
@@ -84,11 +87,12 @@ impl OpenPage {
         requires utf8 { IsUtf8 (encode_utf8_all text) }
         requires read { IsReadPage (encode_utf8_all text) read }
         requires places { HasPlaces read }
-        ensures ok { IfOk result (λ p. (open_page text ≡ Ok p.page) × (p.session ≡ session_of p.page sites)) }
+        ensures ok { IfOk result (λ p.
+            (open_page text ≡ Ok p.page) × (p.session ≡ session_of p.page sites)) }
         ensures counted { steps.old ≤ steps.new }
         ensures steps { steps.new ≤ steps.old + steps_to_open sites (open_page text) }
     {
-        // a page that opens is a sound list, and its rows have their places in it
+        // a page that opens is a sound list, and its rows have their positions in it
         layers_fit();
         rows_stand();
         let Ok(count) = u32::try_from(sites) else {
@@ -105,7 +109,8 @@ impl OpenPage {
         })
     }
 
-    /// Tells that some lines lead to its world, which its type keeps, and that the text of its page is UTF-8.
+    /// Tells that some lines lead to its world, which its type keeps, and that the text of its page
+    /// is UTF-8.
     pub fn lines_lead(&self)
         ensures led { IsLed (world_on self.now) }
         ensures utf8 { HasUtf8Page (world_on self.now) }
@@ -130,16 +135,25 @@ impl OpenPage {
     /// Lends the editor of a site.
     pub fn editor(&self, k: usize) -> &Editor
         requires site { k < length self.now.session.members }
-        ensures { option_map (λ m. m.site.replica) (slice_get self.now.session.members k) ≡ Some result.now }
+        ensures { option_map (λ m. m.site.replica) (slice_get self.now.session.members k)
+            ≡ Some result.now }
     {
         self.session.site(k).editor()
     }
 
-    /// Appends the page as it was opened, as the reply to `html`, where a site's list has the page's items.
+    /// Appends the page as it was opened, as the reply to `html`, where a site's list has the
+    /// page's items.
     fn show_opened(&self, alloc: Global, k: usize, out: &mut Bytes) -> Result<(), Memory>
         requires site { k < length self.now.session.members }
-        requires unedited { option_map (λ m. m.site.replica.items) (slice_get self.now.session.members k) ≡ Some self.now.page.items }
-        ensures reply { OnOk result (out.new ≡ out.old ++ (reply_text (obeyed (world_on self.now) (Ask request.Html k)).0 ++ 10 ∷ [])) }
+        requires unedited { option_map (λ m. m.site.replica.items) (
+            slice_get self.now.session.members k)
+            ≡ Some self.now.page.items }
+        ensures reply { OnOk result (
+            out.new
+            ≡ out.old
+            ++ (reply_text (reply_and_world (world_on self.now) (Ask request.Html k)).0
+            ++ 10
+            ∷ [])) }
         ensures err { OnErr result (out.new ≡ out.old) }
     {
         unedited_page_is_told();
@@ -147,14 +161,22 @@ impl OpenPage {
         reply_text(alloc, &answer, out)
     }
 
-    /// Appends the page that a site's list gives, as the reply to `html`. Where the list is as it was opened, no node of it is looked for.
+    /// Appends the page that a site's list gives, as the reply to `html`. Where the list is as it
+    /// was opened, no node of it is looked for.
     fn show_html(&self, alloc: Global, k: usize, out: &mut Bytes) -> Result<(), Memory>
         requires site { k < length self.now.session.members }
-        ensures reply { OnOk result (out.new ≡ out.old ++ (reply_text (obeyed (world_on self.now) (Ask request.Html k)).0 ++ 10 ∷ [])) }
-        ensures same { (obeyed (world_on self.now) (Ask request.Html k)).1 ≡ world_on self.now }
+        ensures reply { OnOk result (
+            out.new
+            ≡ out.old
+            ++ (reply_text (reply_and_world (world_on self.now) (Ask request.Html k)).0
+            ++ 10
+            ∷ [])) }
+        ensures same { (reply_and_world (world_on self.now) (Ask request.Html k)).1
+            ≡ world_on self.now }
         ensures err { OnErr result (out.new ≡ out.old) }
     {
-        // in every world that lines lead to references are editable, and stores begin with the first one
+        // in every world that lines lead to references are editable, and stores begin with the
+        // first one
         every_site_holds();
         every_item_stands();
         replies_are_as_asked();
@@ -187,8 +209,14 @@ impl OpenPage {
     ) -> Result<(), Memory>
         requires site { k < length self.now.session.members }
         requires shown { is_shown request.now ≡ true }
-        ensures reply { OnOk result (out.new ≡ out.old ++ (reply_text (obeyed (world_on self.now) (Ask request.now k)).0 ++ 10 ∷ [])) }
-        ensures same { OnOk result ((obeyed (world_on self.now) (Ask request.now k)).1 ≡ world_on self.now) }
+        ensures reply { OnOk result (
+            out.new
+            ≡ out.old
+            ++ (reply_text (reply_and_world (world_on self.now) (Ask request.now k)).0
+            ++ 10
+            ∷ [])) }
+        ensures same { OnOk result (
+            (reply_and_world (world_on self.now) (Ask request.now k)).1 ≡ world_on self.now) }
         ensures err { OnErr result (out.new ≡ out.old) }
     {
         if let Request::Html = request {
@@ -198,7 +226,7 @@ impl OpenPage {
         reply_text(alloc, &answer, out)
     }
 
-    /// Does what a request asks of a site, and appends the reply. A refusal changes nothing.
+    /// Performs a request to a site, and appends the reply. A refusal changes nothing.
     fn act<L: Ledger>(
         &mut self,
         alloc: Global,
@@ -210,11 +238,18 @@ impl OpenPage {
         requires asked { IsAsked (Ask request.now k) }
         requires site { k < length self.old.session.members }
         requires acts { is_shown request.now ≡ false }
-        ensures reply { OnOk result (out.new ≡ out.old ++ (reply_text (obeyed (world_on self.old) (Ask request.now k)).0 ++ 10 ∷ [])) }
-        ensures world { OnOk result (world_on self.new ≡ (obeyed (world_on self.old) (Ask request.now k)).1) }
+        ensures reply { OnOk result (
+            out.new
+            ≡ out.old
+            ++ (reply_text (reply_and_world (world_on self.old) (Ask request.now k)).0
+            ++ 10
+            ∷ [])) }
+        ensures world { OnOk result (
+            world_on self.new ≡ (reply_and_world (world_on self.old) (Ask request.now k)).1) }
         ensures unsaid { OnErr result (out.new ≡ out.old) }
         ensures counted { steps.old ≤ steps.new }
-        ensures cost { steps.new ≤ steps.old + steps_of (world_on self.old) (Ok (Ask request.now k)) }
+        ensures cost { steps.new
+            ≤ steps.old + steps_of (world_on self.old) (Ok (Ask request.now k)) }
     {
         layers_fit();
         every_site_holds();
@@ -233,11 +268,18 @@ impl OpenPage {
     ) -> Result<(), Memory>
         requires asked { IsAsked (Ask request.now k) }
         requires site { k < length self.old.session.members }
-        ensures reply { OnOk result (out.new ≡ out.old ++ (reply_text (obeyed (world_on self.old) (Ask request.now k)).0 ++ 10 ∷ [])) }
-        ensures world { OnOk result (world_on self.new ≡ (obeyed (world_on self.old) (Ask request.now k)).1) }
+        ensures reply { OnOk result (
+            out.new
+            ≡ out.old
+            ++ (reply_text (reply_and_world (world_on self.old) (Ask request.now k)).0
+            ++ 10
+            ∷ [])) }
+        ensures world { OnOk result (
+            world_on self.new ≡ (reply_and_world (world_on self.old) (Ask request.now k)).1) }
         ensures unsaid { OnErr result (out.new ≡ out.old) }
         ensures counted { steps.old ≤ steps.new }
-        ensures cost { steps.new ≤ steps.old + steps_of (world_on self.old) (Ok (Ask request.now k)) }
+        ensures cost { steps.new
+            ≤ steps.old + steps_of (world_on self.old) (Ok (Ask request.now k)) }
     {
         if is_shown(request) {
             self.show(alloc, request, k, out)

@@ -1,4 +1,4 @@
-// What goes between a site and the server.
+// Turns between a site and the server.
 ghost use Rattle.std.specs.Prelude.{◌≡◌, ◌<◌, ◌≤◌, ◌+◌, IfErr, IfOk, OnErr, option_map};
 ghost use Rattle.model_world.specs.Answers.{ranges, taken_reply};
 ghost use Rattle.model_world.specs.declared.command.Request.TheVariants as request;
@@ -27,7 +27,7 @@ fn ranges(clash: Option<Clash>) -> Option<((usize, usize), (usize, usize))>
     }
 }
 
-/// What a site is told of a turn at its feeds.
+/// The answer to a site's turn at its feeds.
 fn taken_answer(taken: Taken) -> Answer<'static>
     ensures { reply_of result ≡ taken_reply taken }
 {
@@ -41,7 +41,8 @@ fn taken_answer(taken: Taken) -> Answer<'static>
 pub fn send(session: &mut Sites, k: usize) -> Result<Answer<'static>, ChangeStop>
     requires site { k < sites session.old }
     requires may { MayTurn request.Send (site_at session.old k).replica }
-    ensures answer { IfOk result (λ answer. IsAnswered request.Send k session.old answer session.new) }
+    ensures answer { IfOk result (λ answer.
+        IsAnswered request.Send k session.old answer session.new) }
     ensures refused { IfErr result (IsStopped request.Send k session.old) }
     ensures kept { OnErr result (session.new ≡ session.old) }
 {
@@ -55,7 +56,8 @@ pub fn send(session: &mut Sites, k: usize) -> Result<Answer<'static>, ChangeStop
 pub fn serve(session: &mut Sites, k: usize) -> Result<Answer<'static>, ChangeStop>
     requires site { k < sites session.old }
     requires may { MayTurn request.Serve (site_at session.old k).replica }
-    ensures answer { IfOk result (λ answer. IsAnswered request.Serve k session.old answer session.new) }
+    ensures answer { IfOk result (λ answer.
+        IsAnswered request.Serve k session.old answer session.new) }
     ensures refused { IfErr result (IsStopped request.Serve k session.old) }
     ensures kept { OnErr result (session.new ≡ session.old) }
 {
@@ -77,11 +79,14 @@ pub fn take<L: Ledger>(
 ) -> Result<Answer<'static>, ChangeStop>
     requires site { k < sites session.old }
     requires may { MayTurn request.Take (site_at session.old k).replica }
-    ensures answer { IfOk result (λ answer. IsAnswered request.Take k session.old answer session.new) }
+    ensures answer { IfOk result (λ answer.
+        IsAnswered request.Take k session.old answer session.new) }
     ensures refused { IfErr result (IsStopped request.Take k session.old) }
     ensures kept { OnErr result (session.new ≡ session.old) }
     ensures counted { steps.old ≤ steps.new }
-    ensures steps { steps.new ≤ steps.old + steps_to_answer request.Take session.old.session.committed (member_at session.old k) }
+    ensures steps { steps.new
+        ≤ steps.old
+        + steps_to_answer request.Take session.old.session.committed (member_at session.old k) }
 {
     let Some(taken) = session.take(k, steps)? else {
         return Err(ChangeStop::Refused(Refusal::NothingQueued));

@@ -1,4 +1,4 @@
-// What a site selects.
+// The selection of a site.
 ghost use Rattle.std.specs.Prelude.{◌≡◌, ◌<◌, IfErr, IfOk, OnErr};
 ghost use Rattle.model_world.specs.declared.command.Request.TheVariants as request;
 ghost use Rattle.model_site.specs.Site.{with_selection};
@@ -19,7 +19,8 @@ fn set_selection(session: &mut Sites, k: usize, selection: Selection) -> Answer<
     requires site { k < sites session.old }
     requires stands { StandsIn (site_at session.old k).replica.items selection }
     ensures answer { result ≡ Answer.Caret selection.anchor selection.focus }
-    ensures session { session.new ≡ with_site_at k (with_selection selection (site_at session.old k)) session.old }
+    ensures session { session.new
+        ≡ with_site_at k (with_selection selection (site_at session.old k)) session.old }
 {
     session.select(k, selection);
     Answer::Caret {
@@ -37,7 +38,8 @@ pub fn select(
 ) -> Result<Answer<'static>, ChangeStop>
     requires site { k < sites session.old }
     requires may { MayTurn (request.Select anchor focus) (site_at session.old k).replica }
-    ensures answer { IfOk result (λ answer. IsAnswered (request.Select anchor focus) k session.old answer session.new) }
+    ensures answer { IfOk result (λ answer.
+        IsAnswered (request.Select anchor focus) k session.old answer session.new) }
     ensures refused { IfErr result (IsStopped (request.Select anchor focus) k session.old) }
     ensures kept { OnErr result (session.new ≡ session.old) }
 {
@@ -48,7 +50,8 @@ pub fn select(
     }
 }
 
-/// The end of a site's selection that moves set to its next place, and the other with it unless it is kept.
+/// The end of a site's selection that moves set to its next position, and the other with it unless
+/// it is kept.
 pub fn move_caret(
     alloc: Global,
     session: &mut Sites,
@@ -59,7 +62,8 @@ pub fn move_caret(
 ) -> Result<Answer<'static>, ChangeStop>
     requires site { k < sites session.old }
     requires may { MayTurn (request.Move dir by keep) (site_at session.old k).replica }
-    ensures answer { IfOk result (λ answer. IsAnswered (request.Move dir by keep) k session.old answer session.new) }
+    ensures answer { IfOk result (λ answer.
+        IsAnswered (request.Move dir by keep) k session.old answer session.new) }
     ensures refused { IfErr result (IsStopped (request.Move dir by keep) k session.old) }
     ensures kept { OnErr result (session.new ≡ session.old) }
 {

@@ -1,4 +1,4 @@
-// What a site answers to the requests that change nothing, but for the page written out.
+// Answers of a site to the requests that change nothing, but for the page written out.
 ghost use Rattle.std.specs.Prelude.{◌≡◌, ◌<◌, true, IfOk};
 ghost use Rattle.ve_session.specs.Asked.{is_shown, IsAnswered};
 ghost use Rattle.ve_sites.specs.Shared.{sites};
@@ -26,7 +26,7 @@ pub fn is_shown(request: &Request) -> bool
     )
 }
 
-/// The answer of a site to a request that changes nothing, other than `html`. Items are lent.
+/// The answer of a site to a request that changes nothing, other than `html`. Items are borrowed.
 pub fn shown<'a>(
     alloc: Global,
     session: &'a Sites,
@@ -36,7 +36,8 @@ pub fn shown<'a>(
     requires site { k < sites session.now }
     requires shown { is_shown request.now ≡ true }
     requires unwritten { (request.now ≡ Request.Html) → ⊥ }
-    ensures answer { IfOk result (λ answer. IsAnswered request.now k session.entry.now answer session.entry.now) }
+    ensures answer { IfOk result (λ answer.
+        IsAnswered request.now k session.entry.now answer session.entry.now) }
 {
     replies_are_as_asked();
     let doc = doc_at(session, k);

@@ -19,7 +19,7 @@ use ve_changes::ChangeStop;
 use ve_json::{Answer, Request};
 use ve_sites::Sites;
 
-/// What a request to a site does, and its answer.
+/// The effect of a request to a site, and its answer.
 fn done<L: Ledger>(
     alloc: Global,
     session: &mut Sites,
@@ -30,11 +30,14 @@ fn done<L: Ledger>(
     requires acts { is_shown request.now ≡ false }
     requires site { k < sites session.old }
     requires may { MayTurn request.now (site_at session.old k).replica }
-    ensures answer { IfOk result (λ answer. IsAnswered request.now k session.old answer session.new) }
+    ensures answer { IfOk result (λ answer.
+        IsAnswered request.now k session.old answer session.new) }
     ensures refused { IfErr result (IsStopped request.now k session.old) }
     ensures kept { OnErr result (session.new ≡ session.old) }
     ensures counted { steps.old ≤ steps.new }
-    ensures steps { steps.new ≤ steps.old + steps_to_answer request.now session.old.session.committed (member_at session.old k) }
+    ensures steps { steps.new
+        ≤ steps.old
+        + steps_to_answer request.now session.old.session.committed (member_at session.old k) }
 {
     match request {
         Request::Edit { change } => edit(alloc, session, k, change, steps),
@@ -64,11 +67,14 @@ pub fn turn<L: Ledger>(
     requires site { k < sites session.old }
     requires acts { is_shown request.now ≡ false }
     requires may { MayTurn request.now (site_at session.old k).replica }
-    ensures answer { IfOk result (λ answer. IsAnswered request.now k session.old answer session.new) }
+    ensures answer { IfOk result (λ answer.
+        IsAnswered request.now k session.old answer session.new) }
     ensures cites { IfOk result AnswerCites }
     ensures kept { OnErr result (session.new ≡ session.old) }
     ensures counted { steps.old ≤ steps.new }
-    ensures steps { steps.new ≤ steps.old + steps_to_answer request.now session.old.session.committed (member_at session.old k) }
+    ensures steps { steps.new
+        ≤ steps.old
+        + steps_to_answer request.now session.old.session.committed (member_at session.old k) }
 {
     match done(alloc, session, k, request, steps) {
         Ok(answer) => Ok(answer),

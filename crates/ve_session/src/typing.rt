@@ -2,8 +2,8 @@
 ghost use Rattle.std.specs.Prelude.{◌≡◌, ◌<◌, ◌≤◌, ◌+◌, IfErr, IfOk, OnErr};
 ghost use Rattle.model_world.specs.Answers.{lower};
 ghost use Rattle.model_world.specs.Edits.{change_of};
-ghost use Rattle.model_world.specs.declared.change.Change.TheVariants as change;
-ghost use Rattle.model_world.specs.declared.change.TextMarks.TheVariants.{Left};
+ghost use Rattle.model_world.specs.declared.edit_command.EditCommand.TheVariants as change;
+ghost use Rattle.model_world.specs.declared.edit_command.TextMarks.TheVariants.{Left};
 ghost use Rattle.model_world.specs.declared.command.Request.TheVariants as request;
 ghost use Rattle.ve_changes.specs.Drafts.{IsDrafted};
 ghost use Rattle.ve_changes.specs.Stops.{IsRefused};
@@ -21,19 +21,22 @@ use model_world_law::layers_fit;
 use std::alloc::Global;
 use std::sync::ledger::Ledger;
 use ve_base::{Steps, Text, TryCopy};
-use ve_changes::{BatchStop, Change, ChangeStop, after_inserted, change_draft, type_text};
+use ve_changes::{BatchStop, ChangeStop, EditCommand, after_inserted, change_draft, type_text};
 use ve_json::Answer;
 use ve_offsets::Doc;
 use ve_sites::Sites;
 use ve_tx::Draft;
 
-/// The draft by which a text is put at a place, with the marks to the left.
+/// The draft by which a text is put at a position, with the marks to the left.
 fn put_draft(alloc: Global, doc: Doc<'_>, at: usize, text: &Text) -> Result<Draft, ChangeStop>
     requires page { IsPage doc.store.now doc.list.now.items doc.tree.now }
-    ensures ok { IfOk result (IsDrafted doc.entry.store.now (change_of (page_items doc.entry) (change.Text at text.now Left))) }
-    ensures refused { IfErr result (λ why. IsRefused why (change_of (page_items doc.entry) (change.Text at text.now Left))) }
+    ensures ok { IfOk result (
+        IsDrafted doc.entry.store.now (
+        change_of (page_items doc.entry) (change.Text at text.now Left))) }
+    ensures refused { IfErr result (λ why.
+        IsRefused why (change_of (page_items doc.entry) (change.Text at text.now Left))) }
 {
-    let change = Change::Text {
+    let change = EditCommand::Text {
         at,
         text: text.copy(alloc)?,
         marks: TextMarks::Left,
@@ -52,13 +55,18 @@ fn type_here<L: Ledger>(
 ) -> Result<Answer<'static>, ChangeStop>
     requires site { k < sites session.old }
     requires may { MayTurn (request.TypeText text.now) (site_at session.old k).replica }
-    requires caret { (site_at session.old k).replica.selection.anchor ≡ (site_at session.old k).replica.selection.focus }
+    requires caret { (site_at session.old k).replica.selection.anchor
+        ≡ (site_at session.old k).replica.selection.focus }
     requires at { at ≡ lower (site_at session.old k).replica.selection }
-    ensures answer { IfOk result (λ answer. IsAnswered (request.TypeText text.now) k session.old answer session.new) }
+    ensures answer { IfOk result (λ answer.
+        IsAnswered (request.TypeText text.now) k session.old answer session.new) }
     ensures refused { IfErr result (IsStopped (request.TypeText text.now) k session.old) }
     ensures kept { OnErr result (session.new ≡ session.old) }
     ensures counted { steps.old ≤ steps.new }
-    ensures steps { steps.new ≤ steps.old + steps_to_answer (request.TypeText text.now) session.old.session.committed (member_at session.old k) }
+    ensures steps { steps.new
+        ≤ steps.old
+        + steps_to_answer (request.TypeText text.now) session.old.session.committed
+        (member_at session.old k) }
 {
     layers_fit();
     let draft = put_draft(alloc, doc_at(session, k), at, text)?;
@@ -77,7 +85,8 @@ fn type_here<L: Ledger>(
     Ok(Answer::Length(len_at(session, k)))
 }
 
-/// A text typed in the place of what a site has selected, made on a copy of its page: two changes that are one entry.
+/// Types a text over the selection of a site, on a copy of its page: two changes that are one
+/// entry.
 fn type_over<L: Ledger>(
     alloc: Global,
     session: &mut Sites,
@@ -87,11 +96,15 @@ fn type_over<L: Ledger>(
 ) -> Result<Answer<'static>, ChangeStop>
     requires site { k < sites session.old }
     requires may { MayTurn (request.TypeText text.now) (site_at session.old k).replica }
-    ensures answer { IfOk result (λ answer. IsAnswered (request.TypeText text.now) k session.old answer session.new) }
+    ensures answer { IfOk result (λ answer.
+        IsAnswered (request.TypeText text.now) k session.old answer session.new) }
     ensures refused { IfErr result (IsStopped (request.TypeText text.now) k session.old) }
     ensures kept { OnErr result (session.new ≡ session.old) }
     ensures counted { steps.old ≤ steps.new }
-    ensures steps { steps.new ≤ steps.old + steps_to_answer (request.TypeText text.now) session.old.session.committed (member_at session.old k) }
+    ensures steps { steps.new
+        ≤ steps.old
+        + steps_to_answer (request.TypeText text.now) session.old.session.committed
+        (member_at session.old k) }
 {
     let typed = match type_text(alloc, session.site(k).editor(), text, steps) {
         Ok(typed) => typed,
@@ -109,7 +122,8 @@ fn type_over<L: Ledger>(
     Ok(Answer::Length(len_at(session, k)))
 }
 
-/// A text typed in the place of what a site has selected, or at its caret; its caret stands after the text then.
+/// Types a text over the selection of a site, or at its caret; its caret stands after the text
+/// then.
 pub fn type_at<L: Ledger>(
     alloc: Global,
     session: &mut Sites,
@@ -119,11 +133,15 @@ pub fn type_at<L: Ledger>(
 ) -> Result<Answer<'static>, ChangeStop>
     requires site { k < sites session.old }
     requires may { MayTurn (request.TypeText text.now) (site_at session.old k).replica }
-    ensures answer { IfOk result (λ answer. IsAnswered (request.TypeText text.now) k session.old answer session.new) }
+    ensures answer { IfOk result (λ answer.
+        IsAnswered (request.TypeText text.now) k session.old answer session.new) }
     ensures refused { IfErr result (IsStopped (request.TypeText text.now) k session.old) }
     ensures kept { OnErr result (session.new ≡ session.old) }
     ensures counted { steps.old ≤ steps.new }
-    ensures steps { steps.new ≤ steps.old + steps_to_answer (request.TypeText text.now) session.old.session.committed (member_at session.old k) }
+    ensures steps { steps.new
+        ≤ steps.old
+        + steps_to_answer (request.TypeText text.now) session.old.session.committed
+        (member_at session.old k) }
 {
     let selection = session.site(k).editor().selection();
     if selection.anchor == selection.focus {

@@ -4,10 +4,10 @@ ghost use Rattle.model_world.specs.declared.command.Command.TheVariants.{Ask, Op
 ghost use Rattle.model_world.specs.declared.reply.Reply.TheVariants as reply;
 ghost use Rattle.model_world.specs.Spelled.{reply_text};
 ghost use Rattle.model_world.specs.World.{reply as model_reply};
-ghost use Rattle.ve_session.specs.Asked.{obeyed, IsAsked};
+ghost use Rattle.ve_session.specs.Asked.{reply_and_world, IsAsked};
 ghost use Rattle.ve_session.specs.Cost.{steps_of, steps_of_line};
 ghost use Rattle.ve_session.specs.Opened.{replica_in, HasUtf8Page, IsLed};
-ghost use Rattle.ve_session.specs.States.{after, begun, spent};
+ghost use Rattle.ve_session.specs.States.{after, closed_state, spent_state};
 
 use crate::page::OpenPage;
 use std::alloc::Global;
@@ -19,7 +19,8 @@ use ve_editor::Editor;
 use ve_json::{Answer, Command, CommandFault, Refusal, Request, command, reply_text};
 use ve_run::Machine;
 
-/// The page that is open, if one is. After it ran out of memory a world is spent.
+/// The page that is open, if one is. After it ran out of memory a world is spent: every later step
+/// says so.
 #[derive(Drop)]
 pub struct World {
     alloc: Global,
@@ -55,7 +56,7 @@ fn tell_length(alloc: Global, len: usize, out: &mut Bytes) -> Result<(), Memory>
 impl World {
     /// A world without a page. It takes no memory.
     pub fn new(alloc: Global) -> World
-        ensures { result ≡ begun }
+        ensures { result ≡ closed_state }
     {
         World {
             alloc,
@@ -74,8 +75,8 @@ impl World {
         }
     }
 
-    /// Tells that some lines lead to its world, which its type keeps, and that a page that is open is UTF-8. So what the
-    /// laws say of every world that lines lead to holds of it.
+    /// Tells that some lines lead to its world, which its type keeps, and that a page that is open
+    /// is UTF-8. So the laws of every world that lines lead to hold of it.
     pub fn lines_lead(&self)
         ensures led { IsLed self.now.world }
         ensures utf8 { HasUtf8Page self.now.world }
@@ -94,8 +95,16 @@ impl World {
         steps: &mut Steps<L>,
     ) -> Result<(), Memory>
         requires asked { IsAsked (OpensPage text sites) }
-        ensures reply { OnOk result (out.new ≡ out.old ++ (reply_text (obeyed self.old.world (OpensPage text sites)).0 ++ 10 ∷ [])) }
-        ensures world { OnOk result (self.new ≡ record self.old { world = (obeyed self.old.world (OpensPage text sites)).1 }) }
+        ensures reply { OnOk result (
+            out.new
+            ≡ out.old
+            ++ (reply_text (reply_and_world self.old.world (OpensPage text sites)).0
+            ++ 10
+            ∷ [])) }
+        ensures world { OnOk result (
+            self.new ≡ record self.old {
+              world = (reply_and_world self.old.world (OpensPage text sites)).1;
+            }) }
         ensures unsaid { OnErr result (out.new ≡ out.old) }
         ensures counted { steps.old ≤ steps.new }
         ensures cost { steps.new ≤ steps.old + steps_of self.old.world (Ok (OpensPage text sites)) }
@@ -121,8 +130,16 @@ impl World {
         steps: &mut Steps<L>,
     ) -> Result<(), Memory>
         requires asked { IsAsked (Ask request.now site) }
-        ensures reply { OnOk result (out.new ≡ out.old ++ (reply_text (obeyed self.old.world (Ask request.now site)).0 ++ 10 ∷ [])) }
-        ensures world { OnOk result (self.new ≡ record self.old { world = (obeyed self.old.world (Ask request.now site)).1 }) }
+        ensures reply { OnOk result (
+            out.new
+            ≡ out.old
+            ++ (reply_text (reply_and_world self.old.world (Ask request.now site)).0
+            ++ 10
+            ∷ [])) }
+        ensures world { OnOk result (
+            self.new ≡ record self.old {
+              world = (reply_and_world self.old.world (Ask request.now site)).1;
+            }) }
         ensures unsaid { OnErr result (out.new ≡ out.old) }
         ensures counted { steps.old ≤ steps.new }
         ensures cost { steps.new ≤ steps.old + steps_of self.old.world (Ok (Ask request.now site)) }
@@ -145,8 +162,11 @@ impl World {
         steps: &mut Steps<L>,
     ) -> Result<(), Memory>
         requires asked { IsAsked command }
-        ensures reply { OnOk result (out.new ≡ out.old ++ (reply_text (obeyed self.old.world command).0 ++ 10 ∷ [])) }
-        ensures world { OnOk result (self.new ≡ record self.old { world = (obeyed self.old.world command).1 }) }
+        ensures reply { OnOk result (
+            out.new
+            ≡ out.old ++ (reply_text (reply_and_world self.old.world command).0 ++ 10 ∷ [])) }
+        ensures world { OnOk result (
+            self.new ≡ record self.old { world = (reply_and_world self.old.world command).1 }) }
         ensures unsaid { OnErr result (out.new ≡ out.old) }
         ensures counted { steps.old ≤ steps.new }
         ensures cost { steps.new ≤ steps.old + steps_of self.old.world (Ok command) }
@@ -164,7 +184,9 @@ impl World {
         out: &mut Bytes,
         steps: &mut Steps<L>,
     ) -> Result<(), Memory>
-        ensures reply { OnOk result (out.new ≡ out.old ++ (reply_text (model_reply self.old.world line.now).0 ++ 10 ∷ [])) }
+        ensures reply { OnOk result (
+            out.new
+            ≡ out.old ++ (reply_text (model_reply self.old.world line.now).0 ++ 10 ∷ [])) }
         ensures state { OnOk result (self.new ≡ after self.old line.now) }
         ensures unsaid { OnErr result (out.new ≡ out.old) }
         ensures stays_spent { self.old.is_spent ≡ true → IsErr result }
@@ -184,19 +206,23 @@ impl World {
         }
     }
 
-    /// Answers one line of a script: appends the text of the reply and a newline. A refusal leaves the world as it was.
+    /// Answers one line of a script: appends the text of the reply and a newline. A refusal leaves
+    /// the world as it was.
     ///
-    /// After `Memory` nothing is appended, and the world is spent: it has no page, and every later step answers `Memory`.
+    /// After `Memory` nothing is appended, and the world is spent: it has no page, and every later
+    /// step answers `Memory`.
     pub fn step<L: Ledger>(
         &mut self,
         line: &[u8],
         out: &mut Bytes,
         steps: &mut Steps<L>,
     ) -> Result<(), Memory>
-        ensures reply { OnOk result (out.new ≡ out.old ++ (reply_text (model_reply self.old.world line.now).0 ++ 10 ∷ [])) }
+        ensures reply { OnOk result (
+            out.new
+            ≡ out.old ++ (reply_text (model_reply self.old.world line.now).0 ++ 10 ∷ [])) }
         ensures state { OnOk result (self.new ≡ after self.old line.now) }
         ensures unsaid { OnErr result (out.new ≡ out.old) }
-        ensures spent { OnErr result (self.new ≡ spent) }
+        ensures spent_state { OnErr result (self.new ≡ spent_state) }
         ensures stays_spent { self.old.is_spent ≡ true → IsErr result }
         ensures counted { steps.old ≤ steps.new }
         ensures cost { steps.new ≤ steps.old + steps_of_line self.old.world line.now }

@@ -46,7 +46,7 @@ one_taken k es e below is = take_more es k e below ∙ ap (λ x. take k es ++ x 
 pub one_dropped : (k : ℕ) (es : List Entry) (e : Entry) → k < length es → e ≡ get_or es k e → drop k es ≡ e ∷ drop (k + 1) es
 one_dropped k es e below is = at_drop_more (λ l. l) es k e below ∙ ap (λ x. x ∷ drop (k + 1) es) (sym is)
 
--- parted at a place: the second part has none until the first one has so many
+-- parted at a position: the second part has none until the first one has so many
 pub seam : (first second : List Entry) (at : ℕ) → length first ≤ at → (length first < at → second ≡ []) → (first ≡ take at (first ++ second)) × (second ≡ drop at (first ++ second))
 seam [] second zero le full = (refl, refl)
 seam [] second (suc at) le full = let none = full (omega arith) in (sym (ap (take (suc at)) none), none ∙ sym (ap (drop (suc at)) none))
@@ -117,13 +117,13 @@ module _ (old now : Replica) (left gone : List Entry) (e : Entry) (d : AreDroppe
       let there = subst (λ (r : Replica). after ≤ before + steps_over (reversal (entry_by_value old.store e).txs) r.items) d.page one in
       omega (arith, h, there)
 
--- what is found at a place
+-- what is found at a position
 found : (es : List Entry) (i : ℕ) (e : Entry) → slice_get es i ≡ Some e → e ≡ get_or es i e
 found [] i e is = refl
 found (x ∷ es) zero e is = let same : x ≡ e = cc in sym same
 found (x ∷ es) (suc i) e is = found es i e is
 
--- those from a place on are taken back, and the one before it is found
+-- those from a position on are taken back, and the one before it is found
 module _ (old now : Replica) (all : List Entry) (at k : ℕ) (e : Entry) (dropped : AreDropped old (take at all) (drop at all) now) (next : at ≡ k + 1) (below : k < length all)
     (is : slice_get all k ≡ Some e) where
   split : AreDropped old (take k all ++ e ∷ []) (drop (k + 1) all) now

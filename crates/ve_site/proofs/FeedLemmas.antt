@@ -14,7 +14,8 @@ use Rattle.ve_site.specs.Numbered.{Numbered, with_site}
 use Rattle.ve_site.specs.Taking.{steps_of_feed, steps_to_take, steps_to_take_all}
 use Rattle.ve_site.proofs.TakenLemmas.{MayTakeNext, has_taken, may_take_next, none_taken, taken_anyway}
 
--- a site that took the first so many; so many entries are still pending, and these numbers of steps were counted before and after
+-- a site that took the first so many; so many entries are still pending, and these numbers of steps
+-- were counted before and after
 pub record IsTaking (old : Numbered) (parcels : List Parcel) (i : ℕ) (now : Numbered) (left before after : ℕ) : Type 0 where
   pub number : now.number ≡ old.number
   pub site : take_foreign (map parcel_by_value (drop i parcels)) now.site ≡ take_foreign (map parcel_by_value parcels) old.site

@@ -17,7 +17,7 @@ over_within : (store : List Value) (least : ℕ) (es : List Entry) → AreOver s
 over_within store least [] h = h
 over_within store least (e ∷ es) h = let rest = over_within store e.store_after es h.3 in omega arith
 
--- what is below a place stays where the store goes on after it
+-- what is below a position stays where the store goes on after it
 pub prefix_stays : (old new : List Value) (n : ℕ) → Extends old new → n ≤ length old → take n new ≡ take n old
 prefix_stays old new n e le = ap (take n) e.1 ∙ take-append-le n old e.0 le
 

@@ -1,4 +1,4 @@
--- What was undone last performed again.
+-- The last undone entry performed again.
 use Rattle.std.proofs.Common.{◌≡◌, ◌≤◌, ◌+◌, ℕ, List, [], ◌∷◌, ◌++◌, map, drop, slice_get, All, Option, Some, Ok, sym, ap, ◌∙◌, subst}
 use Rattle.std.proofs.lemmas.List.Elements.{All-head, All-tail}
 use Rattle.model_change.specs.Replay.{AllRun, flattened}

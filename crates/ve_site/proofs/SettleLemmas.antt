@@ -5,9 +5,9 @@ use Rattle.model_site.specs.Replica.{Replica}
 use Rattle.model_site.specs.Site.{Site, with_entry}
 use Rattle.ve_tx.specs.declared.entry.Entry.{Entry}
 use Rattle.ve_editor.specs.Edited.{entry_by_value}
-use Rattle.ve_site.specs.Settled.{settled, SettledIsPerformed, Settles}
+use Rattle.ve_site.specs.Settled.{with_new_entry, SettledIsPerformed, Settles}
 
-pub settled_is : (new : Replica) (e : Entry) (site : Site) (by : Settles site.replica new e) → settled new e site ≡ with_entry by.ts site
+pub settled_is : (new : Replica) (e : Entry) (site : Site) (by : Settles site.replica new e) → with_new_entry new e site ≡ with_entry by.ts site
 settled_is new e site by =
     ap (λ (x : ModelEntry). record site { replica = new; unsent = site.unsent ++ x ∷ []; undone = [] }) by.entry
     ∙ ap (λ (r : Replica). record (with_entry by.ts site) { replica = r }) by.page

@@ -55,7 +55,7 @@ nothing_pending = refl
 trees_are_counted : trees_for ((puts 0 97 1 ∷ []) ∷ (puts 0 97 1 ∷ puts 1 98 1 ∷ []) ∷ []) ≡ 7
 trees_are_counted = refl
 
--- two letters on the ground, one that is taken and two that are pending
+-- two letters on the confirmed list, one that is taken and two that are pending
 longest_list : longest_of ((puts 1 120 1 ∷ []) ∷ []) in_flight ≡ 5
 longest_list = refl
 
@@ -136,12 +136,12 @@ answers_are_always_taken = tt
 answers_count_nothing : steps_of_take (Ack 7) in_flight ≡ 0
 answers_count_nothing = refl
 
--- a and d of the ground go
+-- a and d of the confirmed list go
 abbrev all_gone : Transaction
 all_gone = Replace (letters (codes "ad")) [] ∷ []
 
--- so b and c can't stay between them: both are taken back on a copy, the last one first; each time the root and its one text node
--- become shorter, and at last the text node goes
+-- So b and c can't stay between them: both are taken back on a copy, the last one first. Each time
+-- the root and its one text node become shorter, and at last the text node goes.
 both_are_dropped : steps_to_take (all_gone ∷ []) in_flight ≡ (most_steps (letters (codes "abcd")) + (32 + 32)) + 32
 both_are_dropped = refl
 

@@ -20,7 +20,7 @@ pub past : {A : Type 0} (xs ys : List A) (i : ℕ) → slice_get (xs ++ ys) (len
 past [] ys i = ap (slice_get ys) (omega arith)
 past (x ∷ xs) ys i = let e : suc (length xs) + i ≡ suc (length xs + i) = omega arith in ap (slice_get (x ∷ (xs ++ ys))) e ∙ past xs ys i
 
--- the shapes stand in order from a place on
+-- the shapes stand in order from a position on
 abbrev pub Spells : (ℕ → Option Shape) → ℕ → List Shape → Type 0
 Spells sh at xs = (i : ℕ) (x : Shape) → slice_get xs i ≡ Some x → sh (at + i) ≡ Some x
 
@@ -72,9 +72,9 @@ nodes_spelled sh (Branch kind inside later) parent at whole h =
     (nodes_spelled sh inside (Opened at) (suc at) whole.0 (spells-left sh (suc at) (shapes inside) (End kind ∷ shapes later) past_begin))
     (nodes_spelled sh later parent (at + item_count inside + 2) whole.1 past_end))
 
--- ---- places
+-- ---- positions
 
--- one, where the place lies in the range
+-- one, where the position lies in the range
 abbrev pub spans : Option ℕ → ℕ → ℕ → ℕ
 spans there from count = as_one (lies_in there from count)
 
@@ -110,7 +110,8 @@ pub spans_join : (there : Option ℕ) (from m n : ℕ) → spans there from m + 
 spans_join None from m n = omega arith
 spans_join (Some p) from m n = joined p from m n _ _ _ (lies p from m) (lies p (from + m) n) (lies p from (m + n))
 
--- What each node adds at most where the place lies in its text, or is its opening's: then all nodes of a forest add one at most.
+-- The most that each node adds where the position lies in its text, or is its opening's: then all
+-- nodes of a forest add one at most.
 pub one_each : (there : Option ℕ) (w : Node → ℕ) →
     ((parent : NodeName) (at count : ℕ) → 0 < count → w (record { name = Text at; parent = parent; count = count }) ≤ spans there at count) →
     ((parent : NodeName) (at count : ℕ) → w (record { name = Opened at; parent = parent; count = count }) ≤ spans there at 1) →

@@ -1,4 +1,4 @@
--- What always holds of a site is kept by each thing that it does.
+-- The invariant of a site is kept by each thing that it does.
 use Rattle.std.proofs.Common.{◌≡◌, ℕ, List, [], ◌∷◌, ◌++◌, Option, Ok, arith, refl, sym, ap, ◌∙◌, subst}
 use Rattle.std.proofs.lemmas.List.{append-nil}
 use Rattle.model_items.specs.declared.plain_item.PlainItem.{PlainItem}
@@ -8,7 +8,7 @@ use Rattle.model_change.proofs.ReversalLaw.{reversal_undoes}
 use Rattle.model_edit.specs.declared.selection.Selection.{Selection}
 use Rattle.model_site.specs.Entries.{Entry, Parcel, parcels, reverted}
 use Rattle.model_site.specs.Replica.{Replica}
-use Rattle.model_site.specs.Site.{Site, parted, pending, redo, redo_first, starting, undo, undo_last, with_entry, with_selection}
+use Rattle.model_site.specs.Site.{Site, init_and_last, pending, redo, redo_first, starting, undo, undo_last, with_entry, with_selection}
 use Rattle.model_site_law.specs.Chain.{Chain}
 use Rattle.model_site_law.specs.Holds.{Holds}
 use Rattle.model_site_law.specs.SelectionLaws.{StandsIn}
@@ -28,7 +28,7 @@ selects_kept = record {
   cuts = λ n r p. p;
 }
 
--- whatever is pending, with it taken back the ground is as it was
+-- whatever is pending, with it taken back the confirmed list is as it was
 pub ground_is : (floor : List PlainItem) (s : Site) → Sound floor → Holds floor [] (as_opened s) → ground_of s ≡ floor
 ground_is floor s sound h =
     ap (replay (reversal (flattened (parcels (pending s))))) h.list ∙ (reversal_undoes (flattened (parcels (pending s))) floor sound.lawful sound.apart h.runs).back
@@ -49,7 +49,7 @@ edited_stands ts s h may =
 undone_opened : (s next : Site) (es : List Entry) → undo_last es s ≡ Ok next → undo_last es (as_opened s) ≡ Ok (as_opened next)
 undone_opened s next [] e = cc
 undone_opened s next (x ∷ es) e =
-    let p = parted x es in
+    let p = init_and_last x es in
     let new : Site = record s { replica = (undone_replica p.1); unsent = p.0; undone = p.1.txs ∷ s.undone } in
     let same : new ≡ next = cc in
     ap (λ n. Ok (as_opened n)) same

@@ -1,4 +1,5 @@
--- How many steps a take counts, and how long its lists are: no transaction counts more than a tree of the longest list does.
+-- How many steps a take counts, and how long its lists are: no transaction counts more than a tree
+-- of the longest list does.
 use Rattle.std.proofs.Common.{◌≡◌, ◌≤◌, ℕ, suc, ◌+◌, ◌*◌, List, [], ◌∷◌, ◌++◌, length, map, take, drop, refl, sym, ap, ◌∙◌, subst, arith, add-mul, suc-mul, mul-le-mul_right}
 use Rattle.std.proofs.lemmas.List.{length-append, length-map, take-append-drop}
 use Rattle.model_items.specs.declared.plain_item.PlainItem.{PlainItem}
@@ -68,7 +69,8 @@ steps_within items n small = let all = read_within items in omega (arith, all, s
 one_within : (t : Transaction) (items : List PlainItem) (n : ℕ) → Lawful items → Runs t items → length items + length (all_inserted t) ≤ n → steps_of t items ≤ each n
 one_within t items n lawful run small = let few = touch_within t items lawful run.applies run.lawful in omega (arith, few, small)
 
--- what a transaction leaves, with all that it removes, is as long as what it is given with all that it inserts
+-- what a transaction leaves, with all that it removes, is as long as what it is given with all that
+-- it inserts
 lengths_are_kept : (t : Transaction) → new_length t + length (all_removed t) ≡ old_length t + length (all_inserted t)
 lengths_are_kept [] = refl
 lengths_are_kept (Retain count ∷ ops) = let rest = lengths_are_kept ops in omega (arith, rest)

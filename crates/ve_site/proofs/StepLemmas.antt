@@ -1,4 +1,4 @@
--- What a site's fields mean after each step, and that they are a site's again.
+-- The meaning of a site's fields after each step, and that they are a site's again.
 use Rattle.std.proofs.Common.{◌≡◌, ℕ, true, false, List, [], ◌∷◌, ◌++◌, length, map, All, Option, None, Result, Ok, Err, is_err, OnOk, sym, ap, ◌∙◌, subst, arith}
 use Rattle.std.proofs.lemmas.List.{map-append, append_assoc}
 use Rattle.std.proofs.lemmas.List.Elements.{All-nil}

@@ -1,4 +1,5 @@
--- What a site's fields mean once it took an entry of another site, and that they are a site's again.
+-- The meaning of a site's fields once it took an entry of another site, and that they are a site's
+-- again.
 use Rattle.std.proofs.Common.{◌≡◌, ◌≤◌, ◌+◌, ℕ, suc, List, [], ◌∷◌, ◌++◌, length, map, flat_map, take, drop, All, Option, None, refl, sym, ap, ◌∙◌, subst, arith}
 use Rattle.std.proofs.lemmas.List.{map-append, length-append, length-map, length-take, take-append-drop, take-map, drop-map, take_all}
 use Rattle.std.proofs.lemmas.List.Elements.{All-nil, All-cons, All-head, All-tail}
@@ -13,7 +14,7 @@ use Rattle.model_site.specs.Entries.{Entry as ModelEntry}
 use Rattle.model_site.specs.Joined.{Joined, join_entries}
 use Rattle.model_site.specs.Replica.{Replica, all_performed}
 use Rattle.model_site.specs.Site.{Site, pending}
-use Rattle.model_site.specs.Take.{noted, take_ack, take_entry}
+use Rattle.model_site.specs.Take.{parcel_entries, take_ack, take_entry}
 use Rattle.model_site_law.proofs.PerformLemmas.{all_performed_grows}
 use Rattle.ve_tx.specs.declared.entry.Entry.{Entry}
 use Rattle.ve_tx.specs.declared.parcel.Parcel.{Parcel}
@@ -96,7 +97,7 @@ cites_grown v w (e ∷ es) grown h =
     All-cons (EntryCites w) e es (all_cites-extended v w grown e.txs (All-head (EntryCites v) e es h)) (cites_grown v w es grown (All-tail (EntryCites v) e es h))
 
 -- with one number
-alike_noted : (v : List Value) (n : ℕ) (es : List Entry) → map (entry_by_value v) (map (numbered_alike n) es) ≡ noted n (parcels (map (entry_by_value v) es))
+alike_noted : (v : List Value) (n : ℕ) (es : List Entry) → map (entry_by_value v) (map (numbered_alike n) es) ≡ parcel_entries n (parcels (map (entry_by_value v) es))
 alike_noted v n [] = refl
 alike_noted v n (e ∷ es) = ap (λ l. record { txs = map (by_value v) e.txs; store_before = n; store_after = n } ∷ l) (alike_noted v n es)
 
@@ -225,20 +226,20 @@ module _ (editor : Replica) (seen : ℕ) (sent : List Entry) (old : Stacks) (sha
 
       module _ (stored next : ℕ) (first : List Entry) (now : Stacks) (is_stored : stored ≡ length new.store) (is_next : next ≡ seen + 1)
           (first_is : first ≡ map (numbered_alike stored) (take (length sent) made.kept)) (done_is : now.done ≡ map (numbered_alike stored) (drop (length sent) made.kept)) (none : now.undone ≡ []) where
-        kept_noted : map (entry_by_value new.store) (map (numbered_alike stored) made.kept) ≡ noted stored j.kept
-        kept_noted = alike_noted new.store stored made.kept ∙ ap (noted stored) (ap parcels by_new ∙ kept)
+        kept_noted : map (entry_by_value new.store) (map (numbered_alike stored) made.kept) ≡ parcel_entries stored j.kept
+        kept_noted = alike_noted new.store stored made.kept ∙ ap (parcel_entries stored) (ap parcels by_new ∙ kept)
 
-        first_same : map (entry_by_value new.store) first ≡ take (length site.sent) (noted stored j.kept)
+        first_same : map (entry_by_value new.store) first ≡ take (length site.sent) (parcel_entries stored j.kept)
         first_same =
             ap (map (entry_by_value new.store)) (first_is ∙ sym (take-map (numbered_alike stored) (length sent) made.kept))
             ∙ (sym (take-map (entry_by_value new.store) (length sent) (map (numbered_alike stored) made.kept))
-            ∙ (ap (take (length sent)) kept_noted ∙ ap (λ n. take n (noted stored j.kept)) (sym (length-map sent (entry_by_value editor.store)))))
+            ∙ (ap (take (length sent)) kept_noted ∙ ap (λ n. take n (parcel_entries stored j.kept)) (sym (length-map sent (entry_by_value editor.store)))))
 
-        done_same : map (entry_by_value new.store) now.done ≡ drop (length site.sent) (noted stored j.kept)
+        done_same : map (entry_by_value new.store) now.done ≡ drop (length site.sent) (parcel_entries stored j.kept)
         done_same =
             ap (map (entry_by_value new.store)) (done_is ∙ sym (drop-map (numbered_alike stored) (length sent) made.kept))
             ∙ (sym (drop-map (entry_by_value new.store) (length sent) (map (numbered_alike stored) made.kept))
-            ∙ (ap (drop (length sent)) kept_noted ∙ ap (λ n. drop n (noted stored j.kept)) (sym (length-map sent (entry_by_value editor.store)))))
+            ∙ (ap (drop (length sent)) kept_noted ∙ ap (λ n. drop n (parcel_entries stored j.kept)) (sym (length-map sent (entry_by_value editor.store)))))
 
         pub taken_same : site_of new next first now shared flight ≡ take_entry ts site
         taken_same =
@@ -247,18 +248,18 @@ module _ (editor : Replica) (seen : ℕ) (sent : List Entry) (old : Stacks) (sha
             let with_replica : Replica → Site = λ r. record {
               replica = r;
               seen = suc seen;
-              sent = take (length site.sent) (noted (length r.store) j.kept);
-              unsent = drop (length site.sent) (noted (length r.store) j.kept);
+              sent = take (length site.sent) (parcel_entries (length r.store) j.kept);
+              unsent = drop (length site.sent) (parcel_entries (length r.store) j.kept);
               undone = [];
               shared = shared;
               in_flight = flight;
             } in
             ap (λ n. record left { seen = n }) count_next
             ∙ (ap (λ es. record left { seen = suc seen; sent = es }) first_same
-            ∙ (ap (λ es. record left { seen = suc seen; sent = take (length site.sent) (noted stored j.kept); unsent = es }) done_same
-            ∙ (ap (λ ps. record left { seen = suc seen; sent = take (length site.sent) (noted stored j.kept); unsent = drop (length site.sent) (noted stored j.kept); undone = map parcel_by_value ps })
+            ∙ (ap (λ es. record left { seen = suc seen; sent = take (length site.sent) (parcel_entries stored j.kept); unsent = es }) done_same
+            ∙ (ap (λ ps. record left { seen = suc seen; sent = take (length site.sent) (parcel_entries stored j.kept); unsent = drop (length site.sent) (parcel_entries stored j.kept); undone = map parcel_by_value ps })
             none
-            ∙ (ap (λ n. record left { seen = suc seen; sent = take (length site.sent) (noted n j.kept); unsent = drop (length site.sent) (noted n j.kept); undone = [] }) is_stored
+            ∙ (ap (λ n. record left { seen = suc seen; sent = take (length site.sent) (parcel_entries n j.kept); unsent = drop (length site.sent) (parcel_entries n j.kept); undone = [] }) is_stored
             ∙ ap with_replica page))))
 
         pub taken_is : IsSite new next first now shared flight

@@ -1,4 +1,4 @@
--- What always holds of a site is kept by each thing that it takes.
+-- The invariant of a site is kept by each thing that it takes.
 use Rattle.std.proofs.Common.{◌≡◌, List, [], ◌∷◌, ◌++◌, length, take, drop, refl, sym, ap, ◌∙◌, subst}
 use Rattle.std.proofs.lemmas.List.{append-nil, take-append-drop}
 use Rattle.model_items.specs.declared.plain_item.PlainItem.{PlainItem}
@@ -66,7 +66,7 @@ after_one foreign floor = ap (λ us. replay us floor) (append-nil foreign)
 holds_opened : (base : List PlainItem) (before : List Parcel) (s : Site) → Holds base before s → Holds (ground base before) [] (as_opened s)
 holds_opened base before s h = record { seen = refl; list = h.list; runs = h.runs; undone = h.undone; chain = h.chain; held = h.held }
 
--- it stands on the ground that the entry gives
+-- it stands on the confirmed list that the entry gives
 pub record HasTaken (foreign : Parcel) (s : Site) : Type 0 where
   pub stands : Stands (take_entry foreign s)
   pub ground : ground_of (take_entry foreign s) ≡ replay foreign (ground_of s)

@@ -1,4 +1,4 @@
--- Counts along a list, and along the places of a list.
+-- Counts along a list, and along the positions of a list.
 use Rattle.std.proofs.Common.{◌≡◌, ◌≤◌, ◌<◌, ℕ, zero, suc, ◌+◌, Bool, true, false, not, ◌&&◌, List, [], ◌∷◌, length, map, All, sum_by, count_by, cond, ◌⊎◌, inl, inr, refl, sym, ap, ◌∙◌, arith}
 use Rattle.std.specs.List.{list_any}
 use Rattle.std.proofs.lemmas.Bool.{or_parts}
@@ -62,7 +62,7 @@ once m q xs few = by (list_any m xs) refl
     by true e = omega (arith, fewer, few)
     by false e = omega (arith, fewer, none_counted m xs e)
 
--- ---- along places
+-- ---- along positions
 
 abbrev pub total : ℕ → (ℕ → ℕ) → ℕ
 total zero f = 0
@@ -101,7 +101,7 @@ total-small (suc n) f h =
     let rest = total-small n (λ k. f (suc k)) (λ k less. h (suc k) (omega (arith, less))) in
     omega (arith, one, rest)
 
--- Each stands at some place: so many are counted place by place.
+-- Each stands at some position: so many are counted position by position.
 pub count_by_places : {X : Type 0} (stands : X → ℕ → Bool) (m : X → Bool) (n : ℕ) (xs : List X) → All (λ x. (p : ℕ) × (p < n) × (stands x p ≡ true)) xs →
     count_by m xs ≤ total n (λ k. count_by (λ x. stands x k && m x) xs)
 count_by_places stands m n [] a = omega arith

@@ -15,7 +15,7 @@ use Rattle.model_items.specs.declared.law_fault.LawFault.{LawFault}
 use Rattle.model_items.specs.declared.law_fault.LawFault.TheVariants.{Unlawful, TooDeep}
 use Rattle.model_items.specs.declared.plain_item.PlainItem.{PlainItem}
 use Rattle.model_items.specs.declared.plain_item.PlainItem.TheVariants.{Char, Opening, Closing}
-use Rattle.model_items.specs.Law.{State, start, finish, top, opened, may_open, is_over, after, step, Lawful}
+use Rattle.model_items.specs.Law.{State, start, finish, top, state_opened, may_open, is_over, after, step, Lawful}
 use Rattle.model_items.specs.Tree.{tree_of, item_count, Shape, Letter, Begin, End, shape_of}
 use Rattle.model_items.proofs.LawLemmas.{after_from_Lawful, joined-ok}
 use Rattle.model_items.proofs.OnlyLemmas.{tree_has_whole_runs}
@@ -71,7 +71,8 @@ all_seen P t (x ∷ xs) h = All-cons P (seen_by t x) (map (seen_by t) xs) (h x) 
 no_image : (t : Transaction) (name : NodeName) (count : ℕ) → name ≡ TheRoot → image t name count ≡ None
 no_image t name count e = ap (λ n. image t n count) e
 
--- old nodes without a match, and old nodes that have one under another parent or with another length
+-- old nodes without a match, and old nodes that have one under another parent or with another
+-- length
 old_touched : (t u : Transaction) (items others : List PlainItem) →
     let old = map (seen_by t) (nodes_of items) in
     let new = map (seen_by u) (nodes_of others) in
@@ -86,7 +87,7 @@ old_touched t u items others =
     let both : sum_by gone old + sum_by other old ≤ length old = sum-pairs gone other old each in
     omega (arith, both, length-map (nodes_of items) (seen_by t))
 
--- ---- places where nodes begin
+-- ---- positions where nodes begin
 
 abbrev begins : NodeName → ℕ → Bool
 begins TheRoot k = false
@@ -115,7 +116,7 @@ starts_once m k items =
     let one = one_at_most (lies_in (Some k) 0 (item_count (tree_of items))) in
     omega (arith, most, one)
 
--- the shape at a place
+-- the shape at a position
 abbrev shape_at : List PlainItem → ℕ → Option Shape
 shape_at items k = slice_get (map shape_of items) k
 
@@ -127,7 +128,7 @@ spelled items lawful =
 in_list : (items : List PlainItem) (p : ℕ) (x : Shape) → shape_at items p ≡ Some x → p < length items
 in_list items p x e = let l = slice_get_within (map shape_of items) p x e in omega (arith, l, length-map items shape_of)
 
--- so each node but the root begins at a place of the list
+-- so each node but the root begins at a position of the list
 begins_in : (items : List PlainItem) (n : Node) → IsSpelled (shape_at items) n → (p : ℕ) × (p < length items) × (begins n.name p ≡ true)
 begins_in items n s = by n.name s
   where
@@ -139,7 +140,7 @@ begins_in items n s = by n.name s
 All-mapped : {X : Type 0} (P Q : X → Type 0) (xs : List X) → ((x : X) → P x → Q x) → All P xs → All Q xs
 All-mapped P Q xs h a = λ k d below. h _ (a k d below)
 
--- nodes that pass a test, place by place
+-- nodes that pass a test, position by position
 by_places : (m : Node → Bool) (items : List PlainItem) → Lawful items → count_by m (inner items) ≤ total (length items) (λ k. count_by (λ n. begins n.name k && m n) (inner items))
 by_places m items lawful =
     count_by_places (λ (n : Node) k. begins n.name k) m (length items) (inner items)
@@ -152,7 +153,7 @@ is_letter_step true s t f h = cc
 is_letter_step false s t f h = cc
 
 -- after an opening something is open
-opens : (s t : State) (k : Kind) → opened s k ≡ Ok t → is_over t ≡ false
+opens : (s t : State) (k : Kind) → state_opened s k ≡ Ok t → is_over t ≡ false
 opens s t k h = by (may_open s k) (nat_lt (length s.stack) max_open_kinds) h
   where
     by : (a b : Bool) → (if a then (if b then Ok (record { stack = k ∷ s.stack; seen = s.seen || kind_same k InternalList }) else Err (TooDeep 0)) else Err (Unlawful 0)) ≡ Ok t → is_over t ≡ false
@@ -177,10 +178,10 @@ closing_in (x ∷ items) s u h still over =
 has_closing : (items : List PlainItem) → Lawful items → (m : ℕ) × (kind : Kind) × (shape_at items m ≡ Some (End kind))
 has_closing items lawful = closing_in items start finish (after_from_Lawful items lawful) refl refl
 
--- ---- the places of what is retained
+-- ---- the positions of what is retained
 
--- Each place of the old list counts with that to which its item goes, one together at most: then both lists' places count as many as the old
--- list has items with those that are inserted.
+-- Each position of the old list counts with that to which its item goes, one together at most. Then
+-- both lists' positions count as many as the old list has items with those that are inserted.
 by_retained : (t : Transaction) (f g : ℕ → ℕ) → ((p : ℕ) → f p ≤ 1) → ((k : ℕ) → g k ≤ 1) → ((p k : ℕ) → new_place t p ≡ Some k → f p + g k ≤ 1) →
     total (old_length t) f + total (new_length t) g ≤ old_length t + length (all_inserted t)
 by_retained [] f g few fewer both = omega arith
@@ -260,7 +261,7 @@ module _ (t : Transaction) (items : List PlainItem) (lawful : Lawful items) (app
   abbrev new_here : ℕ → ℕ
   new_here k = count_by (λ n. begins n.name k && new_alone n) (inner others)
 
-  -- what begins at a place that is retained has a match at the new one
+  -- what begins at a position that is retained has a match at the new one
   have_match : (p k : ℕ) (a b : NodeName) (c d : ℕ) → new_place t p ≡ Some k → new_place (inverse t) k ≡ Some p → shape_at others k ≡ shape_at items p →
       begins a p ≡ true → IsSpelledAs (shape_at items) c a → begins b k ≡ true → IsSpelledAs (shape_at others) d b →
       match_by a (image t a c) c b (image (inverse t) b d) d ≡ true
@@ -288,7 +289,7 @@ module _ (t : Transaction) (items : List PlainItem) (lawful : Lawful items) (app
       let stays = retained_stays t items p k at.0 there at.1 in
       (slice_get-map shape_of others k ∙ ap (option_map shape_of) stays.stands ∙ ap Some (stays.shape ∙ at.2), stays.back)
 
-  -- a place of the old list where an item closes a node
+  -- a position of the old list where an item closes a node
   closing : (m : ℕ) × (kind : Kind) × (shape_at items m ≡ Some (End kind))
   closing = has_closing items lawful
 
@@ -310,7 +311,8 @@ module _ (t : Transaction) (items : List PlainItem) (lawful : Lawful items) (app
     | inr apart ↦ let e : closed_here p ≡ 0 = ap as_one apart in omega (arith, e, starts_once (λ n. true) p items)
   ]
 
-  -- where a node without a match begins in the new list, at a place that is retained, nothing begins in the old one
+  -- where a node without a match begins in the new list, at a position that is retained, nothing
+  -- begins in the old one
   none_matched : (p k : ℕ) (n : Node) → new_place t p ≡ Some k → IsSpelled (shape_at others) n → begins n.name k ≡ true → new_alone n ≡ true → old_here p ≡ 0
   none_matched p k n there spelt here_too alone =
       elim (found (λ o. Contains (inner items) o × IsSpelled (shape_at items) o) (λ o. begins o.name p && true) (inner items)

@@ -12,7 +12,7 @@ use Rattle.model_site.specs.Causes.{NothingToUndo, AlreadyShared}
 use Rattle.model_site.specs.Entries.{parcels, reverted}
 use Rattle.model_site.specs.Entries.{Entry as ModelEntry}
 use Rattle.model_site.specs.Replica.{Replica, all_put_back}
-use Rattle.model_site.specs.Site.{Site, parted, pending, undo, undo_last}
+use Rattle.model_site.specs.Site.{Site, init_and_last, pending, undo, undo_last}
 use Rattle.model_site_law.specs.Chain.{Chain}
 use Rattle.model_site_law.specs.Sound.{AllIn}
 use Rattle.model_site_law.proofs.ChainLemmas.{chain_rest}
@@ -45,7 +45,7 @@ ends_with (y ∷ z ∷ xs) x e =
     let rest = ends_with (z ∷ xs) x (subst (λ k. slice_get (y ∷ z ∷ xs) k ≡ Some x) n e) in
     ap (λ more. y ∷ more) rest ∙ ap (λ k. take k (y ∷ z ∷ xs) ++ x ∷ []) (sym n)
 
-parted_end : (y : ModelEntry) (ys : List ModelEntry) (x : ModelEntry) → parted y (ys ++ x ∷ []) ≡ (y ∷ ys, x)
+parted_end : (y : ModelEntry) (ys : List ModelEntry) (x : ModelEntry) → init_and_last y (ys ++ x ∷ []) ≡ (y ∷ ys, x)
 parted_end y [] x = refl
 parted_end y (z ∷ ys) x = ap (λ (r : List ModelEntry × ModelEntry). (y ∷ r.0, r.1)) (parted_end z ys x)
 

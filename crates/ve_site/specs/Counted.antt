@@ -1,16 +1,16 @@
--- What a call performs, so that it can be said how many steps it counts.
+-- Transactions that a call performs, by which its steps are counted.
 use Rattle.std.specs.Prelude.{List, [], ◌∷◌}
 use Rattle.model_change.specs.Transaction.{Transaction}
 use Rattle.model_change.specs.Replay.{reversal}
 use Rattle.model_site.specs.Entries.{Entry, Parcel}
-use Rattle.model_site.specs.Site.{parted}
+use Rattle.model_site.specs.Site.{init_and_last}
 
--- what takes back the last of these entries
+-- the transactions that take back the last of these entries
 abbrev pub undoing : List Entry → List Transaction
 undoing [] = []
-undoing (e ∷ es) = let p = parted e es in reversal p.1.txs
+undoing (e ∷ es) = let p = init_and_last e es in reversal p.1.txs
 
--- what performs again the first of what was undone
+-- the transactions that perform the first of the undone parcels again
 abbrev pub redoing : List Parcel → List Transaction
 redoing [] = []
 redoing (p ∷ ps) = p

@@ -1,4 +1,5 @@
--- Pending entries taken back, the last one first, and another's entry performed over those that are left. For private functions.
+-- Pending entries taken back, the last one first, and another's entry performed over those that are
+-- left. For private functions.
 use Rattle.std.specs.Prelude.{◌≡◌, ℕ, List, [], map, take, drop, None}
 use Rattle.ve_base.specs.declared.value.Value.{Value}
 use Rattle.model_site.specs.Entries.{Parcel, all_reverted}
@@ -13,7 +14,8 @@ use Rattle.ve_site.specs.Numbered.{IsSite}
 abbrev pub IsStack : Replica → List Entry → Type 0
 IsStack r es = IsSite r 0 [] (record { done = es; undone = []; spare = 0 }) 0 None
 
--- The last entries are taken back. Both stores, the old and the new one, go on from one over which the others are.
+-- The last entries are taken back. Both stores, the old and the new one, go on from one over which
+-- the others are.
 pub record AreDropped (old : Replica) (left gone : List Entry) (now : Replica) : Type 0 where
   pub page : now ≡ all_reverted (map (entry_by_value old.store) gone) old
   pub stack : IsStack now left

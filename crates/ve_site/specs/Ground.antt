@@ -1,4 +1,4 @@
--- A site by itself: what its type keeps of it.
+-- The invariant of a site by itself.
 use Rattle.std.specs.Prelude.{◌≤◌, ℕ, List, [], ◌∷◌, All, length, take}
 use Rattle.ve_base.specs.declared.value.Value.{Value}
 use Rattle.model_items.specs.declared.plain_item.PlainItem.{PlainItem}
@@ -15,19 +15,21 @@ use Rattle.ve_tx.specs.Cites.{TxCites}
 abbrev pub ground_of : Site → List PlainItem
 ground_of s = replay (reversal (flattened (parcels (pending s)))) s.replica.items
 
--- a site as if its ground had been the page that was opened
+-- a site as if its confirmed list had been the page that was opened
 abbrev pub as_opened : Site → Site
 as_opened s = record s { seen = 0 }
 
--- What always holds of a site, on its ground; and its selection stands in its list. It names no page that was opened and no committed entries: with
--- these the ground is what the committed ones that it has seen give.
+-- The invariant of a site on its confirmed list; and its selection stands in its list. It names no
+-- page that was opened and no committed entries: with these the confirmed list is that of the
+-- committed ones that it has seen.
 pub record Stands (s : Site) : Type 0 where
   pub sound : Sound (ground_of s)
   pub holds : Holds (ground_of s) [] (as_opened s)
   pub selection : StandsIn s.replica.items s.replica.selection
 
--- Entries over a store: their numbers rise, and what an entry cites stands in the store up to its second number. So where the store is cut back to the
--- first number of the last one, the others cite what is left.
+-- Entries over a store: their numbers rise, and what an entry cites stands in the store up to its
+-- second number. So where the store is cut back to the first number of the last one, the others
+-- cite what is left.
 abbrev pub AreOver : List Value → (least : ℕ) → List Entry → Type 0
 AreOver store least [] = least ≤ length store
 AreOver store least (e ∷ es) =

@@ -14,17 +14,20 @@ abbrev pub trees_for : List Parcel → ℕ
 trees_for [] = 0
 trees_for (entry ∷ entries) = (2 + length entry) + trees_for entries
 
--- how long the lists of a take become: the ground with all that the taken entries and the pending ones insert
+-- how long the lists of a take become: the confirmed list with all that the taken entries and the
+-- pending ones insert
 abbrev pub longest_of : List Parcel → Site → ℕ
 longest_of entries s = length (ground_of s) + (inserted_by (flattened entries) + inserted_by (flattened (parcels (pending s))))
 
--- A take makes one copy of a page, and for each entry that it takes and each that is pending two more copies or changes than that has
--- transactions, or fewer. Each counts at most eight steps for each item of the longest list, and sixteen more.
+-- A take makes at most one copy of a page. For each entry that it takes, and for each that is
+-- pending, it makes at most two more copies or changes than that has transactions. Each counts at
+-- most eight steps for each item of the longest list, and sixteen more.
 abbrev pub TakeIsBounded : Type 0
 TakeIsBounded = (entries : List Parcel) (s : Site) → Stands s → AllRun (flattened entries) (ground_of s) →
     steps_of_take (Foreign entries) s ≤ (1 + (trees_for entries + trees_for (parcels (pending s)))) * (8 * (longest_of entries s + 2))
 
--- Where the longest list of an entry's take is within the bound of a transaction's lengths, so is each transaction that the take joins.
+-- Where the longest list of an entry's take is within the bound of a transaction's lengths, so is
+-- each transaction that the take joins.
 abbrev pub TakenStayWithin : Type 0
 TakenStayWithin = (foreign : Parcel) (s : Site) → Stands s → AllRun foreign (ground_of s) → longest_of (foreign ∷ []) s ≤ max_total_length →
     let j = join_entries foreign (parcels (pending s)) in AllWithin max_total_length j.committed × AllWithin max_total_length (flattened j.kept)

@@ -1,4 +1,4 @@
--- A site with its number, and what its fields mean.
+-- A site with its number, and the meaning of its fields.
 use Rattle.std.specs.Prelude.{ℕ, List, All, map, ◌++◌, Option}
 use Rattle.model_site.specs.Replica.{Replica}
 use Rattle.model_site.specs.Site.{Site}
@@ -28,7 +28,7 @@ site_of editor seen sent history shared in_flight = record {
   in_flight = in_flight;
 }
 
--- what a site keeps of its fields
+-- the invariant of a site's fields
 pub record IsSite (editor : Replica) (seen : ℕ) (sent : List Entry) (history : Stacks) (shared : ℕ) (in_flight : Option ℕ) : Type 0 where
   pub stands : Stands (site_of editor seen sent history shared in_flight)
   pub over : AreOver editor.store 0 (sent ++ history.done)

@@ -8,7 +8,8 @@ use Rattle.model_site_law.specs.Sound.{AllMayRun}
 use Rattle.ve_tx.specs.declared.entry.Entry.{Entry}
 use Rattle.ve_editor.specs.Edited.{entry_by_value, EntryCites}
 
--- Some transactions, performed one after the other on the site's page, give this copy and this entry.
+-- Some transactions, performed one after the other on the site's page, give this copy and this
+-- entry.
 pub record Settles (old new : Replica) (e : Entry) : Type 0 where
   pub ts : List Transaction
   pub may : AllMayRun ts old.items
@@ -16,10 +17,11 @@ pub record Settles (old new : Replica) (e : Entry) : Type 0 where
   pub entry : entry_by_value new.store e ≡ entry_of ts old
   pub cites : EntryCites new.store e
 
--- the copy in the place of the site's own, and the entry after those that aren't sent; nothing can be redone then
-abbrev pub settled : Replica → Entry → Site → Site
-settled new e site = record site { replica = new; unsent = site.unsent ++ entry_by_value new.store e ∷ []; undone = [] }
+-- the copy in the place of the site's own, and the entry after those that aren't sent; nothing can
+-- be redone then
+abbrev pub with_new_entry : Replica → Entry → Site → Site
+with_new_entry new e site = record site { replica = new; unsent = site.unsent ++ entry_by_value new.store e ∷ []; undone = [] }
 
 -- So it is the site with these transactions as a new entry.
 abbrev pub SettledIsPerformed : Type 0
-SettledIsPerformed = (new : Replica) (e : Entry) (site : Site) (by : Settles site.replica new e) → settled new e site ≡ with_entry by.ts site
+SettledIsPerformed = (new : Replica) (e : Entry) (site : Site) (by : Settles site.replica new e) → with_new_entry new e site ≡ with_entry by.ts site

@@ -1,4 +1,4 @@
--- What a site may take from the server, and how many steps that counts at most.
+-- Feeds that a site may take from the server, and how many steps that counts at most.
 use Rattle.std.specs.Prelude.{ℕ, ◌+◌, List, [], ◌∷◌, length, drop}
 use Rattle.model_items.specs.declared.plain_item.PlainItem.{PlainItem}
 use Rattle.model_change.specs.Replay.{AllRun, flattened, reversal}
@@ -12,7 +12,8 @@ use Rattle.ve_tree.specs.TreeOf.{most_steps}
 use Rattle.ve_editor.specs.Counted.{steps_over}
 use Rattle.ve_site.specs.Ground.{ground_of}
 
--- Entries of other sites run one after the other from the ground. An answer may always be taken.
+-- Entries of other sites run one after the other from the confirmed list. An answer may always be
+-- taken.
 abbrev pub MayTake : SiteFeed → Site → Type 0
 MayTake (Foreign entries) s = AllRun (flattened entries) (ground_of s)
 MayTake (Ack accepted) s = Unit {0}

@@ -1,17 +1,19 @@
-//! A site: its editor, the entries that it sent and has no answer for, those that it has not sent, and what
-//! it undid. Each call is the model's, but for want of memory: `edit`, `settle`, `undo`, `redo`, `adopt`,
-//! `send`, `take` and `select` make of a site what model_site says, or refuse it exactly where that does;
-//! `pending` gives its pending entries as they would travel.
+//! A site: its editor, the entries that it sent and has no answer for, those that it has not sent,
+//! and those that it undid. Each call is the model's, but for want of memory: `edit`, `settle`,
+//! `undo`, `redo`, `adopt`, `send`, `take` and `select` make of a site what model_site says, or
+//! refuse it exactly where that does. `pending` gives its pending entries serialised.
 //!
-//! A site is seen as its number beside the model's site (specs/Numbered.antt), and its type keeps what always
-//! holds of one (specs/Ground.antt): so these calls have no condition on the site, but that what it takes
-//! runs from its ground, and what it adopts on its list. specs/Refusal.antt says how a refusal is told, and specs/Counted.antt what a call
-//! performs, by which its steps are bounded; specs/Taking.antt says both of a take, and specs/Settled.antt what a
-//! changed copy is that a site takes. specs/Dropped.antt serves private functions: pending entries taken back.
+//! The view of a site is its number beside the model's site (specs/Numbered.antt), and the type
+//! keeps the invariant of one (specs/Ground.antt). So these calls have two conditions alone: what
+//! it takes runs from its confirmed list (the ground), and what it adopts on its list.
+//! specs/Refusal.antt says how a refusal is told. specs/Counted.antt says what a call performs, by
+//! which its steps are bounded. specs/Taking.antt says both of a take, and specs/Settled.antt
+//! defines the changed copy that a site takes. specs/Dropped.antt serves private functions: pending
+//! entries taken back.
 //!
-//! Laws: `takes_are_bounded` (specs/Laws.antt) says what a take counts in plain words, and when it joins no
-//! transaction that is too long; `settling_performs` (specs/Settled.antt), that a site which takes a changed copy
-//! of its editor has the changes as a new entry.
+//! Laws: `takes_are_bounded` (specs/Laws.antt) says what a take counts in plain words, and when it
+//! joins no transaction that is too long. `settling_performs` (specs/Settled.antt) says that a site
+//! which takes a changed copy of its editor has the changes as a new entry.
 //!
 //! It knows neither the server nor other sites.
 #![tactic(auto)]

@@ -13,8 +13,8 @@ use ve_editor::Editor;
 use ve_rebase::entry_in;
 use ve_tx::{Entry, EntryList, Parcel};
 
-/// Takes back all entries but the first so many, the last one first. An `Err` may leave some of them taken
-/// back.
+/// Takes back all entries but the first so many, the last one first. An `Err` may leave some of
+/// them taken back.
 fn take_back<L: Ledger>(
     editor: &mut Editor,
     sent: &[Entry],
@@ -26,9 +26,14 @@ fn take_back<L: Ledger>(
     requires stack { IsStack editor.old (sent.now ++ unsent.now) }
     requires count { count ≡ length (sent.now ++ unsent.now) }
     requires left { left ≤ count }
-    ensures dropped { OnOk result (AreDropped editor.old (take left (sent.now ++ unsent.now)) (drop left (sent.now ++ unsent.now)) editor.new) }
+    ensures dropped { OnOk result (
+        AreDropped editor.old (take left (sent.now ++ unsent.now))
+        (drop left (sent.now ++ unsent.now)) editor.new) }
     ensures counted { steps.old ≤ steps.new }
-    ensures steps { steps.new ≤ steps.old + steps_back (map (entry_by_value editor.old.store) (drop left (sent.now ++ unsent.now))) editor.old }
+    ensures steps { steps.new
+        ≤ steps.old
+        + steps_back (map (entry_by_value editor.old.store) (drop left (sent.now ++ unsent.now)))
+        editor.old }
 {
     let mut at = count;
     while at > left {
@@ -38,9 +43,9 @@ fn take_back<L: Ledger>(
     Ok(())
 }
 
-/// Takes back all entries but the first so many, and performs a parcel then. It gives how many values the
-/// store has after that. Where none is taken back it is done in place, and else on a copy, so that an `Err`
-/// changes nothing.
+/// Takes back all entries but the first so many, and performs a parcel then. It gives how many
+/// values the store has after that. Where none is taken back it is done in place, and else on a
+/// copy, so that an `Err` changes nothing.
 pub fn admit_under<L: Ledger>(
     editor: &mut Editor,
     sent: &[Entry],
@@ -52,12 +57,18 @@ pub fn admit_under<L: Ledger>(
     requires stack { IsStack editor.old (sent.now ++ unsent.now) }
     requires left { left ≤ length (sent.now ++ unsent.now) }
     requires cites { ParcelCites committed.now }
-    requires stands { AllStand (parcel_by_value committed.now) (all_reverted (map (entry_by_value editor.old.store) (drop left (sent.now ++ unsent.now))) editor.old).items }
-    ensures admitted { OnOk result (IsAdmitted editor.old (sent.now ++ unsent.now) left (parcel_by_value committed.now) editor.new) }
+    requires stands { AllStand (parcel_by_value committed.now)
+        (all_reverted (map (entry_by_value editor.old.store) (drop left (sent.now ++ unsent.now))) editor.old).items }
+    ensures admitted { OnOk result (
+        IsAdmitted editor.old (sent.now ++ unsent.now) left (parcel_by_value committed.now)
+        editor.new) }
     ensures stored { IfOk result (λ stored. stored ≡ length editor.new.store) }
     ensures kept { OnErr result (editor.new ≡ editor.old) }
     ensures counted { steps.old ≤ steps.new }
-    ensures steps { steps.new ≤ steps.old + steps_under (map (entry_by_value editor.old.store) (drop left (sent.now ++ unsent.now))) (parcel_by_value committed.now) editor.old }
+    ensures steps { steps.new
+        ≤ steps.old
+        + steps_under (map (entry_by_value editor.old.store) (drop left (sent.now ++ unsent.now)))
+        (parcel_by_value committed.now) editor.old }
 {
     let Some(count) = sent.len().checked_add(unsent.len()) else {
         return Err(Memory);
@@ -73,7 +84,7 @@ pub fn admit_under<L: Ledger>(
     Ok(last.store_after)
 }
 
-/// Entries parted at a place.
+/// Entries parted at a position.
 pub fn parted(
     alloc: Global,
     entries: EntryList,
@@ -98,8 +109,8 @@ pub fn parted(
     Ok((first, second))
 }
 
-/// The same entries with one number as both of theirs: taking one of them back cuts nothing off a store of so
-/// many values.
+/// The same entries with one number as both of theirs: taking one of them back cuts nothing off a
+/// store of so many values.
 pub fn renumbered(mut entries: Vec<Entry>, stored: usize) -> Vec<Entry>
     ensures { result.items ≡ map (numbered_alike stored) entries.items }
 {

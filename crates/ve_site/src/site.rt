@@ -24,22 +24,31 @@ use ve_rebase::{EntriesUnder, entries_under};
 use ve_server::{Feed, Parcels, Submit};
 use ve_tx::{Draft, Entry, EntryList, Parcel};
 
-/// A site: its editor, the entries that it sent and has no answer for, those that it has not sent, and what
-/// it undid. It is seen as its number beside the model's site.
-#[derive(Drop)]
+/// A site: its editor, the entries that it sent and has no answer for, those that it has not sent,
+/// and those that it undid. The view is its number beside the model's site.
 pub struct Site {
     number: u32,
     editor: Editor,
     // how many committed entries its list has
     seen: usize,
     sent: Vec<Entry>,
-    // the entries that are not sent, and what was undone
+    // the entries that are not sent, and those that were undone
     history: History,
     // how many entries it sent since the page was opened
     shared: usize,
     // how many entries the submission has that is on its way
     in_flight: Option<usize>,
     alloc: Global,
+}
+
+impl Drop for Site {
+    fn drop(self) {
+        let Site { number: _, editor, seen: _, sent, history, shared: _, in_flight: _, alloc } = self;
+        drop(editor);
+        drop(sent);
+        drop(history);
+        drop(alloc);
+    }
 }
 
 impl Model for Site {
@@ -54,7 +63,8 @@ impl Model for Site {
 
 /// Why a site that has nothing unsent undoes nothing, where it sent so many entries.
 fn nothing_to_undo(sent: usize) -> UndoFault
-    ensures { result ≡ (if sent == 0 then UndoFault.NothingToUndo else UndoFault.AlreadyShared sent) }
+    ensures { result
+        ≡ (if sent == 0 then UndoFault.NothingToUndo else UndoFault.AlreadyShared sent) }
 {
     if sent == 0 {
         return UndoFault::NothingToUndo;
@@ -73,11 +83,12 @@ impl Site {
     ghost use Rattle.ve_site.specs.Ground.{ground_of};
     ghost use Rattle.ve_site.specs.Taking.{MayTake, steps_of_feed, steps_of_take, steps_to_take, steps_to_take_all};
     ghost use Rattle.ve_site.specs.Numbered.{with_site};
-    ghost use Rattle.ve_site.specs.Settled.{settled, Settles};
+    ghost use Rattle.ve_site.specs.Settled.{with_new_entry, Settles};
     ghost use Rattle.ve_site.specs.Refusal.{IsUndoRefusal, IsRedoRefusal, IsSendRefusal};
     ghost use Rattle.model_site.specs.Refused.{edit_cause};
 
-    /// A site with the page that was opened, which has seen no committed entry and has nothing pending. It takes no memory.
+    /// A site with the page that was opened, which has seen no committed entry and has nothing
+    /// pending. It takes no memory.
     pub fn new(alloc: Global, number: u32, editor: Editor) -> Site
         requires sound { Sound editor.items }
         requires selection { StandsIn editor.items editor.selection }
@@ -126,17 +137,25 @@ impl Site {
         self.editor.select(selection);
     }
 
-    /// Performs a draft as a new entry; what was undone can't be redone then. It is refused as
+    /// Performs a draft as a new entry; undone entries can't be redone then. It is refused as
     /// `Editor::perform` refuses, and an `Err` changes nothing.
     pub fn edit<L: Ledger>(&mut self, draft: &Draft, steps: &mut Steps<L>) -> Result<(), EditFault>
         requires draft { IsDraftOf self.old.site.replica.store draft.now }
         requires apart { InsertedApart (drafted self.old.site.replica.store draft.now) }
-        ensures site { OnOk result (edit (drafted self.old.site.replica.store draft.now) self.old.site ≡ Ok self.new.site) }
+        ensures site { OnOk result (
+            edit (drafted self.old.site.replica.store draft.now) self.old.site
+            ≡ Ok self.new.site) }
         ensures number { self.new.number ≡ self.old.number }
-        ensures refused { IfErr result (IsEditRefusal (edit_cause (drafted self.old.site.replica.store draft.now) self.old.site.replica)) }
+        ensures refused { IfErr result (
+            IsEditRefusal (
+            edit_cause (drafted self.old.site.replica.store draft.now)
+            self.old.site.replica)) }
         ensures kept { OnErr result (self.new ≡ self.old) }
         ensures counted { steps.old ≤ steps.new }
-        ensures steps { steps.new ≤ steps.old + steps_after (drafted self.old.site.replica.store draft.now ∷ []) self.old.site.replica.items }
+        ensures steps { steps.new
+            ≤ steps.old
+            + steps_after (drafted self.old.site.replica.store draft.now ∷ [])
+            self.old.site.replica.items }
     {
         if self.history.reserve().is_err() {
             return Err(EditFault::Memory);
@@ -149,12 +168,13 @@ impl Site {
         Ok(())
     }
 
-    /// Takes a changed copy of its editor in the place of its own, and the entry that the changes are: edits
-    /// that were performed one after the other and are one, as a batch is. What was undone can't be redone
-    /// then. An `Err` changes nothing.
+    /// Takes a changed copy of its editor in place of its own, and the entry of the changes. They
+    /// are edits that were performed one after the other and are one, as a batch is. The undone
+    /// entries can't be redone then. An `Err` changes nothing.
     pub fn settle(&mut self, editor: Editor, entry: Entry) -> Result<(), Memory>
         requires settles { Settles self.old.site.replica editor entry }
-        ensures site { OnOk result (self.new ≡ with_site (settled editor entry self.old.site) self.old) }
+        ensures site { OnOk result (
+            self.new ≡ with_site (with_new_entry editor entry self.old.site) self.old) }
         ensures kept { OnErr result (self.new ≡ self.old) }
     {
         self.history.reserve()?;
@@ -164,17 +184,18 @@ impl Site {
         Ok(())
     }
 
-    /// Takes back the last entry that is not sent. It can be redone until another edit is made or a feed is
-    /// taken.
-    /// Where nothing is unsent, `NothingToUndo` comes exactly if the site sent no entry since the page was
-    /// opened, and `AlreadyShared` exactly if it did. An `Err` changes nothing.
+    /// Takes back the last entry that is not sent. It can be redone until another edit is made or a
+    /// feed is taken. Where nothing is unsent, `NothingToUndo` comes exactly if the site sent no
+    /// entry since the page was opened, and `AlreadyShared` exactly if it did. An `Err` changes
+    /// nothing.
     pub fn undo<L: Ledger>(&mut self, steps: &mut Steps<L>) -> Result<(), UndoFault>
         ensures site { OnOk result (undo self.old.site ≡ Ok self.new.site) }
         ensures number { self.new.number ≡ self.old.number }
         ensures refused { IfErr result (IsUndoRefusal (undo self.old.site)) }
         ensures kept { OnErr result (self.new ≡ self.old) }
         ensures counted { steps.old ≤ steps.new }
-        ensures steps { steps.new ≤ steps.old + steps_over (undoing self.old.site.unsent) self.old.site.replica.items }
+        ensures steps { steps.new
+            ≤ steps.old + steps_over (undoing self.old.site.unsent) self.old.site.replica.items }
     {
         if self.history.reserve().is_err() {
             return Err(UndoFault::Memory);
@@ -193,15 +214,17 @@ impl Site {
         Ok(())
     }
 
-    /// Performs again what was undone last, as a new entry. `NothingToRedo` comes exactly where nothing was
-    /// undone since the last edit or take that was not redone. An `Err` changes nothing.
+    /// Performs the last undone entry again, as a new entry. `NothingToRedo` comes exactly where
+    /// nothing was undone since the last edit or take that was not redone. An `Err` changes
+    /// nothing.
     pub fn redo<L: Ledger>(&mut self, steps: &mut Steps<L>) -> Result<(), RedoFault>
         ensures site { OnOk result (redo self.old.site ≡ Ok self.new.site) }
         ensures number { self.new.number ≡ self.old.number }
         ensures refused { IfErr result (IsRedoRefusal (redo self.old.site)) }
         ensures kept { OnErr result (self.new ≡ self.old) }
         ensures counted { steps.old ≤ steps.new }
-        ensures steps { steps.new ≤ steps.old + steps_over (redoing self.old.site.undone) self.old.site.replica.items }
+        ensures steps { steps.new
+            ≤ steps.old + steps_over (redoing self.old.site.undone) self.old.site.replica.items }
     {
         if self.history.reserve().is_err() {
             return Err(RedoFault::Memory);
@@ -230,7 +253,7 @@ impl Site {
         self.history.done().is_empty()
     }
 
-    /// Its pending entries as they would travel: those that it sent, and then those that it has not sent.
+    /// Its pending entries, serialised: those that it sent, and then those that it has not sent.
     pub fn pending(&self) -> Result<Parcels, Memory>
         ensures { IfOk result (λ entries. entries ≡ parcels (pending self.now.site)) }
     {
@@ -240,16 +263,19 @@ impl Site {
         Ok(entries)
     }
 
-    /// Performs a parcel as a new entry of its own, as one that takes a committed entry back; what was undone
-    /// can't be redone then. It is asked that the parcel's transactions run on the list; the limits of items
-    /// and of values don't bind it. An `Err` changes nothing.
+    /// Performs a parcel as a new entry of its own, as one that takes a committed entry back;
+    /// undone entries can't be redone then. The parcel's transactions have to run on the list. The
+    /// limits of items and of values don't bind it. An `Err` changes nothing.
     pub fn adopt<L: Ledger>(&mut self, back: &Parcel, steps: &mut Steps<L>) -> Result<(), Memory>
         requires cites { ParcelCites back.now }
         requires run { AllRun (parcel_by_value back.now) self.old.site.replica.items }
-        ensures site { OnOk result (self.new ≡ with_site (with_entry (parcel_by_value back.now) self.old.site) self.old) }
+        ensures site { OnOk result (
+            self.new
+            ≡ with_site (with_entry (parcel_by_value back.now) self.old.site) self.old) }
         ensures kept { OnErr result (self.new ≡ self.old) }
         ensures counted { steps.old ≤ steps.new }
-        ensures steps { steps.new ≤ steps.old + steps_over (parcel_by_value back.now) self.old.site.replica.items }
+        ensures steps { steps.new
+            ≤ steps.old + steps_over (parcel_by_value back.now) self.old.site.replica.items }
     {
         self.history.reserve()?;
         let entry = self.editor.admit(back, steps)?;
@@ -258,11 +284,12 @@ impl Site {
         Ok(())
     }
 
-    /// Sends all entries that are not sent, as one submission made on the committed entries that it has seen.
-    /// `InFlight` comes exactly where a submission is not acknowledged yet, and else `NothingToSend` exactly
-    /// where nothing is unsent. An `Err` changes nothing.
+    /// Sends all entries that are not sent, as one submission made on the committed entries that it
+    /// has seen. `InFlight` comes exactly where a submission is not acknowledged yet, and else
+    /// `NothingToSend` exactly where nothing is unsent. An `Err` changes nothing.
     pub fn send(&mut self) -> Result<Submit, SendFault>
-        ensures sent { IfOk result (λ sent. send self.old.site ≡ Ok (self.new.site, submission_of sent)) }
+        ensures sent { IfOk result (λ sent.
+            send self.old.site ≡ Ok (self.new.site, submission_of sent)) }
         ensures from { IfOk result (λ sent. sent.site ≡ self.old.number) }
         ensures number { self.new.number ≡ self.old.number }
         ensures refused { IfErr result (IsSendRefusal (send self.old.site)) }
@@ -310,7 +337,8 @@ impl Site {
 
     /// The same site with nothing undone.
     fn copy<L: Ledger>(&self, steps: &mut Steps<L>) -> Result<Site, Memory>
-        ensures ok { IfOk result (λ copy. copy ≡ with_site (record self.now.site { undone = [] }) self.now) }
+        ensures ok { IfOk result (λ copy.
+            copy ≡ with_site (record self.now.site { undone = [] }) self.now) }
         ensures counted { steps.old ≤ steps.new }
         ensures steps { steps.new ≤ steps.old + most_steps self.now.site.replica.items }
     {
@@ -331,8 +359,8 @@ impl Site {
         })
     }
 
-    /// Takes an entry of another site, and gives how many entries are still pending. An `Err` changes
-    /// nothing.
+    /// Takes an entry of another site, and gives how many entries are still pending. An `Err`
+    /// changes nothing.
     fn take_entry<L: Ledger>(
         &mut self,
         foreign: &Parcel,
@@ -340,11 +368,14 @@ impl Site {
     ) -> Result<usize, Memory>
         requires cites { ParcelCites foreign.now }
         requires run { AllRun (parcel_by_value foreign.now) (ground_of self.old.site) }
-        ensures site { OnOk result (self.new ≡ with_site (take_entry (parcel_by_value foreign.now) self.old.site) self.old) }
+        ensures site { OnOk result (
+            self.new
+            ≡ with_site (take_entry (parcel_by_value foreign.now) self.old.site) self.old) }
         ensures left { IfOk result (λ left. left ≡ length (pending self.new.site)) }
         ensures kept { OnErr result (self.new ≡ self.old) }
         ensures counted { steps.old ≤ steps.new }
-        ensures steps { steps.new ≤ steps.old + steps_to_take (parcel_by_value foreign.now) self.old.site }
+        ensures steps { steps.new
+            ≤ steps.old + steps_to_take (parcel_by_value foreign.now) self.old.site }
     {
         let Some(seen) = self.seen.checked_add(1) else {
             return Err(Memory);
@@ -372,19 +403,23 @@ impl Site {
         Ok(left)
     }
 
-    /// Takes entries of other sites, one after the other, and gives how many entries are still pending. One
-    /// is taken in place, and more on a copy, so that an `Err` changes nothing.
+    /// Takes entries of other sites, one after the other, and gives how many entries are still
+    /// pending. One is taken in place, and more on a copy, so that an `Err` changes nothing.
     fn take_foreign<L: Ledger>(
         &mut self,
         entries: &Parcels,
         steps: &mut Steps<L>,
     ) -> Result<usize, Memory>
         requires run { AllRun (flattened entries.now) (ground_of self.old.site) }
-        ensures site { OnOk result (self.new ≡ with_site (take_foreign entries.now self.old.site) self.old) }
+        ensures site { OnOk result (
+            self.new ≡ with_site (take_foreign entries.now self.old.site) self.old) }
         ensures left { IfOk result (λ left. left ≡ length (pending self.new.site)) }
         ensures kept { OnErr result (self.new ≡ self.old) }
         ensures counted { steps.old ≤ steps.new }
-        ensures steps { steps.new ≤ steps.old + (steps_of_feed entries.now self.old.site.replica.items + steps_to_take_all entries.now self.old.site) }
+        ensures steps { steps.new
+            ≤ steps.old
+            + (steps_of_feed entries.now self.old.site.replica.items
+            + steps_to_take_all entries.now self.old.site) }
     {
         let parcels = entries.as_slice();
         if parcels.len() == 1 {
@@ -399,8 +434,8 @@ impl Site {
         Ok(left)
     }
 
-    /// Takes the answer to what it sent: the entries that it still holds as sent are committed. An `Err`
-    /// changes nothing.
+    /// Takes the answer to what it sent: the entries that it still holds as sent are committed. An
+    /// `Err` changes nothing.
     fn acknowledge(&mut self) -> Result<(), Memory>
         ensures site { OnOk result (self.new ≡ with_site (take_ack self.old.site) self.old) }
         ensures kept { OnErr result (self.new ≡ self.old) }
@@ -415,20 +450,22 @@ impl Site {
         Ok(())
     }
 
-    /// Takes what the server sends next: entries of other sites, or the answer to what it sent. Nothing can
-    /// be redone then.
+    /// Takes the server's next message: entries of other sites, or the answer to its submission.
+    /// Nothing can be redone then.
     ///
-    /// Each entry of another site is performed over the pending entries, and these are joined over it. At the
-    /// first conflict that entry and all later ones are taken back first, the last one first, and dropped. It
-    /// is asked that these entries run one after the other from the ground, the list with the pending entries
-    /// taken back. An answer has no condition.
+    /// Each entry of another site is performed over the pending entries, and these are joined over
+    /// it. At the first conflict that entry and all later ones are taken back first, the last one
+    /// first, and dropped. These entries have to run one after the other from the confirmed list,
+    /// the list with the pending entries taken back. An answer has no condition.
     ///
-    /// Only memory can be short, which is also the answer where a joined transaction would be longer than a
-    /// transaction may be. An `Err` changes nothing.
+    /// The only `Err` is want of memory, which is also the answer where a joined transaction would
+    /// be longer than a transaction may be. It changes nothing.
     pub fn take<L: Ledger>(&mut self, feed: &Feed, steps: &mut Steps<L>) -> Result<Taken, Memory>
         requires may { MayTake (feed_of feed.now) self.old.site }
-        ensures site { OnOk result (self.new ≡ with_site (site_after (feed_of feed.now) self.old.site) self.old) }
-        ensures taken { IfOk result (λ taken. taken ≡ taken_as (feed_of feed.now) self.old.site self.new.site) }
+        ensures site { OnOk result (
+            self.new ≡ with_site (site_after (feed_of feed.now) self.old.site) self.old) }
+        ensures taken { IfOk result (λ taken.
+            taken ≡ taken_as (feed_of feed.now) self.old.site self.new.site) }
         ensures kept { OnErr result (self.new ≡ self.old) }
         ensures counted { steps.old ≤ steps.new }
         ensures steps { steps.new ≤ steps.old + steps_of_take (feed_of feed.now) self.old.site }

@@ -15,7 +15,7 @@ use Rattle.model_site_law.proofs.LawLemmas.{first_replica_opens, holds_at_first}
 use Rattle.ve_editor.specs.Page.{page_of}
 use Rattle.ve_server.specs.Serving.{Serving}
 use Rattle.ve_sites.specs.IsShared.{IsShared}
-use Rattle.ve_sites.specs.Senders.{Sender, begun, session_of, shared_of}
+use Rattle.ve_sites.specs.Senders.{Sender, first_senders, session_of, shared_of}
 use Rattle.ve_sites.specs.Shared.{Shared}
 use Rattle.ve_sites.proofs.MemberLemmas.{begun_count, begun_members, begun_next, begun_numbered}
 
@@ -27,7 +27,7 @@ module _ (values : List Value) (first : List Item) (count : ℕ) (filled : value
   served_yet = record { committed = []; queues = replicate count [] }
 
   abbrev pub all : List Sender
-  all = begun 0 count (starting base)
+  all = first_senders 0 count (starting base)
 
   opened : base ≡ opened_with (plain_list values first)
   opened = ap (λ vs. record { items = plain_list values first; store = vs; selection = between 0 0 }) filled
@@ -49,13 +49,13 @@ module _ (values : List Value) (first : List Item) (count : ℕ) (filled : value
 
 -- ---- one site after the other
 
-pub begun_more : (count : ℕ) (site : Site) (some more : List Sender) (one : Sender) → some ≡ begun 0 count site → more ≡ some ++ one ∷ [] →
-    one ≡ record { number = count; site = site; submissions = [] } → more ≡ begun 0 (count + 1) site
+pub begun_more : (count : ℕ) (site : Site) (some more : List Sender) (one : Sender) → some ≡ first_senders 0 count site → more ≡ some ++ one ∷ [] →
+    one ≡ record { number = count; site = site; submissions = [] } → more ≡ first_senders 0 (count + 1) site
 begun_more count site some more one e f is =
     let same : count + 1 ≡ suc count = omega arith in
     let number : count ≡ 0 + count = omega arith in
-    f ∙ (ap (λ ss. ss ++ one ∷ []) e ∙ (ap (λ x. begun 0 count site ++ x ∷ []) (is ∙ ap (λ n. record { number = n; site = site; submissions = [] }) number)
-    ∙ (sym (begun_next 0 count site) ∙ ap (λ n. begun 0 n site) (sym same))))
+    f ∙ (ap (λ ss. ss ++ one ∷ []) e ∙ (ap (λ x. first_senders 0 count site ++ x ∷ []) (is ∙ ap (λ n. record { number = n; site = site; submissions = [] }) number)
+    ∙ (sym (begun_next 0 count site) ∙ ap (λ n. first_senders 0 n site) (sym same))))
 
 pub steps_so_far : (n all most before now : ℕ) → n ≤ all → now ≤ before + n * most → now ≤ before + all * most
 steps_so_far n all most before now h spent = let step = mul-le-mul_right most h in omega (arith, step, spent)

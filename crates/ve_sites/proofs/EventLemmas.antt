@@ -8,7 +8,7 @@ use Rattle.model_site.specs.Refused.{edit_cause}
 use Rattle.model_site.specs.Replica.{Replica}
 use Rattle.model_site.specs.Session.{Member, Session, joining, serve_next, take_next}
 use Rattle.model_site.specs.Site.{Site, edit, edit_unless, redo, revoke_entry, send, undo, with_entry, with_selection}
-use Rattle.ve_site.specs.Settled.{settled}
+use Rattle.ve_site.specs.Settled.{with_new_entry}
 use Rattle.ve_site.proofs.SettleLemmas.{settled_is}
 use Rattle.ve_sites.specs.Laws.{EditHappens, RedoHappens, RevokeHappens, SelectHappens, SendHappens, ServeHappens, SettlingHappens, TakeHappens, UndoHappens}
 use Rattle.ve_sites.specs.Shared.{Shared, member_at, site_at, sites, with_site_at}

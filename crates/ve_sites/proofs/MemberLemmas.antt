@@ -1,13 +1,13 @@
--- Sites with their queues, place by place.
+-- Sites with their queues, position by position.
 use Rattle.std.proofs.Common.{◌≡◌, ◌<◌, ◌+◌, ℕ, zero, suc, List, [], ◌∷◌, ◌++◌, length, replicate, set, get_or, slice_get, Some, refl, sym, ap, ◌∙◌, arith}
 use Rattle.model_site.specs.Entries.{Parcel}
 use Rattle.model_site.specs.Session.{Member, SiteFeed, all_fed, feed_for, put_member}
 use Rattle.model_site.specs.Site.{Site}
 use Rattle.ve_server.specs.Serving.{all_queued}
 use Rattle.ve_sites.specs.IsShared.{AreNumbered}
-use Rattle.ve_sites.specs.Senders.{Sender, begun, member_of, members_of}
+use Rattle.ve_sites.specs.Senders.{Sender, first_senders, member_of, members_of}
 
--- ---- one place
+-- ---- one position
 
 pub members_count : (ss : List Sender) (qs : List (List SiteFeed)) → length qs ≡ length ss → length (members_of ss qs) ≡ length ss
 members_count [] qs e = refl
@@ -28,7 +28,7 @@ members_at (s ∷ ss) [] k m d e lt is = cc
 members_at (s ∷ ss) (q ∷ qs) zero m d e lt is = ap (λ x. member_of x q) (sym is)
 members_at (s ∷ ss) (q ∷ qs) (suc k) m d e lt is = members_at ss qs k m d (omega (arith, e)) (omega (arith, lt)) is
 
--- ---- one place written
+-- ---- one position written
 
 -- the site alone, and the site with its queue
 pub members_put : (ss : List Sender) (qs : List (List SiteFeed)) (k : ℕ) (t : Sender) → length qs ≡ length ss → k < length ss →
@@ -71,20 +71,20 @@ numbered_put from (s ∷ ss) (suc k) m t all is same = (all.0, numbered_put (suc
 
 -- ---- as they begin
 
-pub begun_members : (from count : ℕ) (site : Site) → members_of (begun from count site) (replicate count []) ≡ replicate count (record { site = site; submissions = []; feeds = [] })
+pub begun_members : (from count : ℕ) (site : Site) → members_of (first_senders from count site) (replicate count []) ≡ replicate count (record { site = site; submissions = []; feeds = [] })
 begun_members from zero site = refl
 begun_members from (suc count) site = ap (λ ms. record { site = site; submissions = []; feeds = [] } ∷ ms) (begun_members (suc from) count site)
 
-pub begun_numbered : (from count : ℕ) (site : Site) → AreNumbered from (begun from count site)
+pub begun_numbered : (from count : ℕ) (site : Site) → AreNumbered from (first_senders from count site)
 begun_numbered from zero site = tt
 begun_numbered from (suc count) site = (refl, begun_numbered (suc from) count site)
 
-pub begun_count : (from count : ℕ) (site : Site) → length (begun from count site) ≡ count
+pub begun_count : (from count : ℕ) (site : Site) → length (first_senders from count site) ≡ count
 begun_count from zero site = refl
 begun_count from (suc count) site = ap (λ n. suc n) (begun_count (suc from) count site)
 
-pub begun_next : (from count : ℕ) (site : Site) → begun from (suc count) site ≡ begun from count site ++ record { number = from + count; site = site; submissions = [] } ∷ []
+pub begun_next : (from count : ℕ) (site : Site) → first_senders from (suc count) site ≡ first_senders from count site ++ record { number = from + count; site = site; submissions = [] } ∷ []
 begun_next from zero site = ap (λ n. record { number = n; site = site; submissions = [] } ∷ []) (omega arith)
 begun_next from (suc count) site =
     ap (λ ss. record { number = from; site = site; submissions = [] } ∷ ss)
-    (begun_next (suc from) count site ∙ ap (λ n. begun (suc from) count site ++ record { number = n; site = site; submissions = [] } ∷ []) (omega arith))
+    (begun_next (suc from) count site ∙ ap (λ n. first_senders (suc from) count site ++ record { number = n; site = site; submissions = [] } ∷ []) (omega arith))

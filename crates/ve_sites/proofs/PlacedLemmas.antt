@@ -38,7 +38,7 @@ pub either_if : {A E : Type 0} (r : Result A E) (P : A → Type 0) (Q R : Type 0
 either_if (Ok x) P Q R h g f k = f x h
 either_if (Err e) P Q R h g f k = k g
 
--- ---- places
+-- ---- positions
 
 pub room : (now : Shared) (values : List Value) (first : List Item) (server : Serving) (senders : List Sender) (k : ℕ) → IsShared values first server senders →
     shared_of values first server senders ≡ now → k < sites now → k < length senders
@@ -145,7 +145,7 @@ module _ {now : Shared} {values : List Value} {first : List Item} {server : Serv
             ∙ ap (with_member_at k (record { site = site; submissions = (member_at now k).submissions ++ more; feeds = (member_at now k).feeds })) p.view);
       }
 
--- ---- two readings of one place
+-- ---- two readings of one position
 
 pub one_place : (ss : List Sender) (k : ℕ) (a b : Sender) → k < length ss → a ≡ get_or ss k a → b ≡ get_or ss k b → a ≡ b
 one_place [] k a b lt e f = absurd (omega (arith, lt))

@@ -1,4 +1,4 @@
--- What a session keeps, after each event of one site.
+-- The invariant of a session's fields, after each event of one site.
 use Rattle.std.proofs.Common.{◌≡◌, ◌<◌, ℕ, List, [], ◌∷◌, ◌++◌, length, set, get_or, slice_get, Option, Some, None, Result, Ok, Err, true, refl, sym, ap, ◌∙◌, subst, arith}
 use Rattle.std.proofs.lemmas.List.{length-set}
 use Rattle.ve_base.specs.declared.value.Value.{Value}
@@ -36,7 +36,7 @@ edit_entry t s next done = by_cause (edit_cause t s.replica) done
     by_cause (Some why) done = cc
     by_cause None done = cc
 
--- ---- the member at a place
+-- ---- the member at a position
 
 module _ (values : List Value) (first : List Item) (server : Serving) (senders : List Sender) (h : IsShared values first server senders) where
   abbrev old : Shared

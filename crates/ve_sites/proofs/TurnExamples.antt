@@ -13,7 +13,7 @@ use Rattle.model_site.specs.Session.{Ack, Foreign, Member, SiteFeed, joining}
 use Rattle.model_site.specs.Site.{Site, Submission, send, starting}
 use Rattle.ve_server.specs.Serving.{Serving}
 use Rattle.ve_sites.specs.IsShared.{AreNumbered}
-use Rattle.ve_sites.specs.Senders.{HasGone, Sender, at_site, begun, members_of, session_of, shared_of}
+use Rattle.ve_sites.specs.Senders.{HasGone, Sender, at_site, first_senders, members_of, session_of, shared_of}
 use Rattle.ve_sites.specs.Shared.{Shared, member_at, site_at, sites, with_member_at, with_site_at}
 use Rattle.ve_sites.specs.Turns.{HasSent, revoking, steps_of_turn}
 
@@ -79,10 +79,10 @@ numbers_are_places = (refl, (refl, tt))
 not_from_one : AreNumbered 1 senders → ⊥
 not_from_one h = let e = h.0 in cc
 
-two_begin : begun 3 2 unsent_b ≡ record { number = 3; site = unsent_b; submissions = [] } ∷ record { number = 4; site = unsent_b; submissions = [] } ∷ []
+two_begin : first_senders 3 2 unsent_b ≡ record { number = 3; site = unsent_b; submissions = [] } ∷ record { number = 4; site = unsent_b; submissions = [] } ∷ []
 two_begin = refl
 
--- ---- places
+-- ---- positions
 
 two_sites : sites shared ≡ 2
 two_sites = refl

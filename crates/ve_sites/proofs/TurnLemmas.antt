@@ -23,7 +23,7 @@ use Rattle.model_site_law.proofs.ReplayLemmas.{AllRun-parts, flattened-append}
 use Rattle.model_site_law.proofs.ServeLemmas.{event_holds}
 use Rattle.model_site_law.proofs.SessionLemmas.{every_get}
 use Rattle.ve_rebase.specs.Lists.{RunFromOneLength, RunOnLength}
-use Rattle.ve_server.specs.Serving.{Serving, answer_to, first_of, fed, served}
+use Rattle.ve_server.specs.Serving.{Serving, answer_to, first_of, first_feed, after_serving}
 use Rattle.ve_site.specs.Ground.{ground_of}
 use Rattle.ve_site.specs.Taking.{MayTake}
 use Rattle.ve_sites.specs.IsShared.{IsShared}
@@ -39,7 +39,8 @@ runs_on [] items run = tt
 runs_on (t ∷ ts) items run =
     ((parts_of_Applies t items run.0.applies).0, subst (λ n. RunOnLength n ts) (gives_new_length t items run.0.applies) (runs_on ts (edited t items) run.1))
 
--- The submission's base is committed, and its entries run from the list that those committed since run from.
+-- The submission's base is committed, and its entries run from the list that those committed since
+-- run from.
 pub record MayServe (committed : List Parcel) (s : Submission) : Type 0 where
   pub from : s.base ≤ length committed
   pub run : RunFromOneLength (flattened (drop s.base committed)) (flattened s.entries)
@@ -85,7 +86,7 @@ nothing_waits (x ∷ xs) next = cc
 
 -- ---- what a site is asked
 
--- with its pending entries taken back, the ground is what the committed ones that it has seen give
+-- with its pending entries taken back, the list is that of the committed ones that it has seen
 ground_is : (base : List PlainItem) (before : List Parcel) (s : Site) → Sound (ground base before) → Holds base before s → ground_of s ≡ ground base before
 ground_is base before s sound h =
     ap (replay (reversal (flattened (parcels (pending s))))) h.list ∙ (reversal_undoes (flattened (parcels (pending s))) (ground base before) sound.lawful sound.apart h.runs).back
@@ -140,13 +141,13 @@ module _ (values : List Value) (first : List Item) (server : Serving) (senders :
     turned : serve_next k one w ≡ Some (serve_one k one s left.submissions w)
     turned = ap (λ ss. serve_first k one ss w) (first_and_rest m.submissions s next)
 
-    served_session : session_of values first (served k s server) (set senders k left) ≡ (serve_one k one s left.submissions w).0
+    served_session : session_of values first (after_serving k s server) (set senders k left) ≡ (serve_one k one s left.submissions w).0
     served_session =
         let kept = (accepted_of server.committed s).kept in
         ap (λ ms. record { base = w.base; committed = server.committed ++ kept; members = ms })
         (members_fed k 0 kept (set senders k left) server.queues ∙ ap (all_fed k 0 kept) (members_put senders server.queues k left h.as_many inside))
 
-    pub serve_stays : IsShared values first (served k s server) (set senders k left)
+    pub serve_stays : IsShared values first (after_serving k s server) (set senders k left)
     serve_stays = record {
       as_many = queued_count k 0 (accepted_of server.committed s).kept server.queues ∙ (h.as_many ∙ sym (length-set senders k left));
       numbers = numbered_put 0 senders k m left h.numbers is refl;
@@ -157,9 +158,9 @@ module _ (values : List Value) (first : List Item) (server : Serving) (senders :
     }
 
     pub serve_answers : (answer : Served) → answer ≡ answer_to s server →
-        Some ((shared_of values first (served k s server) (set senders k left)).session, answer) ≡ serve_next k (member_at old k) old.session
+        Some ((shared_of values first (after_serving k s server) (set senders k left)).session, answer) ≡ serve_next k (member_at old k) old.session
     serve_answers answer e =
-        ap (λ a. Some (session_of values first (served k s server) (set senders k left), a)) e
+        ap (λ a. Some (session_of values first (after_serving k s server) (set senders k left), a)) e
         ∙ (ap (λ x. Some (x, answer_to s server)) served_session
         ∙ sym (ap (λ (n : Member). serve_next k n w) (member_is values first server senders h k m inside is) ∙ turned))
 
@@ -188,10 +189,10 @@ module _ (values : List Value) (first : List Item) (server : Serving) (senders :
     took : take_next k one w ≡ Some (with_member k after w, taken_as f m.site taken.site)
     took = ap (λ fs. take_first k one fs w) (queue_parts queue f next)
 
-    taken_session : session_of values first (fed k server).1 (set senders k taken) ≡ with_member k after w
+    taken_session : session_of values first (first_feed k server).1 (set senders k taken) ≡ with_member k after w
     taken_session = ap (λ ms. record w { members = ms }) (members_turn senders server.queues k taken (first_of queue).1 h.as_many inside)
 
-    pub take_stays : IsShared values first (fed k server).1 (set senders k taken)
+    pub take_stays : IsShared values first (first_feed k server).1 (set senders k taken)
     take_stays = record {
       as_many = length-set server.queues k (first_of queue).1 ∙ (h.as_many ∙ sym (length-set senders k taken));
       numbers = numbered_put 0 senders k m taken h.numbers is refl;
@@ -202,9 +203,9 @@ module _ (values : List Value) (first : List Item) (server : Serving) (senders :
     }
 
     pub take_answers : (told : Taken) → told ≡ taken_as f m.site taken.site →
-        Some ((shared_of values first (fed k server).1 (set senders k taken)).session, told) ≡ take_next k (member_at old k) old.session
+        Some ((shared_of values first (first_feed k server).1 (set senders k taken)).session, told) ≡ take_next k (member_at old k) old.session
     take_answers told e =
-        ap (λ a. Some (session_of values first (fed k server).1 (set senders k taken), a)) e
+        ap (λ a. Some (session_of values first (first_feed k server).1 (set senders k taken), a)) e
         ∙ (ap (λ x. Some (x, taken_as f m.site taken.site)) taken_session
         ∙ sym (ap (λ (n : Member). take_next k n w) (member_is values first server senders h k m inside is) ∙ took))
 
@@ -221,50 +222,50 @@ module _ (now : Shared) (values : List Value) (first : List Item) (server : Serv
   pub idle_server : slice_get m.submissions 0 ≡ None → None ≡ serve_next k (member_at now k) now.session
   idle_server next = subst (λ (s : Shared). None ≡ serve_next k (member_at s k) s.session) view (none_served values first server senders h k m inside is next)
 
-  module _ (s : Submission) (next : slice_get m.submissions 0 ≡ Some s) (later : Serving) (t : Sender) (does : later ≡ served number s server) (drops : t ≡ record m { submissions = drop 1 m.submissions }) where
-    serves : later ≡ served k s server
-    serves = does ∙ ap (λ n. served n s server) at_k
+  module _ (s : Submission) (next : slice_get m.submissions 0 ≡ Some s) (later : Serving) (t : Sender) (does : later ≡ after_serving number s server) (drops : t ≡ record m { submissions = drop 1 m.submissions }) where
+    serves : later ≡ after_serving k s server
+    serves = does ∙ ap (λ n. after_serving n s server) at_k
 
     pub served_stays : IsShared values first later (set senders k t)
     served_stays =
         subst (λ v. IsShared values first v (set senders k t)) (sym serves)
-        (subst (λ x. IsShared values first (served k s server) (set senders k x)) (sym drops) (serve_stays values first server senders h k m inside is s next))
+        (subst (λ x. IsShared values first (after_serving k s server) (set senders k x)) (sym drops) (serve_stays values first server senders h k m inside is s next))
 
     pub served_tells : (answer : Served) → answer ≡ answer_to s server →
         Some ((shared_of values first later (set senders k t)).session, answer) ≡ serve_next k (member_at now k) now.session
     served_tells answer e =
         ap (λ v. Some (session_of values first v (set senders k t), answer)) serves
-        ∙ (ap (λ x. Some (session_of values first (served k s server) (set senders k x), answer)) drops
-        ∙ subst (λ (x : Shared). Some (session_of values first (served k s server) (set senders k (record m { submissions = drop 1 m.submissions })), answer) ≡ serve_next k (member_at x k) x.session) view
+        ∙ (ap (λ x. Some (session_of values first (after_serving k s server) (set senders k x), answer)) drops
+        ∙ subst (λ (x : Shared). Some (session_of values first (after_serving k s server) (set senders k (record m { submissions = drop 1 m.submissions })), answer) ≡ serve_next k (member_at x k) x.session) view
         (serve_answers values first server senders h k m inside is s next answer e))
 
-  to_k : (o : Option SiteFeed) → o ≡ (fed number server).0 → (first_of (get_or server.queues k [])).0 ≡ o
-  to_k o next = sym (next ∙ ap (λ n. (fed n server).0) at_k)
+  to_k : (o : Option SiteFeed) → o ≡ (first_feed number server).0 → (first_of (get_or server.queues k [])).0 ≡ o
+  to_k o next = sym (next ∙ ap (λ n. (first_feed n server).0) at_k)
 
-  pub idle_site : None ≡ (fed number server).0 → None ≡ take_next k (member_at now k) now.session
+  pub idle_site : None ≡ (first_feed number server).0 → None ≡ take_next k (member_at now k) now.session
   idle_site next = subst (λ (s : Shared). None ≡ take_next k (member_at s k) s.session) view (none_taken values first server senders h k m inside is (to_k None next))
 
-  module _ (f : SiteFeed) (next : Some f ≡ (fed number server).0) where
+  module _ (f : SiteFeed) (next : Some f ≡ (first_feed number server).0) where
     pub may_take : MayTake f m.site
     may_take = take_may values first server senders h k m inside is f (to_k (Some f) next)
 
     pub next_taken : (member_at now k).feeds ≡ f ∷ (first_of (get_or server.queues k [])).1
     next_taken = subst (λ (s : Shared). (member_at s k).feeds ≡ f ∷ (first_of (get_or server.queues k [])).1) view (feeds_are values first server senders h k m inside is f (to_k (Some f) next))
 
-    module _ (later : Serving) (t : Sender) (does : later ≡ (fed number server).1) (takes : t ≡ at_site (site_after f m.site) m) where
-      feeds_k : later ≡ (fed k server).1
-      feeds_k = does ∙ ap (λ n. (fed n server).1) at_k
+    module _ (later : Serving) (t : Sender) (does : later ≡ (first_feed number server).1) (takes : t ≡ at_site (site_after f m.site) m) where
+      feeds_k : later ≡ (first_feed k server).1
+      feeds_k = does ∙ ap (λ n. (first_feed n server).1) at_k
 
       pub taken_stays : IsShared values first later (set senders k t)
       taken_stays =
           subst (λ v. IsShared values first v (set senders k t)) (sym feeds_k)
-          (subst (λ x. IsShared values first (fed k server).1 (set senders k x)) (sym takes) (take_stays values first server senders h k m inside is f (to_k (Some f) next)))
+          (subst (λ x. IsShared values first (first_feed k server).1 (set senders k x)) (sym takes) (take_stays values first server senders h k m inside is f (to_k (Some f) next)))
 
       pub taken_tells : (told : Taken) → told ≡ taken_as f m.site t.site →
           Some ((shared_of values first later (set senders k t)).session, told) ≡ take_next k (member_at now k) now.session
       taken_tells told e =
           let site : t.site ≡ site_after f m.site = ap (λ (x : Sender). x.site) takes in
           ap (λ v. Some (session_of values first v (set senders k t), told)) feeds_k
-          ∙ (ap (λ x. Some (session_of values first (fed k server).1 (set senders k x), told)) takes
-          ∙ subst (λ (x : Shared). Some (session_of values first (fed k server).1 (set senders k (at_site (site_after f m.site) m)), told) ≡ take_next k (member_at x k) x.session) view
+          ∙ (ap (λ x. Some (session_of values first (first_feed k server).1 (set senders k x), told)) takes
+          ∙ subst (λ (x : Shared). Some (session_of values first (first_feed k server).1 (set senders k (at_site (site_after f m.site) m)), told) ≡ take_next k (member_at x k) x.session) view
           (take_answers values first server senders h k m inside is f (to_k (Some f) next) told (e ∙ ap (taken_as f m.site) site)))

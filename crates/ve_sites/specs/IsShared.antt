@@ -1,4 +1,4 @@
--- What a session keeps of its fields.
+-- The invariant of a session's fields.
 use Rattle.std.specs.Prelude.{◌≡◌, ℕ, suc, List, [], ◌∷◌, All, length}
 use Rattle.ve_base.specs.declared.value.Value.{Value}
 use Rattle.model_items.specs.declared.item.Item.{Item}
@@ -12,8 +12,8 @@ abbrev pub AreNumbered : (from : ℕ) → List Sender → Type 0
 AreNumbered from [] = Unit {0}
 AreNumbered from (s ∷ senders) = (s.number ≡ from) × AreNumbered (suc from) senders
 
--- There are as many queues as sites, whose numbers are their places; the first list cites its values; and what always holds of a session
--- holds.
+-- There are as many queues as sites, whose numbers are their positions; the first list cites its
+-- values; and what always holds of a session holds.
 pub record IsShared (values : List Value) (first : List Item) (server : Serving) (senders : List Sender) : Type 0 where
   pub as_many : length server.queues ≡ length senders
   pub numbers : AreNumbered 0 senders

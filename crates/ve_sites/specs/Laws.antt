@@ -8,25 +8,25 @@ use Rattle.model_site.specs.Session.{Session, serve_next, take_next}
 use Rattle.model_site.specs.Site.{Site, edit, redo, revoke_entry, undo, with_selection}
 use Rattle.model_site.specs.declared.served.Served.{Served}
 use Rattle.model_site.specs.declared.taken.Taken.{Taken}
-use Rattle.ve_site.specs.Settled.{settled, Settles}
+use Rattle.ve_site.specs.Settled.{with_new_entry, Settles}
 use Rattle.ve_tx.specs.declared.entry.Entry.{Entry}
 use Rattle.ve_sites.specs.Shared.{Shared, member_at, site_at, sites, with_site_at}
 use Rattle.ve_sites.specs.Turns.{HasSent}
 
--- what a site makes of a transaction, and of several that were performed on a copy of its editor
+-- a site after a transaction, and after several that were performed on a copy of its editor
 abbrev pub EditHappens : Type 0
 EditHappens = (s : Shared) (k : ℕ) (t : Transaction) (site : Site) → k < sites s → edit t (site_at s k) ≡ Ok site →
     happens s.session (Perform k (t ∷ [])) ≡ (with_site_at k site s).session
 
 abbrev pub SettlingHappens : Type 0
 SettlingHappens = (s : Shared) (k : ℕ) (new : Replica) (e : Entry) → k < sites s → (by : Settles (site_at s k).replica new e) →
-    happens s.session (Perform k by.ts) ≡ (with_site_at k (settled new e (site_at s k)) s).session
+    happens s.session (Perform k by.ts) ≡ (with_site_at k (with_new_entry new e (site_at s k)) s).session
 
 abbrev pub SelectHappens : Type 0
 SelectHappens = (s : Shared) (k : ℕ) (selection : Selection) → k < sites s →
     happens s.session (Select k selection) ≡ (with_site_at k (with_selection selection (site_at s k)) s).session
 
--- what it takes back and performs again
+-- undo, redo and revoke
 abbrev pub UndoHappens : Type 0
 UndoHappens = (s : Shared) (k : ℕ) (site : Site) → k < sites s → undo (site_at s k) ≡ Ok site →
     happens s.session (Undo k) ≡ (with_site_at k site s).session
@@ -39,7 +39,7 @@ abbrev pub RevokeHappens : Type 0
 RevokeHappens = (s : Shared) (k i : ℕ) (site : Site) → k < sites s → revoke_entry s.session.committed i (site_at s k) ≡ Ok site →
     happens s.session (Revoke k i) ≡ (with_site_at k site s).session
 
--- what goes between it and the server
+-- messages between it and the server
 abbrev pub SendHappens : Type 0
 SendHappens = (old new : Shared) (k count : ℕ) → k < sites old → HasSent k count old new → happens old.session (Send k) ≡ new.session
 

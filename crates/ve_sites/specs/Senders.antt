@@ -1,4 +1,4 @@
--- What the fields of a session mean.
+-- The meaning of a session's fields.
 use Rattle.std.specs.Prelude.{◌≡◌, ℕ, zero, suc, List, [], ◌∷◌, ◌++◌, map, length, Ok}
 use Rattle.ve_base.specs.declared.value.Value.{Value}
 use Rattle.model_items.specs.declared.item.Item.{Item}
@@ -12,7 +12,8 @@ use Rattle.ve_server.specs.declared.feed.Submit.{Submit}
 use Rattle.ve_site.specs.Numbered.{Numbered}
 use Rattle.ve_sites.specs.Shared.{Shared}
 
--- a site under its number, and the submissions that it sent and the server has not served, the next one first
+-- a site under its number, and the submissions that it sent and the server has not served, the next
+-- one first
 pub record Sender : Type 0 where
   pub number : ℕ
   pub site : Site
@@ -26,9 +27,9 @@ abbrev pub IsFrom : (number : ℕ) → Submit → Type 0
 IsFrom number s = s.site ≡ number
 
 -- so many that begin, numbered from one on
-abbrev pub begun : (from count : ℕ) → Site → List Sender
-begun from zero site = []
-begun from (suc count) site = record { number = from; site = site; submissions = [] } ∷ begun (suc from) count site
+abbrev pub first_senders : (from count : ℕ) → Site → List Sender
+first_senders from zero site = []
+first_senders from (suc count) site = record { number = from; site = site; submissions = [] } ∷ first_senders (suc from) count site
 
 -- another site with the same number, and the same submissions
 abbrev pub at_site : Site → Sender → Sender

@@ -1,4 +1,4 @@
--- What the turns of a session do, and what they perform.
+-- Turns of a session, and the transactions that they perform.
 use Rattle.std.specs.Prelude.{◌≡◌, ℕ, List, [], ◌∷◌, ◌++◌, length, Result, Ok, Err}
 use Rattle.model_change.specs.Join.{RangeConflict}
 use Rattle.model_change.specs.Replay.{revoke}
@@ -9,7 +9,8 @@ use Rattle.model_site.specs.Site.{Site, Submission, entries_of, send}
 use Rattle.ve_site.specs.Taking.{steps_of_take}
 use Rattle.ve_sites.specs.Shared.{Shared, member_at, site_at, with_member_at}
 
--- The site at k sent so many entries, as one submission, which waits behind those that the server has not served. Nothing else changed.
+-- The site at k sent so many entries, as one submission, which waits behind those that the server
+-- has not served. Nothing else changed.
 pub record HasSent (k count : ℕ) (old new : Shared) : Type 0 where
   pub submission : Submission
   pub sent : send (site_at old k) ≡ Ok (site_at new k, submission)
@@ -35,6 +36,6 @@ abbrev pub back_of : Result (List Transaction) RangeConflict → List Transactio
 back_of (Err clash) = []
 back_of (Ok back) = back
 
--- what takes entry i of those that a site knows back; nothing, if that is in conflict
+-- the transactions that take entry i of those that a site knows back; none, if that is in conflict
 abbrev pub revoking : (committed : List Parcel) → ℕ → Site → List Transaction
 revoking committed i site = back_of (revoke (entries_of committed site) i)

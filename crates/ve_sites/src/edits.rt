@@ -1,4 +1,4 @@
-// What one site does by itself.
+// Turns of one site by itself.
 ghost use Rattle.std.specs.Prelude.{◌≡◌, ◌≤◌, ◌<◌, ◌+◌, ◌∷◌, [], Ok, List, drop, length, IfOk, IfErr, OnOk, OnErr};
 ghost use Rattle.model_change.specs.Replay.{revoke};
 ghost use Rattle.model_change.specs.Transaction.{InsertedApart};
@@ -11,7 +11,7 @@ ghost use Rattle.ve_editor.specs.Refusal.{IsEditRefusal};
 ghost use Rattle.ve_peer_undo.specs.Refusal.{IsRevokeRefusal};
 ghost use Rattle.ve_site.specs.Counted.{redoing, undoing};
 ghost use Rattle.ve_site.specs.Refusal.{IsRedoRefusal, IsUndoRefusal};
-ghost use Rattle.ve_site.specs.Settled.{settled, Settles};
+ghost use Rattle.ve_site.specs.Settled.{with_new_entry, Settles};
 ghost use Rattle.ve_sites.specs.Shared.{site_at, sites, with_site_at};
 ghost use Rattle.ve_sites.specs.Turns.{revoking};
 
@@ -27,7 +27,8 @@ use ve_server::Parcels;
 use ve_site::Site;
 use ve_tx::{Draft, Entry, ParcelList};
 
-/// The entries that a site knows from one on: the committed ones that it has seen, and then its pending ones.
+/// The entries that a site knows from one on: the committed ones that it has seen, and then its
+/// pending ones.
 fn known_from(alloc: Global, committed: &Parcels, i: usize, site: &Site) -> Result<Parcels, Memory>
     requires from { i ≤ site.now.site.seen }
     requires seen { site.now.site.seen ≤ length committed.now }
@@ -40,7 +41,7 @@ fn known_from(alloc: Global, committed: &Parcels, i: usize, site: &Site) -> Resu
 }
 
 impl Sites {
-    /// Performs a draft at the site at a place, as a new entry. It is refused as `Editor::perform` refuses,
+    /// Performs a draft at site `k`, as a new entry. It is refused as `Editor::perform` refuses,
     /// and an `Err` changes nothing.
     pub fn edit<L: Ledger>(
         &mut self,
@@ -51,31 +52,42 @@ impl Sites {
         requires site { k < sites self.old }
         requires draft { IsDraftOf (site_at self.old k).replica.store draft.now }
         requires apart { InsertedApart (drafted (site_at self.old k).replica.store draft.now) }
-        ensures site { OnOk result (edit (drafted (site_at self.old k).replica.store draft.now) (site_at self.old k) ≡ Ok (site_at self.new k)) }
+        ensures site { OnOk result (
+            edit (drafted (site_at self.old k).replica.store draft.now) (site_at self.old k)
+            ≡ Ok (site_at self.new k)) }
         ensures same { OnOk result (self.new ≡ with_site_at k (site_at self.new k) self.old) }
-        ensures refused { IfErr result (IsEditRefusal (edit_cause (drafted (site_at self.old k).replica.store draft.now) (site_at self.old k).replica)) }
+        ensures refused { IfErr result (
+            IsEditRefusal (
+            edit_cause (drafted (site_at self.old k).replica.store draft.now)
+            (site_at self.old k).replica)) }
         ensures kept { OnErr result (self.new ≡ self.old) }
         ensures counted { steps.old ≤ steps.new }
-        ensures steps { steps.new ≤ steps.old + steps_after (drafted (site_at self.old k).replica.store draft.now ∷ []) (site_at self.old k).replica.items }
+        ensures steps { steps.new
+            ≤ steps.old
+            + steps_after (drafted (site_at self.old k).replica.store draft.now ∷ [])
+            (site_at self.old k).replica.items }
     {
         // its type keeps that it is in normal form, which `ops` tells
         let _ops = draft.tx.ops();
         self.members[k].edit(draft, steps)
     }
 
-    /// Takes a changed copy of the editor of the site at a place, and the entry that the changes are: edits
-    /// that were performed one after the other and are one, as a batch is. An `Err` changes nothing.
+    /// Takes a changed copy of the editor of site `k`, and the entry of the changes. They are edits
+    /// that were performed one after the other and are one, as a batch is. An `Err` changes
+    /// nothing.
     pub fn settle(&mut self, k: usize, editor: Editor, entry: Entry) -> Result<(), Memory>
         requires site { k < sites self.old }
         requires settles { Settles (site_at self.old k).replica editor entry }
-        ensures site { OnOk result (self.new ≡ with_site_at k (settled editor entry (site_at self.old k)) self.old) }
+        ensures site { OnOk result (
+            self.new
+            ≡ with_site_at k (with_new_entry editor entry (site_at self.old k)) self.old) }
         ensures kept { OnErr result (self.new ≡ self.old) }
     {
         self.members[k].settle(editor, entry)
     }
 
-    /// Takes back the last entry that the site at a place has not sent. It is refused as `Site::undo`
-    /// refuses, and an `Err` changes nothing.
+    /// Takes back the last entry that site `k` has not sent. It is refused as `Site::undo` refuses,
+    /// and an `Err` changes nothing.
     pub fn undo<L: Ledger>(&mut self, k: usize, steps: &mut Steps<L>) -> Result<(), UndoFault>
         requires site { k < sites self.old }
         ensures site { OnOk result (undo (site_at self.old k) ≡ Ok (site_at self.new k)) }
@@ -83,13 +95,16 @@ impl Sites {
         ensures refused { IfErr result (IsUndoRefusal (undo (site_at self.old k))) }
         ensures kept { OnErr result (self.new ≡ self.old) }
         ensures counted { steps.old ≤ steps.new }
-        ensures steps { steps.new ≤ steps.old + steps_over (undoing (site_at self.old k).unsent) (site_at self.old k).replica.items }
+        ensures steps { steps.new
+            ≤ steps.old
+            + steps_over (undoing (site_at self.old k).unsent)
+            (site_at self.old k).replica.items }
     {
         self.members[k].undo(steps)
     }
 
-    /// Performs again what the site at a place undid last, as a new entry. It is refused as `Site::redo`
-    /// refuses, and an `Err` changes nothing.
+    /// Performs again the last entry that site `k` undid, as a new entry. It is refused as
+    /// `Site::redo` refuses, and an `Err` changes nothing.
     pub fn redo<L: Ledger>(&mut self, k: usize, steps: &mut Steps<L>) -> Result<(), RedoFault>
         requires site { k < sites self.old }
         ensures site { OnOk result (redo (site_at self.old k) ≡ Ok (site_at self.new k)) }
@@ -97,23 +112,27 @@ impl Sites {
         ensures refused { IfErr result (IsRedoRefusal (redo (site_at self.old k))) }
         ensures kept { OnErr result (self.new ≡ self.old) }
         ensures counted { steps.old ≤ steps.new }
-        ensures steps { steps.new ≤ steps.old + steps_over (redoing (site_at self.old k).undone) (site_at self.old k).replica.items }
+        ensures steps { steps.new
+            ≤ steps.old
+            + steps_over (redoing (site_at self.old k).undone)
+            (site_at self.old k).replica.items }
     {
         self.members[k].redo(steps)
     }
 
-    /// Selects something else at the site at a place.
+    /// Selects something else at site `k`.
     pub fn select(&mut self, k: usize, selection: Selection)
         requires site { k < sites self.old }
         requires stands { StandsIn (site_at self.old k).replica.items selection }
-        ensures { self.new ≡ with_site_at k (with_selection selection (site_at self.old k)) self.old }
+        ensures { self.new
+            ≡ with_site_at k (with_selection selection (site_at self.old k)) self.old }
     {
         self.members[k].select(selection);
     }
 
-    /// Takes back, at the site at a place, the committed entry `i` under all later entries that the site
-    /// knows, as a new entry of its own. `Conflict` comes exactly where a later one conflicts with what takes
-    /// it back, and names the first two ranges that do. An `Err` changes nothing.
+    /// Takes back, at site `k`, the committed entry `i` under all later entries that the site
+    /// knows, as a new entry of its own. `Conflict` comes exactly where a later one conflicts with
+    /// the reversal, and names the first two ranges that do. An `Err` changes nothing.
     pub fn revoke<L: Ledger>(
         &mut self,
         k: usize,
@@ -122,12 +141,19 @@ impl Sites {
     ) -> Result<(), RevokeFault>
         requires site { k < sites self.old }
         requires seen { i < (site_at self.old k).seen }
-        ensures site { OnOk result (revoke_entry self.old.session.committed i (site_at self.old k) ≡ Ok (site_at self.new k)) }
+        ensures site { OnOk result (
+            revoke_entry self.old.session.committed i (site_at self.old k)
+            ≡ Ok (site_at self.new k)) }
         ensures same { OnOk result (self.new ≡ with_site_at k (site_at self.new k) self.old) }
-        ensures refused { IfErr result (IsRevokeRefusal (revoke (entries_of self.old.session.committed (site_at self.old k)) i)) }
+        ensures refused { IfErr result (
+            IsRevokeRefusal (
+            revoke (entries_of self.old.session.committed (site_at self.old k)) i)) }
         ensures kept { OnErr result (self.new ≡ self.old) }
         ensures counted { steps.old ≤ steps.new }
-        ensures steps { steps.new ≤ steps.old + steps_over (revoking self.old.session.committed i (site_at self.old k)) (site_at self.old k).replica.items }
+        ensures steps { steps.new
+            ≤ steps.old
+            + steps_over (revoking self.old.session.committed i (site_at self.old k))
+            (site_at self.old k).replica.items }
     {
         // entries that run meet what `reversal` asks, and those before `i` don't matter
         entries_are_taken_back();

@@ -1,8 +1,9 @@
-// Laws: each is the contract of a function that does nothing.
+// Laws of a session's turns: each is the contract of a function that does nothing.
 ghost use Rattle.ve_sites.specs.Laws.{EditHappens, RedoHappens, RevokeHappens, SelectHappens, SendHappens, ServeHappens, SettlingHappens, TakeHappens, UndoHappens};
 
-/// What a call of `Sites` promises is what the model's event of its name leaves: of an edit, and of a
-/// changed copy that takes the place of a site's editor, the event that performs these transactions.
+/// The promise of each call of `Sites` is the model's event of its name. Of an edit, and of a
+/// changed copy that takes the place of a site's editor, it is the event that performs these
+/// transactions.
 pub fn turns_are_events()
     ensures edit { EditHappens }
     ensures settle { SettlingHappens }

@@ -1,11 +1,12 @@
-//! The sites of a page: a page under edit by several sites, with their queues and one server, in one process. It is
-//! model_site's session, and each call is one turn of it.
+//! The sites of a page: a page under edit by several sites, with their queues and one server, in
+//! one process. It is model_site's session, and each call is one turn of it.
 //!
-//! `Sites` is seen as the model's session, beside the list that it was opened with (`Shared` in specs/). `edit`, `settle`,
-//! `select`, `undo`, `redo` and `revoke` change the site at a place and nothing else; `send` puts a submission behind those that
-//! wait, `serve` is the server's turn and `take` a site's (`Turns`). Each makes of the session what the model's event of its name
-//! does: that is a law, `turns_are_events` (`Laws`). The type keeps what always holds of a session (`IsShared`), whose fields
-//! `Senders` reads: so no call asks more than what the site is asked, and that there is such a site.
+//! The view of `Sites` is the model's session, beside the list that it was opened with (`Shared` in
+//! specs/). `edit`, `settle`, `select`, `undo`, `redo` and `revoke` change one site and nothing
+//! else. `send` puts a submission behind those that wait; `serve` is the server's turn and `take` a
+//! site's (`Turns`). Each makes of the session what the model's event of its name does: that is a
+//! law, `turns_are_events` (`Laws`). The type keeps the invariant of a session (`IsShared`), whose
+//! fields `Senders` reads. So each call asks only for such a site, and for what that site asks.
 //!
 //! It knows no page text and no script.
 #![tactic(auto)]

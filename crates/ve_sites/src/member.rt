@@ -12,7 +12,7 @@ ghost use Rattle.ve_editor.specs.Refusal.{IsEditRefusal};
 ghost use Rattle.ve_server.specs.Fed.{feed_of, submission_of};
 ghost use Rattle.ve_site.specs.Counted.{redoing, undoing};
 ghost use Rattle.ve_site.specs.Refusal.{IsRedoRefusal, IsSendRefusal, IsUndoRefusal};
-ghost use Rattle.ve_site.specs.Settled.{settled, Settles};
+ghost use Rattle.ve_site.specs.Settled.{with_new_entry, Settles};
 ghost use Rattle.ve_site.specs.Taking.{MayTake, steps_of_take};
 ghost use Rattle.ve_sites.specs.Senders.{at_site, HasGone};
 ghost use Rattle.ve_tx.specs.ByValue.{parcel_by_value, ParcelCites};
@@ -77,12 +77,20 @@ impl Member {
     pub fn edit<L: Ledger>(&mut self, draft: &Draft, steps: &mut Steps<L>) -> Result<(), EditFault>
         requires draft { IsDraftOf self.old.site.replica.store draft.now }
         requires apart { InsertedApart (drafted self.old.site.replica.store draft.now) }
-        ensures site { OnOk result (edit (drafted self.old.site.replica.store draft.now) self.old.site ≡ Ok self.new.site) }
+        ensures site { OnOk result (
+            edit (drafted self.old.site.replica.store draft.now) self.old.site
+            ≡ Ok self.new.site) }
         ensures same { self.new ≡ at_site self.new.site self.old }
-        ensures refused { IfErr result (IsEditRefusal (edit_cause (drafted self.old.site.replica.store draft.now) self.old.site.replica)) }
+        ensures refused { IfErr result (
+            IsEditRefusal (
+            edit_cause (drafted self.old.site.replica.store draft.now)
+            self.old.site.replica)) }
         ensures kept { OnErr result (self.new ≡ self.old) }
         ensures counted { steps.old ≤ steps.new }
-        ensures steps { steps.new ≤ steps.old + steps_after (drafted self.old.site.replica.store draft.now ∷ []) self.old.site.replica.items }
+        ensures steps { steps.new
+            ≤ steps.old
+            + steps_after (drafted self.old.site.replica.store draft.now ∷ [])
+            self.old.site.replica.items }
     {
         self.site.edit(draft, steps)
     }
@@ -90,7 +98,8 @@ impl Member {
     /// As `Site::settle`.
     pub fn settle(&mut self, editor: Editor, entry: Entry) -> Result<(), Memory>
         requires settles { Settles self.old.site.replica editor entry }
-        ensures site { OnOk result (self.new ≡ at_site (settled editor entry self.old.site) self.old) }
+        ensures site { OnOk result (
+            self.new ≡ at_site (with_new_entry editor entry self.old.site) self.old) }
         ensures kept { OnErr result (self.new ≡ self.old) }
     {
         self.site.settle(editor, entry)
@@ -103,7 +112,8 @@ impl Member {
         ensures refused { IfErr result (IsUndoRefusal (undo self.old.site)) }
         ensures kept { OnErr result (self.new ≡ self.old) }
         ensures counted { steps.old ≤ steps.new }
-        ensures steps { steps.new ≤ steps.old + steps_over (undoing self.old.site.unsent) self.old.site.replica.items }
+        ensures steps { steps.new
+            ≤ steps.old + steps_over (undoing self.old.site.unsent) self.old.site.replica.items }
     {
         self.site.undo(steps)
     }
@@ -115,7 +125,8 @@ impl Member {
         ensures refused { IfErr result (IsRedoRefusal (redo self.old.site)) }
         ensures kept { OnErr result (self.new ≡ self.old) }
         ensures counted { steps.old ≤ steps.new }
-        ensures steps { steps.new ≤ steps.old + steps_over (redoing self.old.site.undone) self.old.site.replica.items }
+        ensures steps { steps.new
+            ≤ steps.old + steps_over (redoing self.old.site.undone) self.old.site.replica.items }
     {
         self.site.redo(steps)
     }
@@ -124,10 +135,12 @@ impl Member {
     pub fn adopt<L: Ledger>(&mut self, back: &Parcel, steps: &mut Steps<L>) -> Result<(), Memory>
         requires cites { ParcelCites back.now }
         requires run { AllRun (parcel_by_value back.now) self.old.site.replica.items }
-        ensures site { OnOk result (self.new ≡ at_site (with_entry (parcel_by_value back.now) self.old.site) self.old) }
+        ensures site { OnOk result (
+            self.new ≡ at_site (with_entry (parcel_by_value back.now) self.old.site) self.old) }
         ensures kept { OnErr result (self.new ≡ self.old) }
         ensures counted { steps.old ≤ steps.new }
-        ensures steps { steps.new ≤ steps.old + steps_over (parcel_by_value back.now) self.old.site.replica.items }
+        ensures steps { steps.new
+            ≤ steps.old + steps_over (parcel_by_value back.now) self.old.site.replica.items }
     {
         self.site.adopt(back, steps)
     }
@@ -140,8 +153,8 @@ impl Member {
         self.site.select(selection);
     }
 
-    /// Has the site send, and keeps what it sent behind what waits. It gives how many entries these are. An
-    /// `Err` changes nothing.
+    /// Has the site send, and keeps what it sent behind what waits. It gives how many entries these
+    /// are. An `Err` changes nothing.
     pub fn send(&mut self) -> Result<usize, SendFault>
         ensures sent { IfOk result (λ count. HasGone count self.old self.new) }
         ensures refused { IfErr result (IsSendRefusal (send self.old.site)) }
@@ -159,7 +172,8 @@ impl Member {
 
     /// Lends the next submission, if there is one.
     pub fn next(&self) -> Option<&Submit>
-        ensures next { option_map submission_of (option_copied result) ≡ slice_get self.now.submissions 0 }
+        ensures next { option_map submission_of (option_copied result)
+            ≡ slice_get self.now.submissions 0 }
         ensures from { IfSome result (λ s. s.now.site ≡ self.now.number) }
     {
         self.submissions.front()
@@ -175,8 +189,10 @@ impl Member {
     /// As `Site::take`.
     pub fn take<L: Ledger>(&mut self, feed: &Feed, steps: &mut Steps<L>) -> Result<Taken, Memory>
         requires may { MayTake (feed_of feed.now) self.old.site }
-        ensures site { OnOk result (self.new ≡ at_site (site_after (feed_of feed.now) self.old.site) self.old) }
-        ensures taken { IfOk result (λ taken. taken ≡ taken_as (feed_of feed.now) self.old.site self.new.site) }
+        ensures site { OnOk result (
+            self.new ≡ at_site (site_after (feed_of feed.now) self.old.site) self.old) }
+        ensures taken { IfOk result (λ taken.
+            taken ≡ taken_as (feed_of feed.now) self.old.site self.new.site) }
         ensures kept { OnErr result (self.new ≡ self.old) }
         ensures counted { steps.old ≤ steps.new }
         ensures steps { steps.new ≤ steps.old + steps_of_take (feed_of feed.now) self.old.site }

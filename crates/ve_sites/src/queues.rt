@@ -1,4 +1,4 @@
-// What goes between the sites and the server.
+// Messages between the sites and the server.
 ghost use Rattle.std.specs.Prelude.{◌≡◌, ◌≤◌, ◌<◌, ◌+◌, None, option_map, IfOk, IfErr, OnErr};
 ghost use Rattle.model_site.specs.Session.{serve_next, take_next};
 ghost use Rattle.model_site.specs.Site.{send};
@@ -12,7 +12,7 @@ use std::sync::ledger::Ledger;
 use ve_base::{Memory, Steps};
 
 impl Sites {
-    /// Sends all entries that the site at a place has not sent, as one submission, and gives how many they
+    /// Sends all entries that site `k` has not sent, as one submission, and gives how many they
     /// are. It is refused as `Site::send` refuses, and an `Err` changes nothing.
     pub fn send(&mut self, k: usize) -> Result<usize, SendFault>
         requires site { k < sites self.old }
@@ -23,14 +23,16 @@ impl Sites {
         self.members[k].send()
     }
 
-    /// The server's turn at the next submission of the site at a place, if there is one: what is accepted of
-    /// it is committed, and each site is fed. The answer says how many entries were accepted of how many, and
-    /// which ranges are in conflict.
+    /// The server's turn at the next submission of site `k`, if there is one: the accepted entries
+    /// are committed, and each site is fed. The answer says how many entries were accepted of how
+    /// many, and which ranges are in conflict.
     ///
-    /// Only memory can be short, and then nothing changes.
+    /// The only `Err` is want of memory, and it changes nothing.
     pub fn serve(&mut self, k: usize) -> Result<Option<Served>, Memory>
         requires site { k < sites self.old }
-        ensures served { IfOk result (λ served. option_map (λ answer. (self.new.session, answer)) served ≡ serve_next k (member_at self.old k) self.old.session) }
+        ensures served { IfOk result (λ served.
+            option_map (λ answer. (self.new.session, answer)) served
+            ≡ serve_next k (member_at self.old k) self.old.session) }
         ensures idle { IfOk result (λ served. served ≡ None → self.new ≡ self.old) }
         ensures first { self.new.first ≡ self.old.first }
         ensures kept { OnErr result (self.new ≡ self.old) }
@@ -43,17 +45,19 @@ impl Sites {
         Ok(Some(served))
     }
 
-    /// The turn of the site at a place: it takes the next feed that the server has for it, if there is one.
+    /// The turn of site `k`: it takes the next feed that the server has for it, if there is one.
     ///
-    /// Only memory can be short, which is also the answer where a joined transaction would be longer than a
-    /// transaction may be. Then nothing changes.
+    /// The only `Err` is want of memory, which is also the answer where a joined transaction would
+    /// be longer than a transaction may be. Then nothing changes.
     pub fn take<L: Ledger>(
         &mut self,
         k: usize,
         steps: &mut Steps<L>,
     ) -> Result<Option<Taken>, Memory>
         requires site { k < sites self.old }
-        ensures taken { IfOk result (λ taken. option_map (λ told. (self.new.session, told)) taken ≡ take_next k (member_at self.old k) self.old.session) }
+        ensures taken { IfOk result (λ taken.
+            option_map (λ told. (self.new.session, told)) taken
+            ≡ take_next k (member_at self.old k) self.old.session) }
         ensures idle { IfOk result (λ taken. taken ≡ None → self.new ≡ self.old) }
         ensures first { self.new.first ≡ self.old.first }
         ensures kept { OnErr result (self.new ≡ self.old) }

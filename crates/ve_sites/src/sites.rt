@@ -8,7 +8,7 @@ ghost use Rattle.model_site.specs.Site.{starting};
 ghost use Rattle.model_site_law.specs.Sound.{Sound};
 ghost use Rattle.ve_editor.specs.Page.{page_of};
 ghost use Rattle.ve_tree.specs.TreeOf.{most_steps};
-ghost use Rattle.ve_sites.specs.Senders.{begun};
+ghost use Rattle.ve_sites.specs.Senders.{first_senders};
 ghost use Rattle.ve_sites.specs.Shared.{site_at, sites as sites_of};
 
 use crate::member::Member;
@@ -22,8 +22,9 @@ use ve_server::Server;
 use ve_site::Site;
 use ve_store::Store;
 
-/// A page under edit by several sites, each with its queues to and from one server. It is seen as the
-/// model's session beside the list that it was opened with. Sites are named by their numbers, from 0.
+/// A page under edit by several sites, each with its queues to and from one server. The view is the
+/// model's session beside the list that it was opened with. Sites are named by their numbers, from
+/// 0.
 #[derive(Drop)]
 pub struct Sites {
     // the list as it was opened, and the values that it cites
@@ -55,7 +56,12 @@ fn begin<L: Ledger>(
 ) -> Result<Member, Memory>
     requires sound { Sound (plain_list values.now list.now.items) }
     requires cites { All (CitesWell values.now) list.now.items }
-    ensures ok { IfOk result (λ member. member ≡ record { number = number; site = starting (page_of values.now list.now.items (between 0 0)); submissions = [] }) }
+    ensures ok { IfOk result (λ member.
+        member ≡ record {
+          number = number;
+          site = starting (page_of values.now list.now.items (between 0 0));
+          submissions = [];
+        }) }
     ensures counted { steps.old ≤ steps.new }
     ensures steps { steps.new ≤ steps.old + most_steps (plain_list values.now list.now.items) }
 {
@@ -75,9 +81,12 @@ fn all_begun<L: Ledger>(
 ) -> Result<Vec<Member>, Memory>
     requires sound { Sound (plain_list values.now list.now.items) }
     requires cites { All (CitesWell values.now) list.now.items }
-    ensures ok { IfOk result (λ members. members.items ≡ begun 0 sites (starting (page_of values.now list.now.items (between 0 0)))) }
+    ensures ok { IfOk result (λ members.
+        members.items
+        ≡ first_senders 0 sites (starting (page_of values.now list.now.items (between 0 0)))) }
     ensures counted { steps.old ≤ steps.new }
-    ensures steps { steps.new ≤ steps.old + sites * most_steps (plain_list values.now list.now.items) }
+    ensures steps { steps.new
+        ≤ steps.old + sites * most_steps (plain_list values.now list.now.items) }
 {
     let mut members = Vec::new(alloc);
     for number in 0..sites {
@@ -88,8 +97,8 @@ fn all_begun<L: Ledger>(
 }
 
 impl Sites {
-    /// A session of so many sites, each of which has the page as it was opened. Each site's tree is built, in
-    /// as many steps as `Editor::new` may take.
+    /// A session of so many sites, each of which has the page as it was opened. Each site's tree is
+    /// built, in as many steps as `Editor::new` may take.
     pub fn new<L: Ledger>(
         alloc: Global,
         list: Linear,
@@ -100,7 +109,11 @@ impl Sites {
         requires sound { Sound (plain_list values list.items) }
         requires cites { All (CitesWell values) list.items }
         requires filled { values ≡ (opened_with (plain_list values list.items)).store }
-        ensures ok { IfOk result (λ s. s ≡ record { first = list.items; session = started (opened_with (plain_list values list.items)) sites }) }
+        ensures ok { IfOk result (λ s.
+            s ≡ record {
+              first = list.items;
+              session = started (opened_with (plain_list values list.items)) sites;
+            }) }
         ensures counted { steps.old ≤ steps.new }
         ensures steps { steps.new ≤ steps.old + sites * most_steps (plain_list values list.items) }
     {
@@ -125,12 +138,13 @@ impl Sites {
     pub fn first(&self) -> &Linear
         ensures same { result.now.items ≡ self.now.first }
         ensures cites { All (CitesWell self.now.session.base.store) self.now.first }
-        ensures items { plain_list self.now.session.base.store self.now.first ≡ self.now.session.base.items }
+        ensures items { plain_list self.now.session.base.store self.now.first
+            ≡ self.now.session.base.items }
     {
         &self.first
     }
 
-    /// Lends the site at a place.
+    /// Lends site `k`.
     pub fn site(&self, k: usize) -> &Site
         requires site { k < sites_of self.now }
         ensures { result.now.site ≡ site_at self.now k }

@@ -103,7 +103,7 @@ get_after (y ∷ xs) ys at zero x e h = absurd (let none : ⊥ = omega (arith, e
 get_after (y ∷ xs) ys at (suc many) x e h =
     ap (λ n. slice_get (y ∷ (xs ++ ys)) n) (let f : suc many + at ≡ suc (many + at) = omega arith in f) ∙ get_after xs ys at many x (omega (arith, e)) h
 
--- a place in the list, or at its end
+-- a position in the list, or at its end
 pub place_within : (values : List Value) (v : Value) → position_or_len (value_same v) values ≤ length values
 place_within values v = prefix_len-le-length (λ x. not (value_same v x)) values
 
@@ -121,7 +121,7 @@ admitted_next values n v distinct within at =
           let none : ⊥ = omega arith in
           none
 
--- the first place in two lists, where the value is in the one before, and where it isn't
+-- the first position in two lists, where the value is in the one before, and where it isn't
 pub first_before : (values more : List Value) (v : Value) → holds values v ≡ true → position_or_len (value_same v) values ≡ position_or_len (value_same v) (values ++ more)
 first_before [] more v h = absurd (true≢false (sym h))
 first_before (x ∷ xs) more v h = go (value_same v x) (λ later. first_before xs more v later) h where

@@ -30,15 +30,15 @@ marks_at values marks = marks_in (value_at values marks)
 abbrev pub marks_cited : List Value → Following → Option ValueId → List Mark
 marks_cited store new marks = marks_at (together store new) marks
 
--- what is cited, if anything is, is the first place where the value stands, or else the end
+-- the cited number, if there is one, is the first position where the value stands, or else the end
 abbrev pub IsFirstPlace : List Value → Value → Option ValueId → Type 0
 IsFirstPlace values v id = IfSome id (λ place. place.0 ≡ position_or_len (value_same v) values)
 
--- the first place of an item's marks with one more, where that is new among them
+-- the first position of an item's marks with one more, where that is new among them
 abbrev pub IsPlaceMarked : List Value → Option ValueId → Mark → Option ValueId → Type 0
 IsPlaceMarked values marks mark id =
     list_any (mark_same mark) (marks_at values marks) ≡ false → IsFirstPlace values (value.Marks (marks_at values marks ++ mark ∷ [])) id
 
--- the first place of an item's marks without one
+-- the first position of an item's marks without one
 abbrev pub IsPlaceUnmarked : List Value → Option ValueId → Mark → Option ValueId → Type 0
 IsPlaceUnmarked values marks mark id = IsFirstPlace values (value.Marks (without_mark mark (marks_at values marks))) id

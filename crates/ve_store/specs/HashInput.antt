@@ -1,4 +1,4 @@
--- What the hash of a value is taken of: a list of writes.
+-- The input of a value's hash: a list of writes.
 use Rattle.std.specs.Prelude.{ℕ, List, [], ◌++◌, Option, Some, None}
 use Rattle.std.specs.List.{flat_map}
 use Rattle.std.specs.Str.{encode_utf8_all}

@@ -6,7 +6,7 @@ use std::hash::{Hash, Hasher};
 use std::marker::Model;
 use ve_base::{Attr, Head, Key, Mark, RefKey, Same, Text, Value};
 
-/// A value that is looked up by its hash. Equal are equal values alone.
+/// A value that is looked up by its hash. Two are equal exactly where their values are.
 #[derive(Drop)]
 pub(crate) struct Hashed {
     pub(crate) value: Value,

@@ -1,12 +1,16 @@
-//! The distinct values that items cite by their places, looked up by their hash. It knows values, and no items and no
-//! lists of items.
+//! The distinct values that items cite by their positions, looked up by their hash. It knows
+//! values, and no items and no lists of items.
 //!
-//! - `Store` is the list of its values. `admit` and `intern` give a value's place, the first one where an equal value
-//!   stands, and append it where it is new; `intern` takes none past `max_values`.
-//! - `NewValues` are to follow a store of a given length (specs/Following.antt), so that an edit can cite values before
-//!   the store takes them. `id_of` gives the first place in both together.
-//! - `with_mark` and `without_mark` cite an item's marks with one more, or without one (specs/Marked.antt).
-//! - specs/HashInput.antt is what a value is hashed by, and specs/Laws.antt shows that equal values have one hash.
+//! - `Store` is the list of its values. `admit` and `intern` give a value's position, the first one
+//!   where an equal value stands, and append it where it is new; `intern` takes none past
+//!   `max_values`.
+//! - `NewValues` are to follow a store of a given length (specs/Following.antt), so that an edit
+//!   can cite values before the store takes them. `id_of` gives the first position in both
+//!   together.
+//! - `with_mark` and `without_mark` cite an item's marks with one more, or without one
+//!   (specs/Marked.antt).
+//! - specs/HashInput.antt is what a value is hashed by, and specs/Laws.antt shows that equal values
+//!   have one hash.
 //!
 //! That a value is found without a walk over the store is how it is written, and no clause says it.
 #![tactic(auto)]

@@ -62,8 +62,8 @@ fn cited_marks<'v>(store: &'v Store, new: &'v NewValues, marks: Option<ValueId>)
     }
 }
 
-/// Cites the marks with one more, inside the others, or the same marks where an equal one is among them. An `Err`
-/// changes nothing.
+/// Cites the marks with one more, inside the others, or the same marks where an equal one is among
+/// them. An `Err` changes nothing.
 pub fn with_mark(
     alloc: Global,
     store: &Store,
@@ -73,9 +73,15 @@ pub fn with_mark(
 ) -> Result<Option<ValueId>, Memory>
     requires follows { new.old.after ≡ length store.now }
     requires cites { CitesMarks (together store.now new.old) marks }
-    ensures cited { IfOk result (λ id. marks_cited store.now new.new id ≡ with_mark mark.now (marks_cited store.now new.old marks)) }
-    ensures ok { OnOk result (together store.now new.new ≡ values_marked (together store.now new.old) (marks_cited store.now new.old marks) mark.now) }
-    ensures same { list_any (mark_same mark.now) (marks_cited store.now new.old marks) ≡ true → result ≡ Ok marks }
+    ensures cited { IfOk result (λ id.
+        marks_cited store.now new.new id
+        ≡ with_mark mark.now (marks_cited store.now new.old marks)) }
+    ensures ok { OnOk result (
+        together store.now new.new
+        ≡ values_marked (together store.now new.old) (marks_cited store.now new.old marks)
+        mark.now) }
+    ensures same { list_any (mark_same mark.now) (marks_cited store.now new.old marks) ≡ true
+        → result ≡ Ok marks }
     ensures place { IfOk result (IsPlaceMarked (together store.now new.old) marks mark.now) }
     ensures cites { IfOk result (CitesMarks (together store.now new.new)) }
     ensures grows { Grows new.old new.new }
@@ -90,7 +96,8 @@ pub fn with_mark(
     Ok(Some(id))
 }
 
-/// Cites the marks without each one that is equal to this, and nothing where none is left. An `Err` changes nothing.
+/// Cites the marks without each one that is equal to this, and nothing where none is left. An `Err`
+/// changes nothing.
 pub fn without_mark(
     alloc: Global,
     store: &Store,
@@ -100,8 +107,13 @@ pub fn without_mark(
 ) -> Result<Option<ValueId>, Memory>
     requires follows { new.old.after ≡ length store.now }
     requires cites { CitesMarks (together store.now new.old) marks }
-    ensures cited { IfOk result (λ id. marks_cited store.now new.new id ≡ without_mark mark.now (marks_cited store.now new.old marks)) }
-    ensures ok { OnOk result (together store.now new.new ≡ values_unmarked (together store.now new.old) (marks_cited store.now new.old marks) mark.now) }
+    ensures cited { IfOk result (λ id.
+        marks_cited store.now new.new id
+        ≡ without_mark mark.now (marks_cited store.now new.old marks)) }
+    ensures ok { OnOk result (
+        together store.now new.new
+        ≡ values_unmarked (together store.now new.old) (marks_cited store.now new.old marks)
+        mark.now) }
     ensures place { IfOk result (IsPlaceUnmarked (together store.now new.old) marks mark.now) }
     ensures cites { IfOk result (CitesMarks (together store.now new.new)) }
     ensures grows { Grows new.old new.new }

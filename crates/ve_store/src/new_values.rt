@@ -11,11 +11,18 @@ use std::alloc::Global;
 use std::marker::Model;
 use ve_base::{Memory, Value, ValueId};
 
-/// A list of values that are to follow a store of a given length: the first one's place is that length.
-#[derive(Drop)]
+/// A list of values that are to follow a store of a given length: the first one's position is that
+/// length.
 pub struct NewValues {
     after: usize,
     values: Store,
+}
+
+impl Drop for NewValues {
+    fn drop(self) {
+        let NewValues { after: _, values } = self;
+        drop(values);
+    }
 }
 
 impl Model for NewValues {
@@ -44,7 +51,7 @@ impl NewValues {
         self.values.len()
     }
 
-    /// The value at a place of the store and these values together.
+    /// The value at a position of the store and these values together.
     pub fn get<'v>(&'v self, store: &'v Store, id: ValueId) -> &'v Value
         requires follows { self.now.after ≡ length store.now }
         requires within { id.0 < length (together store.now self.now) }
@@ -57,13 +64,17 @@ impl NewValues {
         }
     }
 
-    /// The place of a value in the store and these values together; it is appended where it is in neither. An `Err`
-    /// changes nothing. A place that no `usize` names is a want of memory like any other.
+    /// The position of a value in the store and these values together; it is appended where it is
+    /// in neither. An `Err` changes nothing. A position that no `usize` names is a want of memory
+    /// like any other.
     pub fn id_of(&mut self, store: &Store, value: Value) -> Result<ValueId, Memory>
         requires { self.old.after ≡ length store.now }
-        ensures place { IfOk result (λ id. id.0 ≡ position_or_len (value_same value) (together store.now self.old)) }
-        ensures stored { IfOk result (λ id. slice_get (together store.now self.new) id.0 ≡ Some value) }
-        ensures ok { OnOk result (together store.now self.new ≡ admitted (together store.now self.old) value) }
+        ensures place { IfOk result (λ id.
+            id.0 ≡ position_or_len (value_same value) (together store.now self.old)) }
+        ensures stored { IfOk result (λ id.
+            slice_get (together store.now self.new) id.0 ≡ Some value) }
+        ensures ok { OnOk result (
+            together store.now self.new ≡ admitted (together store.now self.old) value) }
         ensures grows { Grows self.old self.new }
         ensures err { OnErr result (self.new ≡ self.old) }
     {

@@ -13,10 +13,16 @@ use std::alloc::Global;
 use std::marker::Model;
 use ve_base::{MAX_VALUES, Memory, TryCopy, Value, ValueId};
 
-/// A list of distinct values, which items cite by their places. A value is found by its hash.
-#[derive(Drop)]
+/// A list of distinct values, which items cite by their positions. A value is found by its hash.
 pub struct Store {
     values: IndexSet<Hashed>,
+}
+
+impl Drop for Store {
+    fn drop(self) {
+        let Store { values } = self;
+        drop(values);
+    }
 }
 
 impl Model for Store {
@@ -46,7 +52,7 @@ impl Store {
         self.values.len()
     }
 
-    /// The value at a place.
+    /// The value at a position.
     pub fn get(&self, id: ValueId) -> &Value
         requires { id.0 < length self.now }
         ensures { slice_get self.now id.0 ≡ Some result.now }
@@ -57,16 +63,17 @@ impl Store {
         }
     }
 
-    /// The place of a value, where it is there.
+    /// The position of a value, where it is there.
     pub(crate) fn find(&self, value: &Hashed) -> Option<usize>
-        ensures place { IfSome result (λ place. place ≡ position_or_len (value_same value.now) self.now) }
+        ensures place { IfSome result (λ place.
+            place ≡ position_or_len (value_same value.now) self.now) }
         ensures stored { IfSome result (λ place. slice_get self.now place ≡ Some value.now) }
         ensures some { IsSome result ↔ Contains self.now value.now }
     {
         self.values.get_index_of(value)
     }
 
-    /// The place of a value, which is appended where it isn't there. An `Err` changes nothing.
+    /// The position of a value, which is appended where it isn't there. An `Err` changes nothing.
     pub fn admit(&mut self, value: Value) -> Result<ValueId, Memory>
         ensures place { IfOk result (λ id. id.0 ≡ position_or_len (value_same value) self.old) }
         ensures stored { IfOk result (λ id. slice_get self.new id.0 ≡ Some value) }
@@ -83,7 +90,8 @@ impl Store {
         ensures stored { IfOk result (λ id. slice_get self.new id.0 ≡ Some value) }
         ensures ok { OnOk result (self.new ≡ admitted self.old value) }
         ensures err { OnErr result (self.new ≡ self.old) }
-        ensures full { (result ≡ Err StoreFault.Full) ↔ ((max_values ≤ length self.old) × (¬ Contains self.old value)) }
+        ensures full { (result ≡ Err StoreFault.Full)
+            ↔ ((max_values ≤ length self.old) × (¬ Contains self.old value)) }
     {
         if self.values.len() < MAX_VALUES {
             return self.admit(value).map_err(|_| StoreFault::Memory);

@@ -9,7 +9,7 @@ use Rattle.model_items.specs.declared.plain_item.PlainItem.{PlainItem}
 use Rattle.model_items.specs.declared.plain_item.PlainItem.TheVariants.{Char, Opening, Closing}
 use Rattle.model_items.specs.Tree.{Open, length_to_close}
 use Rattle.model_items.specs.Offsets.{is_closing, partner, partner_of, siblings}
-use Rattle.ve_tables.specs.Rows.{noted, places_of}
+use Rattle.ve_tables.specs.Rows.{place_if_among, places_of}
 
 close_within : (depth : ℕ) (items : List PlainItem) → length_to_close depth items ≤ length items
 close_within depth [] = omega arith
@@ -47,17 +47,17 @@ within [] n x h = absurd (cc)
 within (y ∷ items) zero x h = omega arith
 within (y ∷ items) (suc n) x h = let less = within items n x h in omega arith
 
--- the places of those of some kinds
+-- the positions of those of some kinds
 abbrev pub among : List Kind → List Open → List ℕ
 among kinds nodes = places_of (filter (λ (node : Open). is_among kinds node.kind) nodes)
 
--- the places of the nodes of these kinds from a place on
+-- the positions of the nodes of these kinds from a position on
 abbrev pub places_from : List Kind → List PlainItem → ℕ → List ℕ
 places_from kinds items place = among kinds (siblings 0 place (drop place items))
 
 -- An item that is no closing, and then those after its node.
 pub place_more : (kinds : List Kind) (items : List PlainItem) (place : ℕ) (item : PlainItem) → slice_get items place ≡ Some item → is_closing item ≡ false →
-    places_from kinds items place ≡ noted kinds place item ++ places_from kinds items (suc (partner items place))
+    places_from kinds items place ≡ place_if_among kinds place item ++ places_from kinds items (suc (partner items place))
 place_more kinds items place (Char c marks) h open_ =
     let p : partner items place ≡ place = ap (λ o. partner_of o items place) h in
     ap (λ l. among kinds (siblings 0 place l)) (dropped items place (Char c marks) h) ∙ ap (λ n. places_from kinds items (suc n)) (sym p)

@@ -1,4 +1,4 @@
--- What the floors of columns say of the places that cells cover.
+-- The floors of columns, and the positions that cells cover.
 use Rattle.std.specs.List.{list_any, range_with_len}
 use Rattle.std.proofs.Common.{◌≡◌, ℕ, zero, suc, ◌+◌, ◌-◌, ◌<◌, ◌≤◌, max, Bool, true, false, not, ◌&&◌, ◌||◌, if◌then◌else◌, nat_lt, nat_le, Some, List, [], ◌∷◌, ◌++◌, length, take, drop, get_or, refl, sym, ap, ◌∙◌, subst, arith, take-append-drop, zero-add}
 use Rattle.std.proofs.lemmas.Bool.{le-leb}
@@ -53,7 +53,7 @@ module _ (test : GridCell → Bool) (cells : List GridCell) (cell : GridCell) (r
       by true = ap (λ x. nat_lt r old || x) (and_all (nat_lt r (cell.row + cell.rows))) ∙ sym (less_of_max r old (cell.row + cell.rows))
       by false = ap (λ x. nat_lt r old || x) (and_none (nat_lt r (cell.row + cell.rows))) ∙ or_none (nat_lt r old)
 
--- cells below a row cover no place of it
+-- cells below a row cover no position of it
 pub none_below : (test : GridCell → Bool) (row low rows : ℕ) (cells : List GridCell) → row < low → AreInRows low rows cells → list_any (λ (c : GridCell). covers_row c row && test c) cells ≡ false
 none_below test row low rows [] below h = refl
 none_below test row low rows (cell ∷ cells) below h =
@@ -77,7 +77,7 @@ floors_more row cells cell old new above floors lowered r k low inside =
     let n = lowered.long in
     floor_more (λ (c : GridCell). covers_column c k) cells cell row (get_or old k 0) (get_or new k 0) above (lowered.each k (omega arith)) (λ r low. floors r k low (omega arith)) r low
 
--- over a list and over its places
+-- over a list and over its positions
 any_places : (p : ℕ → Bool) (f : ℕ → Bool) (xs : List ℕ) (from : ℕ) → ((k : ℕ) → k < length xs → p (get_or xs k 0) ≡ f (from + k)) → list_any p xs ≡ list_any f (range_with_len from (length xs))
 any_places p f [] from same = refl
 any_places p f (x ∷ xs) from same =
@@ -86,7 +86,8 @@ any_places p f (x ∷ xs) from same =
     ap (λ b. b || list_any p xs) here
     ∙ ap (λ b. f from || b) (any_places p f xs (from + 1) (λ k less. same (suc k) (omega arith) ∙ (let y : from + suc k ≡ (from + 1) + k = omega arith in ap f y)))
 
--- a place left of the column is covered by no cell exactly where the column's floor isn't below the row
+-- a position left of the column is covered by no cell exactly where the column's floor isn't below
+-- the row
 pub gap_is : (row next rows : ℕ) (cells : List GridCell) (floors : List ℕ) → AreInRows (suc row) rows (drop next cells) → AreFloors row (take next cells) floors →
     list_any (λ (floor : ℕ). nat_le floor row) floors ≡ has_gap_before cells row (length floors)
 gap_is row next rows cells floors later are =

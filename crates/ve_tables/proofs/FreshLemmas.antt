@@ -17,7 +17,7 @@ use Rattle.model_edit.specs.Brackets.{opening_of, closing_of}
 use Rattle.model_edit.specs.Tables.{spans_row, new_cell, new_row}
 use Rattle.ve_tables.specs.Fresh.{AreMarked, is_taken, AreTaken, cells_for, AreCellsPut}
 
--- over a list and over its places
+-- over a list and over its positions
 cells_places : (f : ℕ → Bool) (xs : List Bool) (from : ℕ) → ((k : ℕ) → k < length xs → get_or xs k false ≡ f (from + k)) →
     cells_for xs ≡ flat_map (λ column. if f column then [] else new_cell) (range_with_len from (length xs))
 cells_places f [] from same = refl
@@ -37,7 +37,7 @@ cells_are row g taken are =
 
 -- ---- which columns are taken, cell by cell
 
--- What is marked, or is taken by a cell that is left.
+-- The columns that are marked, or are taken by a cell that is left.
 pub record AreTakenTo (row : ℕ) (g : Grid) (index : ℕ) (taken : List Bool) : Type 0 where
   pub long : length taken ≡ g.columns
   pub each : (k : ℕ) → k < g.columns → (get_or taken k false || is_taken row (drop index g.cells) k) ≡ is_taken row g.cells k

@@ -91,7 +91,7 @@ not_picked test f cell cells h = ap (λ b. map f (cond b (cell ∷ filter test c
 abbrev pub no_cell : GridCell
 no_cell = record { at = 0; row = 0; column = 0; rows = 0; columns = 0 }
 
--- A cell of a loop over cells that are lent, of which those that pass have an edit each.
+-- A cell of a loop over cells that are borrowed, of which those that pass have an edit each.
 module _ (store : List Value) (items : List Item) (test : GridCell → Bool) (f : GridCell → Edit) (cells lent : List GridCell) (i begun : ℕ) (a b : Collected) (are : lent ≡ cells) (first : a.at ≡ begun) where
   abbrev pub all_edits : List GridCell → List Edit
   all_edits cells = map f (filter test cells)
@@ -104,7 +104,7 @@ module _ (store : List Value) (items : List Item) (test : GridCell → Bool) (f 
     next_is : all_edits (drop i lent) ≡ f (get_or lent i no_cell) ∷ all_edits (drop (i + 1) lent)
     next_is = ap all_edits (drop_more lent i no_cell inside) ∙ picked test f (get_or lent i no_cell) (drop (i + 1) lent) passes
 
-    -- the places of its edit and of those after it
+    -- the positions of its edit and of those after it
     pub here_order : (later : List Edit) → InOrder begun (length items) (all_edits cells ++ later) → InOrder b.at (length items) (f (get_or lent i no_cell) ∷ (all_edits (drop (i + 1) lent) ++ later))
     here_order later o =
         subst (λ (l : List Edit). InOrder b.at (length items) (l ++ later)) next_is (way_order store items (all_edits lent) (all_edits (drop i lent)) later a b way (ordered later o))
@@ -133,7 +133,7 @@ pub set_as : (store : List Value) (items : List Item) (at : ℕ) (name name' : L
 set_as store items at name name' n n' a b same equal g =
     subst (λ (m : ℕ). Collects store items (Set at name' (Some (decimal m)) ∷ []) a b) equal (subst (λ (l : List ℕ). Collects store items (Set at l (Some (decimal n)) ∷ []) a b) same g)
 
--- the transaction of what is collected from the first place on
+-- the transaction of what is collected from the first position on
 pub finished_as : (store : List Value) (items : List Item) (edits : List Edit) (a b : Collected) → Collects store items edits a b → Makes store items [] a → Makes store items edits b
 finished_as store items edits a b g none = g.makes [] none
 

@@ -1,4 +1,5 @@
--- Where the floors of a grid's columns say what its cells cover: the next cell's column, whether it meets another, and the floors after it.
+-- Where the floors of a grid's columns say what its cells cover: the next cell's column, whether it
+-- meets another, and the floors after it.
 use Rattle.std.specs.Prelude.{fold, sum_by, All}
 use Rattle.std.specs.List.{list_any}
 use Rattle.std.proofs.Common.{◌≡◌, inl, inr, ℕ, zero, suc, ◌+◌, ◌-◌, ◌<◌, ◌≤◌, max, Bool, true, false, ◌&&◌, ◌||◌, if◌then◌else◌, nat_lt, nat_le, List, [], ◌∷◌, ◌++◌, length, get_or, refl, sym, ap, ◌∙◌, subst, arith}

@@ -11,7 +11,7 @@ use Rattle.model_edit.specs.Brackets.{is_opening_of}
 use Rattle.model_edit.specs.declared.grid_cell.GridCell.{GridCell}
 use Rattle.model_edit.specs.Causes.{TableCause, NotTable}
 use Rattle.std.specs.Prelude.{slice_get}
-use Rattle.model_edit.specs.Grid.{TableRow, Grid, children_of, section_rows, table_rows, row_cells, placed, is_crooked, cells_meet, with_row, with_rows, grid_with, grid, right_end}
+use Rattle.model_edit.specs.Grid.{TableRow, Grid, children_of, section_rows, table_rows, row_cells, placed_cell, is_crooked, cells_meet, with_row, with_rows, grid_with, grid, right_end}
 use Rattle.model_edit_law.proofs.TablePlaceLemmas.{if_ok_else}
 use Rattle.ve_tables.specs.Covered.{AreInRows}
 
@@ -36,7 +36,7 @@ row_between : (items : List PlainItem) (row left end rows : ℕ) (nodes : List O
     with_row items row left end nodes before ≡ Ok cells → Between 0 row rows cells
 row_between items row left end rows [] before cells fits h e = let same : before ≡ cells = cc in subst (Between 0 row rows) same h
 row_between items row left end rows (node ∷ nodes) before cells fits h e =
-    let one = placed items before row end node in
+    let one = placed_cell items before row end node in
     let p = if_ok_else (is_crooked left before one) _ _ cells e in
     let low = ltb-false left one.rows (or_parts (nat_lt left one.rows) (list_any (cells_meet one) before) p.0).0 in
     row_between items row left (one.column + one.columns) rows nodes (before ++ one ∷ []) cells fits (one_more 0 row rows before one h (omega arith) (omega arith)) p.1

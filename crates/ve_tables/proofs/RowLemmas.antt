@@ -1,4 +1,5 @@
--- Rows of a table by the places of their sections' nodes, and cells placed one at a time as the model places them.
+-- Rows of a table by the positions of their sections' nodes, and cells placed one at a time as the
+-- model positions them.
 use Rattle.std.specs.Prelude.{slice_get, codes, flat_map}
 use Rattle.std.proofs.Common.{◌≡◌, inl, inr, ℕ, suc, ◌+◌, true, false, if◌then◌else◌, List, [], ◌∷◌, ◌++◌, map, length, Option, Some, Ok, Err, refl, sym, ap, ◌∙◌, subst}
 use Rattle.std.proofs.lemmas.List.{length-map}
@@ -16,7 +17,7 @@ use Rattle.ve_base.specs.declared.attrs.Attr.{Attr}
 use Rattle.ve_kinds.specs.declared.kind.Kind.TheVariants.{Table, Td, Th}
 use Rattle.std.specs.Str.{chars}
 use Rattle.model_edit.specs.Grid as model
-use Rattle.model_edit.specs.Grid.{cell_span, is_crooked, placed}
+use Rattle.model_edit.specs.Grid.{cell_span, is_crooked, placed_cell}
 use Rattle.ve_tables.specs.Placed.{Placed, next_cell, with_next, IsNext, IsCellRefusal}
 use Rattle.ve_tables.specs.declared.rows.TableRow.{TableRow}
 use Rattle.ve_tables.specs.Refused.{IsTableRefusal}
@@ -28,7 +29,7 @@ section_places (tr ∷ later) =
     ap (λ n. record { at = tr.from; left = suc n } ∷ model.section_rows later) (sym (length-map later (λ (node : Open). node.from)))
     ∙ ap (λ v. record { at = tr.from; left = suc (length (places_of later)) } ∷ v) (section_places later)
 
--- rows of sections that stand at these places
+-- rows of sections that stand at these positions
 abbrev pub rows_of_places : (ℕ → List ℕ) → List ℕ → List model.TableRow
 rows_of_places inside [] = []
 rows_of_places inside (place ∷ places) = rows_at (inside place) ++ rows_of_places inside places
@@ -40,12 +41,12 @@ rows_flat trs inside (s ∷ sections) same =
     ap (λ v. v ++ flat_map (λ (s : Open). model.section_rows (trs s)) sections) (section_places (trs s) ∙ ap rows_at (sym (same s)))
     ∙ ap (λ v. rows_at (inside s.from) ++ v) (rows_flat trs inside sections same)
 
--- A row's cells are placed by their places alone.
+-- A row's cells are placed by their positions alone.
 pub row_places : (items : List PlainItem) (row left end : ℕ) (nodes : List Open) (before : List GridCell) →
     model.with_row items row left end (map cell_open (places_of nodes)) before ≡ model.with_row items row left end nodes before
 row_places items row left end [] before = refl
 row_places items row left end (n ∷ nodes) before =
-    let one = placed items before row end n in
+    let one = placed_cell items before row end n in
     ap (λ r. if is_crooked left before one then Err (Crooked one.at) else r) (row_places items row left (one.column + one.columns) nodes (before ++ one ∷ []))
 
 -- one cell more is placed
@@ -119,7 +120,7 @@ pub colspan_is : chars (codes "colspan") ≡ codes "colspan"
 unfolding chars
 colspan_is = refl
 
--- the cells at the places of a row's
+-- the cells at the positions of a row's
 pub row_is : (items : List PlainItem) (old : Placed) (at : ℕ) (cells : List ℕ) → cells ≡ child_places (Td ∷ Th ∷ []) items at → row_placed items old cells ≡ row_after items old at
 row_is items old at cells e = ap (row_placed items old) e ∙ row_places items old.row old.left old.end (model.row_cells items at) old.cells
 
@@ -131,10 +132,10 @@ grid_then items at opens = ap (λ b. if b then model.grid_with (length (model.ta
 pub grid_is : (items : List PlainItem) (at count : ℕ) (rows : List TableRow) (cells : List GridCell) → passes (is_opening_of Table) (slice_get items at) ≡ true →
     map row_of rows ≡ model.table_rows items at → count ≡ length rows → rows_after items 0 rows [] ≡ Ok cells →
     model.grid items at ≡ Ok (record { rows = count; columns = model.right_end cells; cells = cells })
-grid_is items at count rows cells opens is n placed =
+grid_is items at count rows cells opens is n placed_cell =
     grid_then items at opens
     ∙ ap (λ v. model.grid_with (length v) (model.with_rows items 0 v (Ok []))) (sym is)
-    ∙ ap (model.grid_with (length (map row_of rows))) placed
+    ∙ ap (model.grid_with (length (map row_of rows))) placed_cell
     ∙ ap (λ k. Ok (record { rows = k; columns = model.right_end cells; cells = cells })) (length-map rows row_of ∙ sym n)
 
 pub grid_refused : (items : List PlainItem) (at : ℕ) (rows : List TableRow) (fault : TableFault) → passes (is_opening_of Table) (slice_get items at) ≡ true →

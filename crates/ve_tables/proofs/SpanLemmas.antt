@@ -1,4 +1,5 @@
--- Numbers spelled by digits, read one at a time, and the value of an attribute, found one at a time.
+-- Numbers spelled by digits, read one at a time, and the value of an attribute, found one at a
+-- time.
 use Rattle.std.proofs.Common.{◌≡◌, ℕ, zero, suc, ◌+◌, ◌-◌, ◌*◌, ◌<◌, ◌≤◌, Bool, true, false, ◌&&◌, ◌==◌, if◌then◌else◌, nat_lt, nat_le, List, [], ◌∷◌, length, drop, get_or, Option, Some, None, refl, sym, ap, ◌∙◌, subst, inl, inr, arith}
 use Rattle.std.specs.Bool.{Decides}
 use Rattle.std.proofs.lemmas.Bool.{cases_Bool, and_parts, and_from, le-leb, leb-true, false_from_ne_true, eqb-true, eqb-false}

@@ -1,4 +1,5 @@
--- Where the rows and cells of a table stand, and that the edits of each call come at rising places.
+-- Where the rows and cells of a table stand, and that the edits of each call come at rising
+-- positions.
 use Rattle.std.specs.Prelude.{All, filter, slice_get}
 use Rattle.std.proofs.Common.{◌≡◌, ℕ, suc, ◌+◌, ◌<◌, ◌≤◌, List, [], ◌∷◌, length, map, Some, refl, sym, ap, ◌∙◌, subst, arith}
 use Rattle.std.proofs.lemmas.List.{length-map}

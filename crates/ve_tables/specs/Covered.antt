@@ -1,4 +1,4 @@
--- Which places cells cover, as they are passed row by row.
+-- Which positions cells cover, as they are passed row by row.
 use Rattle.std.specs.Prelude.{◌≡◌, ℕ, suc, ◌+◌, ◌≤◌, ◌<◌, ◌==◌, max, nat_lt, if◌then◌else◌, List, [], ◌∷◌, length, drop, filter, get_or, slice_range}
 use Rattle.model_edit.specs.declared.grid_cell.GridCell.{GridCell}
 use Rattle.model_edit.specs.Grid.{covers_column, is_covered}
@@ -28,7 +28,8 @@ pub record AreLowered (cell : GridCell) (old new : List ℕ) : Type 0 where
   pub long : length new ≡ length old
   pub each : (k : ℕ) → k < length old → get_or new k 0 ≡ (if covers_column cell k then max (get_or old k 0) (cell.row + cell.rows) else get_or old k 0)
 
--- Of the cells these are the floors: from the row on a column is covered in each row above its floor.
+-- Of the cells these are the floors: from the row on a column is covered in each row above its
+-- floor.
 abbrev pub AreFloors : ℕ → List GridCell → List ℕ → Type 0
 AreFloors row cells floors = (r k : ℕ) → row ≤ r → k < length floors → is_covered cells r k ≡ nat_lt r (get_or floors k 0)
 

@@ -21,8 +21,8 @@ pub record IsBegun (row : ℕ) (cell : GridCell) : Type 0 where
   pub above : cell.row ≤ row
   pub wide : 1 ≤ cell.columns
 
--- Of the cells placed down to a row these are the floors: a column is covered in each row from that one on which is above its floor. A
--- place up to which the row's cells reach is within them.
+-- Of the cells placed down to a row these are the floors: a column is covered in each row from that
+-- one on which is above its floor. A position up to which the row's cells reach is within them.
 pub record IsPlacing (cells : List GridCell) (row end : ℕ) (floors : List ℕ) : Type 0 where
   pub covered : (r c : ℕ) → row ≤ r → is_covered cells r c ≡ nat_lt r (get_or floors c 0)
   pub begun : All (IsBegun row) cells

@@ -22,7 +22,7 @@ pub record IsLaid (items : List PlainItem) (table : LaidTable) : Type 0 where
   pub grid : model.grid items at ≡ Ok table.grid
   pub rows : map row_of table.rows ≡ model.table_rows items at
 
--- These edits are collected next, at places that rise where those of the edits do.
+-- These edits are collected next, at positions that rise where those of the edits do.
 pub record Collects (store : List Value) (items : List Item) (edits : List Edit) (old new : Collected) : Type 0 where
   pub makes : (done : List Edit) → Makes store items done old → Makes store items (done ++ edits) new
   pub order : (later : List Edit) → InOrder old.at (length items) (edits ++ later) → InOrder new.at (length items) later
@@ -67,7 +67,8 @@ col_in_edits items rows column g = flat_map (column_edits items column g) (enume
 abbrev pub columns_removed : List PlainItem → ℕ → List GridCell → List Edit
 columns_removed items column cells = map (cell_removed items) (filter (λ (c : GridCell). covers_column c column) cells)
 
--- ---- what the calls that make a change are asked and give, where its edits are these of the page's items
+-- ---- what the calls that make a change are asked and give, where its edits are these of the
+-- page's items
 
 abbrev pub MayMake : Doc → (List PlainItem → List Edit) → Type 0
 MayMake doc edits = InOrder 0 (length doc.list.now.items) (edits (page_items doc))

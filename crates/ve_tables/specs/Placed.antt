@@ -6,9 +6,10 @@ use Rattle.model_edit.specs.declared.table_fault.TableFault.TheVariants.{Crooked
 use Rattle.model_items.specs.declared.plain_item.PlainItem.{PlainItem}
 use Rattle.model_items.specs.Tree.{Open}
 use Rattle.ve_base.specs.Limits.{max_row_span, max_column_span}
-use Rattle.model_edit.specs.Grid.{first_free, is_crooked, cell_span, placed}
+use Rattle.model_edit.specs.Grid.{first_free, is_crooked, cell_span, placed_cell}
 
--- the cells; the row in which more are placed, how many rows its section has from it on, and the end of its last cell
+-- the cells; the row in which more are placed, how many rows its section has from it on, and the
+-- end of its last cell
 pub record Placed : Type 0 where
   pub cells : List GridCell
   pub row : ℕ
@@ -37,10 +38,10 @@ pub record IsNext (old : Placed) (one : GridCell) (new : Placed) : Type 0 where
 abbrev pub IsCellRefusal : Placed → GridCell → TableFault → Type 0
 IsCellRefusal old one fault = (fault ≡ Memory) ⊎ ((is_crooked old.left old.cells one ≡ true) × (fault ≡ Crooked one.at))
 
--- The next cell is the one that the model places after those before it in its row.
+-- The next cell is the one that the model positions after those before it in its row.
 abbrev pub NextIsPlaced : Type 0
 NextIsPlaced =
     (items : List PlainItem) (before : List GridCell) (row left end : ℕ) (cell : Open) →
-    placed items before row end cell
+    placed_cell items before row end cell
     ≡ next_cell (record { cells = before; row = row; left = left; end = end }) cell.from
     (cell_span (codes "rowspan") max_row_span (slice_get items cell.from)) (cell_span (codes "colspan") max_column_span (slice_get items cell.from))

@@ -1,4 +1,5 @@
--- Nodes just inside another, by their places; the rows of a table, and the cells of a row placed after those before it.
+-- Nodes just inside another, by their positions; the rows of a table, and the cells of a row placed
+-- after those before it.
 use Rattle.std.specs.Prelude.{◌≡◌, ℕ, suc, if◌then◌else◌, List, [], ◌∷◌, map, length, Result, Ok}
 use Rattle.ve_base.specs.declared.attrs.Attr.{Attr}
 use Rattle.ve_kinds.specs.declared.kind.Kind.{Kind}
@@ -13,10 +14,10 @@ use Rattle.model_edit.specs.Grid as model
 use Rattle.ve_tables.specs.Placed.{Placed}
 use Rattle.ve_tables.specs.declared.rows.TableRow.{TableRow}
 
--- the place of an item that opens a node of one of these kinds
-abbrev pub noted : List Kind → ℕ → PlainItem → List ℕ
-noted kinds place (Opening kind head marks pre origin generated) = if is_among kinds kind then place ∷ [] else []
-noted kinds place _ = []
+-- the position of an item that opens a node of one of these kinds
+abbrev pub place_if_among : List Kind → ℕ → PlainItem → List ℕ
+place_if_among kinds place (Opening kind head marks pre origin generated) = if is_among kinds kind then place ∷ [] else []
+place_if_among kinds place _ = []
 
 abbrev pub places_of : List Open → List ℕ
 places_of nodes = map (λ (node : Open). node.from) nodes
@@ -27,7 +28,7 @@ child_places kinds items at = places_of (model.children_of kinds items at)
 abbrev pub row_of : TableRow → model.TableRow
 row_of row = record { at = row.at; left = row.left }
 
--- the rows of a section that open at these places
+-- the rows of a section that open at these positions
 abbrev pub rows_at : List ℕ → List model.TableRow
 rows_at [] = []
 rows_at (at ∷ later) = record { at = at; left = suc (length later) } ∷ rows_at later
@@ -36,11 +37,11 @@ abbrev pub attrs_in : PlainItem → List Attr
 attrs_in (Opening kind head marks pre origin generated) = head.attrs
 attrs_in _ = []
 
--- a cell as an open node: only its place is read
+-- a cell as an open node: only its position is read
 abbrev pub cell_open : ℕ → Open
 cell_open at = record { kind = Td; from = at }
 
--- the cells that the model has after those at these places are placed in the row
+-- the cells that the model has after those at these positions are placed in the row
 abbrev pub row_placed : List PlainItem → Placed → List ℕ → Result (List GridCell) TableCause
 row_placed items p cells = model.with_row items p.row p.left p.end (map cell_open cells) p.cells
 
@@ -52,7 +53,7 @@ pub record IsPlacedAs (meant : Result (List GridCell) TableCause) (row : ℕ) (n
 abbrev pub HasPlaced : List PlainItem → Placed → List ℕ → Placed → Type 0
 HasPlaced items old cells new = IsPlacedAs (row_placed items old cells) old.row new
 
--- So are the cells of the row that opens at a place.
+-- So are the cells of the row that opens at a position.
 abbrev pub row_after : List PlainItem → Placed → ℕ → Result (List GridCell) TableCause
 row_after items p at = model.with_row items p.row p.left p.end (model.row_cells items at) p.cells
 

@@ -1,14 +1,14 @@
-// What is asked of a table's cells before rows or columns change.
+// Tests of a table's cells before rows or columns change.
 ghost use Rattle.std.specs.Prelude.{◌≡◌, option_map};
 ghost use Rattle.model_edit.specs.Grid as grid;
 ghost use Rattle.model_edit.specs.Tables as model;
 ghost use Rattle.model_edit.specs.Tables.{first_fault, at_first};
-ghost use Rattle.ve_tables.specs.CellQuestions.{asked};
+ghost use Rattle.ve_tables.specs.CellQuestions.{cell_answer};
 
 use model_edit::GridCell;
 use ve_base::{MAX_COLUMN_SPAN, MAX_ROW_SPAN};
 
-/// What is asked of each cell, with the number of a row or a column.
+/// A test of each cell, with the number of a row or a column.
 #[derive(Clone, Copy)]
 pub enum CellQuestion {
     /// Whether it spans into the row, and has the greatest span.
@@ -51,7 +51,7 @@ pub fn spans_column(cell: GridCell, column: usize) -> bool
 
 /// Whether a cell begins in a row and covers more rows.
 fn goes_below(cell: GridCell, row: usize) -> bool
-    ensures { result ≡ asked (CellQuestion.GoesBelow row) cell }
+    ensures { result ≡ cell_answer (CellQuestion.GoesBelow row) cell }
 {
     if cell.row != row {
         return false;
@@ -61,7 +61,7 @@ fn goes_below(cell: GridCell, row: usize) -> bool
 
 /// Whether a cell spans into a row and has the greatest span.
 fn is_full_at_row(cell: GridCell, row: usize) -> bool
-    ensures { result ≡ asked (CellQuestion.IsFullAtRow row) cell }
+    ensures { result ≡ cell_answer (CellQuestion.IsFullAtRow row) cell }
 {
     if !spans_row(cell, row) {
         return false;
@@ -71,7 +71,7 @@ fn is_full_at_row(cell: GridCell, row: usize) -> bool
 
 /// Whether a cell spans into a column and has the greatest span.
 fn is_full_at_column(cell: GridCell, column: usize) -> bool
-    ensures { result ≡ asked (CellQuestion.IsFullAtColumn column) cell }
+    ensures { result ≡ cell_answer (CellQuestion.IsFullAtColumn column) cell }
 {
     if !spans_column(cell, column) {
         return false;
@@ -79,9 +79,9 @@ fn is_full_at_column(cell: GridCell, column: usize) -> bool
     MAX_COLUMN_SPAN <= cell.columns
 }
 
-/// What a question answers of a cell.
+/// The answer of a test for a cell.
 fn answer(question: CellQuestion, cell: GridCell) -> bool
-    ensures { result ≡ asked question cell }
+    ensures { result ≡ cell_answer question cell }
 {
     match question {
         CellQuestion::IsFullAtRow(row) => is_full_at_row(cell, row),
@@ -90,9 +90,10 @@ fn answer(question: CellQuestion, cell: GridCell) -> bool
     }
 }
 
-/// The place of the first cell of which the answer is yes.
+/// The position of the first cell of which the answer is yes.
 pub fn first_cell(cells: &[GridCell], question: CellQuestion) -> Option<usize>
-    ensures { (named : _) → first_fault (at_first (asked question) cells.now named) ≡ option_map named result }
+    ensures { (named : _)
+        → first_fault (at_first (cell_answer question) cells.now named) ≡ option_map named result }
 {
     for cell in cells {
         if answer(question, *cell) {

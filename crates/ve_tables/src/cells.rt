@@ -36,7 +36,7 @@ fn item_attrs(store: &Store, item: Item) -> &[Attr]
     }
 }
 
-/// The spans of the cell at a place, each 1 where no attribute says otherwise.
+/// The spans of the cell at a position, each 1 where no attribute says otherwise.
 fn spans_at(doc: Doc<'_>, at: usize) -> Spans
     requires { All (CitesWell doc.store.now) doc.list.now.items }
     ensures rows { result.rows ≡ cell_span (codes "rowspan") max_row_span (slice_get (page_items doc.entry) at) }
@@ -59,12 +59,13 @@ fn spans_at(doc: Doc<'_>, at: usize) -> Spans
     }
 }
 
-/// Places cells of the row at which the placing stands.
+/// Positions cells of the row at which the placing stands.
 fn place_cells(doc: Doc<'_>, placing: Placing, cells: &[usize]) -> Result<Placing, TableFault>
     requires cites { All (CitesWell doc.store.now) doc.list.now.items }
     requires row { placing.row < 2 ^ 62 }
     ensures means { IfOk result (HasPlaced (page_items doc.entry) placing cells.now) }
-    ensures refused { IfErr result (IsTableRefusal (row_placed (page_items doc.entry) placing cells.now)) }
+    ensures refused { IfErr result (
+        IsTableRefusal (row_placed (page_items doc.entry) placing cells.now)) }
 {
     let mut placed = placing;
     for cell in cells {
@@ -74,7 +75,8 @@ fn place_cells(doc: Doc<'_>, placing: Placing, cells: &[usize]) -> Result<Placin
     Ok(placed)
 }
 
-/// Places the cells of the row that opens at a place, which is the one at which the placing stands.
+/// Positions the cells of the row that opens at a position, which is the one at which the placing
+/// stands.
 pub fn place_row(
     alloc: Global,
     doc: Doc<'_>,

@@ -4,7 +4,7 @@ ghost use Rattle.model_items.specs.Plain.{plain};
 ghost use Rattle.model_items.specs.Offsets.{is_closing};
 ghost use Rattle.ve_kinds.specs.Table as table;
 ghost use Rattle.ve_offsets.specs.Docs.{IsDoc, page_items};
-ghost use Rattle.ve_tables.specs.Rows.{noted, child_places};
+ghost use Rattle.ve_tables.specs.Rows.{place_if_among, child_places};
 
 use std::alloc::Global;
 use ve_base::{ListOf, Memory};
@@ -35,9 +35,11 @@ fn closes(item: Item) -> bool
     }
 }
 
-/// Appends the place of an item that opens a node of one of these kinds.
+/// Appends the position of an item that opens a node of one of these kinds.
 fn note(places: &mut ListOf<usize>, place: usize, item: Item, kinds: &[Kind]) -> Result<(), Memory>
-    ensures { OnOk result ((values : _) → places.new ≡ places.old ++ noted kinds.now place (plain values item)) }
+    ensures { OnOk result (
+        (values : _)
+        → places.new ≡ places.old ++ place_if_among kinds.now place (plain values item)) }
 {
     match item {
         Item::Opening { kind, .. } => {
@@ -50,7 +52,8 @@ fn note(places: &mut ListOf<usize>, place: usize, item: Item, kinds: &[Kind]) ->
     }
 }
 
-/// The places of the nodes of these kinds that stand just inside the node which opens at a place, in order.
+/// The positions of the nodes of these kinds that stand just inside the node which opens at a
+/// position, in order.
 pub fn children_of(
     alloc: Global,
     doc: Doc<'_>,

@@ -8,7 +8,7 @@ ghost use Rattle.model_edit.specs.Tables.{cell_removed};
 ghost use Rattle.ve_offsets.specs.Docs.{IsDoc, page_items};
 ghost use Rattle.ve_tx.specs.Cites.{TxCites};
 ghost use Rattle.ve_tx.specs.Operation.{by_value};
-ghost use Rattle.ve_tables.specs.CellQuestions.{asked};
+ghost use Rattle.ve_tables.specs.CellQuestions.{cell_answer};
 ghost use Rattle.ve_tables.specs.declared.cell_questions.CellQuestion.TheVariants.{IsFullAtColumn};
 ghost use Rattle.ve_tables.specs.Covered.{AreInRows, IsRun, floor_with, floor_of};
 ghost use Rattle.ve_tables.specs.PartWay.{AreNone, CollectsIn, MakesEdits, MayMake, column_put, column_taken, grown_columns, row_widened};
@@ -28,7 +28,8 @@ use ve_edits::{Edits, partner};
 use ve_offsets::Doc;
 use ve_tx::Transaction;
 
-/// The number of the first cell from one on that doesn't begin in a row, where none of those cells begins above it.
+/// The number of the first cell from one on that doesn't begin in a row, where none of those cells
+/// begins above it.
 fn run_end(cells: &[GridCell], from: usize, row: usize, rows: usize) -> usize
     requires within { from ≤ length cells.now }
     requires rise { AreInRows row rows (drop from cells.now) }
@@ -74,9 +75,11 @@ fn grow_cells(
     column: usize,
 ) -> Result<(), Memory>
     requires cites { All (CitesWell doc.store.now) doc.list.now.items }
-    requires order { InOrder edits.old.at (length doc.list.now.items) (grown_columns column cells.now) }
-    requires room { AreNone (asked (IsFullAtColumn column)) cells.now }
-    ensures { OnOk result (CollectsIn doc.entry (grown_columns column cells.now) edits.old edits.new) }
+    requires order { InOrder edits.old.at (length doc.list.now.items) (
+        grown_columns column cells.now) }
+    requires room { AreNone (cell_answer (IsFullAtColumn column)) cells.now }
+    ensures { OnOk result (
+        CollectsIn doc.entry (grown_columns column cells.now) edits.old edits.new) }
 {
     for cell in cells {
         if !spans_column(*cell, column) {
@@ -87,8 +90,8 @@ fn grow_cells(
     Ok(())
 }
 
-/// Where a new cell stands in a row that has these cells: before the first at or right of the column, else after the last,
-/// else before the row's closing.
+/// Where a new cell stands in a row that has these cells: before the first at or right of the
+/// column, else after the last, else before the row's closing.
 fn cell_place(doc: Doc<'_>, row: TableRow, column: usize, cells: &[GridCell]) -> usize
     requires doc { IsDoc doc }
     requires row { row.at < length doc.list.now.items }
@@ -120,9 +123,13 @@ fn widen_row(
     requires cites { All (CitesWell doc.store.now) doc.list.now.items }
     requires row { row.at < length doc.list.now.items }
     requires within { All (λ cell. cell.at < length doc.list.now.items) cells.now }
-    requires order { InOrder edits.old.at (length doc.list.now.items) (row_widened (page_items doc) (row_of row) column cells.now grown) }
-    requires room { AreNone (asked (IsFullAtColumn column)) cells.now }
-    ensures { OnOk result (CollectsIn doc.entry (row_widened (page_items doc.entry) (row_of row) column cells.now grown) edits.old edits.new) }
+    requires order { InOrder edits.old.at (length doc.list.now.items) (
+        row_widened (page_items doc) (row_of row) column cells.now grown) }
+    requires room { AreNone (cell_answer (IsFullAtColumn column)) cells.now }
+    ensures { OnOk result (
+        CollectsIn doc.entry
+        (row_widened (page_items doc.entry) (row_of row) column cells.now grown) edits.old
+        edits.new) }
 {
     grow_cells(alloc, doc, edits, cells, column)?;
     if grown {
@@ -146,7 +153,7 @@ fn put_column(
     requires places { All (λ row. row.at < length doc.list.now.items) table.now.rows }
     requires within { All (λ cell. cell.at < length doc.list.now.items) table.now.grid.cells }
     requires order { MayMake doc (column_put table.now column) }
-    requires room { AreNone (asked (IsFullAtColumn column)) table.now.grid.cells }
+    requires room { AreNone (cell_answer (IsFullAtColumn column)) table.now.grid.cells }
     ensures means { IfOk result (MakesEdits doc.entry (column_put table.now column)) }
     ensures cites { IfOk result (TxCites doc.entry.store.now) }
 {
@@ -170,11 +177,14 @@ fn put_column(
 fn take_cell(alloc: Global, doc: Doc<'_>, edits: &mut Edits, cell: GridCell) -> Result<(), Memory>
     requires doc { IsDoc doc }
     requires cites { All (CitesWell doc.store.now) doc.list.now.items }
-    requires order { InOrder edits.old.at (length doc.list.now.items) (cell_removed (page_items doc) cell ∷ []) }
+    requires order { InOrder edits.old.at (length doc.list.now.items) (
+        cell_removed (page_items doc) cell ∷ []) }
     requires within { cell.at < length doc.list.now.items }
     requires ahead { cell.at ≤ end_of_node (page_items doc) cell.at }
     requires some { 1 ≤ cell.columns }
-    ensures { OnOk result (CollectsIn doc.entry (cell_removed (page_items doc.entry) cell ∷ []) edits.old edits.new) }
+    ensures { OnOk result (
+        CollectsIn doc.entry (cell_removed (page_items doc.entry) cell ∷ []) edits.old
+        edits.new) }
 {
     if cell.columns == 1 {
         let to = node_end(doc, cell.at);
@@ -195,7 +205,8 @@ fn take_column(
     requires doc { IsDoc doc }
     requires cites { All (CitesWell doc.store.now) doc.list.now.items }
     requires within { All (λ cell. cell.at < length doc.list.now.items) table.now.grid.cells }
-    requires ahead { All (λ cell. cell.at ≤ end_of_node (page_items doc) cell.at) table.now.grid.cells }
+    requires ahead { All (λ cell. cell.at ≤ end_of_node (page_items doc) cell.at)
+        table.now.grid.cells }
     requires order { MayMake doc (column_taken table.now column) }
     ensures means { IfOk result (MakesEdits doc.entry (column_taken table.now column)) }
     ensures cites { IfOk result (TxCites doc.entry.store.now) }
@@ -211,14 +222,16 @@ fn take_column(
     Ok(tx)
 }
 
-/// The change that puts a column into the table that opens at a place: before the column of this number, or after the
-/// last one where it is the number of columns. The cells that span into the column grow by one column, and each other row
-/// has a new cell with an empty paragraph: before its first cell at or right of the column, else after its last cell, else
-/// before its closing.
+/// The transaction that puts a column into the table that opens at a position: before the column of
+/// this number, or after the last one where it is the number of columns. The cells that span into
+/// the column grow by one column. Each other row has a new cell with an empty paragraph. It stands
+/// before the row's first cell at or right of the column, else after its last cell, else before its
+/// closing.
 ///
-/// It is refused as by `grid`; then `BadColumn` comes exactly where there are no columns, or fewer than the number; then
-/// `Ragged` with the first row in which a place left of the column is covered by no cell; then `SpanFull` with the place
-/// of the first cell that would grow to more than 1,000 columns.
+/// It is refused as by `grid`. Then `BadColumn` comes exactly where there are no columns, or fewer
+/// than the number. Next is `Ragged` with the first row in which a position left of the column is
+/// covered by no cell. Last is `SpanFull` with the position of the first cell that would grow to
+/// more than 1,000 columns.
 pub fn col_in(
     alloc: Global,
     doc: Doc<'_>,
@@ -227,9 +240,11 @@ pub fn col_in(
 ) -> Result<Transaction, TableFault>
     requires doc { IsDoc doc }
     requires cites { All (CitesWell doc.store.now) doc.list.now.items }
-    ensures means { IfOk result (λ tx. model.col_in (page_items doc.entry) at column ≡ Ok (by_value doc.entry.store.now tx)) }
+    ensures means { IfOk result (λ tx.
+        model.col_in (page_items doc.entry) at column ≡ Ok (by_value doc.entry.store.now tx)) }
     ensures cites { IfOk result (TxCites doc.entry.store.now) }
-    ensures refused { IfErr result (IsTableRefusal (model.col_in (page_items doc.entry) at column)) }
+    ensures refused { IfErr result (
+        IsTableRefusal (model.col_in (page_items doc.entry) at column)) }
 {
     let table = laid_table(alloc, doc, at)?;
     let Ok(refused) = col_in_fault(alloc, &table.grid, column) else {
@@ -244,10 +259,11 @@ pub fn col_in(
     }
 }
 
-/// The change that takes the column of a number out of the table that opens at a place. A cell of more columns that covers
-/// it loses one column.
+/// The change that takes the column of a number out of the table that opens at a position. A cell
+/// of more columns that covers it loses one column.
 ///
-/// It is refused as by `grid`; then `BadColumn` comes exactly where the number isn't below that of the columns.
+/// It is refused as by `grid`; then `BadColumn` comes exactly where the number isn't below that of
+/// the columns.
 pub fn col_out(
     alloc: Global,
     doc: Doc<'_>,
@@ -256,9 +272,11 @@ pub fn col_out(
 ) -> Result<Transaction, TableFault>
     requires doc { IsDoc doc }
     requires cites { All (CitesWell doc.store.now) doc.list.now.items }
-    ensures means { IfOk result (λ tx. model.col_out (page_items doc.entry) at column ≡ Ok (by_value doc.entry.store.now tx)) }
+    ensures means { IfOk result (λ tx.
+        model.col_out (page_items doc.entry) at column ≡ Ok (by_value doc.entry.store.now tx)) }
     ensures cites { IfOk result (TxCites doc.entry.store.now) }
-    ensures refused { IfErr result (IsTableRefusal (model.col_out (page_items doc.entry) at column)) }
+    ensures refused { IfErr result (
+        IsTableRefusal (model.col_out (page_items doc.entry) at column)) }
 {
     let table = laid_table(alloc, doc, at)?;
     if let Some(fault) = col_out_fault(&table.grid, column) {

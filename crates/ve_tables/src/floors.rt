@@ -33,7 +33,8 @@ pub fn are_free(floors: &[usize], row: usize, from: usize, to: usize) -> bool
     true
 }
 
-/// Sets how far down the columns of a range are covered; the range begins within the columns or just after them.
+/// Sets how far down the columns of a range are covered; the range begins within the columns or
+/// just after them.
 pub fn set_floors(
     floors: &mut Vec<usize>,
     from: usize,

@@ -88,7 +88,8 @@ fn put_cells(items: &mut Items, taken: &[bool]) -> Result<(), Memory>
 
 /// A row with a new cell in each column in which no cell of the grid spans into it.
 pub fn new_row(alloc: Global, grid: &Grid, row: usize) -> Result<Items, Memory>
-    ensures means { IfOk result (λ items. (values : _) → plain_list values items ≡ model.new_row grid.now row) }
+    ensures means { IfOk result (λ items.
+        (values : _) → plain_list values items ≡ model.new_row grid.now row) }
     ensures cites { IfOk result (λ items. (values : _) → All (CitesWell values) items) }
 {
     let taken = taken_columns(alloc, grid, row)?;

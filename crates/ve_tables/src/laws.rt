@@ -1,7 +1,7 @@
 // Laws of cells that are placed.
 ghost use Rattle.ve_tables.specs.Placed.{NextIsPlaced};
 
-/// The next cell is the one that the model places after those before it in its row.
+/// The next cell is the one that the model positions after those before it in its row.
 pub fn next_is_placed()
     ensures { NextIsPlaced }
 {}

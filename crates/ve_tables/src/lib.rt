@@ -1,17 +1,21 @@
-//! The grid of a table of a page, and rows and columns put in and taken out, as transactions: `grid` gives the model's grid,
-//! `row_in`, `row_out`, `col_in` and `col_out` the model's transactions, or the model's refusals.
+//! The grid of a table of a page, and rows and columns put in and taken out, as transactions.
+//! `grid` gives the model's grid; `row_in`, `row_out`, `col_in` and `col_out` give the model's
+//! transactions, or the model's refusals. Nothing is written, and no other builder is known.
 //!
-//! The rows of a table's sections and the cells of its rows are found by the tree, a look-up for each node just inside the
-//! table, its sections and its rows. The spans of a cell are read once from its attributes (`span_of`). `Placing` lays the cells
-//! out row by row, each at the least column that isn't left of the cell before it and isn't covered from above. For each column
-//! it keeps down to which row it is covered. A change goes once over the cells, in the order of their places. Nothing is
-//! written, and no other builder is known.
+//! The rows of a table's sections and the cells of its rows are found by the tree, a look-up for
+//! each node just inside the table, its sections and its rows. The spans of a cell are read once
+//! from its attributes (`span_of`). `Placing` lays the cells out row by row, each at the least
+//! column that isn't left of the cell before it and isn't covered from above. For each column it
+//! keeps down to which row it is covered. A change goes once over the cells, in the order of the
+//! list.
 //!
-//! Definitions, in reading order: `Placed` (the cells placed so far, and the next one), `Refused` (how a table is refused), and
-//! for private functions `Floors` (what the columns' lowest covered rows have to do with the cells), `Rows` (nodes just inside
-//! another), `CellQuestions` (what is asked of cells, and the causes that refuse), `Covered` (which places cells cover), `Fresh`
-//! (the new cells of a row) and `PartWay` (how far the edits are collected). What a grid is, and a change of it, stands in
-//! `model_edit`'s `Grid` and `Tables`. Law: the next cell is the model's (`next_is_placed`).
+//! Definitions, in reading order: `Placed` (the cells placed so far, and the next one), `Refused`
+//! (how a table is refused). The others serve private functions: `Floors` (the columns' lowest
+//! covered rows beside the cells), `Rows` (nodes just inside another), `CellQuestions` (tests of
+//! cells, and the causes that refuse), `Covered` (which positions cells cover), `Fresh` (the new
+//! cells of a row) and `PartWay` (how far the edits are collected). A grid, and a change of it, are
+//! defined in `model_edit`'s `Grid` and `Tables`. Law: the next cell is the model's
+//! (`next_is_placed`).
 #![tactic(auto)]
 
 mod cell_questions;

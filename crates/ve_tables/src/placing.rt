@@ -39,7 +39,9 @@ fn put(cells: &mut GridCells, floors: &mut Vec<usize>, cell: GridCell) -> Result
     requires end { cell.column + cell.columns < 2 ^ 64 }
     requires floor { cell.row + cell.rows < 2 ^ 64 }
     ensures cells { OnOk result (cells.new ≡ cells.old ++ cell ∷ []) }
-    ensures floors { OnOk result (AreSet floors.old.items cell.column (cell.column + cell.columns) (cell.row + cell.rows) floors.new.items) }
+    ensures floors { OnOk result (
+        AreSet floors.old.items cell.column (cell.column + cell.columns) (cell.row + cell.rows)
+        floors.new.items) }
 {
     let end = cell.column + cell.columns;
     set_floors(floors, cell.column, end, cell.row + cell.rows)?;
@@ -74,8 +76,8 @@ impl Placing {
         }
     }
 
-    /// Places a cell with its spans after those before it. `Crooked` comes exactly where it would cover a place that is
-    /// covered, or pass the last row of its section.
+    /// Positions a cell with its spans after those before it. `Crooked` comes exactly where it
+    /// would cover a position that is covered, or pass the last row of its section.
     pub fn with_cell(self, at: usize, rows: usize, columns: usize) -> Result<Placing, TableFault>
         requires row { self.row < 2 ^ 62 }
         requires rows { 1 ≤ rows }
@@ -115,7 +117,8 @@ impl Placing {
 
     /// The grid of so many rows with these cells. It takes no memory.
     pub fn finish(self, rows: usize) -> Grid
-        ensures { result ≡ record { rows = rows; columns = right_end self.cells; cells = self.cells } }
+        ensures { result
+            ≡ record { rows = rows; columns = right_end self.cells; cells = self.cells } }
     {
         let columns = self.floors.len();
         Grid::of(rows, columns, self.cells)

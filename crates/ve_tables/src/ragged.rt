@@ -1,4 +1,4 @@
-// Whether each place left of a column is covered.
+// Whether each position left of a column is covered.
 ghost use Rattle.std.specs.Prelude.{◌≡◌, ◌≤◌, ◌<◌, ◌+◌, ◌^◌, nat_le, length, take, drop, IfOk};
 ghost use Rattle.std.specs.List.{list_any};
 ghost use Rattle.ve_tables.specs.CellQuestions.{IsFirstRagged};
@@ -24,8 +24,8 @@ fn lower(floors: &mut Vec<usize>, cell: GridCell)
     }
 }
 
-/// Lowers the floors for the cells from one on that begin in a row or above it, and gives the number of the first one
-/// that begins below.
+/// Lowers the floors for the cells from one on that begin in a row or above it, and gives the
+/// number of the first one that begins below.
 fn lower_for(
     floors: &mut Vec<usize>,
     cells: &[GridCell],
@@ -56,7 +56,7 @@ fn has_gap(floors: &[usize], row: usize) -> bool
     floors.iter().any(|floor| *floor <= row)
 }
 
-/// The first row of the grid in which a place left of a column is covered by no cell.
+/// The first row of the grid in which a position left of a column is covered by no cell.
 pub fn first_ragged(alloc: Global, grid: &Grid, column: usize) -> Result<Option<usize>, Memory>
     requires rows { AreInRows 0 grid.now.rows grid.now.cells }
     ensures { IfOk result (IsFirstRagged column grid.now) }

@@ -2,7 +2,7 @@
 ghost use Rattle.std.specs.Prelude.{◌≡◌, ◌||◌, ◌==◌, nat_lt, IfOk};
 ghost use Rattle.model_edit.specs.Causes.{SpanFull};
 ghost use Rattle.model_edit.specs.Tables.{at_first};
-ghost use Rattle.ve_tables.specs.CellQuestions.{asked, refusal, row_in_causes, row_out_causes, col_in_causes, col_out_causes};
+ghost use Rattle.ve_tables.specs.CellQuestions.{cell_answer, refusal, row_in_causes, row_out_causes, col_in_causes, col_out_causes};
 ghost use Rattle.ve_tables.specs.Covered.{AreInRows};
 
 use crate::Grid;
@@ -24,7 +24,7 @@ fn is_past(number: usize, count: usize) -> bool
 
 /// The refusal that names the first cell of which the answer is yes.
 fn full_fault(cells: &[GridCell], question: CellQuestion) -> Option<TableFault>
-    ensures { result ≡ refusal (at_first (asked question) cells.now (λ at. SpanFull at)) }
+    ensures { result ≡ refusal (at_first (cell_answer question) cells.now (λ at. SpanFull at)) }
 {
     let at = first_cell(cells, question)?;
     Some(TableFault::SpanFull { at })

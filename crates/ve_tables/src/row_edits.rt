@@ -6,7 +6,7 @@ ghost use Rattle.model_edit.specs.Tables as model;
 ghost use Rattle.ve_offsets.specs.Docs.{IsDoc, page_items};
 ghost use Rattle.ve_tx.specs.Cites.{TxCites};
 ghost use Rattle.ve_tx.specs.Operation.{by_value};
-ghost use Rattle.ve_tables.specs.CellQuestions.{asked};
+ghost use Rattle.ve_tables.specs.CellQuestions.{cell_answer};
 ghost use Rattle.ve_tables.specs.declared.cell_questions.CellQuestion.TheVariants.{IsFullAtRow};
 ghost use Rattle.ve_tables.specs.PartWay.{AreNone, MakesEdits, MayMake, row_put, row_taken};
 ghost use Rattle.ve_tables.specs.Refused.{IsTableRefusal};
@@ -50,7 +50,7 @@ fn put_row(
     requires some { 0 < length table.now.rows }
     requires within { All (λ row. row.at < length doc.list.now.items) table.now.rows }
     requires order { MayMake doc (row_put table.now row) }
-    requires room { AreNone (asked (IsFullAtRow row)) table.now.grid.cells }
+    requires room { AreNone (cell_answer (IsFullAtRow row)) table.now.grid.cells }
     ensures means { IfOk result (MakesEdits doc.entry (row_put table.now row)) }
     ensures cites { IfOk result (TxCites doc.entry.store.now) }
 {
@@ -98,17 +98,19 @@ fn take_row(
     Ok(tx)
 }
 
-/// The change that puts a row into the table that opens at a place: before the row of this number, in its section, or
-/// after the last row where it is the number of rows. The cells that span into the row grow by one row, and in each other
-/// column the row has a new cell with an empty paragraph.
+/// The transaction that puts a row into the table that opens at a position. It goes before the row
+/// of this number, in its section, or after the last row where it is the number of rows. The cells
+/// that span into the row grow by one row. In each other column the row has a new cell with an
+/// empty paragraph.
 ///
-/// It is refused as by `grid`; then `BadRow` comes exactly where there are no rows, or fewer than the number; then
-/// `TooWide` exactly where there are over 1,000 columns; then `SpanFull` with the place of the first cell that would grow
-/// to more than 65,534 rows.
+/// It is refused as by `grid`. Then `BadRow` comes exactly where there are no rows, or fewer than
+/// the number, and next `TooWide` exactly where there are over 1,000 columns. Last is `SpanFull`
+/// with the position of the first cell that would grow to more than 65,534 rows.
 pub fn row_in(alloc: Global, doc: Doc<'_>, at: usize, row: usize) -> Result<Transaction, TableFault>
     requires doc { IsDoc doc }
     requires cites { All (CitesWell doc.store.now) doc.list.now.items }
-    ensures means { IfOk result (λ tx. model.row_in (page_items doc.entry) at row ≡ Ok (by_value doc.entry.store.now tx)) }
+    ensures means { IfOk result (λ tx.
+        model.row_in (page_items doc.entry) at row ≡ Ok (by_value doc.entry.store.now tx)) }
     ensures cites { IfOk result (TxCites doc.entry.store.now) }
     ensures refused { IfErr result (IsTableRefusal (model.row_in (page_items doc.entry) at row)) }
 {
@@ -122,11 +124,12 @@ pub fn row_in(alloc: Global, doc: Doc<'_>, at: usize, row: usize) -> Result<Tran
     }
 }
 
-/// The change that takes the row of a number out of the table that opens at a place. The cells that span into it from
-/// above lose one row.
+/// The change that takes the row of a number out of the table that opens at a position. The cells
+/// that span into it from above lose one row.
 ///
-/// It is refused as by `grid`; then `BadRow` comes exactly where the number isn't below that of the rows; then `Spanned` with the
-/// place of the first cell that begins in the row and covers more rows.
+/// It is refused as by `grid`. Then `BadRow` comes exactly where the number isn't below that of the
+/// rows. Last is `Spanned` with the position of the first cell that begins in the row and covers
+/// more rows.
 pub fn row_out(
     alloc: Global,
     doc: Doc<'_>,
@@ -135,7 +138,8 @@ pub fn row_out(
 ) -> Result<Transaction, TableFault>
     requires doc { IsDoc doc }
     requires cites { All (CitesWell doc.store.now) doc.list.now.items }
-    ensures means { IfOk result (λ tx. model.row_out (page_items doc.entry) at row ≡ Ok (by_value doc.entry.store.now tx)) }
+    ensures means { IfOk result (λ tx.
+        model.row_out (page_items doc.entry) at row ≡ Ok (by_value doc.entry.store.now tx)) }
     ensures cites { IfOk result (TxCites doc.entry.store.now) }
     ensures refused { IfErr result (IsTableRefusal (model.row_out (page_items doc.entry) at row)) }
 {

@@ -10,7 +10,7 @@ use ve_base::{ListOf, Memory};
 use ve_kinds::Kind;
 use ve_offsets::Doc;
 
-/// A row: the place of its opening, and how many rows its section has from it on.
+/// A row: the position of its opening, and how many rows its section has from it on.
 #[derive(Clone, Copy)]
 pub struct TableRow {
     pub at: usize,
@@ -30,7 +30,7 @@ fn push_rows(rows: &mut ListOf<TableRow>, places: &[usize]) -> Result<(), Memory
     Ok(())
 }
 
-/// The rows of the table that opens at a place, section by section.
+/// The rows of the table that opens at a position, section by section.
 pub fn table_rows(alloc: Global, doc: Doc<'_>, at: usize) -> Result<ListOf<TableRow>, Memory>
     requires { IsDoc doc }
     ensures { IfOk result (λ rows. map row_of rows ≡ model.table_rows (page_items doc.entry) at) }

@@ -7,7 +7,8 @@ ghost use Rattle.model_edit.specs.Grid.{number_after, span_by, span_in};
 
 use ve_base::Attr;
 
-/// The number that digits spell, which may begin with 0; 1 where it is over `most`, or another character stands among them.
+/// The number that digits stand for, which may begin with 0; 1 where it is over `most`, or another
+/// character stands among them.
 fn number_of(text: &str, most: usize) -> usize
     requires { most ≤ max_row_span }
     ensures { result ≡ span_by most (number_after 0 (chars text.now)) }
@@ -25,7 +26,8 @@ fn number_of(text: &str, most: usize) -> usize
     number
 }
 
-/// The span that a text spells: a number without a leading zero, up to `most`; any other text is 1.
+/// The span that a text stands for: a number without a leading zero, up to `most`; any other text
+/// is 1.
 fn spelled_span(text: &str, most: usize) -> usize
     requires { most ≤ max_row_span }
     ensures { result ≡ span_in most (Some (chars text.now)) }
@@ -37,8 +39,8 @@ fn spelled_span(text: &str, most: usize) -> usize
     }
 }
 
-/// The span that the attribute of a name spells: a number from 1 to `most`, 1 where there is no such attribute, or where
-/// its text is no such number without a leading zero.
+/// The span that the attribute of a name gives: a number from 1 to `most`. It is 1 where there is
+/// no such attribute, or where its text is no such number without a leading zero.
 pub fn span_of(attrs: &[Attr], name: &str, most: usize) -> usize
     requires some { 1 ≤ most }
     requires few { most ≤ max_row_span }

@@ -20,7 +20,7 @@ fn digits(alloc: Global, number: usize) -> Result<Text, Memory>
     Ok(Text::from_string(spelled))
 }
 
-/// Sets a span of the cell at a place to a number. Edits come in the order of their places.
+/// Sets a span of the cell at a position to a number. Edits come in the order of their positions.
 pub fn set_span(
     alloc: Global,
     doc: Doc<'_>,
@@ -32,14 +32,16 @@ pub fn set_span(
     requires order { edits.old.at ≤ at }
     requires within { at < length doc.list.now.items }
     requires cites { All (CitesWell doc.store.now) doc.list.now.items }
-    ensures { OnOk result (CollectsIn doc.entry (Set at (chars name.now) (Some (decimal span)) ∷ []) edits.old edits.new) }
+    ensures { OnOk result (
+        CollectsIn doc.entry (Set at (chars name.now) (Some (decimal span)) ∷ []) edits.old
+        edits.new) }
 {
     let text = digits(alloc, span)?;
     edits.set(doc.list, doc.store, at, name, text)?;
     Ok(())
 }
 
-/// Just past where the node ends that begins at a place.
+/// Just past where the node ends that begins at a position.
 pub fn node_end(doc: Doc<'_>, at: usize) -> usize
     requires doc { IsDoc doc }
     requires within { at < length doc.list.now.items }

@@ -19,7 +19,7 @@ use ve_items::Item;
 use ve_kinds::Kind;
 use ve_offsets::Doc;
 
-/// Whether a table opens at a place.
+/// Whether a table opens at a position.
 fn opens_table(doc: Doc<'_>, at: usize) -> bool
     ensures { result ≡ passes (is_opening_of Table) (slice_get (page_items doc.entry) at) }
 {
@@ -35,13 +35,15 @@ fn opens_table(doc: Doc<'_>, at: usize) -> bool
     }
 }
 
-/// Places the cells of all rows.
+/// Positions the cells of all rows.
 fn place_rows(alloc: Global, doc: Doc<'_>, rows: &[TableRow]) -> Result<Placing, TableFault>
     requires doc { IsDoc doc }
     requires cites { All (CitesWell doc.store.now) doc.list.now.items }
     requires few { length rows.now < 2 ^ 62 }
-    ensures means { IfOk result (λ placed. rows_after (page_items doc.entry) 0 rows.now [] ≡ Ok placed.cells) }
-    ensures refused { IfErr result (IsTableRefusal (rows_after (page_items doc.entry) 0 rows.now [])) }
+    ensures means { IfOk result (λ placed.
+        rows_after (page_items doc.entry) 0 rows.now [] ≡ Ok placed.cells) }
+    ensures refused { IfErr result (
+        IsTableRefusal (rows_after (page_items doc.entry) 0 rows.now [])) }
 {
     let mut placing = Placing::new(alloc);
     for i in 0..rows.len() {
@@ -57,12 +59,13 @@ pub struct LaidTable {
     pub grid: Grid,
 }
 
-/// The table that opens at a place, with its grid.
+/// The table that opens at a position, with its grid.
 pub fn laid_table(alloc: Global, doc: Doc<'_>, at: usize) -> Result<LaidTable, TableFault>
     requires doc { IsDoc doc }
     requires cites { All (CitesWell doc.store.now) doc.list.now.items }
     ensures means { IfOk result (λ table. model.grid (page_items doc.entry) at ≡ Ok table.grid) }
-    ensures rows { IfOk result (λ table. map row_of table.rows ≡ model.table_rows (page_items doc.entry) at) }
+    ensures rows { IfOk result (λ table.
+        map row_of table.rows ≡ model.table_rows (page_items doc.entry) at) }
     ensures refused { IfErr result (IsTableRefusal (model.grid (page_items doc.entry) at)) }
 {
     if !opens_table(doc, at) {
@@ -77,8 +80,9 @@ pub fn laid_table(alloc: Global, doc: Doc<'_>, at: usize) -> Result<LaidTable, T
     Ok(LaidTable { rows, grid })
 }
 
-/// The grid of the table that opens at a place. `NotTable` comes exactly where no table opens there, and `Crooked` with
-/// the place of the first cell that would cover a place which another covers, or pass the last row of its section.
+/// The grid of the table that opens at a position. `NotTable` comes exactly where no table opens
+/// there. `Crooked` comes with the position of the first cell that would cover a position which
+/// another covers, or pass the last row of its section.
 pub fn grid(alloc: Global, doc: Doc<'_>, at: usize) -> Result<Grid, TableFault>
     requires doc { IsDoc doc }
     requires cites { All (CitesWell doc.store.now) doc.list.now.items }

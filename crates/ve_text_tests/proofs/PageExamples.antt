@@ -1,4 +1,5 @@
--- Pages on which a wrong body of the reader would answer otherwise: their first fault, by computation.
+-- Pages on which a wrong body of the reader would answer otherwise: their first fault, by
+-- computation.
 use Rattle.std.proofs.Common.{◌≡◌, Some, None, refl}
 use Rattle.std.specs.Prelude.{codes}
 use Rattle.model_spelling.specs.declared.scan_fault.ScanWhat.TheVariants.{UnclosedComment}
@@ -8,7 +9,8 @@ use Rattle.model_spelling.specs.Reading.{fault, reference_fault, run_end, verbat
 use Rattle.model_spelling.specs.Tokens.{tokens_from}
 use Rattle.model_spelling.specs.Faults.{Scan, Unclosed, fault_of}
 
--- where a closed element stayed the innermost, or the first node counted as the innermost, a tag here would be mismatched
+-- where a closed element stayed the innermost, or the first node counted as the innermost, a tag
+-- here would be mismatched
 each_tag_closes_the_innermost_element : fault_of (codes "<p><b></b></p>") ≡ None
 unfolding fault_of tokens_from token_at between_at tag_at start_at markup_at dash_at is_doctype comment_at end_at start_after attrs_at attr_at head_at verbatim_end run_end reference_fault starts_reference is_letter is_plaintext name_same is_barred begins_with is_void is_raw
 each_tag_closes_the_innermost_element = refl

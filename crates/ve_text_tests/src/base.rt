@@ -1,5 +1,6 @@
-// What neither a clause nor a script says: that what the fakes hold is copied where there is memory, that a sink which never fails
-// writes no more than it says, how large a count is, and what errors print.
+// Facts that neither a clause nor a script says. What the fakes hold is copied where there is
+// memory, and a sink which never fails writes no more than it says. Also how large a count is, and
+// what errors print.
 use std::alloc::Global;
 use std::fmt::Display;
 use std::marker::Brand;

@@ -3,13 +3,15 @@ use std::alloc::Global;
 use std::test::Fail;
 use ve_html_tree::{Forest, read};
 
-/// A node as numbers: the bytes of the whole node, those of its content, and the number past its subtree.
+/// A node as numbers: the bytes of the whole node, those of its content, and the number past its
+/// subtree.
 type Places = (usize, usize, usize, usize, usize);
 
 const PAGE: &str = "<p id=\"x\">a<br/></p><style>x</style><!--c-->";
 
-// The two fragments that WHATWG HTML gives as what its algorithm for serializing writes. An HTML parser would not read
-// these trees from them, since it moves and joins elements; here each element is where its tags are.
+// The two fragments that WHATWG HTML gives as what its algorithm for serializing writes. An HTML
+// parser would not read these trees from them, since it moves and joins elements; here each element
+// is where its tags are.
 const FORMS: &str =
     "<html><head></head><body><form id=\"outer\"><div><form id=\"inner\"><input></form></div></form></body></html>";
 

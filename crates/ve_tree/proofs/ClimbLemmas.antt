@@ -1,4 +1,4 @@
--- What the links of a node tell of its place in the list.
+-- The position of a node in the list, as its links tell it.
 use Rattle.std.proofs.Common.{◌≡◌, ◌≢◌, ◌≤◌, ◌<◌, ◌+◌, ◌-◌, ◌⊎◌, inl, inr, ℕ, zero, suc, true, false, Option, Some, None, IsSome, List, [], ◌∷◌, ◌++◌, length, get_or, option_map, refl, sym, ap, ◌∙◌, subst, arith, Contains}
 use Rattle.std.proofs.lemmas.List.Elements.{Contains-append_left, Contains-append_right, Contains-append_cases}
 use Rattle.model_items.specs.declared.plain_item.PlainItem.{PlainItem}
@@ -22,14 +22,14 @@ contains_cases {X} y x xs p = by_index p.0 p.1 p.2
     by_index zero within found = inl found
     by_index (suc k) within found = inr (k, omega (arith, within), found)
 
--- What the arena has of a node that stands at a place, in a forest under p with this before it: it is the first there, or it stands
--- after a node of the forest, or it is the first inside one.
+-- The arena's record of a node that stands at a position, in a forest under p with this before it.
+-- The node is the first there, or stands after a node of the forest, or is the first inside one.
 data Above (slots : Slots) (all : List NodePlace) (p at : ℕ) (start : Option ℕ) (y : NodePlace) : Type 0 where
   AtFirst : (links_of slots).before y.number ≡ start → y.from ≡ at → y.parent ≡ Some p → Above slots all p at start y
   Following : (z : NodePlace) → Contains all z → (links_of slots).before y.number ≡ Some z.number → z.to ≡ y.from → Above slots all p at start y
   Within : (z : NodePlace) → Contains all z → (links_of slots).before y.number ≡ None → y.parent ≡ Some z.number → y.from ≡ suc z.from → Above slots all p at start y
 
--- a node of the arena at a place
+-- a node of the arena at a position
 pub record IsPlaced (slots : Slots) (y : NodePlace) : Type 0 where
   pub sort_is : option_map (λ node. node.what) (slot_at slots y.number) ≡ Some y.sort
   pub parent_is : (links_of slots).parent y.number ≡ y.parent
@@ -161,7 +161,7 @@ tree_listed {slots = slots} {root = root} {items = items} tree y c =
           }
     ]
 
--- what the node under a number tells of a place with that number
+-- what the node under a number tells of a position with that number
 pub sort_under : {slots : Slots} {root : NodeId} {items : List PlainItem} (tree : IsTree slots root items) (y : NodePlace) (n : NodeId) (node : ArenaNode) →
     Contains (tree_places tree) y → y.number ≡ n.0 → slot_at slots n.0 ≡ Some node → y.sort ≡ node.what
 sort_under {slots = slots} tree y n node c number here =
@@ -331,7 +331,8 @@ listed_live {slots = slots} tree y n c number = subst (λ m. IsSome (slot_at slo
     by_slot None h = absurd (cc)
     by_slot (Some node) h = refl
 
--- A walk to the left and up from x: it is at the node under a number, and `left` of the list's items are left when those before x are passed.
+-- A walk to the left and up from x. It is at the node under a number, and `left` of the list's
+-- items are left when those before x are passed.
 pub record Left {slots : Slots} {root : NodeId} {items : List PlainItem} (tree : IsTree slots root items) (x : NodePlace) (at all left : ℕ) : Type 0 where
   pub climb : Climb tree x at (all - left)
   pub within : left ≤ all

@@ -9,7 +9,7 @@ use Rattle.ve_tree.specs.Landmarks.{IsCut, EndBefore, Stay, IsClosedUp}
 use Rattle.ve_tree.proofs.LandmarkLemmas.{sum_cons, sum_after, sum_before}
 use Rattle.ve_tree.proofs.ShiftLemmas.{sum_grown, sums_rise, sum_at}
 
--- the lengths before the one that holds the place before end before it
+-- the lengths before the one that holds the position before end before it
 pub ends_found : (lens : List ℕ) (place k past : ℕ) → 0 < place → Finds lens (place - 1) k past → EndBefore lens place k
 ends_found lens place k past some f = record {
   among = omega (arith, f.among);
@@ -30,7 +30,7 @@ drop_sum (x ∷ xs) (suc high) j le =
     let all : sum (take (j + suc high) (x ∷ xs)) ≡ x + sum (take (j + high) xs) = ap (λ i. sum (take i (x ∷ xs))) next ∙ sum_cons x (take (j + high) xs) in
     omega (arith, rest, before, all)
 
--- what lies before a place once some lengths before it are taken out
+-- what lies before a position once some lengths before it are taken out
 cut_sum : (xs : List ℕ) (low high j : ℕ) → low ≤ high → high ≤ length xs → low ≤ j → sum (take j (take low xs ++ drop high xs)) + sum (take high xs) ≡ sum (take low xs) + sum (take (j + (high - low)) xs)
 cut_sum xs zero high j order le after =
     let same : j + (high - 0) ≡ j + high = omega arith in

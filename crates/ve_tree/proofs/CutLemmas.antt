@@ -1,4 +1,5 @@
--- Landmarks where children of a node give way to others: those in them go, and those behind them move.
+-- Landmarks where children of a node give way to others: those in them go, and those behind them
+-- move.
 use Rattle.std.proofs.Common.{◌≡◌, ◌+◌, ℕ, suc, Some, List, ◌∷◌, ◌++◌, sym, ap, ◌∙◌, append_assoc, arith}
 use Rattle.model_items.specs.Tree.{item_count}
 use Rattle.ve_arena.specs.declared.node.NodeWhat.TheVariants as what

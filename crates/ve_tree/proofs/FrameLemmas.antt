@@ -1,4 +1,5 @@
--- What stands round a row of a forest: the nodes round it, from the inside out, and their siblings.
+-- The surroundings of a row of a forest: the nodes round it, from the inside out, and their
+-- siblings.
 use Rattle.std.proofs.Common.{◌≡◌, ◌+◌, ℕ, List, [], ◌∷◌, ◌++◌, subst}
 use Rattle.ve_kinds.specs.declared.kind.Kind.TheVariants.{Root}
 use Rattle.model_items.specs.Tree.{item_count}

@@ -1,4 +1,5 @@
--- The nodes of `<p>ab</p>` and its internal list, as `build` makes them: the root 0, the internal list 1, the paragraph 2, its text 3.
+-- The nodes of `<p>ab</p>` and its internal list, as `build` makes them: the root 0, the internal
+-- list 1, the paragraph 2, its text 3.
 use Rattle.std.proofs.Common.{◌≡◌, ℕ, zero, suc, false, Option, Some, None, List, [], ◌∷◌, take, drop, refl, arith}
 use Rattle.ve_kinds.specs.declared.kind.Kind.TheVariants.{Root, P, InternalList}
 use Rattle.model_items.specs.declared.item.Item.{Item}
@@ -76,6 +77,6 @@ in_the_internal_list = refl
 no_node : kids_of 0 nodes 7 ≡ []
 no_node = refl
 
--- where five items are still to be read, the list's opening may be lent
+-- where five items are still to be read, the list's opening may be borrowed
 ends_with_the_opening : IsEndPiece page 5 (drop 4 (take 5 page))
 ends_with_the_opening = record { within = omega arith; some = λ l. omega arith; piece = refl }

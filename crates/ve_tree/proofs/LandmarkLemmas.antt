@@ -49,7 +49,7 @@ last_one row o n some long is le =
 pub sum_cons : (x : ℕ) (xs : List ℕ) → sum (x ∷ xs) ≡ x + sum xs
 sum_cons x xs = let parts = sum_by-append (λ y. y) (x ∷ []) xs in omega (arith, parts)
 
--- what lies before a place once a length is less
+-- what lies before a position once a length is less
 pub sum_after : (xs : List ℕ) (k j by : ℕ) → k < j → k < length xs → by ≤ get_or xs k 0 → sum (take j (slice_set xs k (get_or xs k 0 - by))) + by ≡ sum (take j xs)
 sum_after [] k j by after within le = absurd (omega (arith, within))
 sum_after (x ∷ xs) k zero by after within le = absurd (omega (arith, after))
@@ -83,7 +83,7 @@ not_shortened xs k by out = record {
   after = λ j after among. absurd (omega (arith, out, among));
 }
 
--- what lies before a place once a length is put in
+-- what lies before a position once a length is put in
 sum_put_in : (xs : List ℕ) (k j x : ℕ) → k ≤ j → k ≤ length xs → sum (take (suc j) (insert xs k x)) ≡ sum (take j xs) + x
 sum_put_in xs zero j x le within = let now : sum (take (suc j) (insert xs 0 x)) ≡ x + sum (take j xs) = sum_cons x (take j xs) in omega (arith, now)
 sum_put_in [] (suc k) j x le within = absurd (omega (arith, within))

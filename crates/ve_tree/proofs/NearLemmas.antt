@@ -1,4 +1,5 @@
--- From a node whose place is known to the walk that goes down to an offset, and to the node that follows.
+-- From a node whose position is known to the walk that goes down to an offset, and to the node that
+-- follows.
 use Rattle.std.proofs.Common.{◌≡◌, ◌≢◌, ◌≤◌, ◌<◌, ◌+◌, ◌-◌, inl, inr, ℕ, suc, if◌then◌else◌, nat_le, Option, Some, None, List, [], ◌∷◌, ◌++◌, length, option_map, refl, sym, ap, ◌∙◌, subst, arith, Contains}
 use Rattle.std.proofs.lemmas.Bool.{le-leb, lt-leb}
 use Rattle.std.proofs.lemmas.List.Elements.{Contains-append_left, Contains-append_right, Contains-append_cases}
@@ -21,7 +22,8 @@ use Rattle.ve_tree.proofs.ClimbLemmas.{contains_cases, len_under, parent_under}
 use Rattle.ve_tree.specs.Way.{BeginsBefore, EndsBefore}
 use Rattle.ve_tree.proofs.WalkLemmas.{Slots, NoEmptyRun, contains-here, contains-later, tree-runs, all_items, Walk, walk_skip, walk_end, walk_none}
 
--- The walk to an offset has come to a forest in the node `inner`, which begins at `at`, `left` items before the offset.
+-- The walk to an offset has come to a forest in the node `inner`, which begins at `at`, `left`
+-- items before the offset.
 record On {slots : Slots} {root : NodeId} {items : List PlainItem} (tree : IsTree slots root items) (o inner at left : ℕ) (f : Named) : Type 0 where
   place : NodeExtent
   parent : Option ℕ
@@ -111,7 +113,8 @@ into_branch tree o inner at left h kind inside later w lt some =
       end = omega arith;
     }
 
--- The walk to an offset comes by each node that begins at or before the offset, and ends at the offset or after it.
+-- The walk to an offset comes by each node that begins at or before the offset, and ends at the
+-- offset or after it.
 pub record Passes {slots : Slots} {root : NodeId} {items : List PlainItem} (tree : IsTree slots root items) (o : ℕ) (y : NodePlace) (child : NodeId) : Type 0 where
   pub inner : ℕ
   pub parent_is : y.parent ≡ Some inner
@@ -149,7 +152,7 @@ comes tree o inner at left h f y child w first number from parent is_child e =
       });
     }
 
--- the places of a forest lie between its ends
+-- the positions of a forest lie between its ends
 pub record Lies (at end : ℕ) (y : NodePlace) : Type 0 where
   pub after_start : at ≤ y.from
   pub in_order : y.from ≤ y.to
@@ -217,7 +220,8 @@ passes {root = root} tree o y child c is_child from to =
     let l = lies tree.named root.0 0 y c in
     passes_on tree o root.0 0 o tree.named y child (on_start tree o (omega (arith, to, l.before_end, all_items tree))) c is_child (omega arith) from to
 
--- What follows a node of a forest under p: it is the last there, or a node follows it, or it is the last inside one.
+-- The node that follows one of a forest under p. The latter is the last there, or a node follows
+-- it, or it is the last inside one.
 data Follows (slots : Slots) (all : List NodePlace) (p end : ℕ) (y : NodePlace) : Type 0 where
   AtLast : (links_of slots).after y.number ≡ None → y.to ≡ end → y.parent ≡ Some p → Follows slots all p end y
   Ahead : (z : NodePlace) → Contains all z → (links_of slots).after y.number ≡ Some z.number → z.from ≡ y.to → Follows slots all p end y
@@ -287,7 +291,7 @@ follows {slots = slots} {root = root} {items = items} tree y c =
     let e : 0 + item_count (unnumbered tree.named) ≡ length items = omega (arith, ap item_count tree.is_tree, count_all items tree.lawful) in
     subst (λ end. Follows slots (node_places root.0 0 tree.named) root.0 end y) e (follows_in slots tree.named root.0 0 None y tree.root_shown.children.row tree.shown c)
 
--- a node is not the root, unless it is the first of all places
+-- a node is not the root, unless it is the first of all positions
 pub under_root : {slots : Slots} {root : NodeId} {items : List PlainItem} (tree : IsTree slots root items) (y : NodePlace) → Contains (tree_places tree) y → y.number ≢ root.0 →
     Contains (node_places root.0 0 tree.named) y
 under_root {root = root} tree y c other =

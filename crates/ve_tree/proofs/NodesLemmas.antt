@@ -139,7 +139,7 @@ nodes_are_in_tree slots root n items tree live =
     not_live None l e = absurd (cc)
     not_live (Some node) l e = cc
 
--- the same of the link of a node that was lent
+-- the same of the link of a node that was borrowed
 pub link_live : (slots : Slots) (link : ArenaNode → Option NodeId) (n m : NodeId) (node : ArenaNode) → slot_at slots n.0 ≡ Some node →
     LeadsToNode slots (link_in link (slot_at slots n.0)) → link node ≡ Some m → IsSome (slot_at slots m.0)
 link_live slots link n m node here lead is = subst (LeadsToNode slots) (ap (link_in link) here ∙ ap (option_map number_of) is) lead

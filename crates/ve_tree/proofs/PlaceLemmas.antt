@@ -1,4 +1,4 @@
--- The places of a tree's nodes have their numbers once.
+-- The positions of a tree's nodes have their numbers once.
 use Rattle.std.proofs.Common.{◌≡◌, ◌≢◌, ◌+◌, inl, inr, ℕ, suc, Some, List, [], ◌∷◌, ◌++◌, sym, ap, ◌∙◌, arith, Contains}
 use Rattle.std.proofs.lemmas.List.Elements.{Contains-append_cases}
 use Rattle.ve_kinds.specs.declared.kind.Kind.{Kind}
@@ -15,7 +15,7 @@ use Rattle.ve_tree.proofs.FitsLemmas.{disjoint_of}
 use Rattle.ve_tree.proofs.WalkLemmas.{Slots}
 use Rattle.ve_tree.proofs.ClimbLemmas.{contains_cases}
 
--- a number that is none of a forest's is that of none of its places
+-- a number that is none of a forest's is that of none of its positions
 pub none_placed : (f : Named) (p at n : ℕ) (y : NodePlace) → Apart n (node_numbers f) → Contains (node_places p at f) y → n ≢ y.number
 none_placed NoNode p at n y apart c e = absurd (omega (arith, c.1))
 none_placed (NamedRun h count later) p at n y apart c e = elim (contains_cases _ y (node_places p (at + count) later) c) [
@@ -54,7 +54,7 @@ apart_places (NamedBranch h kind inside later) g p at q at2 y z d c k e =
     disjoint_parts [] rs ms h = (tt, h)
     disjoint_parts (l ∷ ls) rs ms h = ((h.0, (disjoint_parts ls rs ms h.1).0), (disjoint_parts ls rs ms h.1).1)
 
--- a place of a branch: its own, one inside it, or one after it
+-- a position of a branch: its own, one inside it, or one after it
 abbrev Own : ℕ → ℕ → ℕ → Kind → Named → NodePlace → Type 0
 Own p at h kind inside x = ◌≡◌ {A = NodePlace} (record { number = h; parent = Some p; sort = what.Node kind; from = at; to = at + (item_count (unnumbered inside) + 2) }) x
 
@@ -107,7 +107,7 @@ placed_once (NamedBranch h kind inside later) p at y z apart c d e =
     (λ a b. placed_once later p (at + (item_count (unnumbered inside) + 2)) y z (all-rs (node_numbers inside) (node_numbers later) apart.1) a b e)
     (which p at h kind inside later y c) (which p at h kind inside later z d)
 
--- two places of one number are one
+-- two positions of one number are one
 pub one_place : {slots : Slots} {root : NodeId} {items : List PlainItem} (tree : IsTree slots root items) (y z : NodePlace) → Contains (tree_places tree) y → Contains (tree_places tree) z →
     y.number ≡ z.number → y ≡ z
 one_place {root = root} tree y z c d e = elim (contains_cases _ y (node_places root.0 0 tree.named) c) [

@@ -218,7 +218,8 @@ reached_run old cur s1 s2 p n items to at before after after1 from c within r m 
     by_counts : (t f a : ℕ) → after + 6 * t ≤ before + 6 * a → f ≡ suc a → (after1 + 1) + 6 * t ≤ before + 6 * f
     by_counts t f a h e = omega (arith, h, e, l)
 
--- the place where a node's children begin is not the list's start, and its opening stands before it
+-- the position where a node's children begin is not the list's start, and its opening stands before
+-- it
 record OpeningRead (items : List Item) (from at : ℕ) (kind : Kind) (g f : Forest) (outer : List Forest) : Type 0 where
   place : ℕ
   place_is : suc place ≡ from

@@ -20,7 +20,7 @@ pub record IsRunSoFar (items : List Item) (from to : ℕ) : Type 0 where
   pub order : from ≤ to
   pub characters : (m : ℕ) (x : Item) → from ≤ m → m < to → slice_get items m ≡ Some x → IsChar x
 
--- the item at a place, and the rest from there
+-- the item at a position, and the rest from there
 pub item_at : (items : List Item) (m : ℕ) → m < length items → (x : Item) × (slice_get items m ≡ Some x)
 item_at items m within = elim (slice_get_cases items m).1 [
   | inl found ↦ (found.0, found.2)

@@ -1,4 +1,5 @@
--- Where what stands in a node begins and ends, and where a child of it does, from the node and its range.
+-- Where what stands in a node begins and ends, and where a child of it does, from the node and its
+-- range.
 use Rattle.std.proofs.Common.{◌≡◌, ℕ, Some, List, refl}
 use Rattle.model_items.specs.declared.plain_item.PlainItem.{PlainItem}
 use Rattle.ve_arena.specs.declared.node.NodeId.{NodeId}

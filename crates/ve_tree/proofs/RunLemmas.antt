@@ -1,4 +1,5 @@
--- Where characters of one run give way to others, the tree is the same but for the run's characters.
+-- Where characters of one run give way to others, the tree is the same but for the run's
+-- characters.
 use Rattle.std.proofs.Common.{◌≡◌, ◌∷◌, length, replicate, refl, arith}
 use Rattle.std.proofs.lemmas.List.{length-append, length-replicate}
 use Rattle.model_items.specs.Tree.{Forest, Empty, Run, Branch, item_count, Letter, End, shapes}

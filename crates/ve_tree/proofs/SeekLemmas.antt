@@ -8,7 +8,8 @@ use Rattle.model_items.specs.Tree.{Forest, Empty, Run, Branch, item_count, NodeE
 use Rattle.model_items.specs.NodeAt.{search}
 use Rattle.model_items.proofs.NodeAtLemmas.{found_in_tree}
 
--- The innermost node round an offset that lies `left` items after the forest's start, which is at `at`, inside the given node.
+-- The innermost node round an offset that lies `left` items after the forest's start, which is at
+-- `at`, inside the given node.
 abbrev pub seek : NodeExtent → ℕ → ℕ → Forest → NodeExtent
 seek place at left Empty = place
 seek place at left (Run count later) = if nat_le count left then seek place (at + count) (left - count) later else place

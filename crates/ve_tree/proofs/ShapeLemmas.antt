@@ -7,7 +7,7 @@ use Rattle.model_items.specs.declared.plain_item.PlainItem.{PlainItem}
 use Rattle.model_items.specs.declared.plain_item.PlainItem.TheVariants.{Char, Opening, Closing}
 use Rattle.model_items.specs.declared.law_fault.LawFault.{LawFault}
 use Rattle.model_items.specs.declared.law_fault.LawFault.TheVariants.{Unlawful}
-use Rattle.model_items.specs.Law.{State, start, top, opened, closed, step, followed, after, verdict_at, Lawful}
+use Rattle.model_items.specs.Law.{State, start, top, state_opened, state_closed, step, outcome_then, after, verdict_at, Lawful}
 use Rattle.model_items.specs.Tree.{tree_of, Shape, Letter, Begin, End, shape_of}
 use Rattle.model_items.proofs.TreeLemmas.{tree_spells}
 use Rattle.model_items.proofs.OnlyLemmas.{tree_is_only, tree_has_whole_runs}
@@ -20,12 +20,12 @@ use Rattle.ve_tree.proofs.GrownLemmas.{Slots}
 
 abbrev step_by : State → Shape → Result State LawFault
 step_by s Letter = if is_content_branch (top s.stack) then Ok s else Err (Unlawful 0)
-step_by s (Begin kind) = opened s kind
-step_by s (End kind) = closed s.stack s.seen kind
+step_by s (Begin kind) = state_opened s kind
+step_by s (End kind) = state_closed s.stack s.seen kind
 
 abbrev after_by : State → List Shape → Result State LawFault
 after_by s [] = Ok s
-after_by s (x ∷ xs) = followed 1 (step_by s x) (λ next. after_by next xs)
+after_by s (x ∷ xs) = outcome_then 1 (step_by s x) (λ next. after_by next xs)
 
 step-shape : (s : State) (x : PlainItem) → step s x ≡ step_by s (shape_of x)
 step-shape s (Char c marks) = refl
@@ -34,7 +34,7 @@ step-shape s (Closing kind pre) = refl
 
 after-shapes : (items : List PlainItem) (s : State) → after s items ≡ after_by s (map shape_of items)
 after-shapes [] s = refl
-after-shapes (x ∷ items) s = λ i. followed 1 (step-shape s x i) (λ next. after-shapes items next i)
+after-shapes (x ∷ items) s = λ i. outcome_then 1 (step-shape s x i) (λ next. after-shapes items next i)
 
 pub length-shapes : (items others : List PlainItem) → map shape_of items ≡ map shape_of others → length items ≡ length others
 length-shapes items others e = sym (length-map items shape_of) ∙ ap length e ∙ length-map others shape_of

@@ -7,7 +7,7 @@ use Rattle.ve_arena.specs.declared.node.NodeId.{NodeId}
 use Rattle.ve_tree.specs.Landmarks.{LandmarkRow, IsLandmark}
 use Rattle.ve_tree.proofs.LandmarkLemmas.{sum_cons}
 
--- what lies before a place once a length is greater
+-- what lies before a position once a length is greater
 pub sum_grown : (xs : List ℕ) (k j by : ℕ) → k < j → k < length xs → sum (take j (slice_set xs k (get_or xs k 0 + by))) ≡ sum (take j xs) + by
 sum_grown [] k j by after within = absurd (omega (arith, within))
 sum_grown (x ∷ xs) k zero by after within = absurd (omega (arith, after))

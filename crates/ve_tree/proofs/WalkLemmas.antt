@@ -62,7 +62,8 @@ contains-later y x xs c = (suc c.0, omega (arith, c.1), c.2)
 pub tree-runs : {slots : Slots} {root : NodeId} {items : List PlainItem} (tree : IsTree slots root items) → NoEmptyRun (unnumbered tree.named)
 tree-runs {items = items} tree = subst NoEmptyRun (sym tree.is_tree) (reading-runs items).0
 
--- The walk is in the node `inner`, and the siblings of a forest are still to be passed, `left` items before the offset.
+-- The walk is in the node `inner`, and the siblings of a forest are still to be passed, `left`
+-- items before the offset.
 pub record WalkOn {slots : Slots} {root : NodeId} {items : List PlainItem} (tree : IsTree slots root items) (o inner : ℕ) (next : Option NodeId) (left : ℕ) (f : Named) : Type 0 where
   pub at : ℕ
   pub place : NodeExtent

@@ -58,12 +58,12 @@ pub record IsTreeWith (slots : List (Option ArenaNode)) (root : NodeId) (items :
   pub root_alone : IsAlone slots root.0
   pub only : (q : ℕ) → Apart q (root.0 ∷ node_numbers named) → slot_at slots q ≡ None
 
--- What is the tree of a list is so by its children lists,
+-- The links of a list's tree fit its children lists,
 abbrev pub TreeFits : Type 0
 TreeFits = (slots : List (Option ArenaNode)) (root : NodeId) (items : List PlainItem) (tree : IsTree slots root items) →
     IsTreeWith slots root items tree.named (kids_of root.0 tree.named)
 
--- and what is so by any children lists is the tree of the list.
+-- and links that fit any children lists are the tree of the list.
 abbrev pub FitsAreTree : Type 0
 FitsAreTree = (slots : List (Option ArenaNode)) (root : NodeId) (items : List PlainItem) (named : Named) (kids : ℕ → List ℕ) →
     IsTreeWith slots root items named kids → IsTree slots root items

@@ -1,4 +1,5 @@
--- How a tree is built, from the end of its list to the start: what each call adds to the arena, and how much of the list it has read.
+-- How a tree is built, from the end of its list to the start: what each call adds to the arena, and
+-- how much of the list it has read.
 use Rattle.std.specs.Prelude.{◌≡◌, ◌≢◌, ℕ, suc, ◌+◌, ◌*◌, ◌≤◌, ◌<◌, Option, Some, None, List, [], ◌∷◌, drop, option_map, slice_get}
 use Rattle.ve_kinds.specs.declared.kind.Kind.{Kind}
 use Rattle.model_items.specs.declared.item.Item.{Item}
@@ -36,7 +37,8 @@ abbrev pub AllVacant : List (Option ArenaNode) → List ℕ → Type 0
 AllVacant slots [] = Unit {0}
 AllVacant slots (n ∷ ns) = (slot_at slots n ≡ None) × AllVacant slots ns
 
--- The nodes of a forest were made, and made the children of p, which had none. Nothing else changed.
+-- The nodes of a forest were made, and made the children of p, which had none. Nothing else
+-- changed.
 pub record Grown (old new : List (Option ArenaNode)) (p : ℕ) (f : Named) : Type 0 where
   pub apart : AllApart (p ∷ node_numbers f)
   pub fresh : AllVacant old (node_numbers f)
@@ -68,7 +70,7 @@ abbrev pub MadeFirst : Option NodeId → List (Option ArenaNode) → List (Optio
 MadeFirst None old new n p sort = MadeOnly old new n p sort
 MadeFirst (Some next) old new n p sort = MadeBefore old new n p next.0 sort
 
--- what the items from a place on spell
+-- the reading of the items from a position on
 abbrev pub reading_from : List Item → ℕ → Reading
 reading_from items at = reading (unvalued (drop at items))
 
@@ -90,7 +92,8 @@ pending_count (f ∷ fs) = suc (node_count f + pending_count fs)
 abbrev pub count_from : List Item → ℕ → ℕ
 count_from items at = node_count (reading_from items at).here + pending_count (reading_from items at).outer
 
--- at most six steps were taken for each node that ends among the items from one place up to another
+-- at most six steps were taken for each node that ends among the items from one position up to
+-- another
 abbrev pub TookSteps : List Item → (from to old new : ℕ) → Type 0
 TookSteps items from to old new = new + 6 * count_from items to ≤ old + 6 * count_from items from
 
@@ -104,7 +107,8 @@ IsChar (item.Char ch marks) = Unit {0}
 IsChar (item.Opening kind generated head marks pre origin) = ⊥
 IsChar (item.Closing kind pre) = ⊥
 
--- The siblings that end at `to` are read down to `from`, where their parent's opening ends or the list begins, and are the children of p.
+-- The siblings that end at `to` are read down to `from`, where their parent's opening ends or the
+-- list begins, and are the children of p.
 pub record ReadChildren (old new : List (Option ArenaNode)) (p : ℕ) (items : List Item) (from to : ℕ) : Type 0 where
   pub forest : Named
   pub grown : Grown old new p forest
@@ -113,7 +117,7 @@ pub record ReadChildren (old new : List (Option ArenaNode)) (p : ℕ) (items : L
   pub closed : closes_from items from ≡ closes_from items to
   pub ended : (m : ℕ) (x : Item) → suc m ≡ from → slice_get items m ≡ Some x → OpensNode x
 
--- All items from one place up to another are characters, and the one before isn't.
+-- All items from one position up to another are characters, and the one before isn't.
 pub record IsRunFrom (items : List Item) (from to : ℕ) : Type 0 where
   pub order : from ≤ to
   pub characters : (m : ℕ) (x : Item) → from ≤ m → m < to → slice_get items m ≡ Some x → IsChar x

@@ -1,4 +1,4 @@
--- What it means that linked nodes are the tree of a list.
+-- Linked nodes that are the tree of a list.
 use Rattle.std.specs.Prelude.{◌≡◌, ℕ, Option, None, List, [], ◌∷◌, length}
 use Rattle.ve_kinds.specs.declared.kind.Kind.TheVariants.{Root}
 use Rattle.model_items.specs.declared.item.Item.{Item}
@@ -23,7 +23,8 @@ pub record IsAlone (slots : List (Option ArenaNode)) (n : ℕ) : Type 0 where
   pub no_before : (links_of slots).before n ≡ None
   pub no_after : (links_of slots).after n ≡ None
 
--- The items are a lawful list, and the arena's nodes are the root and the nodes of its tree, each linked to its parent, its children and its siblings.
+-- The items are a lawful list, and the arena's nodes are the root and the nodes of its tree, each
+-- linked to its parent, its children and its siblings.
 pub record IsTree (slots : List (Option ArenaNode)) (root : NodeId) (items : List PlainItem) : Type 0 where
   pub lawful : Lawful items
   -- the tree, with a number for each node

@@ -1,4 +1,4 @@
--- A list that is read from its end, piece by piece as it is lent.
+-- A list that is read from its end, piece by piece as it is borrowed.
 use Rattle.std.specs.Prelude.{◌≡◌, ◌≤◌, ◌<◌, ◌-◌, ℕ, List, length, slice_range}
 use Rattle.model_items.specs.declared.item.Item.{Item}
 
@@ -13,7 +13,7 @@ pub record IsEndPiece (items : List Item) (left : ℕ) (lent : List Item) : Type
   pub some : 0 < left → 0 < length lent
   pub piece : lent ≡ slice_range items (left - length lent) left
 
--- The list is read as far as `left`, and the end of that is lent.
+-- The list is read as far as `left`, and the end of that is borrowed.
 pub record IsLent (items : List Item) (left : ℕ) (lent : List Item) : Type 0 where
   pub within : left ≤ length items
   pub end : IsEndPiece items left lent

@@ -1,4 +1,5 @@
--- The links of an arena's nodes by number, and what it means that the children of a node are a list.
+-- The links of an arena's nodes by number, and what it means that the children of a node are a
+-- list.
 use Rattle.std.specs.Prelude.{◌≡◌, ◌≢◌, ℕ, Option, Some, None, List, [], ◌∷◌, option_map}
 use Rattle.ve_arena.specs.declared.node.NodeId.{NodeId}
 use Rattle.ve_arena.specs.declared.node.ArenaNode.{ArenaNode}

@@ -34,13 +34,15 @@ node_numbers NoNode = []
 node_numbers (NamedRun n count later) = n ∷ node_numbers later
 node_numbers (NamedBranch n kind inside later) = n ∷ (node_numbers inside ++ node_numbers later)
 
--- the arena has under a number a node of this sort, this length in items and these children, linked to it and to each other
+-- the arena has under a number a node of this sort, this length in items and these children, linked
+-- to it and to each other
 pub record IsShown (slots : List (Option ArenaNode)) (n : ℕ) (sort : NodeWhat) (len : ℕ) (kids : List ℕ) : Type 0 where
   pub sort_is : option_map (λ node. node.what) (slot_at slots n) ≡ Some sort
   pub len_is : option_map (λ node. node.len) (slot_at slots n) ≡ Some len
   pub children : Children (links_of slots) n kids
 
--- the arena has each node of the forest: a run is as long as its characters, a branch as long as what is inside it and its two brackets
+-- the arena has each node of the forest: a run is as long as its characters, a branch as long as
+-- what is inside it and its two brackets
 abbrev pub Shows : List (Option ArenaNode) → Named → Type 0
 Shows slots NoNode = Unit {0}
 Shows slots (NamedRun n count later) = IsShown slots n what.Run count [] × Shows slots later

@@ -12,7 +12,8 @@ use Rattle.ve_arena.specs.Arena.{node_under}
 use Rattle.ve_tree.specs.Named.{Named, NoNode, NamedRun, NamedBranch, unnumbered}
 use Rattle.ve_tree.specs.IsTree.{IsTree}
 
--- a node's number, its parent's, what it is, and the places of the list where it begins and ends, its brackets included
+-- a node's number, its parent's, what it is, and the positions of the list where it begins and
+-- ends, its brackets included
 pub record NodePlace : Type 0 where
   pub number : ℕ
   pub parent : Option ℕ
@@ -20,7 +21,7 @@ pub record NodePlace : Type 0 where
   pub from : ℕ
   pub to : ℕ
 
--- the nodes of a forest that stands under p from a place on, in the order of their starts
+-- the nodes of a forest that stands under p from a position on, in the order of their starts
 abbrev pub node_places : ℕ → ℕ → Named → List NodePlace
 node_places p at NoNode = []
 node_places p at (NamedRun n count later) = record { number = n; parent = Some p; sort = what.Run; from = at; to = at + count } ∷ node_places p (at + count) later
@@ -42,12 +43,12 @@ pub record IsNodeAt {slots : List (Option ArenaNode)} {root : NodeId} {items : L
 abbrev pub IsNodeRound : List (Option ArenaNode) → NodeId → ℕ → NodeId → Type 0
 IsNodeRound slots root o n = (items : List PlainItem) (tree : IsTree slots root items) → IsNodeAt tree n (node_at items o)
 
--- whatever list the tree is of, this holds of the node's place
+-- whatever list the tree is of, this holds of the node's position
 abbrev pub OfItsPlace : List (Option ArenaNode) → NodeId → NodeId → (NodePlace → Type 0) → Type 0
 OfItsPlace slots root n holds =
     (items : List PlainItem) (tree : IsTree slots root items) (place : NodePlace) → Contains (tree_places tree) place → place.number ≡ n.0 → holds place
 
--- what stands under a number
+-- the sort of the node under a number
 abbrev pub sort_of : List (Option ArenaNode) → NodeId → Option NodeWhat
 sort_of slots n = option_map (λ node. node.what) (node_under slots n)
 

@@ -24,8 +24,9 @@ pub record IsReadAs (slots : List (Option ArenaNode)) (n p : ℕ) (before : Opti
 abbrev pub HasNoChild : List (Option ArenaNode) → ℕ → Type 0
 HasNoChild slots n = ((links_of slots).first n ≡ None) × ((links_of slots).last n ≡ None)
 
--- The forest that is read from `here` on, among the children of p and after `before`: the node, what is read from its first child, and what is read
--- from its next sibling. The last one read is the last child.
+-- The forest that is read from `here` on, among the children of p and after `before`. It is the
+-- node, what is read from its first child, and what is read from its next sibling. The last one
+-- read is the last child.
 abbrev pub IsRead : List (Option ArenaNode) → ℕ → Option ℕ → Option ℕ → Named → Type 0
 IsRead slots p before here NoNode = (here ≡ None) × ((links_of slots).last p ≡ before)
 IsRead slots p before here (NamedRun n count later) =
@@ -38,7 +39,8 @@ IsRead slots p before here (NamedBranch n kind inside later) =
 abbrev pub IsReadUnder : List (Option ArenaNode) → NodeId → Named → Type 0
 IsReadUnder slots root f = IsRead slots root.0 None ((links_of slots).first root.0) f
 
--- A lawful list's tree is read under a root that is as long as the list and stands alone, and no node stands besides.
+-- A lawful list's tree is read under a root that is as long as the list and stands alone, and no
+-- node stands besides.
 pub record IsTreeRead (slots : List (Option ArenaNode)) (root : NodeId) (items : List PlainItem) (f : Named) : Type 0 where
   pub lawful : Lawful items
   pub is_tree : unnumbered f ≡ tree_of items

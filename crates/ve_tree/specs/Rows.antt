@@ -1,4 +1,4 @@
--- Nodes that are open round a place of a forest, and siblings on either side of it.
+-- Nodes that are open round a position of a forest, and siblings on either side of it.
 use Rattle.std.specs.Prelude.{◌+◌, ℕ, suc, Bool, true, false, List, [], ◌∷◌}
 use Rattle.ve_kinds.specs.declared.kind.Kind.{Kind}
 use Rattle.model_items.specs.Tree.{item_count}
@@ -10,7 +10,7 @@ beside NoNode more = more
 beside (NamedRun n count later) more = NamedRun n count (beside later more)
 beside (NamedBranch n kind inside later) more = NamedBranch n kind inside (beside later more)
 
--- a node that is open round a place, with its siblings on either side
+-- a node that is open round a position, with its siblings on either side
 pub record Round : Type 0 where
   pub number : ℕ
   pub kind : Kind
@@ -27,7 +27,7 @@ abbrev pub parent_in : ℕ → List Round → ℕ
 parent_in root [] = root
 parent_in root (r ∷ rs) = r.number
 
--- the place of the list where the first of them begins
+-- the position of the list where the first of them begins
 abbrev pub start_in : List Round → ℕ
 start_in [] = 0
 start_in (r ∷ rs) = suc (start_in rs + item_count (unnumbered r.before))

@@ -1,4 +1,5 @@
--- Where an offset lies in a tree: the innermost node round it, and the child of that node which comes next.
+-- Where an offset lies in a tree: the innermost node round it, and the child of that node which
+-- comes next.
 use Rattle.std.specs.Prelude.{◌≡◌, ◌<◌, ◌+◌, ℕ, Option, Some, None, List, Contains}
 use Rattle.model_items.specs.declared.plain_item.PlainItem.{PlainItem}
 use Rattle.model_items.specs.Tree.{node_at}
@@ -10,7 +11,8 @@ use Rattle.ve_tree.specs.declared.lookup.Spot.{Spot}
 use Rattle.ve_tree.specs.IsTree.{IsTree}
 use Rattle.ve_tree.specs.Places.{tree_places, IsNodeAt}
 
--- the child of a node begins `left` items before the offset, and ends after it; a child that is no run begins at the offset
+-- the child of a node begins `left` items before the offset, and ends after it; a child that is no
+-- run begins at the offset
 pub record IsChildThere {slots : List (Option ArenaNode)} {root : NodeId} {items : List PlainItem} (tree : IsTree slots root items) (o : ℕ) (n child : NodeId) (left : ℕ) : Type 0 where
   pub sort : NodeWhat
   pub from : ℕ

@@ -1,4 +1,4 @@
--- What each call asks of a tree.
+-- Preconditions of each call on a tree.
 use Rattle.std.specs.Prelude.{◌≤◌, ◌+◌, ◌*◌, ℕ, List, length}
 use Rattle.model_items.specs.declared.plain_item.PlainItem.{PlainItem}
 use Rattle.model_items.specs.Tree.{tree_of, node_count}

@@ -1,4 +1,5 @@
-// Building the tree of a list, from the list's end to its start, so that each node is made at its end and becomes the first child of its parent.
+// Building the tree of a list, from the list's end to its start. So each node is made at its end
+// and becomes the first child of its parent.
 ghost use Rattle.std.specs.Prelude.{◌≡◌, ◌≢◌, ◌+◌, ◌-◌, ◌≤◌, ◌<◌, None, IfOk, OnOk, OnErr, IfSome, length};
 ghost use Rattle.model_items.specs.Law.{Lawful};
 ghost use Rattle.model_items.specs.Tree as forest;
@@ -20,10 +21,14 @@ pub(crate) fn make_first<L: Ledger>(
     steps: &mut Steps<L>,
 ) -> Result<NodeId, Memory>
     requires live { IsLive arena.old parent }
-    requires next_live { IfSome (first_in (slot_at arena.old parent.0)) (λ next. IsLive arena.old next) }
-    requires next_apart { IfSome (first_in (slot_at arena.old parent.0)) (λ next. next.0 ≢ parent.0) }
+    requires next_live { IfSome (first_in (slot_at arena.old parent.0)) (λ next.
+        IsLive arena.old next) }
+    requires next_apart { IfSome (first_in (slot_at arena.old parent.0)) (λ next.
+        next.0 ≢ parent.0) }
     ensures vacant { IfOk result (λ n. slot_at arena.old n.0 ≡ None) }
-    ensures made { IfOk result (λ n. MadeFirst (first_in (slot_at arena.old parent.0)) arena.old arena.new n.0 parent.0 what) }
+    ensures made { IfOk result (λ n.
+        MadeFirst (first_in (slot_at arena.old parent.0)) arena.old arena.new n.0 parent.0
+        what) }
     ensures err { OnErr result (arena.new ≡ arena.old) }
     ensures counted { steps.old ≤ steps.new }
     ensures steps { steps.new ≤ steps.old + 5 }
@@ -57,8 +62,8 @@ fn pass_run(rest: &mut Unread<'_>) -> usize
     end - rest.left()
 }
 
-/// Reads the siblings that come next, and makes them the children of their parent, which has none yet. What
-/// is left ends with the parent's opening, or is nothing.
+/// Reads the siblings that come next, and makes them the children of their parent, which has none
+/// yet. What is left ends with the parent's opening, or is nothing.
 pub fn read_children<L: Ledger>(
     arena: &mut Arena,
     rest: &mut Unread<'_>,
@@ -70,8 +75,10 @@ pub fn read_children<L: Ledger>(
     requires lawful { Lawful (unvalued rest.old.items) }
     requires begun { (reading_from rest.old.items rest.old.left).here ≡ forest.Empty }
     ensures items { OnOk result (rest.new.items ≡ rest.old.items) }
-    ensures read { OnOk result (ReadChildren arena.old arena.new parent.0 rest.old.items rest.new.left rest.old.left) }
-    ensures steps_ok { OnOk result (TookSteps rest.old.items rest.new.left rest.old.left steps.old steps.new) }
+    ensures read { OnOk result (
+        ReadChildren arena.old arena.new parent.0 rest.old.items rest.new.left rest.old.left) }
+    ensures steps_ok { OnOk result (
+        TookSteps rest.old.items rest.new.left rest.old.left steps.old steps.new) }
     ensures counted { steps.old ≤ steps.new }
     ensures steps { TookSteps rest.old.items 0 rest.old.left steps.old steps.new }
 {

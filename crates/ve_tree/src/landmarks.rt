@@ -1,4 +1,4 @@
-// Nodes whose places are known, so that a look-up can begin near its offset.
+// Nodes whose positions are known, so that a look-up can begin near its offset.
 ghost use Rattle.std.specs.Prelude.{◌≡◌, ◌≤◌, ◌<◌, ◌+◌, ◌^◌, ◌++◌, [], None, IfSome, OnOk, OnErr, suc, sum, length, take, drop};
 ghost use Rattle.ve_tree.specs.Landmarks.{IsLandmark, IsLandmarkBefore, IsNumbered, HasSpace, IsShortened, HasOneMore};
 ghost use Rattle.ve_tree.specs.Landmarks.{IsCut, EndBefore, Stay, IsClosedUp};
@@ -9,7 +9,7 @@ use std::marker::Model;
 use ve_base::Memory;
 use ve_lengths::Lengths;
 
-/// Appends until there is an element at a place.
+/// Appends until there is an element at a position.
 fn make_place(ranks: &mut Vec<usize>, place: usize) -> Result<(), Memory>
     ensures { OnOk result (place < length ranks.new.items) }
 {
@@ -42,7 +42,7 @@ fn shorten(lens: &mut Lengths, k: usize, by: usize)
     }
 }
 
-/// How many of some lengths, from the first on, end before a place.
+/// How many of some lengths, from the first on, end before a position.
 fn ends_before(lens: &Lengths, place: usize) -> usize
     ensures { EndBefore lens.now.lens place result }
 {
@@ -56,8 +56,9 @@ fn ends_before(lens: &Lengths, place: usize) -> usize
     k
 }
 
-/// How many landmarks, from the first on, stay where they are when those from a place on go: those that begin
-/// before it; the root, if it is the first one, even at the list's start.
+/// How many landmarks, from the first on, stay where they are when those from a position on go.
+/// They are those that begin before it. The root, if it is the first one, is among them even at the
+/// list's start.
 fn staying(nodes: &[NodeId], gaps: &Lengths, root: NodeId, from: usize) -> usize
     requires { length nodes.now ≡ length gaps.now.lens }
     ensures { Stay nodes.now gaps.now.lens root from result }
@@ -80,12 +81,13 @@ fn cut_out(nodes: &mut Vec<NodeId>, from: usize, to: usize)
     nodes.truncate(len - (to - from));
 }
 
-/// Takes the lengths from one up to another out. The one after them ends where it did, but for so many places
-/// less and so many more.
+/// Takes the lengths from one up to another out. The one after them ends where it did, but for so
+/// many positions less and so many more.
 fn close_up(lens: &mut Lengths, low: usize, high: usize, less: usize, more: usize)
     requires order { low ≤ high }
     requires within { high ≤ length lens.old.lens }
-    requires long { high < length lens.old.lens → sum (take low lens.old.lens) + less ≤ sum (take (suc high) lens.old.lens) }
+    requires long { high < length lens.old.lens
+        → sum (take low lens.old.lens) + less ≤ sum (take (suc high) lens.old.lens) }
     requires fits { sum lens.old.lens + more < 2 ^ 64 }
     ensures { IsClosedUp lens.old.lens lens.new.lens low high less more }
 {
@@ -97,8 +99,9 @@ fn close_up(lens: &mut Lengths, low: usize, high: usize, less: usize, more: usiz
     }
 }
 
-/// Some nodes of a tree in the order of their starts, each with how far its start is from that of the one
-/// before, seen as these two lists. Where they are dense, look-ups are short; no contract asks for that.
+/// Some nodes of a tree in the order of their starts, each with how far its start is from that of
+/// the one before, seen as these two lists. Where they are dense, look-ups are short; no contract
+/// asks for that.
 #[derive(Drop)]
 pub struct Landmarks {
     nodes: Vec<NodeId>,
@@ -119,7 +122,7 @@ impl Model for Landmarks {
 }
 
 impl Landmarks {
-    /// None. It takes no memory.
+    /// No landmarks. It takes no memory.
     pub fn new(alloc: Global) -> Landmarks
         ensures { result ≡ record { nodes = []; gaps = [] } }
     {
@@ -130,7 +133,7 @@ impl Landmarks {
         }
     }
 
-    /// The last one that begins at an offset or before it, and where it begins.
+    /// The last landmark that begins at an offset or before it, and where it begins.
     pub fn before(&self, o: usize) -> Option<(NodeId, usize)>
         ensures { IfSome result (λ mark. IsLandmarkBefore self.now o mark.0 mark.1) }
     {
@@ -148,7 +151,7 @@ impl Landmarks {
         Some((self.nodes[len - 1], self.gaps.total()))
     }
 
-    /// Where a node begins, if it is one of them.
+    /// Where a node begins, if it is a landmark.
     pub fn start_of(&self, n: NodeId) -> Option<usize>
         ensures { IfSome result (λ from. IsLandmark self.now n from) }
     {
@@ -165,7 +168,7 @@ impl Landmarks {
         Some(self.gaps.start(rank + 1))
     }
 
-    /// One of them by its number in their order, and where it begins; none past the last.
+    /// A landmark by its number in their order, and where it begins; none past the last.
     pub fn get(&self, k: usize) -> Option<(NodeId, usize)>
         ensures some { IfSome result (λ mark. IsNumbered self.now k mark.0 mark.1) }
         ensures none { result ≡ None → length self.now.gaps ≤ k }
@@ -177,8 +180,8 @@ impl Landmarks {
         Some((self.nodes[k], self.gaps.start(k + 1)))
     }
 
-    /// One more, before the one with that number, or at the end. It begins so far after the start of the one
-    /// before it, and the one after it begins where it did.
+    /// Puts in one more landmark, before the one with that number, or at the end. It begins so far
+    /// after the start of the one before it, and the one after it begins where it did.
     pub fn insert(&mut self, k: usize, n: NodeId, gap: usize) -> Result<(), Memory>
         requires among { k ≤ length self.old.nodes }
         requires space { HasSpace self.old.gaps k gap }
@@ -195,13 +198,15 @@ impl Landmarks {
         Ok(())
     }
 
-    /// Takes those out that begin from one place on and before another, and moves those that begin later: by
-    /// what lies between the two places back, and so many items on. The root stays. What else begins at the
-    /// list's start goes where the first place is there. That there is a gap for each node it knows itself.
-    /// Gives the number of the last one before the first place, from where the gap is to be filled again.
+    /// Takes out the landmarks that begin between two positions, and moves those that begin later:
+    /// back by the distance of the two, and on by `len` items. The root stays. What else begins at
+    /// the list's start goes where the first position is there. It sees by itself that there is a
+    /// gap for each node. Gives the number of the last one before the first position, from where
+    /// the gap is to be filled again.
     pub(crate) fn cut(&mut self, root: NodeId, from: usize, to: usize, len: usize) -> usize
         requires order { from ≤ to }
-        requires fits { length self.old.nodes ≡ length self.old.gaps → sum self.old.gaps + len < 2 ^ 64 }
+        requires fits { length self.old.nodes ≡ length self.old.gaps
+            → sum self.old.gaps + len < 2 ^ 64 }
         ensures { IsCut self.old self.new root from to len }
     {
         let low = staying(&self.nodes, &self.gaps, root, from);

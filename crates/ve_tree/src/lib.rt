@@ -1,24 +1,26 @@
-//! The tree of a page's flat list, kept as linked nodes: a node for each opening with its closing, one for
-//! each longest run of characters, and the root over all. After the document tree of VisualEditor's `ve.dm`.
+//! The tree of a page's flat list, kept as linked nodes. There is a node for each opening with its
+//! closing, one for each longest run of characters, and the root over all. After the document tree
+//! of VisualEditor's `ve.dm`.
 //!
-//! It knows a node's kind, length and links, and of some nodes, the landmarks, where they begin. It doesn't
-//! know the items: it is the tree of every list whose items have the same shapes (`shapes_are_read`), and the
-//! list is passed to `build`, which reads it. Who changes nodes, so that they are the tree of another list, has
-//! the landmarks `follow`.
+//! It knows a node's kind, length and links, and where some nodes, the landmarks, begin. It doesn't
+//! know the items: it is the tree of every list whose items have the same shapes
+//! (`shapes_are_read`). The list is passed to `build`, which reads it. Who changes nodes, so that
+//! they are the tree of another list, has the landmarks `follow`.
 //!
-//! A look-up begins at the landmark before the offset and goes along siblings, up at the end of a row, and
-//! down; a node's range is found by going left and up to the next landmark. Landmarks are hints: what is
-//! proved of them is that they are true. That they are near is how they are put: one walk fills the gap after
-//! any of them, when a tree is built, and where items came and went. The others keep their places: the one gap
-//! that a change stands in grows or shrinks with it.
+//! A look-up begins at the landmark before the offset and goes along siblings, up at the end of a
+//! row, and down. A node's range is found by going left and up to the next landmark. Landmarks are
+//! hints: it is proved that they are true, and nothing says that one is near. They are near by how
+//! they are put. One walk fills the gap after any of them, when a tree is built, and where items
+//! came and went. The others keep their positions: the one gap that a change stands in grows or
+//! shrinks with it.
 //!
-//! Definitions, in reading order: `Links` and `Named` (links, forests with numbers), `IsTree` (linked nodes
-//! are the tree of a list), `Places` (where nodes begin and end), `Landmarks`, `TreeOf` (what each call asks
-//! of a tree), `Spots` (the innermost node round an offset with its child there), `Rows` (the nodes round a
-//! place of a forest). The others serve private functions: `Grown` and `Lent` how a tree is built and a list
-//! read from its end, `Way` how far nodes lie before an offset, `Gaps` what lies between two landmarks.
-//! Laws: `links_are_read` (`Reads`), `children_lists_fit` (`Fits`), `nodes_are_linked` (`Nodes`),
-//! `shapes_are_read` (`Shapes`).
+//! Definitions, in reading order: `Links` and `Named` (links, forests with numbers), `IsTree`
+//! (linked nodes are the tree of a list), `Places` (where nodes begin and end), `Landmarks`,
+//! `TreeOf` (what each call asks of a tree). `Spots` is the innermost node round an offset with its
+//! child there, `Rows` the nodes round a position of a forest. The others serve private functions.
+//! `Grown` and `Lent` are how a tree is built and a list read from its end. `Way` is how far nodes
+//! lie before an offset, `Gaps` what lies between two landmarks. Laws: `links_are_read` (`Reads`),
+//! `children_lists_fit` (`Fits`), `nodes_are_linked` (`Nodes`), `shapes_are_read` (`Shapes`).
 #![tactic(auto)]
 
 mod build;

@@ -1,4 +1,5 @@
-// From a node whose place is known to the innermost node round an offset and its child there, and to the node that begins next.
+// From a node whose position is known to the innermost node round an offset and its child there,
+// and to the node that begins next.
 ghost use Rattle.std.specs.Prelude.{◌≡◌, ◌≤◌, ◌<◌, IfSome};
 ghost use Rattle.ve_tree.specs.Spots.{IsSpotOf};
 ghost use Rattle.ve_tree.specs.Way.{IsBefore, IsBeforeEnd, EndsBeforeEnd, IsSomeTree, IsInside};
@@ -11,13 +12,15 @@ use crate::{Arena, NodeId, NodeWhat, Tree};
 pub struct Spot {
     /// The innermost node round the offset, text nodes aside.
     pub node: NodeId,
-    /// The child of that node which ends after the offset and doesn't begin after it; none at the end of what is inside the node.
+    /// The child of that node which ends after the offset and doesn't begin after it; none at the
+    /// end of what is inside the node.
     pub next: Option<NodeId>,
     /// How many items of that child lie before the offset: none, unless it is a text node.
     pub left: usize,
 }
 
-/// The spot of an offset that lies in a node, or at its start: the innermost node is the node's parent, the node, or one inside it.
+/// The spot of an offset that lies in a node, or at its start: the innermost node is the node's
+/// parent, the node, or one inside it.
 fn spot_inside(tree: &Tree, near: NodeId, left: usize, o: usize) -> Spot
     requires offset { HasOffset tree.now o }
     requires near { IsBefore tree.now.arena tree.now.root o near left }
@@ -66,8 +69,9 @@ fn spot_inside(tree: &Tree, near: NodeId, left: usize, o: usize) -> Spot
     }
 }
 
-/// The spot of an offset, found from a node that begins so many items before it: along its siblings, up where there are no
-/// more, and down into the one that holds the offset. Each step passes an item at least, so there are no more than lie between the two places.
+/// The spot of an offset, found from a node that begins `left` items before it. The walk goes along
+/// its siblings, up where there are no more, and down into the one that holds the offset. Each step
+/// passes an item at least, so there are no more than lie between the two positions.
 pub fn spot_near(tree: &Tree, near: NodeId, left: usize, o: usize) -> Spot
     requires offset { HasOffset tree.now o }
     requires near { IsBefore tree.now.arena tree.now.root o near left }
@@ -106,9 +110,9 @@ pub fn spot_near(tree: &Tree, near: NodeId, left: usize, o: usize) -> Spot
     }
 }
 
-/// The node that begins next after the end of a node, which ends so many items before the list's end: the
-/// next sibling of the innermost node round it that has one. And how many items lie from its start to the
-/// list's end.
+/// The node that begins next after the end of a node, which ends `left` items before the list's
+/// end. It is the next sibling of the innermost node round it that has one. With it, how many items
+/// lie from its start to the list's end.
 pub fn following(arena: &Arena, root: NodeId, n: NodeId, left: usize) -> Option<(NodeId, usize)>
     requires tree { IsSomeTree arena.now root }
     requires ends { EndsBeforeEnd arena.now root n left }

@@ -1,4 +1,4 @@
-// Which nodes of a tree are landmarks.
+// The choice of landmarks among a tree's nodes.
 ghost use Rattle.std.specs.Prelude.{◌≤◌, ◌<◌, IfOk, IfErr, IfSome};
 ghost use Rattle.ve_tree.specs.Landmarks.{AreLandmarks};
 ghost use Rattle.ve_tree.specs.Way.{IsSomeTree, IsBeforeEnd};
@@ -10,10 +10,12 @@ use crate::{Arena, NodeId};
 use std::alloc::Global;
 use ve_base::Memory;
 
-/// How many items two landmarks lie apart, at least, but for nodes that are longer: each of these is one, too.
+/// How many items two landmarks lie apart, at least, but for nodes that are longer: each of these
+/// is one, too.
 const STRIDE: usize = 192;
 
-/// The first node of a tree under its root, and how many items lie from its start to the list's end: all.
+/// The first node of a tree under its root, and how many items lie from its start to the list's
+/// end: all.
 fn first_ahead(arena: &Arena, root: NodeId) -> Option<(NodeId, usize)>
     requires { IsSomeTree arena.now root }
     ensures { IfSome result (λ next. IsBeforeEnd arena.now root next.0 next.1) }
@@ -23,8 +25,8 @@ fn first_ahead(arena: &Arena, root: NodeId) -> Option<(NodeId, usize)>
     Some((first, top.len))
 }
 
-/// The node to look at after one: its first child, if it is long, else the one that begins next after its
-/// end. And how many items lie from its start to the list's end.
+/// The node to look at after one: its first child, if it is long, else the one that begins next
+/// after its end. And how many items lie from its start to the list's end.
 fn next_ahead(arena: &Arena, root: NodeId, n: NodeId, left: usize) -> Option<(NodeId, usize)>
     requires tree { IsSomeTree arena.now root }
     requires begins { IsBeforeEnd arena.now root n left }
@@ -40,8 +42,8 @@ fn next_ahead(arena: &Arena, root: NodeId, n: NodeId, left: usize) -> Option<(No
     following(arena, root, n, left - node.len)
 }
 
-/// The part of a list between two landmarks: the number of the second, and how many items lie from the start
-/// of each to the list's end. After the last one it goes to the list's end.
+/// The part of a list between two landmarks: the number of the second, and how many items lie from
+/// the start of each to the list's end. After the last one it goes to the list's end.
 #[derive(Clone, Copy)]
 pub struct Gap {
     pub next: usize,
@@ -84,7 +86,8 @@ fn gap_after(
     ))
 }
 
-/// Makes a node in a gap a landmark if it ends more than a stride after the gap's start. Gives the gap that is left.
+/// Makes a node in a gap a landmark if it ends more than a stride after the gap's start. Gives the
+/// gap that is left.
 fn offer(
     marks: &mut Landmarks,
     arena: &Arena,
@@ -114,9 +117,9 @@ fn offer(
     })
 }
 
-/// Puts landmarks into the gap after one: each node that ends more than a stride after the landmark before
-/// it, going along siblings, and into each node that is longer than a stride. Where there is no memory for
-/// one, there are no more: they are needed for speed alone.
+/// Puts landmarks into the gap after one, going along siblings, and into each node that is longer
+/// than a stride. Each node that ends more than a stride after the landmark before it becomes one.
+/// Where there is no memory for one, there are no more: they are needed for speed alone.
 pub fn thicken(marks: &mut Landmarks, arena: &Arena, root: NodeId, k: usize)
     requires tree { IsSomeTree arena.now root }
     requires are { AreLandmarks arena.now root marks.old }

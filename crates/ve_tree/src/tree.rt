@@ -20,18 +20,27 @@ use ve_base::{Memory, Steps};
 use ve_items::Linear;
 use ve_kinds::Kind;
 
-/// Linked nodes and the number of their root, with some nodes whose places are known. That they are the tree
-/// of a list is a condition or a promise of each call.
-#[derive(Drop)]
+/// Linked nodes and the number of their root, with some nodes whose positions are known. That they
+/// are the tree of a list is a condition or a promise of each call.
 pub struct Tree {
     pub arena: Arena,
     pub root: NodeId,
     pub(crate) landmarks: Landmarks,
 }
 
+impl Drop for Tree {
+    fn drop(self) {
+        let Tree { arena, root, landmarks } = self;
+        drop(arena);
+        drop(root);
+        drop(landmarks);
+    }
+}
+
 impl Tree {
-    /// The tree of a lawful list: a node for each opening and its closing, one for each longest run of
-    /// characters, and the root over all. It takes at most eight steps for each node, and sixteen more.
+    /// The tree of a lawful list: a node for each opening and its closing, one for each longest run
+    /// of characters, and the root over all. It takes at most eight steps for each node, and
+    /// sixteen more.
     pub fn build<L: Ledger>(
         alloc: Global,
         list: &Linear,
@@ -55,9 +64,9 @@ impl Tree {
         })
     }
 
-    /// The innermost node round an offset, text nodes aside: its opening stands before the offset, and its
-    /// closing at it or after. The root is round every offset. It follows links from the landmark before the
-    /// offset, and reads no item.
+    /// The innermost node round an offset, text nodes aside: its opening stands before the offset,
+    /// and its closing at it or after. The root is round every offset. It follows links from the
+    /// landmark before the offset, and reads no item.
     pub fn node_at(&self, o: usize) -> NodeId
         requires { HasOffset self.now o }
         ensures { IsNodeRound self.now.arena self.now.root o result }
@@ -65,9 +74,9 @@ impl Tree {
         self.spot_at(o).node
     }
 
-    /// The innermost node round an offset with its child there: the child that ends after the offset and
-    /// doesn't begin after it, how many items of that child lie before the offset, and none at the end of
-    /// what is inside the node. It goes as `node_at` does.
+    /// The innermost node round an offset with its child there. That child ends after the offset
+    /// and doesn't begin after it; with it, how many of its items lie before the offset. There is
+    /// none at the end of what is inside the node. It goes as `node_at` does.
     pub fn spot_at(&self, o: usize) -> Spot
         requires { HasOffset self.now o }
         ensures { IsSpotOf self.now.arena self.now.root o result }
@@ -87,11 +96,12 @@ impl Tree {
         }
     }
 
-    /// What a node is. A text node has no kind.
+    /// The kind of a node. A text node has no kind.
     pub fn kind_of(&self, n: NodeId) -> Kind
         requires { IsBranch self.now.arena n }
         ensures arena { sort_of self.now.arena n ≡ Some (NodeWhat.Node result) }
-        ensures place { OfItsPlace self.now.arena self.now.root n (λ place. place.sort ≡ NodeWhat.Node result) }
+        ensures place { OfItsPlace self.now.arena self.now.root n (λ place.
+            place.sort ≡ NodeWhat.Node result) }
     {
         match self.arena.node(n).what {
             NodeWhat::Node(kind) => kind,
@@ -102,20 +112,24 @@ impl Tree {
     /// The node that a node stands in, and none for the root.
     pub fn parent_of(&self, n: NodeId) -> Option<NodeId>
         requires { IsLive self.now.arena n }
-        ensures { OfItsPlace self.now.arena self.now.root n (λ place. place.parent ≡ option_map number_of result) }
+        ensures { OfItsPlace self.now.arena self.now.root n (λ place.
+            place.parent ≡ option_map number_of result) }
     {
         self.arena.node(n).parent
     }
 
-    /// The places of the list where a node begins and ends, its brackets included; for the root 0 and the
-    /// length. It follows links to the left and up, to the next landmark, and reads no item.
+    /// The positions of the list where a node begins and ends, its brackets included; for the root
+    /// 0 and the length. It follows links to the left and up, to the next landmark, and reads no
+    /// item.
     pub fn range_of(&self, n: NodeId) -> (usize, usize)
         requires { HasNode self.now n }
-        ensures { OfItsPlace self.now.arena self.now.root n (λ place. result ≡ (place.from, place.to)) }
+        ensures { OfItsPlace self.now.arena self.now.root n (λ place.
+            result ≡ (place.from, place.to)) }
     {
         let all = self.arena.node(self.root).len;
         let len = self.arena.node(n).len;
-        // what is left of the list when all that stands before the node is passed, going to the left and up
+        // the number of items left when all that stands before the node is passed, going to the
+        // left and up
         let mut left = all;
         let mut at = n;
         loop {

@@ -4,8 +4,8 @@ ghost use Rattle.std.specs.Prelude.{◌≡◌, ◌<◌, ◌-◌, Some, length, s
 use std::marker::Model;
 use ve_items::{Item, Linear};
 
-/// What is still to be read of a list that is read from its end, seen as the list's items and the number of
-/// those that are still to be read. It is lent in pieces, each of them once.
+/// The items still to be read of a list that is read from its end. The view is the list's items and
+/// the number of those still to be read. It is borrowed in pieces, each of them once.
 #[derive(Drop)]
 pub struct Unread<'a> {
     list: &'a Linear,

@@ -13,7 +13,8 @@ letters = Char 97 None ∷ Char 98 None ∷ []
 abbrev pile : List (List Item) → Pile
 pile blocks = record { blocks = blocks; room = 4 }
 
--- A cut behind all items of a block empties a block of the pool: where that one was lost, there would be one block fewer.
+-- A cut behind all items of a block empties a block of the pool: where that one was lost, there
+-- would be one block fewer.
 a_lost_block_is_missed : all_blocks (pile (letters ∷ [])) (pile []) 0 ≡ all_blocks (pile []) (pile (letters ∷ [])) 1 → ⊥
 a_lost_block_is_missed e = cc
 

@@ -7,13 +7,15 @@ use Rattle.model_items.specs.Offsets.{nearest_content}
 use Rattle.model_items.proofs.ExampleItems.{node, internal}
 use Rattle.ve_offsets.specs.Lent.{IsPiece}
 
--- `<ul><li><p></p></li></ul>`, from behind its internal list: where the search ended half the list's length away, nothing would be found
+-- `<ul><li><p></p></li></ul>`, from behind its internal list: where the search ended half the
+-- list's length away, nothing would be found
 the_whole_list_is_searched : nearest_content (node Ul (node Li (node P [])) ++ internal) 8 ≡ Some 3
 the_whole_list_is_searched = refl
 
 abbrev items : List Item
 items = Opening P false None None None None ∷ Char 97 None ∷ Char 98 None ∷ Closing P None ∷ []
 
--- what was lent back from the closing begins at the opening: where the closing's place was noted, the opening would stand there
+-- what was borrowed back from the closing begins at the opening: where the closing's position was
+-- noted, the opening would stand there
 a_piece_begins_at_its_first_item : IsPiece items 3 items → ⊥
 a_piece_begins_at_its_first_item piece = let first : Some (Opening P false None None None None) ≡ Some (Closing P None) = ap (λ (xs : List Item). slice_get xs 0) piece in cc

@@ -1,4 +1,5 @@
--- Nodes and places that a wrong body would give for a small page, refused by what is promised of them.
+-- Nodes and positions that a wrong body would give for a small page, refused by what is promised of
+-- them.
 use Rattle.std.proofs.Common.{◌≡◌, ℕ, zero, suc, ◌+◌, ◌<◌, List, [], ◌∷◌, inl, inr, get_or, length, take, sum, slice_get, Contains, Option, Some, None, false, refl, sym, ap, subst, arith}
 use Rattle.ve_kinds.specs.declared.kind.Kind.TheVariants.{Root, P, Br, InternalList}
 use Rattle.model_items.specs.declared.item.Item.{Item}
@@ -19,7 +20,8 @@ use Rattle.ve_tree.specs.Places.{NodePlace, tree_places, IsNodeRound, OfItsPlace
 use Rattle.ve_tree.specs.Spots.{IsSpotOf, IsChildThere}
 use Rattle.ve_tree.specs.Landmarks.{LandmarkRow, IsLandmark, AreLandmarks, IsCut}
 
--- ---- `<p>ab<br/></p>` and its internal list, with the nodes that are built for it: the root 0, the list 1, the paragraph 2, the br 3, the text 4
+-- ---- `<p>ab<br/></p>` and its internal list, with the nodes that are built for it: the root 0,
+-- the list 1, the paragraph 2, the br 3, the text 4
 
 abbrev page : List Item
 page =
@@ -88,7 +90,7 @@ is_tree = record {
   only = no_more;
 }
 
--- what holds of the place of each node holds of every place of the page
+-- what holds of the position of each node holds of every position of the page
 of_each : (Q : NodePlace → Type 0)
     → Q (record { number = 0; parent = None; sort = Node Root; from = 0; to = 8 })
     → Q (record { number = 2; parent = Some 0; sort = Node P; from = 0; to = 6 })

@@ -1,4 +1,4 @@
-// What no clause says: that a number which was freed is given out again.
+// A fact that no clause says: a number which was freed is given out again.
 ghost use Rattle.std.specs.Prelude.{◌≡◌};
 
 use std::marker::Brand;

@@ -1,4 +1,4 @@
-// What no clause says: how large an item is, and how full blocks are.
+// Facts that no clause says: how large an item is, and how full blocks are.
 use std::alloc::Global;
 use std::mem::size_of;
 use std::test::Fail;
@@ -24,14 +24,15 @@ fn first_of(list: &Linear) -> (usize, usize) {
     }
 }
 
-/// Puts so many letters into a list at a place, or at its end.
+/// Puts so many letters into a list at a position, or at its end.
 fn put(alloc: Global, list: &mut Linear, at: usize, many: usize) -> Result<(), Memory> {
     let items = letters(alloc, many)?;
     let at = at.min(list.len());
     list.splice(at, 0, items.as_slice())
 }
 
-/// What `first_of` says of a list into which so many letters are put at its beginning, and then so many at a place.
+/// The answer of `first_of` for a list into which so many letters are put at its beginning, and
+/// then so many at a position.
 fn after_two(
     alloc: Global,
     first: usize,
@@ -44,7 +45,8 @@ fn after_two(
     Ok(first_of(&list))
 }
 
-/// How many letters there are at first, where more come, how many, and then the blocks and, where it is said, the items of the first.
+/// How many letters there are at first, where more come, how many, and then the blocks and, where
+/// it is said, the items of the first.
 const CASES: [(usize, usize, usize, usize, Option<usize>); 5] = [
     (0, 0, 0, 0, None),
     // a block has at most 512 items

@@ -1,4 +1,4 @@
-// What lines spell.
+// Samples: the pages that lines stand for.
 use std::alloc::Global;
 use std::test::Fail;
 use ve_base::Memory;
@@ -6,7 +6,7 @@ use ve_items::Item;
 use ve_kinds::Kind;
 use ve_samples::{closing, letter, opening, pieces, sample};
 
-/// Whether a line marks this place, and its page has these items.
+/// Whether a line marks this position, and its page has these items.
 fn spells(alloc: Global, line: &str, mark: Option<usize>, items: &[Item]) -> Result<bool, Memory> {
     let page = sample(alloc, line)?;
     Ok(page.offset == mark && page.list.blocks() == 1 && page.list.block(0) == items)

@@ -10,7 +10,8 @@ use Rattle.ve_tx.specs.Copied.{ReadsAlike}
 use Rattle.ve_tx.proofs.CopiesLemmas.{fill-append, grown}
 
 module _ {X Y : Type 0} (read : List Value → X → Y) (Cites : List Value → X → Type 0) (citing : Y → List Value) (store : List Value) where
-  -- what was made of the first i members reads, with the rest, as all of them; and so do the values, once the rest fills them
+  -- what was made of the first i members reads, with the rest, as all of them; and so do the
+  -- values, once the rest fills them
   pub record Going (old values : List Value) (xs : List X) (i : ℕ) (made : List X) : Type 0 where
     pub reads : (more : List Value) → map (read (values ++ more)) made ++ map (read store) (drop i xs) ≡ map (read store) xs
     pub cites : (more : List Value) → All (Cites (values ++ more)) made
@@ -47,6 +48,6 @@ module _ {X Y : Type 0} (read : List Value → X → Y) (Cites : List Value → 
       values ≡ fill old (flat_map citing (map (read store) xs))
   going-filled old values xs i made done g = ap (λ zs. fill values (flat_map citing (map (read store) zs))) (sym (drop_all i xs done)) ∙ g.fills
 
--- the member at a place, and the rest
+-- the member at a position, and the rest
 pub member_at : {X : Type 0} (xs : List X) (i : ℕ) (x : X) → i < length xs → x ≡ get_or xs i x → drop i xs ≡ x ∷ drop (i + 1) xs
 member_at xs i x within here = drop_more xs i x within ∙ ap (λ y. y ∷ drop (i + 1) xs) (sym here)

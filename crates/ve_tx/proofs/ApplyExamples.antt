@@ -12,7 +12,7 @@ use Rattle.ve_tx.specs.declared.op.Op.TheVariants.{Retain, Replace, Attribute}
 use Rattle.ve_tx.specs.Attrs.{exchanged, new_attr, place_of, count_of}
 use Rattle.ve_tx.specs.Checked.{old_size, fault_in}
 use Rattle.ve_tx.specs.Changed.{brought_by}
-use Rattle.ve_tx.specs.Making.{headed}
+use Rattle.ve_tx.specs.Making.{item_with_head}
 use Rattle.ve_tx.specs.Spliced.{spliced_by, come_count, gone_count}
 use Rattle.ve_tx.specs.declared.splice.Splice.{Splice}
 
@@ -30,7 +30,7 @@ page =
 removes_b : List Op
 removes_b = Retain 1 ∷ Replace (Char 98 None ∷ []) [] ∷ Retain 4 ∷ []
 
--- an x comes before the letters, and the second one goes; each place is the old list's
+-- an x comes before the letters, and the second one goes; each position is the old list's
 two_splices : List Splice
 two_splices = record { at = 1; removed = 0; items = Char 120 None ∷ [] } ∷ record { at = 2; removed = 1; items = [] } ∷ []
 
@@ -93,7 +93,7 @@ id_is_set : exchanged attrs (place_of (codes "id") None (Some (codes "x")) attrs
     ≡ record { name = codes "id"; value = codes "z" } ∷ record { name = codes "class"; value = codes "y" } ∷ []
 id_is_set = refl
 
--- one that comes goes to the place kept, or to the end
+-- one that comes goes to the position kept, or to the end
 lang_comes_first : exchanged attrs (place_of (codes "lang") (Some 0) None attrs) (count_of None) (new_attr (codes "lang") (Some (codes "en")))
     ≡ record { name = codes "lang"; value = codes "en" } ∷ attrs
 lang_comes_first = refl
@@ -106,5 +106,5 @@ class_goes : exchanged attrs (place_of (codes "class") None (Some (codes "y")) a
 class_goes = refl
 
 -- a changed head is an opening's alone
-a_letter_takes_no_head : headed (Some empty_head) (plain.Char 97 []) ≡ plain.Char 97 []
+a_letter_takes_no_head : item_with_head (Some empty_head) (plain.Char 97 []) ≡ plain.Char 97 []
 a_letter_takes_no_head = refl

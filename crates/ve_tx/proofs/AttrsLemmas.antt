@@ -113,7 +113,7 @@ position-replace name value (a ∷ attrs) old h = by_test (position-replace name
         let more : suc (position_of name attrs) + 1 ≡ suc (position_of name attrs + 1) = omega arith in
         rw more (ap (λ l. a ∷ l) (rest h))
 
--- the change is an exchange at its place
+-- the change is an exchange at its position
 pub exchanged-changed : (name : List ℕ) (kept : Option ℕ) (from to : Option (List ℕ)) (attrs : List Attr) → value_of name attrs ≡ from →
     exchanged attrs (place_of name kept from attrs) (count_of from) (new_attr name to) ≡ attrs_changed name kept from to attrs
 exchanged-changed name None None None attrs h = rw (append_end attrs) refl
@@ -133,7 +133,7 @@ exchanged-changed name (Some at) None (Some value) attrs h =
 exchanged-changed name kept (Some old) (Some value) attrs h = sym (position-replace name value attrs old h)
 exchanged-changed name kept (Some old) None attrs h = sym (position-drop name attrs old h [])
 
--- an attribute that has a value stands at a place
+-- an attribute that has a value stands at a position
 position-within : (name : List ℕ) (attrs : List Attr) (old : List ℕ) → value_of name attrs ≡ Some old → position_of name attrs + 1 ≤ length attrs
 position-within name [] old h = cc
 position-within name (a ∷ attrs) old h = by_test (position-within name attrs old) (text_same a.name name) h

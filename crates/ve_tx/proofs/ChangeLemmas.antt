@@ -1,4 +1,4 @@
--- What a transaction in normal form is refused for, or is applied.
+-- Transactions in normal form: what one is refused for, or that it is applied.
 use Rattle.std.proofs.Common.{◌≡◌, ◌≤◌, ◌^◌, ℕ, ◌+◌, true, List, [], ◌∷◌, length, map, Option, Some, None, Result, Ok, Err, OnOk, is_ok, refl, sym, ap, ◌∙◌, subst, arith}
 use Rattle.std.proofs.lemmas.Bool.{and_parts, leb-true}
 use Rattle.std.proofs.lemmas.List.{length-map}

@@ -1,4 +1,4 @@
--- What passes over operations ask of a list is what the model asks.
+-- Passes over operations ask of a list what the model asks.
 use Rattle.std.specs.Option.{option_or}
 use Rattle.std.proofs.Common.{◌≡◌, ◌≤◌, ◌<◌, ℕ, zero, suc, ◌+◌, ◌-◌, ◌^◌, min, Bool, true, false, if◌then◌else◌, List, [], ◌∷◌, ◌++◌, length, take, drop, get_or, slice_get, All, Option, Some, None, refl, sym, ap, ◌∙◌, subst, arith}
 use Rattle.std.proofs.lemmas.List.{length-map, length-drop, length-take, drop-drop, get_or-map, get_or-drop, drop_more}
@@ -52,7 +52,7 @@ get-drop zero k xs = let e : 0 + k ≡ k = omega arith in rw e refl
 get-drop (suc m) k [] = refl
 get-drop (suc m) k (x ∷ xs) = let e : suc m + k ≡ suc (m + k) = omega arith in rw e (get-drop m k xs)
 
--- a piece that is lent, and as many of the items to be removed
+-- a piece that is borrowed, and as many of the items to be removed
 module _ (items removed piece : List Item) (at done : ℕ)
     (within : at + done + length piece ≤ at + length removed)
     (lent : piece ≡ take (at + done + length piece - (at + done)) (drop (at + done) items))
@@ -159,7 +159,8 @@ cites-at values ops i o within is cites =
     let P : Operation → Type 0 = OperationCites values in
     subst P (get_or-map (λ x. with_position x None) ops i o (with_position o None) within ∙ ap (λ x. with_position x None) (sym is)) here
 
--- how far the pass over removed items has come: the cursor at its place, and what is still to be asked
+-- how far the pass over removed items has come: the cursor at its position, and what is still to be
+-- asked
 pub record IsWalked (items : List Item) (ops : List Op) (at i : ℕ) : Type 0 where
   pub within : at + total_size (drop i ops) ≤ 2 ^ 60
   pub fits : at + old_size (drop i ops) ≡ length items

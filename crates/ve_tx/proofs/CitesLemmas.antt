@@ -1,4 +1,4 @@
--- What a transaction cites, its inverse cites.
+-- The inverse cites the values that the transaction cites.
 use Rattle.std.proofs.Common.{◌≡◌, List, [], ◌∷◌, sym, subst}
 use Rattle.std.proofs.lemmas.List.Elements.{All-nil, All-cons, All-head, All-tail, All-append}
 use Rattle.ve_base.specs.declared.value.Value.{Value}

@@ -1,4 +1,4 @@
--- What cites copies reads as what cites the store.
+-- Items over the copies read as the items over the store.
 use Rattle.std.proofs.Common.{◌≡◌, ◌≢◌, ◌<◌, ℕ, zero, suc, Bool, true, false, not, ◌||◌, nat_eq, if◌then◌else◌, List, [], ◌∷◌, ◌++◌, length, map, slice_get, Contains, Option, Some, None, is_some, option_map, refl, sym, ap, subst, ◌∙◌, true≢false, eq-eqb, append_assoc, arith}
 use Rattle.std.specs.Prelude.{option_to_list}
 use Rattle.std.specs.List.{list_any}
@@ -48,14 +48,14 @@ unmapped : (value there : Option Value) → option_map Some value ≡ Some there
 unmapped None there h = cc
 unmapped (Some v) there h = cc
 
--- a copy stands where its place does
+-- a copy stands where its position does
 pub copied_at : (store : List Value) (places : List ℕ) (values : List Value) (at p : ℕ) → AreCopied store places values → slice_get places at ≡ Some p →
     slice_get values at ≡ slice_get store p
 copied_at store places values at p copied here =
     unmapped (slice_get values at) (slice_get store p)
     (sym (slice_get-map Some values at) ∙ ap (λ all. slice_get all at) copied ∙ slice_get-map (slice_get store) places at ∙ ap (option_map (slice_get store)) here)
 
--- the place of a copy in the store
+-- the position of a copy in the store
 place_of_copy : (store : List Value) (places : List ℕ) (values : List Value) (at : ℕ) (v : Value) → AreCopied store places values → slice_get values at ≡ Some v →
     (p : ℕ) × (slice_get places at ≡ Some p) × (slice_get store p ≡ Some v)
 place_of_copy store places values at v copied here = go (slice_get places at) refl
@@ -79,7 +79,7 @@ found (q ∷ places) (suc at) p h = or_later (nat_eq p q) (list_any (nat_eq p) p
 at_contains : (values : List Value) (at : ℕ) (v : Value) → slice_get values at ≡ Some v → Contains values v
 at_contains values at v h = (at, slice_get_within values at v h, get_or_from_slice_get values at v v h)
 
--- what `insert_full` tells of a place that was seen, and of one that was not
+-- what `insert_full` tells of a position that was seen, and of one that was not
 pub seen_keys : (places new : List ℕ) (p : ℕ) (is_new : Bool) → new ≡ insert_key nat_eq places p → is_new ≡ not (list_any (nat_eq p) places) → is_new ≡ false → new ≡ places
 seen_keys places new p is_new keys added old =
     let there : list_any (nat_eq p) places ≡ true = by (list_any (nat_eq p) places) (sym added ∙ old) in
@@ -99,7 +99,7 @@ unseen_keys places p is_new added new = by (list_any (nat_eq p) places) (sym add
 abbrev pub IsStored : List ℕ → ℕ → ℕ → Type 0
 IsStored places at p = (k : ℕ) × (slice_get places at ≡ Some k) × (nat_eq p k ≡ true)
 
--- the value at the place that `insert_full` gives
+-- the value at the position that `insert_full` gives
 pub cited_at : (store : List Value) (places : List ℕ) (values : List Value) (at p : ℕ) → AreCopied store places values → IsStored places at p →
     slice_get values at ≡ slice_get store p
 cited_at store places values at p copied stored =

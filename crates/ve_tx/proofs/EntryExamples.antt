@@ -8,7 +8,7 @@ use Rattle.model_items.specs.declared.plain_item.PlainItem.TheVariants.{Char, Cl
 use Rattle.model_change.specs.Store.{fill}
 use Rattle.model_change.specs.Transaction.{Transaction}
 use Rattle.model_change.specs.Transaction as model
-use Rattle.ve_tx.specs.Entry.{appended}
+use Rattle.ve_tx.specs.Entry.{entry_with}
 use Rattle.ve_tx.specs.Operation.{Operation, Retain, Replace}
 use Rattle.ve_tx.specs.Parcel.{all_cited}
 
@@ -19,7 +19,7 @@ puts_x = Retain 1 ∷ Replace [] (item.Char 120 None ∷ []) ∷ Retain 4 ∷ []
 abbrev puts_y : List Operation
 puts_y = Retain 2 ∷ Replace [] (item.Char 121 None ∷ []) ∷ Retain 4 ∷ []
 
-one_entry : appended (record { txs = puts_x ∷ []; store_before = 2; store_after = 3 }) (record { txs = puts_y ∷ []; store_before = 3; store_after = 5 })
+one_entry : entry_with (record { txs = puts_x ∷ []; store_before = 2; store_after = 3 }) (record { txs = puts_y ∷ []; store_before = 3; store_after = 5 })
     ≡ record { txs = puts_x ∷ puts_y ∷ []; store_before = 2; store_after = 5 }
 one_entry = refl
 

@@ -25,8 +25,8 @@ use Rattle.model_change.specs.declared.tx_fault.TxFault.TheVariants.{BadLength, 
 use Rattle.ve_tx.specs.declared.op.Op.{Op}
 use Rattle.ve_tx.specs.declared.op.Op.TheVariants as op
 use Rattle.ve_tx.specs.Checked.{change_of}
-use Rattle.ve_tx.specs.Filled.{passed, op_filled, MayBeMade}
-use Rattle.ve_tx.specs.Making.{headed, first_headed, standing, IsOpening}
+use Rattle.ve_tx.specs.Filled.{items_past, op_filled, MayBeMade}
+use Rattle.ve_tx.specs.Making.{item_with_head, first_headed, standing, IsOpening}
 use Rattle.ve_tx.specs.Normal.{are_normal}
 use Rattle.ve_tx.specs.Cites.{OperationCites, TxCites}
 use Rattle.ve_tx.specs.Operation.{Operation, with_position, with_positions, bare, operation_by_value, by_value, IsNormal}
@@ -53,7 +53,7 @@ here_first store (y ∷ items) zero x h = let same : y ≡ x = cc in ap (λ z. p
 here_first store (y ∷ items) (suc at) x h = here_first store items at x h
 
 -- what an allowed change says of the head
-allowed_head : (c : AttrChange) (head : Head) (p : PlainItem) → allows c (headed (Some head) p) ≡ true → IsOpening p × (value_of c.name head.attrs ≡ c.from) × (is_reserved c.name ≡ false)
+allowed_head : (c : AttrChange) (head : Head) (p : PlainItem) → allows c (item_with_head (Some head) p) ≡ true → IsOpening p × (value_of c.name head.attrs ≡ c.from) × (is_reserved c.name ≡ false)
 allowed_head c head (Char ch marks) h = cc
 allowed_head c head (Closing kind pre) h = cc
 allowed_head c head (Opening kind other marks pre origin generated) h =
@@ -63,8 +63,8 @@ allowed_head c head (Opening kind other marks pre origin generated) h =
 
 -- an attribute operation at the cursor
 module _ (store : List Value) (items : List Item) (at : ℕ) (head : Option Head) (x : Item) (present : Head) (o : Op) (kept : Option ℕ) {name : List ℕ} {from to : Option (List ℕ)}
-    (is : o ≡ op.Attribute name from to) (here : slice_get items at ≡ Some x) (now : headed (Some present) (plain store x) ≡ headed head (plain store x)) where
-  stands : standing (plain_list store items) at head ≡ headed (Some present) (plain store x) ∷ drop (suc at) (plain_list store items)
+    (is : o ≡ op.Attribute name from to) (here : slice_get items at ≡ Some x) (now : item_with_head (Some present) (plain store x) ≡ item_with_head head (plain store x)) where
+  stands : standing (plain_list store items) at head ≡ item_with_head (Some present) (plain store x) ∷ drop (suc at) (plain_list store items)
   stands = ap (first_headed head) (here_first store items at x here) ∙ ap (λ p. p ∷ drop (suc at) (plain_list store items)) (sym now)
 
   by_value_is : operation_by_value store (with_position o kept) ≡ Attribute (change_of name from to kept)
@@ -77,20 +77,20 @@ module _ (store : List Value) (items : List Item) (at : ℕ) (head : Option Head
       subst (λ p. MayBeMade p (standing (plain_list store items) at head)) by_value_is h in
       allowed_head (change_of name from to kept) present (plain store x) (ap (first_allows (change_of name from to kept)) (sym stands) ∙ allowed)
 
-  pub passed_here : (next : Head) → ((p : PlainItem) → headed (Some next) p ≡ item_changed (change_of name from to kept) (headed (Some present) p)) →
-      standing (plain_list store items) at (Some next) ≡ passed (operation_by_value store (with_position o kept)) (standing (plain_list store items) at head)
+  pub passed_here : (next : Head) → ((p : PlainItem) → item_with_head (Some next) p ≡ item_changed (change_of name from to kept) (item_with_head (Some present) p)) →
+      standing (plain_list store items) at (Some next) ≡ items_past (operation_by_value store (with_position o kept)) (standing (plain_list store items) at head)
   passed_here next changed =
       ap (first_headed (Some next)) (here_first store items at x here) ∙ ap (λ p. p ∷ drop (suc at) (plain_list store items)) (changed (plain store x))
-      ∙ ap (on_first (item_changed (change_of name from to kept))) (sym stands) ∙ ap (λ p. passed p (standing (plain_list store items) at head)) (sym by_value_is)
+      ∙ ap (on_first (item_changed (change_of name from to kept))) (sym stands) ∙ ap (λ p. items_past p (standing (plain_list store items) at head)) (sym by_value_is)
 
-  pub filled_here : (position : Option ℕ) → position ≡ position_kept from to name kept (headed (Some present) (plain store x)) →
+  pub filled_here : (position : Option ℕ) → position ≡ position_kept from to name kept (item_with_head (Some present) (plain store x)) →
       operation_by_value store (with_position o position) ≡ op_filled (operation_by_value store (with_position o kept)) (standing (plain_list store items) at head)
   filled_here position position_is =
       ap (λ p. operation_by_value store (with_position p position)) is ∙ ap (λ k. Attribute (change_of name from to k)) position_is
       ∙ ap (λ l. Attribute (first_filled (change_of name from to kept) l)) (sym stands) ∙ ap (λ p. op_filled p (standing (plain_list store items) at head)) (sym by_value_is)
 
 -- the walk goes on after each operation
-filled-next : (p : model.Op) (ops : Transaction) (items : List PlainItem) → filled (p ∷ ops) items ≡ op_filled p items ∷ filled ops (passed p items)
+filled-next : (p : model.Op) (ops : Transaction) (items : List PlainItem) → filled (p ∷ ops) items ≡ op_filled p items ∷ filled ops (items_past p items)
 filled-next (Retain count) ops items = refl
 filled-next (Replace removed inserted) ops items = refl
 filled-next (Attribute change) ops items = refl
@@ -116,7 +116,7 @@ may-next (Attribute change) ops items h = by (first_allows change items) refl h
     by true e f = e
     by false e f = cc
 
-bad-next : (p : model.Op) (ops : Transaction) (items : List PlainItem) → bad_attribute_at 0 (p ∷ ops) items ≡ None → bad_attribute_at 0 ops (passed p items) ≡ None
+bad-next : (p : model.Op) (ops : Transaction) (items : List PlainItem) → bad_attribute_at 0 (p ∷ ops) items ≡ None → bad_attribute_at 0 ops (items_past p items) ≡ None
 bad-next (Retain count) ops items h = bad-any (0 + count) 0 ops (drop count items) h
 bad-next (Replace removed inserted) ops items h = bad-any (0 + length removed) 0 ops (drop (length removed) items) h
 bad-next (Attribute change) ops items h = by (first_allows change items) h
@@ -141,7 +141,7 @@ filling-allowed store tx L items i made o part g =
     may-next (operation_by_value store o) (by_value store (drop (i + 1) tx)) items (ap (λ ops. bad_attribute_at 0 (by_value store ops) items) (sym part) ∙ g.allowed)
 
 pub filling-next : (store : List Value) (tx : List Operation) (L items items' : List PlainItem) (i : ℕ) (made : List Operation) (o o' : Operation) → drop i tx ≡ o ∷ drop (i + 1) tx →
-    items' ≡ passed (operation_by_value store o) items → operation_by_value store o' ≡ op_filled (operation_by_value store o) items →
+    items' ≡ items_past (operation_by_value store o) items → operation_by_value store o' ≡ op_filled (operation_by_value store o) items →
     Filling store tx L i made items → Filling store tx L (i + 1) (made ++ o' ∷ []) items'
 filling-next store tx L items items' i made o o' part is done g =
     let rest = by_value store (drop (i + 1) tx) in

@@ -15,10 +15,10 @@ use Rattle.model_change.specs.Fault.{first_allows, Applies}
 use Rattle.model_change.specs.Store.{fill, head_if, heads_from, changed_heads}
 use Rattle.model_change.proofs.Fits.{Fits, parts_of_Applies}
 use Rattle.model_change.proofs.InverseLemmas.{reduced_parts}
-use Rattle.ve_tx.specs.Making.{Extends, headed, first_headed, IsOpening}
+use Rattle.ve_tx.specs.Making.{Extends, item_with_head, first_headed, IsOpening}
 use Rattle.ve_tx.proofs.ValuesLemmas.{extends_itself, extends_on, list-extended, all-extended, filled_on}
 
--- each attribute operation is allowed, those before it at its place being done
+-- each attribute operation is allowed, those before it at its position being done
 abbrev pub AreAllowed : Transaction → List PlainItem → Type 0
 AreAllowed [] items = Unit {0}
 AreAllowed (Retain count ∷ ops) items = AreAllowed ops (drop count items)
@@ -36,7 +36,8 @@ abbrev pub BeginsOpen : List PlainItem → Type 0
 BeginsOpen [] = ⊥
 BeginsOpen (item ∷ items) = IsOpening item
 
--- The new items so far, with what the operations that are left make of the rest of the old ones, are the whole; so it is of the values.
+-- The new items so far, with what the operations that are left make of the rest of the old ones,
+-- are the whole; so it is of the values.
 pub record IsMade (first_values : List Value) (old whole : List PlainItem) (all_values values : List Value) (made : List Item) (at : ℕ) (head : Option Head) (ops : Transaction) : Type 0 where
   pub reduced : is_reduced ops ≡ true
   pub fits : at + old_length ops ≡ length old
@@ -83,7 +84,7 @@ drop-first_headed head zero items h = absurd (omega arith)
 drop-first_headed head (suc n) [] h = refl
 drop-first_headed head (suc n) (item ∷ items) h = refl
 
-allows-opening : (c : AttrChange) (head : Option Head) (item : PlainItem) → allows c (headed head item) ≡ true → IsOpening item
+allows-opening : (c : AttrChange) (head : Option Head) (item : PlainItem) → allows c (item_with_head head item) ≡ true → IsOpening item
 allows-opening c head (Opening kind other marks pre origin generated) h = tt
 allows-opening c None (Char ch marks) h = cc
 allows-opening c (Some head) (Char ch marks) h = cc
@@ -167,13 +168,13 @@ module _ (S0 : List Value) (old whole : List PlainItem) (V S : List Value) (made
 
   -- an attribute operation changes the head, and passes nothing
   pub made-attribute : (c : AttrChange) (ops : Transaction) (p : PlainItem) (rest : List PlainItem) (head' : Head) → IsMade S0 old whole V S made at head (Attribute c ∷ ops) →
-      drop at old ≡ p ∷ rest → headed (Some head') p ≡ item_changed c (headed head p) → IsMade S0 old whole V S made at (Some head') ops
+      drop at old ≡ p ∷ rest → item_with_head (Some head') p ≡ item_changed c (item_with_head head p) → IsMade S0 old whole V S made at (Some head') ops
   made-attribute c ops p rest head' m here changed =
-      let now : first_headed head (drop at old) ≡ headed head p ∷ rest = ap (first_headed head) here in
+      let now : first_headed head (drop at old) ≡ item_with_head head p ∷ rest = ap (first_headed head) here in
       let then_ : first_headed (Some head') (drop at old) ≡ on_first (item_changed c) (first_headed head (drop at old)) =
       ap (first_headed (Some head')) here ∙ ap (λ q. q ∷ rest) changed ∙ ap (on_first (item_changed c)) (sym now) in
       let parts = reduced_parts (Attribute c) ops m.reduced in
-      let test : allows c (headed head p) ≡ true = subst (λ l. first_allows c l ≡ true) now m.allowed.0 in
+      let test : allows c (item_with_head head p) ≡ true = subst (λ l. first_allows c l ≡ true) now m.allowed.0 in
       record {
         reduced = parts.2;
         fits = m.fits;
@@ -187,7 +188,7 @@ module _ (S0 : List Value) (old whole : List PlainItem) (V S : List Value) (made
 
   -- the attribute operation is allowed on the item as it is
   pub made-allows : (c : AttrChange) (ops : Transaction) (p : PlainItem) (rest : List PlainItem) → IsMade S0 old whole V S made at head (Attribute c ∷ ops) →
-      drop at old ≡ p ∷ rest → allows c (headed head p) ≡ true
+      drop at old ≡ p ∷ rest → allows c (item_with_head head p) ≡ true
   made-allows c ops p rest m here = subst (λ l. first_allows c l ≡ true) (ap (first_headed head) here) m.allowed.0
 
   pub made-all : IsMade S0 old whole V S made at head [] → (plain_list S made ≡ whole) × (S ≡ V)

@@ -10,7 +10,7 @@ use Rattle.model_items.specs.declared.plain_item.PlainItem.{PlainItem}
 use Rattle.model_items.specs.declared.plain_item.PlainItem.TheVariants.{Char, Opening, Closing}
 use Rattle.model_items.specs.Plain.{plain, plain_list, CitesWell}
 use Rattle.model_change.specs.Store.{fill, head_cited, head_if}
-use Rattle.ve_tx.specs.Making.{headed, first_headed, IsOpening}
+use Rattle.ve_tx.specs.Making.{item_with_head, first_headed, IsOpening}
 
 -- one more piece of a range
 pub copied-more : (items start now new piece : List Item) (from at n : ℕ) → from ≤ at → now ≡ start ++ take (at - from) (drop from items) → new ≡ now ++ piece →
@@ -49,7 +49,7 @@ drop-at values (y ∷ list) (suc from) x h =
     let next : suc from + 1 ≡ suc (from + 1) = omega arith in
     rw next (drop-at values list from x h)
 
-head_if-opening : (head : Head) (p : PlainItem) (items : List PlainItem) → IsOpening p → head_if true (headed (Some head) p ∷ items) ≡ head_cited head
+head_if-opening : (head : Head) (p : PlainItem) (items : List PlainItem) → IsOpening p → head_if true (item_with_head (Some head) p ∷ items) ≡ head_cited head
 head_if-opening head (Opening kind other marks pre origin generated) items h = refl
 head_if-opening head (Char ch marks) items h = absurd h
 head_if-opening head (Closing kind pre) items h = absurd h
@@ -62,5 +62,5 @@ module _ (old new : List Value) (list : List Item) (at : ℕ) (x : Item) (head :
       ∙ ap (fill old) (sym (head_if-opening head (plain old x) (drop (at + 1) (plain_list old list)) opening))
       ∙ ap (λ l. fill old (head_if true (first_headed (Some head) l))) (sym (drop-at old list at x here))
 
-  pub settled-item : (y : Item) → plain new y ≡ headed (Some head) (plain old x) → plain_list new (y ∷ []) ≡ take 1 (first_headed (Some head) (drop at (plain_list old list)))
+  pub settled-item : (y : Item) → plain new y ≡ item_with_head (Some head) (plain old x) → plain_list new (y ∷ []) ≡ take 1 (first_headed (Some head) (drop at (plain_list old list)))
   settled-item y e = ap (λ p. p ∷ []) e ∙ ap (λ l. take 1 (first_headed (Some head) l)) (sym (drop-at old list at x here))

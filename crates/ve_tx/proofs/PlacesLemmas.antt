@@ -12,7 +12,8 @@ use Rattle.ve_tx.specs.Spliced.{LieBetween, come_count}
 use Rattle.ve_tx.proofs.RangeLemmas.{pass, pass-none}
 use Rattle.ve_tx.proofs.SplicedLemmas.{lie-wider, lie-push, come-push}
 
--- With the range so far, and a changed head at the place or none: the splices lie within the range, before the place.
+-- With the range so far, and a changed head at the position or none: the splices lie within the
+-- range, before the position.
 abbrev pub AreWithin : Option (ℕ × ℕ) → ℕ → Bool → List Splice → Type 0
 AreWithin None at changed splices = (splices ≡ []) × (changed ≡ false)
 AreWithin (Some (start, end)) at changed splices = LieBetween start (min at end) splices × (changed ≡ true → at < end)
@@ -20,7 +21,7 @@ AreWithin (Some (start, end)) at changed splices = LieBetween start (min at end)
 abbrev pending : Bool → ℕ
 pending changed = if changed then 1 else 0
 
--- before the operations `ops` of a transaction, which stand at a place of the old list
+-- before the operations `ops` of a transaction, which stand at a position of the old list
 pub record HasSplices (t : Transaction) (splices : List Splice) (at : ℕ) (changed : Bool) (ops : Transaction) : Type 0 where
   pub range : Option (ℕ × ℕ)
   pub rest : pass at range ops ≡ active_range t

@@ -1,4 +1,5 @@
--- The active range by one pass is the range from the first to the last operation that isn't a retain.
+-- The active range by one pass is the range from the first to the last operation that isn't a
+-- retain.
 use Rattle.std.proofs.Common.{◌≡◌, ◌≤◌, ℕ, ◌+◌, max, Bool, true, false, ◌&&◌, List, [], ◌∷◌, length, map, Option, None, Some, refl, ap, ◌∙◌, arith}
 use Rattle.std.proofs.lemmas.List.{length-map}
 use Rattle.ve_base.specs.declared.value.Value.{Value}

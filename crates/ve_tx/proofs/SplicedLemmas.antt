@@ -1,4 +1,4 @@
--- Splices at rising places, made from the last to the first.
+-- Splices at rising positions, made from the last to the first.
 use Rattle.std.proofs.Common.{◌≡◌, ◌≤◌, ◌<◌, ℕ, zero, suc, ◌+◌, ◌-◌, List, [], ◌∷◌, ◌++◌, length, take, drop, get_or, All, refl, sym, ap, ◌∙◌, subst, append_assoc, append-nil, length-append, arith}
 use Rattle.std.proofs.lemmas.List.{length-take-le, length-drop, take-take, drop_all, take-append-le, drop-append-le, drop_more}
 use Rattle.std.proofs.lemmas.List.Elements.{All-nil, All-cons, All-append, All-head, All-tail}
@@ -13,7 +13,7 @@ use Rattle.ve_tx.specs.Spliced.{spliced_by, LieBetween, come_count, gone_count, 
 use Rattle.ve_tx.proofs.MakingLemmas.{All-take, All-drop}
 use Rattle.ve_tx.proofs.ValuesLemmas.{all-extended}
 
--- splices between two places lie between any that are further apart
+-- splices between two positions lie between any that are further apart
 pub lie-wider : (from to from' to' : ℕ) (splices : List Splice) → from' ≤ from → to ≤ to' → LieBetween from to splices → LieBetween from' to' splices
 lie-wider from to from' to' [] f t h = omega (arith, h)
 lie-wider from to from' to' (splice ∷ more) f t h =
@@ -65,7 +65,7 @@ spliced-length from to items (splice ∷ more) h k =
     let first = length-append (take splice.at rest) splice.items in
     omega arith
 
--- no more go than lie between the places
+-- no more go than lie between the positions
 pub lie-gone : (from to : ℕ) (splices : List Splice) → LieBetween from to splices → from + gone_count splices ≤ to
 lie-gone from to [] h = omega (arith, h)
 lie-gone from to (splice ∷ more) h = let rest = lie-gone (splice.at + splice.removed) to more h.1 in omega (arith, h.0)

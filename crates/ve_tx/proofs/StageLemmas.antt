@@ -26,7 +26,7 @@ use Rattle.ve_tx.specs.declared.splice.Splice.{Splice}
 use Rattle.ve_tx.specs.Changed.{IsOver, brought_count}
 use Rattle.ve_tx.specs.Checked.{change_of}
 use Rattle.ve_tx.specs.Cites.{OperationCites, TxCites}
-use Rattle.ve_tx.specs.Making.{Extends, headed, first_headed, IsOpening, MayHead, IsSettled}
+use Rattle.ve_tx.specs.Making.{Extends, item_with_head, first_headed, IsOpening, MayHead, IsSettled}
 use Rattle.ve_tx.specs.Operation.{with_position, with_positions, operation_by_value, by_value, IsNormal}
 use Rattle.ve_tx.specs.Spliced.{spliced_by, LieBetween, come_count, AllCite}
 use Rattle.ve_tx.proofs.TurnedLemmas.{with_positions-at, length-with_positions}
@@ -77,7 +77,7 @@ grown-by old new extends made all items listed is cites =
     )
 
 -- what an allowed change says of the head
-allowed_head : (c : AttrChange) (head : Head) (p : PlainItem) → allows c (headed (Some head) p) ≡ true → (value_of c.name head.attrs ≡ c.from) × (is_reserved c.name ≡ false)
+allowed_head : (c : AttrChange) (head : Head) (p : PlainItem) → allows c (item_with_head (Some head) p) ≡ true → (value_of c.name head.attrs ≡ c.from) × (is_reserved c.name ≡ false)
 allowed_head c head (Char ch marks) h = cc
 allowed_head c head (Closing kind pre) h = cc
 allowed_head c head (Opening kind other marks pre origin generated) h =
@@ -89,7 +89,7 @@ opening_headed : (head : Option Head) (p q : PlainItem) → q ≡ p → (is_some
 opening_headed None p q e h = tt
 opening_headed (Some head) p q e h = subst IsOpening (sym e) (h refl)
 
--- the items from a place on, cut behind the first one
+-- the items from a position on, cut behind the first one
 headed-parts : (head : Option Head) (n at : ℕ) (items : List PlainItem) → 0 < n →
     first_headed head (take n (drop at items)) ≡ take 1 (first_headed head (drop at items)) ++ take (n - 1) (drop (at + 1) items)
 headed-parts head n at items some =
@@ -340,22 +340,22 @@ module _ (S0 : List Value) (ops : List Op) (kept : List (Option ℕ)) (list : Li
           omega arith
 
       pub stage-allowed : (name : List ℕ) (from to : Option (List ℕ)) (x : Item) (present : Head) → o ≡ op.Attribute name from to → slice_get list at ≡ Some x →
-          headed (Some present) (plain S x) ≡ headed head (plain S x) → (value_of name present.attrs ≡ from) × (is_reserved name ≡ false)
+          item_with_head (Some present) (plain S x) ≡ item_with_head head (plain S x) → (value_of name present.attrs ≡ from) × (is_reserved name ≡ false)
       stage-allowed name from to x present e here now =
           let c = change_of name from to (get_or kept i None) in
-          let may : allows c (headed head (plain S0 x)) ≡ true =
+          let may : allows c (item_with_head head (plain S0 x)) ≡ true =
           made-allows S0 (plain_list S0 list) _ _ S _ at head c _ (plain S0 x) _ (turn (op.Attribute name from to) e) (drop-at S0 list at x here) in
-          let same : headed (Some present) (plain S0 x) ≡ headed head (plain S0 x) = subst (λ q. headed (Some present) q ≡ headed head q) (same_item x here) now in
+          let same : item_with_head (Some present) (plain S0 x) ≡ item_with_head head (plain S0 x) = subst (λ q. item_with_head (Some present) q ≡ item_with_head head q) (same_item x here) now in
           allowed_head c present (plain S0 x) (ap (allows c) same ∙ may)
 
       pub stage-attribute : (name : List ℕ) (from to : Option (List ℕ)) (x : Item) (present next : Head) (k : Option ℕ) → o ≡ op.Attribute name from to → slice_get list at ≡ Some x →
-          headed (Some present) (plain S x) ≡ headed head (plain S x) → k ≡ get_or kept i None →
-          ((item : PlainItem) → headed (Some next) item ≡ item_changed (change_of name from to k) (headed (Some present) item)) → Stage S0 ops kept list S splices at (Some next) (i + 1)
+          item_with_head (Some present) (plain S x) ≡ item_with_head head (plain S x) → k ≡ get_or kept i None →
+          ((item : PlainItem) → item_with_head (Some next) item ≡ item_changed (change_of name from to k) (item_with_head (Some present) item)) → Stage S0 ops kept list S splices at (Some next) (i + 1)
       stage-attribute name from to x present next k e here now kept_is changed =
           let c = change_of name from to (get_or kept i None) in
-          let same : headed (Some present) (plain S0 x) ≡ headed head (plain S0 x) = subst (λ q. headed (Some present) q ≡ headed head q) (same_item x here) now in
-          let next_head : headed (Some next) (plain S0 x) ≡ item_changed c (headed head (plain S0 x)) =
-          changed (plain S0 x) ∙ ap (λ j. item_changed (change_of name from to j) (headed (Some present) (plain S0 x))) kept_is ∙ ap (item_changed c) same in
+          let same : item_with_head (Some present) (plain S0 x) ≡ item_with_head head (plain S0 x) = subst (λ q. item_with_head (Some present) q ≡ item_with_head head q) (same_item x here) now in
+          let next_head : item_with_head (Some next) (plain S0 x) ≡ item_changed c (item_with_head head (plain S0 x)) =
+          changed (plain S0 x) ∙ ap (λ j. item_changed (change_of name from to j) (item_with_head (Some present) (plain S0 x))) kept_is ∙ ap (item_changed c) same in
           record {
             made = made-attribute S0 (plain_list S0 list) _ _ S _ at head c _ (plain S0 x) _ next (turn (op.Attribute name from to) e) (drop-at S0 list at x here) next_head;
             has = has-headed T splices at (is_some head) c left_over (turn_has (op.Attribute name from to) e);

@@ -1,4 +1,4 @@
--- What cites a store that takes values of a list reads as what cites the list.
+-- Items over a store that takes values of a list read as the items over the list.
 use Rattle.std.proofs.Common.{◌≡◌, ◌<◌, ℕ, Bool, true, false, not, nat_eq, List, [], ◌∷◌, ◌++◌, length, map, get_or, slice_get, Contains, Option, Some, None, option_map, refl, sym, ap, subst, ◌∙◌, append_assoc, arith}
 use Rattle.std.specs.Prelude.{option_to_list, OnErr, Result, Ok, Err}
 use Rattle.std.specs.List.{list_any}
@@ -69,7 +69,7 @@ lengths-map : {X Y : Type 0} (f : X → Y) (xs : List X) → length (map f xs) �
 lengths-map f [] = refl
 lengths-map f (x ∷ xs) = let n = lengths-map f xs in cc
 
--- a place that was seen has a citation beside it
+-- a position that was seen has a citation beside it
 pub cited_within : (values store : List Value) (places new : List ℕ) (ids : List ValueId) (at p : ℕ) (is_new : Bool) → AreTaken values store places ids →
     new ≡ insert_key nat_eq places p → is_new ≡ not (list_any (nat_eq p) places) → is_new ≡ false → IsStored new at p → at < length ids
 cited_within values store places new ids at p is_new h keys added old stored =
@@ -79,7 +79,7 @@ cited_within values store places new ids at p is_new h keys added old stored =
     ap length same ∙ sym (lengths Some (slice_get values) h.0 places h.1) ∙ lengths Some (slice_get store) h.0 (map place_of ids) h.2 ∙ lengths-map place_of ids in
     subst (λ n. at < n) many here
 
--- which cites the value of that place
+-- which cites the value of that position
 pub stands_there : (values store : List Value) (places new : List ℕ) (ids : List ValueId) (at p : ℕ) (is_new : Bool) (id : ValueId) → AreTaken values store places ids →
     new ≡ insert_key nat_eq places p → is_new ≡ not (list_any (nat_eq p) places) → is_new ≡ false → IsStored new at p → at < length ids → id ≡ get_or ids at id →
     slice_get store id.0 ≡ slice_get values p

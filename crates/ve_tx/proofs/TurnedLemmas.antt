@@ -62,7 +62,7 @@ drop-inserted zero ops o h = refl
 drop-inserted (suc at) [] o h = absurd (omega arith)
 drop-inserted (suc at) (x ∷ ops) o h = drop-inserted at ops o (omega arith)
 
--- one more operation in both lists at a place is one more in what they are together
+-- one more operation in both lists at a position is one more in what they are together
 pub with_positions-insert : (at : ℕ) (ops : List Op) (kept : List (Option ℕ)) (o : Op) (k : Option ℕ) → length ops ≡ length kept → at ≤ length ops →
     with_positions (take at ops ++ o ∷ drop at ops) (take at kept ++ k ∷ drop at kept) ≡ inserted_at at (with_position o k) (with_positions ops kept)
 with_positions-insert zero ops kept o k e h = refl
@@ -71,7 +71,7 @@ with_positions-insert (suc at) (x ∷ ops) [] o k e h = absurd (omega arith)
 with_positions-insert (suc at) (x ∷ ops) (y ∷ kept) o k e h =
     ap (λ more. with_position x y ∷ more) (with_positions-insert at ops kept o k (omega arith) (omega arith))
 
--- the operation at a place, and the rest
+-- the operation at a position, and the rest
 pub with_positions-at : (i : ℕ) (ops : List Op) (kept : List (Option ℕ)) (d : Op) → i < length ops →
     drop i (with_positions ops kept) ≡ with_position (get_or ops i d) (get_or kept i None) ∷ drop (suc i) (with_positions ops kept)
 with_positions-at i [] kept d h = absurd (omega arith)
@@ -92,7 +92,7 @@ with_positions-append [] (y ∷ kept) o k e = absurd (omega arith)
 with_positions-append (x ∷ ops) [] o k e = absurd (omega arith)
 with_positions-append (x ∷ ops) (y ∷ kept) o k e = ap (λ more. with_position x y ∷ more) (with_positions-append ops kept o k (omega arith))
 
--- what undoes an attribute operation goes before what undoes the earlier ones of its place
+-- what undoes an attribute operation goes before what undoes the earlier ones of its position
 pub put-change : (back : List Operation) (start : ℕ) (change : AttrChange) (rest : List Operation) → start ≤ length back →
     finished (inserted_at start (Attribute (change_back change)) back) start rest ≡ finished back start (Attribute change ∷ rest)
 put-change back start change rest h =

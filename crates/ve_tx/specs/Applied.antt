@@ -1,4 +1,4 @@
--- What a transaction does to a list whose items cite the values of a store.
+-- Applying a transaction to a list whose items cite the values of a store.
 use Rattle.std.specs.Prelude.{◌≡◌, List, Option, Result}
 use Rattle.ve_base.specs.declared.value.Value.{Value}
 use Rattle.model_items.specs.declared.item.Item.{Item}
@@ -44,7 +44,8 @@ IsFilledOn values items tx full = by_value values full ≡ filled_on values tx i
 abbrev pub IsRestorableOn : List Value → List Operation → List Item → Type 0
 IsRestorableOn values tx items = IsRestorable (by_value values tx) (plain_list values items)
 
--- after the one, the other gives each list back on which names are apart and what is removed can be put back
+-- after the one, the other gives each list back on which names are apart and what is removed can be
+-- put back
 abbrev pub Undoes : List Value → List Operation → List Operation → Type 0
 Undoes values tx back =
     (items : List PlainItem) → AllNamesApart items → Applies (by_value values tx) items → IsRestorable (by_value values tx) items →
@@ -54,7 +55,8 @@ Undoes values tx back =
 abbrev pub plain_after : List Value → List Item → List Splice → List PlainItem
 plain_after values items splices = plain_list values (spliced_by items splices)
 
--- After the splices the list is, over the new values, what the transaction makes of it over the old ones.
+-- After the splices the list is, over the new values, what the transaction makes of it over the old
+-- ones.
 abbrev pub MakesEdited : (old new : List Value) → List Operation → List Item → List Splice → Type 0
 MakesEdited old new tx items splices = plain_after new items splices ≡ edited (by_value old tx) (plain_list old items)
 

@@ -3,7 +3,7 @@ use Rattle.std.specs.Prelude.{ℕ, ◌+◌, min, List, ◌++◌, length, take, d
 use Rattle.ve_base.specs.declared.attrs.Attr.{Attr}
 use Rattle.model_change.specs.Attributes.{position_of}
 
--- those from a place on exchanged for one, or for none
+-- those from a position on exchanged for one, or for none
 abbrev pub exchanged : List Attr → ℕ → ℕ → Option Attr → List Attr
 exchanged attrs at removed new = take at attrs ++ (option_to_list new ++ drop (at + removed) attrs)
 
@@ -12,7 +12,8 @@ abbrev pub new_attr : List ℕ → Option (List ℕ) → Option Attr
 new_attr name None = None
 new_attr name (Some value) = Some (record { name = name; value = value })
 
--- where the change is made: at the attribute that is there, or else at the place kept, which counts as the end where it is past the end
+-- where the change is made: at the attribute that is there, or else at the position kept, which
+-- counts as the end where it is past the end
 abbrev pub place_of : List ℕ → Option ℕ → Option (List ℕ) → List Attr → ℕ
 place_of name kept (Some old) attrs = position_of name attrs
 place_of name (Some at) None attrs = min at (length attrs)

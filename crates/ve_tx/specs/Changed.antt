@@ -1,4 +1,4 @@
--- What a change of a list is, as it is answered before it is made.
+-- The change of a list, as it is answered before it is made.
 use Rattle.std.specs.Prelude.{◌≡◌, ℕ, ◌+◌, List, [], ◌∷◌, length, Option, Some, None}
 use Rattle.model_change.specs.Transaction.{Transaction, Retain, Replace, Attribute}
 use Rattle.model_change.specs.declared.tx_fault.TxFault.{TxFault}
@@ -13,7 +13,8 @@ abbrev pub IsOver : Option (ℕ × ℕ) → List Splice → Type 0
 IsOver (Some (start, end)) splices = LieBetween start end splices
 IsOver None splices = splices ≡ []
 
--- how many items a transaction itself brings: those that it inserts, and an opening for each attribute operation
+-- how many items a transaction itself brings: those that it inserts, and an opening for each
+-- attribute operation
 abbrev pub brought_count : Transaction → ℕ
 brought_count [] = 0
 brought_count (Retain count ∷ ops) = brought_count ops

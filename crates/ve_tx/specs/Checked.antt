@@ -1,4 +1,4 @@
--- What is asked of a list before a transaction changes it, as passes over the operations ask it.
+-- Checks of a list before a transaction changes it, as passes over the operations make them.
 use Rattle.std.specs.Option.{option_or}
 use Rattle.std.specs.Prelude.{◌≡◌, ◌≢◌, ℕ, ◌+◌, ◌<◌, ◌==◌, if◌then◌else◌, List, [], ◌∷◌, length, take, drop, slice_get, Option, Some, None, option_map, All}
 use Rattle.ve_base.specs.declared.value.Value.{Value}
@@ -20,11 +20,12 @@ old_size (Retain count ∷ ops) = count + old_size ops
 old_size (Replace removed inserted ∷ ops) = length removed + old_size ops
 old_size (Attribute name from to ∷ ops) = old_size ops
 
--- the first place where two lists, the second as long or longer, have different items
+-- the first position where two lists, the second as long or longer, have different items
 abbrev pub DiffersFirst : {A : Type 0} → List A → List A → ℕ → Type 0
 DiffersFirst one other k = (k < length one) × (take k one ≡ take k other) × (slice_get one k ≢ slice_get other k)
 
--- the first place where an item that is to be removed is not the list's, from the place `at` on
+-- the first position where an item that is to be removed is not the list's, from the position `at`
+-- on
 abbrev pub mismatch_in : List Value → List Item → ℕ → List Op → Option ℕ
 mismatch_in values items at [] = None
 mismatch_in values items at (Retain count ∷ ops) = mismatch_in values items (at + count) ops
@@ -33,7 +34,8 @@ mismatch_in values items at (Replace removed inserted ∷ ops) =
     (mismatch_in values items (at + length removed) ops)
 mismatch_in values items at (Attribute name from to ∷ ops) = mismatch_in values items at ops
 
--- the first such place from the start on, over any distinct values that the list and the operations cite well
+-- the first such position from the start on, over any distinct values that the list and the
+-- operations cite well
 abbrev pub IsFirstMismatch : List Item → List Op → Option ℕ → Type 0
 IsFirstMismatch items ops found =
     (values : List Value) → AreDistinct values → All (CitesWell values) items → TxCites values (unkept ops) →
@@ -42,7 +44,7 @@ IsFirstMismatch items ops found =
 abbrev pub change_of : List ℕ → Option (List ℕ) → Option (List ℕ) → Option ℕ → AttrChange
 change_of name from to kept = record { name = name; from = from; to = to; kept = kept }
 
--- the first place where an attribute operation is not allowed by the list's own item
+-- the first position where an attribute operation is not allowed by the list's own item
 abbrev pub bad_in : List Value → List Item → ℕ → List Op → Option ℕ
 bad_in values items at [] = None
 bad_in values items at (Retain count ∷ ops) = bad_in values items (at + count) ops

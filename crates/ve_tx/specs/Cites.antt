@@ -4,7 +4,8 @@ use Rattle.ve_base.specs.declared.value.Value.{Value}
 use Rattle.model_items.specs.Plain.{CitesWell}
 use Rattle.ve_tx.specs.Operation.{Operation, Retain, Replace, Attribute}
 
--- each item that it removes or inserts cites values that stand in the list, and are of the sort that it asks for
+-- each item that it removes or inserts cites values that stand in the list, and are of the sort
+-- that it asks for
 abbrev pub OperationCites : List Value → Operation → Type 0
 OperationCites values (Retain count) = Unit {0}
 OperationCites values (Replace removed inserted) = All (CitesWell values) removed × All (CitesWell values) inserted

@@ -3,5 +3,5 @@ use Rattle.std.specs.Prelude.{◌++◌}
 use Rattle.ve_tx.specs.declared.entry.Entry.{Entry}
 
 -- the entry and a later one as one
-abbrev pub appended : Entry → Entry → Entry
-appended entry later = record { txs = entry.txs ++ later.txs; store_before = entry.store_before; store_after = later.store_after }
+abbrev pub entry_with : Entry → Entry → Entry
+entry_with entry later = record { txs = entry.txs ++ later.txs; store_before = entry.store_before; store_after = later.store_after }

@@ -12,10 +12,10 @@ use Rattle.ve_tx.specs.Making.{headed_from}
 use Rattle.ve_tx.specs.Operation.{Operation, operation_by_value}
 
 -- where the cursor stands after an operation
-abbrev pub passed : Op → List PlainItem → List PlainItem
-passed (Retain count) items = drop count items
-passed (Replace removed inserted) items = drop (length removed) items
-passed (Attribute change) items = on_first (item_changed change) items
+abbrev pub items_past : Op → List PlainItem → List PlainItem
+items_past (Retain count) items = drop count items
+items_past (Replace removed inserted) items = drop (length removed) items
+items_past (Attribute change) items = on_first (item_changed change) items
 
 -- the operation, with the position of the attribute that it removes
 abbrev pub op_filled : Op → List PlainItem → Op
@@ -29,7 +29,8 @@ MayBeMade (Retain count) items = Unit {0}
 MayBeMade (Replace removed inserted) items = Unit {0}
 MayBeMade (Attribute change) items = first_allows change items ≡ true
 
--- the items of a list from the cursor on, by value, the first one with its changed head, where it has one
+-- the items of a list from the cursor on, by value, the first one with its changed head, where it
+-- has one
 abbrev pub ahead : List Value → List Item → Cursor → List PlainItem
 ahead values items cursor = headed_from values items cursor.at cursor.head
 
@@ -40,9 +41,10 @@ MayPass values items operation cursor = MayBeMade (operation_by_value values ope
 -- the operation takes the cursor to the next one
 abbrev pub Passes : List Value → List Item → Operation → (cursor next : Cursor) → Type 0
 Passes values items operation cursor next =
-    ahead values items next ≡ passed (operation_by_value values operation) (ahead values items cursor)
+    ahead values items next ≡ items_past (operation_by_value values operation) (ahead values items cursor)
 
--- the second operation is, by value, the first with the position that the attribute which it removes has at the cursor
+-- the second operation is, by value, the first with the position that the attribute which it
+-- removes has at the cursor
 abbrev pub Fills : List Value → List Item → Cursor → (operation full : Operation) → Type 0
 Fills values items cursor operation full =
     operation_by_value values full ≡ op_filled (operation_by_value values operation) (ahead values items cursor)

@@ -15,18 +15,18 @@ abbrev pub Extends : List Value → List Value → Type 0
 Extends old new = (more : List Value) × (new ≡ old ++ more)
 
 -- an opening with this head, if there is one
-abbrev pub headed : Option Head → PlainItem → PlainItem
-headed None item = item
-headed (Some head) (Opening kind other marks pre origin generated) = Opening kind head marks pre origin generated
-headed (Some head) (Char ch marks) = Char ch marks
-headed (Some head) (Closing kind pre) = Closing kind pre
+abbrev pub item_with_head : Option Head → PlainItem → PlainItem
+item_with_head None item = item
+item_with_head (Some head) (Opening kind other marks pre origin generated) = Opening kind head marks pre origin generated
+item_with_head (Some head) (Char ch marks) = Char ch marks
+item_with_head (Some head) (Closing kind pre) = Closing kind pre
 
 -- of the first item
 abbrev pub first_headed : Option Head → List PlainItem → List PlainItem
 first_headed head [] = []
-first_headed head (item ∷ items) = headed head item ∷ items
+first_headed head (item ∷ items) = item_with_head head item ∷ items
 
--- the items from a place on, the first one with its changed head, where it has one
+-- the items from a position on, the first one with its changed head, where it has one
 abbrev pub standing : List PlainItem → ℕ → Option Head → List PlainItem
 standing items at head = first_headed head (drop at items)
 
@@ -46,14 +46,16 @@ MayHead (Some head) item = IsOpening item
 
 -- the second head is the first after a change of its attributes, on whatever item it stands
 abbrev pub IsHeadChanged : AttrChange → (old new : Head) → Type 0
-IsHeadChanged change old new = (item : PlainItem) → headed (Some new) item ≡ item_changed change (headed (Some old) item)
+IsHeadChanged change old new = (item : PlainItem) → item_with_head (Some new) item ≡ item_changed change (item_with_head (Some old) item)
 
--- Where the first item is an opening, the second is the same with the head that is cited, whatever the values are.
+-- Where the first item is an opening, the second is the same with the head that is cited, whatever
+-- the values are.
 abbrev pub IsHeaded : Item → Option ValueId → Item → Type 0
 IsHeaded item head new = (values : List Value) → IsOpening (plain values item) →
-    plain values new ≡ headed (Some (head_in (value_at values head))) (plain values item)
+    plain values new ≡ item_with_head (Some (head_in (value_at values head))) (plain values item)
 
--- The splices after are those before, and where there is a head then one more, which puts it on the opening at the place.
+-- The splices after are those before, and where there is a head then one more, which puts it on the
+-- opening at the position.
 abbrev pub IsSettled : (old new : List Value) → List Item → (at : ℕ) → Option Head → (before after : List Splice) → Type 0
 IsSettled old new list at None before after = after ≡ before
 IsSettled old new list at (Some head) before after =

@@ -1,4 +1,5 @@
--- The normal form, asked of operations whose items cite values: it reads no value. A law says that it is the normal form by value.
+-- The normal form, asked of operations whose items cite values: it reads no value. A law says that
+-- it is the normal form by value.
 use Rattle.std.specs.Prelude.{ℕ, ◌+◌, Bool, true, false, not, ◌&&◌, nat_lt, nat_le, List, [], ◌∷◌, length}
 use Rattle.model_items.specs.Same.{text_same}
 use Rattle.ve_base.specs.Limits.{max_total_length}
@@ -25,7 +26,7 @@ may_stand_before (Retain count) ops = not (begins_with_retain ops)
 may_stand_before (Replace removed inserted) ops = not (begins_with_replace ops)
 may_stand_before (Attribute name from to) ops = names_apart name ops
 
--- what it retains, removes and inserts, together
+-- the number of items that it retains, removes and inserts, together
 abbrev pub size : Op → ℕ
 size (Retain count) = count
 size (Replace removed inserted) = length removed + length inserted

@@ -1,4 +1,4 @@
--- What a transaction is seen as, and what it means by value.
+-- The view of a transaction, and its meaning by value.
 use Rattle.std.specs.Prelude.{◌≡◌, ℕ, true, List, [], ◌∷◌, map, Option, None}
 use Rattle.ve_base.specs.declared.value.Value.{Value}
 use Rattle.model_items.specs.declared.item.Item.{Item}

@@ -8,7 +8,7 @@ abbrev pub widened : Option (ℕ × ℕ) → ℕ → ℕ → Option (ℕ × ℕ)
 widened None from to = Some (from, to)
 widened (Some (start, end)) from to = Some (start, max end to)
 
--- the range once the operations from the place `at` on are passed
+-- the range once the operations from the position `at` on are passed
 abbrev pub range_from : ℕ → Option (ℕ × ℕ) → List Op → Option (ℕ × ℕ)
 range_from at range [] = range
 range_from at range (Retain count ∷ ops) = range_from (at + count) range ops

@@ -1,4 +1,4 @@
--- A list after splices at rising places of it.
+-- A list after splices at rising positions of it.
 use Rattle.std.specs.Prelude.{ℕ, ◌+◌, ◌≤◌, List, [], ◌∷◌, All, length}
 use Rattle.ve_base.specs.declared.value.Value.{Value}
 use Rattle.model_items.specs.declared.item.Item.{Item}
@@ -6,12 +6,12 @@ use Rattle.model_items.specs.Plain.{CitesWell}
 use Rattle.ve_items.specs.Substitution.{spliced}
 use Rattle.ve_tx.specs.declared.splice.Splice.{Splice}
 
--- The list after these splices: the last is made first, so each place is the old list's.
+-- The list after these splices: the last is made first, so each position is the old list's.
 abbrev pub spliced_by : List Item → List Splice → List Item
 spliced_by items [] = items
 spliced_by items (splice ∷ more) = spliced (spliced_by items more) splice.at splice.removed splice.items
 
--- The splices lie between two places: each begins at the end of the one before, or later.
+-- The splices lie between two positions: each begins at the end of the one before, or later.
 abbrev pub LieBetween : (from to : ℕ) → List Splice → Type 0
 LieBetween from to [] = from ≤ to
 LieBetween from to (splice ∷ more) = (from ≤ splice.at) × LieBetween (splice.at + splice.removed) to more

@@ -61,7 +61,8 @@ fn has_value(attrs: &[Attr], name: &Text, value: &Option<Text>) -> bool
 /// Whether an item allows that an attribute which has the value `from` is changed.
 fn allows(store: &Store, item: Item, name: &Text, from: &Option<Text>) -> bool
     requires { CitesWell store.now item }
-    ensures { result ≡ attributes.allows (change_of name.now from.now None None) (plain store.now item) }
+    ensures { result
+        ≡ attributes.allows (change_of name.now from.now None None) (plain store.now item) }
 {
     match item {
         Item::Opening { kind, head, .. } => {
@@ -71,10 +72,12 @@ fn allows(store: &Store, item: Item, name: &Text, from: &Option<Text>) -> bool
     }
 }
 
-/// The same of the item at a place; past the end there is none that allows it.
+/// The same of the item at a position; past the end there is none that allows it.
 pub fn may_change(list: &Linear, store: &Store, at: usize, name: &Text, from: &Option<Text>) -> bool
     requires { All (CitesWell store.now) list.now.items }
-    ensures { result ≡ first_allows (change_of name.now from.now None None) (plain_list store.now (drop at list.now.items)) }
+    ensures { result
+        ≡ first_allows (change_of name.now from.now None None) (
+        plain_list store.now (drop at list.now.items)) }
 {
     at < list.len() && allows(store, list.get(at), name, from)
 }
@@ -90,7 +93,8 @@ fn append(alloc: Global, made: &mut Attrs, more: &[Attr]) -> Result<(), Memory>
     Ok(())
 }
 
-/// A copy in which `removed` attributes from a place on are exchanged for a new one, or for none.
+/// A copy in which `removed` attributes from a position on are exchanged for a new one, or for
+/// none.
 fn exchanged(
     alloc: Global,
     attrs: &[Attr],
@@ -124,7 +128,8 @@ pub fn position(attrs: &[Attr], name: &Text) -> usize
     attrs.len()
 }
 
-/// Where a change is made: at the attribute that is there, or else at the place kept for it, or the end.
+/// Where a change is made: at the attribute that is there, or else at the position kept for it, or
+/// the end.
 fn place(attrs: &[Attr], name: &Text, kept: Option<usize>, from: &Option<Text>) -> usize
     ensures { result ≡ place_of name.now kept from.now attrs.now }
 {
@@ -156,8 +161,8 @@ fn attribute(alloc: Global, name: &Text, to: &Option<Text>) -> Result<Option<Att
     }
 }
 
-/// A copy of attributes in which one goes from its present value to another. One that comes is put at the place kept
-/// for it, or at the end.
+/// A copy of attributes in which one goes from its present value to another. One that comes is put
+/// at the position kept for it, or at the end.
 pub fn changed(
     alloc: Global,
     attrs: &Attrs,

@@ -1,4 +1,4 @@
-// What a list is to be changed by, made before the list is.
+// The change of a list, made before the list itself changes.
 ghost use Rattle.std.specs.Prelude.{◌≡◌, ◌≤◌, length, All, IfOk, OnOk, OnErr};
 ghost use Rattle.model_items.specs.Plain.{CitesWell};
 ghost use Rattle.ve_tx.specs.Applied.{AppliesTo, IsOverActive, MakesEdited, store_after};
@@ -16,15 +16,15 @@ use ve_base::Memory;
 use ve_items::Linear;
 use ve_store::Store;
 
-/// One change of a list: splices at rising places of the old list.
+/// One change of a list: splices at rising positions of the old list.
 #[derive(Drop)]
 pub struct Change {
     pub splices: Vec<Splice>,
 }
 
 impl Change {
-    /// Makes the change of the list, from the last splice to the first, so that each place is still the old list's. It
-    /// takes no memory.
+    /// Makes the change of the list, from the last splice to the first, so that each position is
+    /// still the old list's. It takes no memory.
     pub fn splice_into(&self, list: &mut Linear)
         requires within { LieBetween 0 (length list.old.items) self.now.splices.items }
         requires room { come_count self.now.splices.items ≤ list.old.spare }
@@ -42,8 +42,8 @@ impl Change {
     }
 }
 
-/// The change that operations make which apply to the list. The store takes the heads that are new, and the list takes
-/// room for the change. An `Err` may leave heads after those that were there.
+/// The change that operations make which apply to the list. The store takes the heads that are new,
+/// and the list takes room for the change. An `Err` may leave heads after those that were there.
 pub fn prepared(
     alloc: Global,
     ops: &[Op],
@@ -55,13 +55,20 @@ pub fn prepared(
     requires list { All (CitesWell store.old) list.old.items }
     requires cites { TxCites store.old (with_positions ops.now kept.now) }
     requires applies { AppliesTo store.old (with_positions ops.now kept.now) list.old.items }
-    ensures changed { IfOk result (λ change. MakesEdited store.old store.new (with_positions ops.now kept.now) list.old.items change.splices.items) }
-    ensures range { IfOk result (λ change. IsOverActive store.old (with_positions ops.now kept.now) change.splices.items) }
-    ensures within { IfOk result (λ change. LieBetween 0 (length list.old.items) change.splices.items) }
-    ensures thrifty { IfOk result (λ change. come_count change.splices.items ≤ brought_count (by_value store.old (with_positions ops.now kept.now))) }
+    ensures changed { IfOk result (λ change.
+        MakesEdited store.old store.new (with_positions ops.now kept.now) list.old.items
+        change.splices.items) }
+    ensures range { IfOk result (λ change.
+        IsOverActive store.old (with_positions ops.now kept.now) change.splices.items) }
+    ensures within { IfOk result (λ change.
+        LieBetween 0 (length list.old.items) change.splices.items) }
+    ensures thrifty { IfOk result (λ change.
+        come_count change.splices.items
+        ≤ brought_count (by_value store.old (with_positions ops.now kept.now))) }
     ensures room { IfOk result (λ change. come_count change.splices.items ≤ list.new.spare) }
     ensures cites { IfOk result (λ change. AllCite store.new change.splices.items) }
-    ensures store { OnOk result (store.new ≡ store_after store.old (with_positions ops.now kept.now) list.old.items) }
+    ensures store { OnOk result (
+        store.new ≡ store_after store.old (with_positions ops.now kept.now) list.old.items) }
     ensures items { list.new.items ≡ list.old.items }
     ensures blocks { list.new.blocks ≡ list.old.blocks }
     ensures err { OnErr result (list.new ≡ list.old) }

@@ -1,4 +1,5 @@
-// Whether operations apply to a list: lengths first, then the items that are to be removed, then the attributes.
+// Whether operations apply to a list: lengths first, then the items that are to be removed, then
+// the attributes.
 ghost use Rattle.std.specs.Prelude.{◌≡◌, ◌≤◌, ◌<◌, ◌+◌, ◌^◌, ◌↔◌, length, take, drop, None, Some, All, IfErr, IfNone, IfSome, OnOk, IfOk, IsTrue};
 ghost use Rattle.ve_base.specs.Limits.{max_total_length};
 ghost use Rattle.ve_base.specs.declared.value.Value.{Value};
@@ -30,7 +31,7 @@ pub fn old_length(ops: &[Op]) -> usize
     len
 }
 
-/// The first place where two pieces of one length differ.
+/// The first position where two pieces of one length differ.
 fn difference(one: &[Item], other: &[Item]) -> Option<usize>
     requires { length one.now ≡ length other.now }
     ensures none { IfNone result (one.now ≡ other.now) }
@@ -44,12 +45,13 @@ fn difference(one: &[Item], other: &[Item]) -> Option<usize>
     None
 }
 
-/// How many of the items from a place on the list has before the first one that is another. It goes over the list as it
-/// is lent, piece after piece.
+/// How many of the items from a position on the list has before the first one that is another. It
+/// goes over the list as it is borrowed, piece after piece.
 fn first_difference(list: &Linear, at: usize, removed: &[Item]) -> Option<usize>
     requires within { at + length removed.now ≤ length list.now.items }
     requires fits { at + length removed.now < 2 ^ 64 }
-    ensures none { IfNone result (take (length removed.now) (drop at list.now.items) ≡ removed.now) }
+    ensures none { IfNone result (
+        take (length removed.now) (drop at list.now.items) ≡ removed.now) }
     ensures some { IfSome result (λ k. DiffersFirst removed.now (drop at list.now.items) k) }
 {
     let mut done = 0;
@@ -64,7 +66,7 @@ fn first_difference(list: &Linear, at: usize, removed: &[Item]) -> Option<usize>
     None
 }
 
-/// The first place where an item that is to be removed is not the list's.
+/// The first position where an item that is to be removed is not the list's.
 pub fn first_mismatch(ops: &[Op], list: &Linear) -> Option<usize>
     requires within { total_size ops.now ≤ max_total_length }
     requires fits { old_size ops.now ≡ length list.now.items }
@@ -87,7 +89,7 @@ pub fn first_mismatch(ops: &[Op], list: &Linear) -> Option<usize>
     None
 }
 
-/// The first place where an attribute operation is not allowed.
+/// The first position where an attribute operation is not allowed.
 pub fn first_bad(ops: &[Op], list: &Linear, store: &Store) -> Option<usize>
     requires within { total_size ops.now ≤ max_total_length }
     requires cites { All (CitesWell store.now) list.now.items }
@@ -108,8 +110,9 @@ pub fn first_bad(ops: &[Op], list: &Linear, store: &Store) -> Option<usize>
     None
 }
 
-/// Whether operations apply to a list. It takes no memory, and asks for lengths first, then whether the list has the items
-/// that are to be removed, and then whether its own items allow the attribute operations.
+/// Whether operations apply to a list. It takes no memory. It asks for lengths first, then whether
+/// the list has the items that are to be removed. Last it asks whether the list's own items allow
+/// the attribute operations.
 pub fn check(ops: &[Op], list: &Linear, store: &Store) -> Result<(), TxFault>
     requires within { total_size ops.now ≤ max_total_length }
     requires distinct { AreDistinct store.now }

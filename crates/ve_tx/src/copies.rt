@@ -1,4 +1,5 @@
-// Values that are copied out of a store, and what cites the copies in place of the store.
+// Values that are copied out of a store, and the numbers that cite the copies in place of the
+// store.
 ghost use Rattle.std.specs.Prelude.{◌≡◌, [], All, IfOk, OnOk, map, vec_len};
 ghost use Rattle.model_change.specs.Store.{fill, cited_by, cited};
 ghost use Rattle.model_items.specs.Plain.{plain, plain_list, CitesWell};
@@ -37,7 +38,7 @@ impl Copies {
         }
     }
 
-    /// What cites, among the copies, the value that is cited in the store.
+    /// The number among the copies of the value that is cited in the store.
     fn cite(
         &mut self,
         alloc: Global,
@@ -47,7 +48,8 @@ impl Copies {
         requires copied { AreCopied store.now self.old.places.keys self.old.values }
         requires stands { Stands store.now id }
         ensures copied { OnOk result (AreCopied store.now self.new.places.keys self.new.values) }
-        ensures filled { OnOk result (self.new.values ≡ fill self.old.values (one_cited store.now id)) }
+        ensures filled { OnOk result (
+            self.new.values ≡ fill self.old.values (one_cited store.now id)) }
         ensures cites { IfOk result (CitesAlike store.now self.new.values id) }
     {
         let Some(id) = id else {
@@ -68,7 +70,8 @@ impl Copies {
         requires copied { AreCopied store.now self.old.places.keys self.old.values }
         requires cites { CitesWell store.now item }
         ensures copied { OnOk result (AreCopied store.now self.new.places.keys self.new.values) }
-        ensures filled { OnOk result (self.new.values ≡ fill self.old.values (cited_by (plain store.now item))) }
+        ensures filled { OnOk result (
+            self.new.values ≡ fill self.old.values (cited_by (plain store.now item))) }
         ensures alike { IfOk result (ReadsAlike plain CitesWell store.now self.new.values item) }
     {
         match item {
@@ -108,8 +111,11 @@ impl Copies {
         requires copied { AreCopied store.now self.old.places.keys self.old.values }
         requires cites { All (CitesWell store.now) items.now }
         ensures copied { OnOk result (AreCopied store.now self.new.places.keys self.new.values) }
-        ensures filled { OnOk result (self.new.values ≡ fill self.old.values (cited (plain_list store.now items.now))) }
-        ensures alike { IfOk result (ReadsAlike plain_list (λ values. All (CitesWell values)) store.now self.new.values items.now) }
+        ensures filled { OnOk result (
+            self.new.values ≡ fill self.old.values (cited (plain_list store.now items.now))) }
+        ensures alike { IfOk result (
+            ReadsAlike plain_list (λ values. All (CitesWell values)) store.now self.new.values
+            items.now) }
     {
         let mut made = Items::new(alloc);
         for item in items {
@@ -124,8 +130,14 @@ impl Copies {
         requires copied { AreCopied store.now self.old.places.keys self.old.values }
         requires cites { (k : _) → OperationCites store.now (with_position op.now k) }
         ensures copied { OnOk result (AreCopied store.now self.new.places.keys self.new.values) }
-        ensures filled { OnOk result ((k : _) → self.new.values ≡ fill self.old.values (operation_cited_in store.now (with_position op.now k))) }
-        ensures alike { IfOk result (λ made. (k : _) → OperationsAlike store.now self.new.values (with_position op.now k) (with_position made k)) }
+        ensures filled { OnOk result (
+            (k : _)
+            → self.new.values
+            ≡ fill self.old.values (operation_cited_in store.now (with_position op.now k))) }
+        ensures alike { IfOk result (λ made.
+            (k : _)
+            → OperationsAlike store.now self.new.values (with_position op.now k)
+            (with_position made k)) }
     {
         match op {
             Op::Retain(count) => Ok(Op::Retain(*count)),
@@ -153,8 +165,12 @@ impl Copies {
         requires copied { AreCopied store.now self.old.places.keys self.old.values }
         requires cites { TxCites store.now (with_positions ops.now kept.now) }
         ensures copied { OnOk result (AreCopied store.now self.new.places.keys self.new.values) }
-        ensures filled { OnOk result (self.new.values ≡ fill self.old.values (transaction_cited_in store.now (with_positions ops.now kept.now))) }
-        ensures alike { IfOk result (λ made. TransactionsAlike store.now self.new.values (with_positions ops.now kept.now) (gathered made)) }
+        ensures filled { OnOk result (
+            self.new.values ≡ fill self.old.values (
+            transaction_cited_in store.now (with_positions ops.now kept.now))) }
+        ensures alike { IfOk result (λ made.
+            TransactionsAlike store.now self.new.values (with_positions ops.now kept.now)
+            (gathered made)) }
     {
         let mut made = Gathered::new(alloc);
         for i in 0..ops.len() {

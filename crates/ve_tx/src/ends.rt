@@ -33,8 +33,8 @@ fn core_end(ops: &[Op]) -> usize
     }
 }
 
-/// Copies of all operations but the first and the last retain, with their positions, between retains of these lengths; a
-/// retain of 0 is left out.
+/// Copies of all operations but the first and the last retain, with their positions, between
+/// retains of these lengths; a retain of 0 is left out.
 pub fn with_ends(
     alloc: Global,
     first: usize,
@@ -42,7 +42,10 @@ pub fn with_ends(
     kept: &[Option<usize>],
     last: usize,
 ) -> Result<Gathered, Memory>
-    ensures { IfOk result (λ made. gathered made ≡ retain_of first ++ (core_of ops.now (with_positions ops.now kept.now) ++ retain_of last)) }
+    ensures { IfOk result (λ made.
+        gathered made
+        ≡ retain_of first
+        ++ (core_of ops.now (with_positions ops.now kept.now) ++ retain_of last)) }
 {
     let mut made = Gathered::new(alloc);
     made.retain(first)?;

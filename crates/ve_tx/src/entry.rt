@@ -1,13 +1,13 @@
 // Transactions that are one change.
 ghost use Rattle.std.specs.Prelude.{◌≡◌, OnOk, OnErr};
-ghost use Rattle.ve_tx.specs.Entry.{appended};
+ghost use Rattle.ve_tx.specs.Entry.{entry_with};
 
 use crate::TxList;
 use std::alloc::Global;
 use ve_base::{ListOf, Memory, TryCopy};
 
-/// Transactions that were made one after the other, and are undone together. The numbers are the lengths of the store
-/// before and after them.
+/// Transactions that were made one after the other, and are undone together. The numbers are the
+/// lengths of the store before and after them.
 #[derive(Drop)]
 pub struct Entry {
     pub txs: TxList,
@@ -19,10 +19,10 @@ pub struct Entry {
 pub type EntryList = ListOf<Entry>;
 
 impl Entry {
-    /// Makes one entry of this and a later one: the later one's transactions follow, the first number stays, and the
-    /// second becomes the later one's. An `Err` changes nothing.
+    /// Makes one entry of this and a later one: the later one's transactions follow, the first
+    /// number stays, and the second becomes the later one's. An `Err` changes nothing.
     pub fn append(&mut self, later: Entry) -> Result<(), Memory>
-        ensures ok { OnOk result (self.new ≡ appended self.old later) }
+        ensures ok { OnOk result (self.new ≡ entry_with self.old later) }
         ensures err { OnErr result (self.new ≡ self.old) }
     {
         self.txs.append(later.txs)?;

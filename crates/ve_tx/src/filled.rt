@@ -7,7 +7,7 @@ ghost use Rattle.model_change.specs.Attributes.{position_kept};
 ghost use Rattle.model_change.specs.Fault.{bad_attribute_at};
 ghost use Rattle.ve_tx.specs.Applied.{IsFilledOn};
 ghost use Rattle.ve_tx.specs.Filled.{MayPass, Passes, Fills};
-ghost use Rattle.ve_tx.specs.Making.{headed, standing, IsOpening};
+ghost use Rattle.ve_tx.specs.Making.{item_with_head, standing, IsOpening};
 ghost use Rattle.ve_tx.specs.Normal.{size, total_size};
 ghost use Rattle.ve_tx.specs.Gathered.{gathered};
 ghost use Rattle.ve_tx.specs.Operation.{by_value, with_position, with_positions};
@@ -22,18 +22,19 @@ use ve_base::{Head, Memory, Text, TryCopy};
 use ve_items::Linear;
 use ve_store::Store;
 
-/// A place of the old list, with the head of the item there, where operations have changed it.
+/// A position of the old list, with the head of the item there, where operations have changed it.
 #[derive(Drop)]
 struct Cursor {
     at: usize,
     head: Option<Head>,
 }
 
-/// Past so many items. A changed head stays after with its item.
+/// Past so many items. A changed head stays with its item.
 fn past(cursor: Cursor, count: usize) -> Cursor
     requires { cursor.at + count ≤ max_total_length }
     ensures at { result.at ≡ cursor.at + count }
-    ensures standing { (items : List PlainItem) → standing items result.at result.head ≡ drop count (standing items cursor.at cursor.head) }
+    ensures standing { (items : List PlainItem)
+        → standing items result.at result.head ≡ drop count (standing items cursor.at cursor.head) }
 {
     if count == 0 {
         return cursor;
@@ -44,7 +45,8 @@ fn past(cursor: Cursor, count: usize) -> Cursor
     }
 }
 
-/// The position to keep: that of the attribute, where it is removed, and else the one that is kept already.
+/// The position to keep: that of the attribute, where it is removed, and else the one that is kept
+/// already.
 fn position_to_keep(
     head: &Head,
     name: &Text,
@@ -52,7 +54,10 @@ fn position_to_keep(
     from: &Option<Text>,
     to: &Option<Text>,
 ) -> Option<usize>
-    ensures { (item : PlainItem) → IsOpening item → result ≡ position_kept from.now to.now name.now kept (headed (Some head.now) item) }
+    ensures { (item : PlainItem)
+        → IsOpening item
+        → result
+        ≡ position_kept from.now to.now name.now kept (item_with_head (Some head.now) item) }
 {
     match (from, to) {
         (Some(_), None) => Some(position(head.attrs.as_slice(), name)),
@@ -74,8 +79,11 @@ fn step(
     requires list { All (CitesWell store.now) list.now.items }
     requires allowed { MayPass store.now list.now.items (with_position op.now kept) cursor }
     ensures at { IfOk result (λ next. next.0.at ≤ cursor.at + size op.now) }
-    ensures passed { IfOk result (λ next. Passes store.now list.now.items (with_position op.now kept) cursor next.0) }
-    ensures filled { IfOk result (λ next. Fills store.now list.now.items cursor (with_position op.now kept) (with_position op.now next.1)) }
+    ensures passed { IfOk result (λ next.
+        Passes store.now list.now.items (with_position op.now kept) cursor next.0) }
+    ensures filled { IfOk result (λ next.
+        Fills store.now list.now.items cursor (with_position op.now kept)
+        (with_position op.now next.1)) }
 {
     match op {
         Op::Retain(count) => Ok((past(cursor, *count), kept)),
@@ -96,8 +104,8 @@ fn step(
     }
 }
 
-/// Copies of the operations, each with its position or, where it removes an attribute, with the position that the
-/// attribute has just before.
+/// Copies of the operations, each with its position or, where it removes an attribute, with the
+/// position that the attribute has just before.
 pub fn filled(
     alloc: Global,
     ops: &[Op],
@@ -107,9 +115,12 @@ pub fn filled(
 ) -> Result<Gathered, Memory>
     requires within { total_size ops.now ≤ max_total_length }
     requires list { All (CitesWell store.now) list.now.items }
-    requires allowed { bad_attribute_at 0 (by_value store.now (with_positions ops.now kept.now)) (plain_list store.now list.now.items) ≡ None }
+    requires allowed { bad_attribute_at 0 (by_value store.now (with_positions ops.now kept.now))
+        (plain_list store.now list.now.items)
+        ≡ None }
     ensures ops { IfOk result (λ made. made.ops.items ≡ ops.now) }
-    ensures filled { IfOk result (λ made. IsFilledOn store.now list.now.items (with_positions ops.now kept.now) (gathered made)) }
+    ensures filled { IfOk result (λ made.
+        IsFilledOn store.now list.now.items (with_positions ops.now kept.now) (gathered made)) }
 {
     let mut made = Gathered::new(alloc);
     let mut cursor = Cursor { at: 0, head: None };

@@ -28,13 +28,14 @@ impl Gathered {
         }
     }
 
-    /// Puts an operation in at a place.
+    /// Puts an operation in at a position.
     pub fn insert(&mut self, at: usize, op: Op, kept: Option<usize>) -> Result<(), Memory>
         requires even { vec_len self.old.ops ≡ vec_len self.old.kept }
         requires within { at ≤ vec_len self.old.ops }
         ensures even { OnOk result (vec_len self.new.ops ≡ vec_len self.new.kept) }
         ensures within { OnOk result (at ≤ vec_len self.new.ops) }
-        ensures ok { OnOk result (gathered self.new ≡ inserted_at at (with_position op kept) (gathered self.old)) }
+        ensures ok { OnOk result (
+            gathered self.new ≡ inserted_at at (with_position op kept) (gathered self.old)) }
     {
         self.ops.insert(at, op)?;
         self.kept.insert(at, kept)?;
@@ -46,7 +47,8 @@ impl Gathered {
         requires even { vec_len self.old.ops ≡ vec_len self.old.kept }
         ensures even { OnOk result (vec_len self.new.ops ≡ vec_len self.new.kept) }
         ensures ops { OnOk result (self.new.ops.items ≡ self.old.ops.items ++ op ∷ []) }
-        ensures ok { OnOk result (gathered self.new ≡ gathered self.old ++ with_position op kept ∷ []) }
+        ensures ok { OnOk result (
+            gathered self.new ≡ gathered self.old ++ with_position op kept ∷ []) }
     {
         self.ops.push(op)?;
         self.kept.push(kept)?;
@@ -65,12 +67,14 @@ impl Gathered {
         Ok(())
     }
 
-    /// Puts an operation that keeps no position after the others. The result is how many there are then.
+    /// Puts an operation that keeps no position after the others. The result is how many there are
+    /// then.
     pub fn append(&mut self, op: Op) -> Result<usize, Memory>
         requires even { vec_len self.old.ops ≡ vec_len self.old.kept }
         ensures even { OnOk result (vec_len self.new.ops ≡ vec_len self.new.kept) }
         ensures len { IfOk result (λ len. len ≡ vec_len self.new.ops) }
-        ensures ok { OnOk result (gathered self.new ≡ gathered self.old ++ with_position op None ∷ []) }
+        ensures ok { OnOk result (
+            gathered self.new ≡ gathered self.old ++ with_position op None ∷ []) }
     {
         self.push(op, None)?;
         Ok(self.ops.len())

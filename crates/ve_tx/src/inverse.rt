@@ -1,4 +1,4 @@
-// What undoes operations.
+// The inverse of operations.
 ghost use Rattle.std.specs.Prelude.{◌≡◌, ◌≤◌, None, IfOk, OnOk, vec_len, slice_index_or};
 ghost use Rattle.ve_tx.specs.Gathered.{gathered};
 ghost use Rattle.ve_tx.specs.Operation.{with_position, with_positions};
@@ -33,8 +33,9 @@ pub fn position_at(kept: &[Option<usize>], i: usize) -> Option<usize>
     if i < kept.len() { kept[i] } else { None }
 }
 
-/// Puts in what undoes the next operation: after the others or, of an attribute operation, before those that undo the
-/// earlier ones of its place, which begin at `start`. The result is where they begin then.
+/// Puts in the inverse of the next operation. It goes after the others or, of an attribute
+/// operation, before those that undo the earlier ones of its position, which begin at `start`. The
+/// result is where they begin then.
 fn put_back(
     alloc: Global,
     back: &mut Gathered,
@@ -46,7 +47,9 @@ fn put_back(
     requires within { start ≤ vec_len back.old.ops }
     ensures even { OnOk result (vec_len back.new.ops ≡ vec_len back.new.kept) }
     ensures within { IfOk result (λ next. next ≤ vec_len back.new.ops) }
-    ensures ok { IfOk result (λ next. UndoesAlso (gathered back.old) start (with_position op.now kept) (gathered back.new) next) }
+    ensures ok { IfOk result (λ next.
+        UndoesAlso (gathered back.old) start (with_position op.now kept) (gathered back.new)
+        next) }
 {
     let undone = undoing(alloc, op)?;
     match op {
@@ -59,10 +62,13 @@ fn put_back(
     }
 }
 
-/// What undoes operations with their positions: removed and inserted change places, and so do the old and the new value
-/// of each attribute; attribute operations of one place come in reverse order; positions are kept.
+/// The inverse of operations with their positions. Removed and inserted change places, and so do
+/// the old and the new value of each attribute. Attribute operations of one position come in
+/// reverse order; kept positions stay.
 pub fn inverted(alloc: Global, ops: &[Op], kept: &[Option<usize>]) -> Result<Gathered, Memory>
-    ensures { IfOk result (λ back. with_positions back.ops.items back.kept.items ≡ turned (with_positions ops.now kept.now)) }
+    ensures { IfOk result (λ back.
+        with_positions back.ops.items back.kept.items
+        ≡ turned (with_positions ops.now kept.now)) }
 {
     let mut back = Gathered::new(alloc);
     let mut start = 0;

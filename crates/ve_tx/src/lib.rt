@@ -1,20 +1,23 @@
-//! Edits as values: transactions of retain, replace and attribute operations along a list of items that cite a store. It
-//! doesn't choose edits: which change means what a user asks is made above.
+//! Edits as values: transactions of retain, replace and attribute operations along a list of items
+//! that cite a store. It doesn't choose edits: the crates above turn a user's command into a
+//! transaction.
 //!
-//! - `Op`, `OpList` and `Transaction` are what an edit is. A transaction is in normal form and keeps positions beside its
-//!   operations (specs/Operation.antt, specs/Normal.antt); what it means by value is model_change's.
-//! - specs/Cites.antt says which values it cites, and specs/Applied.antt what it does to a list: whether it applies, the
-//!   new list, the first fault, and the store after it.
-//! - `Transaction::change` makes the splices of a `Change` (specs/Spliced.antt, specs/Changed.antt, specs/Making.antt), and
-//!   `apply` carries them out. So performing costs what it changes, and not what lies between.
-//! - `inverse` (specs/Turned.antt), `filled` (specs/Filled.antt), `with_ends` (specs/Ends.antt) and `active_range`
-//!   (specs/Range.antt) make other transactions of one, as the model does.
-//! - `Entry` is transactions that are undone together (specs/Entry.antt). `Parcel` is an entry over its own values, to be
-//!   sent (specs/Parcel.antt); `recite` is the way back into a store (specs/Taken.antt). `Draft` is a transaction with
-//!   values that no store has yet.
+//! - `Op`, `OpList` and `Transaction` make up an edit. A transaction is in normal form and keeps
+//!   positions beside its operations (specs/Operation.antt, specs/Normal.antt); its meaning by
+//!   value is model_change's.
+//! - specs/Cites.antt says which values it cites, and specs/Applied.antt what it does to a list:
+//!   whether it applies, the new list, the first fault, and the store after it.
+//! - `Transaction::change` makes the splices of a `Change` (specs/Spliced.antt, specs/Changed.antt,
+//!   specs/Making.antt), and `apply` carries them out. So performing costs as much as it changes,
+//!   and nothing for what lies between.
+//! - `inverse` (specs/Turned.antt), `filled` (specs/Filled.antt), `with_ends` (specs/Ends.antt) and
+//!   `active_range` (specs/Range.antt) make other transactions of one, as the model does.
+//! - `Entry` is transactions that are undone together (specs/Entry.antt). `Parcel` is an entry over
+//!   its own values, to be sent (specs/Parcel.antt); `recite` is the way back into a store
+//!   (specs/Taken.antt). `Draft` is a transaction with values that no store has yet.
 //!
-//! The laws are clauses of these calls: `undone` of `inverse`, `restorable` of `filled`, `applied` of `apply`. The tests stand
-//! in ve_tx_samples.
+//! The laws are clauses of these calls: `undone` of `inverse`, `restorable` of `filled`, `applied`
+//! of `apply`. The tests stand in ve_tx_samples.
 #![tactic(auto)]
 
 mod attributes;

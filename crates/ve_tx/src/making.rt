@@ -10,7 +10,7 @@ ghost use Rattle.ve_tx.specs.Applied.{AppliesTo, IsOverActive, MakesEdited, stor
 ghost use Rattle.ve_tx.specs.Changed.{brought_by, brought_count};
 ghost use Rattle.ve_tx.specs.Checked.{change_of};
 ghost use Rattle.ve_tx.specs.Cites.{TxCites};
-ghost use Rattle.ve_tx.specs.Making.{Extends, headed, headed_from, MayHead, IsHeadChanged, IsHeaded, IsSettled};
+ghost use Rattle.ve_tx.specs.Making.{Extends, item_with_head, headed_from, MayHead, IsHeadChanged, IsHeaded, IsSettled};
 ghost use Rattle.ve_tx.specs.Normal.{total_size};
 ghost use Rattle.ve_tx.specs.Operation.{by_value, with_positions, IsNormal};
 ghost use Rattle.ve_tx.specs.Spliced.{AllCite, LieBetween, come_count};
@@ -46,7 +46,9 @@ pub fn present_head(
     head: Option<Head>,
 ) -> Result<Head, Memory>
     requires { CitesWell store.now item }
-    ensures { IfOk result (λ present. headed (Some present) (plain store.now item) ≡ headed head (plain store.now item)) }
+    ensures { IfOk result (λ present.
+        item_with_head (Some present) (plain store.now item)
+        ≡ item_with_head head (plain store.now item)) }
 {
     if let Some(head) = head {
         return Ok(head);
@@ -68,7 +70,8 @@ pub fn next_head(
 ) -> Result<Head, Memory>
     requires present { value_of name.now head.attrs ≡ from.now }
     requires free { attributes.is_reserved name.now ≡ false }
-    ensures { IfOk result (λ next. IsHeadChanged (change_of name.now from.now to.now kept) head next) }
+    ensures { IfOk result (λ next.
+        IsHeadChanged (change_of name.now from.now to.now kept) head next) }
 {
     let Head {
         tag,
@@ -87,7 +90,8 @@ pub fn next_head(
     })
 }
 
-/// The place of a head in the store, which takes it where it is new; one that says nothing is not cited.
+/// The position of a head in the store, which takes it where it is new; one that says nothing is
+/// not cited.
 fn cited(store: &mut Store, head: Head) -> Result<Option<ValueId>, Memory>
     ensures cites { IfOk result (CitesHead store.new) }
     ensures head { IfOk result (λ id. head_in (value_at store.new id) ≡ head) }
@@ -103,7 +107,10 @@ fn cited(store: &mut Store, head: Head) -> Result<Option<ValueId>, Memory>
 
 fn with_head(item: Item, head: Option<ValueId>) -> Item
     ensures item { IsHeaded item head result }
-    ensures cites { (values : _) → CitesWell values item → CitesHead values head → CitesWell values result }
+    ensures cites { (values : _)
+        → CitesWell values item
+        → CitesHead values head
+        → CitesWell values result }
 {
     match item {
         Item::Opening {
@@ -136,9 +143,15 @@ fn settle(
 ) -> Result<(), Memory>
     requires list { All (CitesWell store.old) list.now.items }
     requires within { is_some head ≡ true → at < length list.now.items }
-    requires opening { (item : _) → slice_get list.now.items at ≡ Some item → MayHead head (plain store.old item) }
-    ensures splices { OnOk result (IsSettled store.old store.new list.now.items at head splices.old.items splices.new.items) }
-    ensures store { OnOk result (store.new ≡ fill store.old (head_if (is_some head) (headed_from store.old list.now.items at head))) }
+    requires opening { (item : _)
+        → slice_get list.now.items at ≡ Some item
+        → MayHead head (plain store.old item) }
+    ensures splices { OnOk result (
+        IsSettled store.old store.new list.now.items at head splices.old.items
+        splices.new.items) }
+    ensures store { OnOk result (
+        store.new ≡ fill store.old (
+        head_if (is_some head) (headed_from store.old list.now.items at head))) }
     ensures extends { Extends store.old store.new }
 {
     let Some(head) = head else {
@@ -156,7 +169,8 @@ fn settle(
     Ok(())
 }
 
-/// How many items operations bring: those that they insert, and an opening for each attribute operation.
+/// How many items operations bring: those that they insert, and an opening for each attribute
+/// operation.
 pub fn brought_by(ops: &[Op]) -> usize
     requires { total_size ops.now ≤ max_total_length }
     ensures { result ≡ brought_by ops.now }
@@ -172,8 +186,9 @@ pub fn brought_by(ops: &[Op]) -> usize
     count
 }
 
-/// The splices that operations are which apply to the list: one for each replace, and one for each opening of which they
-/// change the head. Heads that are new go into the store. What is retained is neither read nor copied.
+/// The splices of operations that apply to the list: one for each replace, and one for each opening
+/// of which they change the head. Heads that are new go into the store. Retained items are neither
+/// read nor copied.
 pub fn new_splices(
     alloc: Global,
     ops: &[Op],
@@ -185,12 +200,18 @@ pub fn new_splices(
     requires cites { TxCites store.old (with_positions ops.now kept.now) }
     requires normal { IsNormal (with_positions ops.now kept.now) }
     requires applies { AppliesTo store.old (with_positions ops.now kept.now) list.now.items }
-    ensures changed { IfOk result (λ splices. MakesEdited store.old store.new (with_positions ops.now kept.now) list.now.items splices.items) }
-    ensures range { IfOk result (λ splices. IsOverActive store.old (with_positions ops.now kept.now) splices.items) }
+    ensures changed { IfOk result (λ splices.
+        MakesEdited store.old store.new (with_positions ops.now kept.now) list.now.items
+        splices.items) }
+    ensures range { IfOk result (λ splices.
+        IsOverActive store.old (with_positions ops.now kept.now) splices.items) }
     ensures within { IfOk result (λ splices. LieBetween 0 (length list.now.items) splices.items) }
-    ensures thrifty { IfOk result (λ splices. come_count splices.items ≤ brought_count (by_value store.old (with_positions ops.now kept.now))) }
+    ensures thrifty { IfOk result (λ splices.
+        come_count splices.items
+        ≤ brought_count (by_value store.old (with_positions ops.now kept.now))) }
     ensures cites { IfOk result (λ splices. AllCite store.new splices.items) }
-    ensures store { OnOk result (store.new ≡ store_after store.old (with_positions ops.now kept.now) list.now.items) }
+    ensures store { OnOk result (
+        store.new ≡ store_after store.old (with_positions ops.now kept.now) list.now.items) }
     ensures extends { Extends store.old store.new }
 {
     let mut splices = Vec::new(alloc);
@@ -219,7 +240,7 @@ pub fn new_splices(
     Ok(splices)
 }
 
-/// Appends the list's items from one place up to another, as they are lent.
+/// Appends the list's items from one position up to another, as they are borrowed.
 pub fn copy_range(items: &mut Items, list: &Linear, from: usize, to: usize) -> Result<(), Memory>
     requires order { from ≤ to }
     requires within { to ≤ length list.now.items }

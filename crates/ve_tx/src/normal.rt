@@ -14,8 +14,8 @@ pub fn same_text(one: &Text, other: &Text) -> bool
     one.same(other)
 }
 
-/// Whether an attribute operation of this name may stand before these: up to the next retain there are only attribute
-/// operations, of other names.
+/// Whether an attribute operation of this name may stand before these: up to the next retain there
+/// are only attribute operations, of other names.
 fn name_may_precede(name: &Text, rest: &[Op]) -> bool
     ensures { result ≡ names_apart name.now rest.now }
 {
@@ -66,7 +66,7 @@ fn is_reduced(ops: &[Op]) -> bool
     true
 }
 
-/// What is left of a room, if the operation's lengths fit into it.
+/// The room that is left, if the operation's lengths fit into it.
 fn room_left(op: &Op, room: usize) -> Option<usize>
     ensures some { IfSome result (λ left. left + size op.now ≡ room) }
     ensures none { IfNone result (room < size op.now) }
@@ -93,8 +93,9 @@ fn is_within_limit(ops: &[Op]) -> bool
     true
 }
 
-/// Whether no operation can be left out or be one with its neighbour, attribute operations of one place have distinct
-/// names and are followed by a retain, and all lengths add up to at most `max_total_length`.
+/// Whether operations are in normal form. No operation can be left out or be one with its
+/// neighbour. Attribute operations of one position have distinct names and are followed by a
+/// retain. All lengths add up to at most `max_total_length`.
 pub fn is_normal(ops: &[Op]) -> bool
     ensures { result ≡ are_normal ops.now }
 {

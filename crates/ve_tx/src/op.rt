@@ -3,7 +3,8 @@ use std::alloc::Global;
 use ve_base::{ListOf, Memory, Text, TryCopy};
 use ve_items::Items;
 
-/// An operation of a transaction. A cursor goes along the old list. After VisualEditor's `ve.dm.Transaction`.
+/// An operation of a transaction. A cursor goes along the old list. After VisualEditor's
+/// `ve.dm.Transaction`.
 #[derive(Drop)]
 pub enum Op {
     /// Passes so many items.
@@ -13,8 +14,8 @@ pub enum Op {
         removed: Items,
         inserted: Items,
     },
-    /// Changes an attribute of the item at the cursor, and moves nothing. `from` is the value before and `to` the value
-    /// after, `None` where the attribute is absent.
+    /// Changes an attribute of the item at the cursor, and moves nothing. `from` is the value
+    /// before and `to` the value after, `None` where the attribute is absent.
     Attribute {
         name: Text,
         from: Option<Text>,

@@ -1,4 +1,4 @@
-// Entries as they travel from one store to another.
+// Parcels: entries serialised with their values, to go from one store to another.
 ghost use Rattle.std.specs.Prelude.{◌≡◌, [], All, map, IfOk};
 ghost use Rattle.model_change.specs.Store.{fill};
 ghost use Rattle.model_items.specs.Plain.{AreDistinct};
@@ -26,15 +26,21 @@ pub struct Parcel {
 pub type ParcelList = ListOf<Parcel>;
 
 impl Parcel {
-    /// The parcel of an entry: the same transactions by value, with their kept positions, and both numbers. Its values
-    /// are those that the transactions cite in the store, each once, in the order in which they are first cited: in one
-    /// operation by the items removed and then by those inserted, and in one item by head, marks and whitespace.
+    /// The parcel of an entry: the same transactions by value, with their kept positions, and both
+    /// numbers. Its values are those that the transactions cite in the store, each once, in the
+    /// order in which they are first cited. In one operation the items removed come before those
+    /// inserted; in one item come head, marks and whitespace.
     pub fn of(alloc: Global, entry: &Entry, store: &Store) -> Result<Parcel, Memory>
         requires { All (TxCites store.now) entry.now.txs }
-        ensures txs { IfOk result (λ parcel. map (by_value parcel.values) parcel.entry.txs ≡ map (by_value store.now) entry.now.txs) }
-        ensures store_before { IfOk result (λ parcel. parcel.entry.store_before ≡ entry.now.store_before) }
-        ensures store_after { IfOk result (λ parcel. parcel.entry.store_after ≡ entry.now.store_after) }
-        ensures values { IfOk result (λ parcel. parcel.values ≡ fill [] (all_cited (map (by_value store.now) entry.now.txs))) }
+        ensures txs { IfOk result (λ parcel.
+            map (by_value parcel.values) parcel.entry.txs
+            ≡ map (by_value store.now) entry.now.txs) }
+        ensures store_before { IfOk result (λ parcel.
+            parcel.entry.store_before ≡ entry.now.store_before) }
+        ensures store_after { IfOk result (λ parcel.
+            parcel.entry.store_after ≡ entry.now.store_after) }
+        ensures values { IfOk result (λ parcel.
+            parcel.values ≡ fill [] (all_cited (map (by_value store.now) entry.now.txs))) }
         ensures distinct { IfOk result (λ parcel. AreDistinct parcel.values) }
         ensures cites { IfOk result (λ parcel. All (TxCites parcel.values) parcel.entry.txs) }
     {

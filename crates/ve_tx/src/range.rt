@@ -15,7 +15,8 @@ fn wider(range: Option<(usize, usize)>, from: usize, to: usize) -> Option<(usize
     }
 }
 
-/// From the start of the first operation that isn't a retain to the end of the last, in the old list.
+/// The active range: from the start of the first operation that isn't a retain to the end of the
+/// last, in the old list.
 pub fn range_of(ops: &[Op]) -> Option<(usize, usize)>
     requires { total_size ops.now ≤ max_total_length }
     ensures { result ≡ range_from 0 None ops.now }

@@ -1,4 +1,4 @@
-// Values that a store takes from a list, and what cites them there in place of the list.
+// Values that a store takes from a list, and the numbers that cite them there in place of the list.
 ghost use Rattle.std.specs.Prelude.{◌≡◌, [], All, IfOk, OnOk, OnErr, map, vec_len};
 ghost use Rattle.model_change.specs.Store.{fill, cited_by, cited};
 ghost use Rattle.model_items.specs.Plain.{plain, plain_list, CitesWell};
@@ -21,26 +21,27 @@ use ve_store::Store;
 
 /// Values of a list that a store has, each since it was cited for the first time.
 #[derive(Drop)]
-pub struct Taken {
+pub struct CitedValues {
     // where each value stands in the list
     pub places: IndexSet<usize>,
-    // beside it, what cites it in the store
+    // beside it, its number in the store
     pub ids: Vec<ValueId>,
 }
 
-impl Taken {
+impl CitedValues {
     /// None yet. It takes no memory.
-    pub fn new(alloc: Global) -> Taken
+    pub fn new(alloc: Global) -> CitedValues
         ensures places { result.places.keys ≡ [] }
         ensures ids { result.ids.items ≡ [] }
     {
-        Taken {
+        CitedValues {
             places: IndexSet::new(alloc),
             ids: Vec::new(alloc),
         }
     }
 
-    /// What cites, in the store, the value that is cited in the list. The store takes it where it is new.
+    /// The number in the store of the value that is cited in the list. The store takes it where it
+    /// is new.
     fn cite(
         &mut self,
         alloc: Global,
@@ -50,7 +51,8 @@ impl Taken {
     ) -> Result<Option<ValueId>, Memory>
         requires taken { AreTaken values.now store.old self.old.places.keys self.old.ids.items }
         requires stands { Stands values.now id }
-        ensures taken { OnOk result (AreTaken values.now store.new self.new.places.keys self.new.ids.items) }
+        ensures taken { OnOk result (
+            AreTaken values.now store.new self.new.places.keys self.new.ids.items) }
         ensures filled { OnOk result (store.new ≡ fill store.old (one_cited values.now id)) }
         ensures cites { IfOk result (CitesAlike values.now store.new id) }
         ensures grown { OnErr result (Extends store.old store.new) }
@@ -78,8 +80,10 @@ impl Taken {
     ) -> Result<Item, Memory>
         requires taken { AreTaken values.now store.old self.old.places.keys self.old.ids.items }
         requires cites { CitesWell values.now item }
-        ensures taken { OnOk result (AreTaken values.now store.new self.new.places.keys self.new.ids.items) }
-        ensures filled { OnOk result (store.new ≡ fill store.old (cited_by (plain values.now item))) }
+        ensures taken { OnOk result (
+            AreTaken values.now store.new self.new.places.keys self.new.ids.items) }
+        ensures filled { OnOk result (
+            store.new ≡ fill store.old (cited_by (plain values.now item))) }
         ensures alike { IfOk result (ReadsAlike plain CitesWell values.now store.new item) }
         ensures grown { OnErr result (Extends store.old store.new) }
     {
@@ -125,9 +129,13 @@ impl Taken {
     ) -> Result<Items, Memory>
         requires taken { AreTaken values.now store.old self.old.places.keys self.old.ids.items }
         requires cites { All (CitesWell values.now) items.now }
-        ensures taken { OnOk result (AreTaken values.now store.new self.new.places.keys self.new.ids.items) }
-        ensures filled { OnOk result (store.new ≡ fill store.old (cited (plain_list values.now items.now))) }
-        ensures alike { IfOk result (ReadsAlike plain_list (λ values. All (CitesWell values)) values.now store.new items.now) }
+        ensures taken { OnOk result (
+            AreTaken values.now store.new self.new.places.keys self.new.ids.items) }
+        ensures filled { OnOk result (
+            store.new ≡ fill store.old (cited (plain_list values.now items.now))) }
+        ensures alike { IfOk result (
+            ReadsAlike plain_list (λ values. All (CitesWell values)) values.now store.new
+            items.now) }
         ensures grown { OnErr result (Extends store.old store.new) }
     {
         let mut made = Items::new(alloc);
@@ -148,9 +156,16 @@ impl Taken {
     ) -> Result<Op, Memory>
         requires taken { AreTaken values.now store.old self.old.places.keys self.old.ids.items }
         requires cites { (k : _) → OperationCites values.now (with_position op.now k) }
-        ensures taken { OnOk result (AreTaken values.now store.new self.new.places.keys self.new.ids.items) }
-        ensures filled { OnOk result ((k : _) → store.new ≡ fill store.old (operation_cited_in values.now (with_position op.now k))) }
-        ensures alike { IfOk result (λ made. (k : _) → OperationsAlike values.now store.new (with_position op.now k) (with_position made k)) }
+        ensures taken { OnOk result (
+            AreTaken values.now store.new self.new.places.keys self.new.ids.items) }
+        ensures filled { OnOk result (
+            (k : _)
+            → store.new
+            ≡ fill store.old (operation_cited_in values.now (with_position op.now k))) }
+        ensures alike { IfOk result (λ made.
+            (k : _)
+            → OperationsAlike values.now store.new (with_position op.now k)
+            (with_position made k)) }
         ensures grown { OnErr result (Extends store.old store.new) }
     {
         match op {
@@ -168,7 +183,8 @@ impl Taken {
         }
     }
 
-    /// The operations of a transaction with their positions, citing the store. An `Err` may leave values after those that it had.
+    /// The operations of a transaction with their positions, citing the store. An `Err` may leave
+    /// values after those that it had.
     pub fn ops(
         &mut self,
         alloc: Global,
@@ -179,9 +195,14 @@ impl Taken {
     ) -> Result<Gathered, Memory>
         requires taken { AreTaken values.now store.old self.old.places.keys self.old.ids.items }
         requires cites { TxCites values.now (with_positions ops.now kept.now) }
-        ensures taken { OnOk result (AreTaken values.now store.new self.new.places.keys self.new.ids.items) }
-        ensures filled { OnOk result (store.new ≡ fill store.old (transaction_cited_in values.now (with_positions ops.now kept.now))) }
-        ensures alike { IfOk result (λ made. TransactionsAlike values.now store.new (with_positions ops.now kept.now) (gathered made)) }
+        ensures taken { OnOk result (
+            AreTaken values.now store.new self.new.places.keys self.new.ids.items) }
+        ensures filled { OnOk result (
+            store.new ≡ fill store.old (
+            transaction_cited_in values.now (with_positions ops.now kept.now))) }
+        ensures alike { IfOk result (λ made.
+            TransactionsAlike values.now store.new (with_positions ops.now kept.now)
+            (gathered made)) }
         ensures grown { OnErr result (Extends store.old store.new) }
     {
         let mut made = Gathered::new(alloc);

@@ -54,8 +54,8 @@ fn put_closing(line: &mut String, kind: Kind) -> Result<(), Memory> {
     Ok(())
 }
 
-/// The line of a page up to its internal list: characters without their marks, and elements with their attributes, values as
-/// they are. A kind without a tag is a question mark.
+/// The line of a page up to its internal list: characters without their marks, and elements with
+/// their attributes, values as they are. A kind without a tag is a question mark.
 pub fn page_line(alloc: Global, list: &Linear, store: &Store) -> Result<String, Memory> {
     let mut line = String::new(alloc);
     for at in 0..list.len() {

@@ -1,4 +1,4 @@
--- Where the names of the modes are lent from decides nothing: what the rules refuse.
+-- Where the names of the modes are borrowed from decides nothing: what the rules refuse.
 use Rattle.std.proofs.Common.{◌≡◌, ◌∙◌, ◌&&◌, ℕ, zero, suc, Bool, false, List, [], ◌∷◌, Option, Some, None, refl, sym, ap, ap₂, codes}
 use Rattle.std.specs.Prelude.{if◌then◌else◌, drop, length, encode_utf8, is_some, slice_get}
 use Rattle.std.specs.List.{list_any}

@@ -1,4 +1,4 @@
--- Where the names of the modes are lent from decides nothing: what the words give.
+-- Where the names of the modes are borrowed from decides nothing: what the words give.
 use Rattle.std.proofs.Common.{◌≡◌, ◌∙◌, ◌==◌, ◌&&◌, ◌||◌, ℕ, zero, suc, Bool, true, false, List, [], ◌∷◌, Option, Some, None, refl, ap, ap₂, codes}
 use Rattle.std.specs.Prelude.{if◌then◌else◌, drop, length, encode_utf8, fold, slice_get}
 use Rattle.std.specs.Str.{bytes_eq, chars}

@@ -1,4 +1,4 @@
--- What was read so far is sound: each entry has one value, which its argument takes.
+-- The entries read so far are sound: each has one value, which its argument takes.
 use Rattle.std.proofs.Common.{◌≡◌, ◌∙◌, ◌==◌, ◌&&◌, ◌||◌, ◌++◌, not, ℕ, zero, suc, Bool, true, false, true≢false, List, [], ◌∷◌, Option, Some, None, IfSome, refl, sym, ap, ap₂, subst, arith, codes}
 use Rattle.std.specs.Prelude.{if◌then◌else◌, drop, find, length, encode_utf8, is_some, slice_get}
 use Rattle.std.specs.List.{list_all}

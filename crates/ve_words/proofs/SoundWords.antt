@@ -21,7 +21,7 @@ use Rattle.clap.specs.declared.parser.matches.ValueSource.TheVariants.{DefaultVa
 use Rattle.clap.proofs.WalkLemmas.{both}
 use Rattle.ve_words.specs.Command.{max_edits, max_start, mode_names, vemodel}
 use Rattle.ve_words.specs.Laws.{AcceptedWordsAsk, AsksSomething}
-use Rattle.ve_words.specs.Words.{Asks, accepted, asks, meant_by, mode_named, number_up_to}
+use Rattle.ve_words.specs.Words.{Asks, meaning_of_rows, asks, meant_by, mode_named, number_up_to}
 use Rattle.ve_words.specs.declared.read.Mode.{Mode}
 use Rattle.ve_words.specs.declared.read.Mode.TheVariants.{Run, Make, Soak}
 use Rattle.ve_words.proofs.LentFaults.{level_of}
@@ -170,7 +170,7 @@ asks_by : (mode : Option Mode) (start edits : Option ℕ) (m : Mode) (s e : ℕ)
 asks_by mode start edits m s e is-mode is-start is-edits = λ i. asks (is-mode i) (is-start i) (is-edits i)
 
 -- rows that have each of the three
-all_read : (rows : List Row) → AreSound rows → Has (codes "mode") rows → Has (codes "start") rows → Has (codes "edits") rows → AsksSomething (accepted rows)
+all_read : (rows : List Row) → AreSound rows → Has (codes "mode") rows → Has (codes "start") rows → Has (codes "edits") rows → AsksSomething (meaning_of_rows rows)
 all_read rows sound has-mode has-start has-edits =
     let mode = reads (codes "mode") rows has-mode sound in
     let start = reads (codes "start") rows has-start sound in
@@ -200,7 +200,7 @@ finished_is h =
     same_rows (has_row (codes "help") last) last
     ∙ ap (λ (xs : List Row). defaulted (codes "edits") (codes "100") (defaulted (codes "start") (codes "0") xs)) (same_rows (has_row (codes "mode") rows) rows)
 
-level_reads : (words : List Text) → level_fault (shape mode_names) [] nothing_held words false [] ≡ [] → AsksSomething (accepted (matches_of (vemodel mode_names) words))
+level_reads : (words : List Text) → level_fault (shape mode_names) [] nothing_held words false [] ≡ [] → AsksSomething (meaning_of_rows (matches_of (vemodel mode_names) words))
 level_reads words e =
     let h = (walk here [] nothing_held words).held in
     let walk_part = neither (walk_fault (shape mode_names) [] (walk_from nothing_held) words) _ e in

@@ -14,7 +14,7 @@ Names = Bor (List (Bor Text))
 abbrev pub IsNames : Names → Type 0
 IsNames names = texts names.now ≡ codes "run" ∷ codes "make" ∷ codes "soak" ∷ []
 
--- a value that is lent; where it stands decides nothing
+-- a value that is borrowed; where it stands decides nothing
 abbrev pub lent : {X : Type 0} → X → Bor X
 lent x = record { ref_ptr = (0, 0); now = x }
 
@@ -50,10 +50,10 @@ edits_rule = number_rule (codes "edits") max_edits (codes "100")
 abbrev pub bare : App
 bare = on_top (λ s. record s { no_binary_name = true }) (new_app (codes "vemodel"))
 
--- the command, with names of modes that are lent from somewhere
+-- the command, with names of modes that are borrowed from somewhere
 abbrev pub vemodel : Names → App
 vemodel names = with_rule (with_rule (with_rule bare (mode_rule names)) start_rule) edits_rule
 
--- the command is this one, wherever its names are lent from
+-- the command is this one, wherever its names are borrowed from
 abbrev pub IsVemodel : App → Type 0
 IsVemodel app = (names : Names) × IsNames names × (app ≡ vemodel names)

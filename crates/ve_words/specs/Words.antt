@@ -1,4 +1,4 @@
--- What words mean.
+-- The meaning of words.
 use Rattle.std.specs.Prelude.{ℕ, List, [], ◌∷◌, Option, Some, None, map, codes, option_and_then, if◌then◌else◌}
 use Rattle.std.specs.Str.{bytes_eq, encode_utf8_all}
 use Rattle.std.specs.Str.Parse.{digits_value, without_leading_plus}
@@ -43,8 +43,8 @@ asks (Some mode) (Some start) (Some edits) = Asks mode start edits
 asks _ _ _ = Refused
 
 -- the values of accepted words; that each of the three is there is the law `accepted_words_ask`
-abbrev pub accepted : List Row → Meant
-accepted rows = asks (mode_in rows) (number_in (codes "start") max_start rows) (number_in (codes "edits") max_edits rows)
+abbrev pub meaning_of_rows : List Row → Meant
+meaning_of_rows rows = asks (mode_in rows) (number_in (codes "start") max_start rows) (number_in (codes "edits") max_edits rows)
 
 abbrev pub meant_asked : Option Asked → Meant
 meant_asked (Some asked) = Asks asked.mode asked.start asked.edits
@@ -64,7 +64,7 @@ meant_unasked _ = Refused
 
 -- by the kinds of error that the rules give, of which there is at most one, and else by the values
 abbrev pub meant_by : Kinds → List Row → Meant
-meant_by [] rows = accepted rows
+meant_by [] rows = meaning_of_rows rows
 meant_by (kind ∷ more) rows = meant_unasked (unasked_by kind)
 
 -- what words in UTF-8 mean
@@ -72,5 +72,5 @@ abbrev pub meant_texts : List Text → Meant
 meant_texts texts = meant_by (fault_of (vemodel mode_names) texts) (matches_of (vemodel mode_names) texts)
 
 -- what the words after the program's name mean, by `clap`'s rules for this command
-abbrev pub meant : List (List ℕ) → Meant
-meant words = meant_texts (map encode_utf8_all words)
+abbrev pub meaning_of : List (List ℕ) → Meant
+meaning_of words = meant_texts (map encode_utf8_all words)

@@ -1,8 +1,8 @@
 // Laws of what words mean.
 ghost use Rattle.ve_words.specs.Laws.{AcceptedWordsAsk, NumbersAreInRange};
 
-/// Words in which `clap`'s rules find no fault ask for a mode: so words are refused, or wanted as help, exactly where
-/// these rules say so.
+/// Words in which `clap`'s rules find no fault ask for a mode: so words are refused, or wanted as
+/// help, exactly where these rules say so.
 pub fn accepted_words_ask()
     ensures { AcceptedWordsAsk }
 {}

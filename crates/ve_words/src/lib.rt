@@ -1,12 +1,15 @@
-//! What the words of the command line ask for: a mode, and the two numbers of the modes that write a script.
+//! The words of the command line: they ask for a mode, and the two numbers of the modes that write
+//! a script.
 //!
-//! The words are one simple command of `clap`: one required word of `run`, `make` and `soak`, `--start` with a number
-//! below 2^64, and `--edits` with a number to 100,000. What words mean is said by `clap`'s own rules for such a command,
-//! applied to this one. Definitions, in reading order:
+//! The words are one simple command of `clap`. It has one required word of `run`, `make` and
+//! `soak`, `--start` with a number below 2^64, and `--edits` with a number to 100,000. Their
+//! meaning goes by `clap`'s own rules for such a command, applied to this one. Definitions, in
+//! reading order:
 //!
 //! - `Command`: the command, as `clap`'s rules read it;
-//! - `Words`: what words mean (`meant`), by what the rules refuse and by the values that they give;
-//! - `Laws`: what holds of whatever words mean.
+//! - `Words`: the meaning of words (`meant`), by what the rules refuse and by the values that they
+//!   give;
+//! - `Laws`: laws of whatever words mean.
 #![tactic(auto)]
 
 mod command;

@@ -1,12 +1,12 @@
-// What the values of a parse ask for.
+// The values of a parse.
 ghost use Rattle.std.specs.Prelude.{◌≡◌, ◌≤◌, ℕ, List, IfSome};
 ghost use Rattle.clap.specs.Words.{found_of, rows_of};
-ghost use Rattle.ve_words.specs.Words.{accepted, meant_asked, mode_in, mode_named, number_in, number_up_to};
+ghost use Rattle.ve_words.specs.Words.{meaning_of_rows, meant_asked, mode_in, mode_named, number_in, number_up_to};
 
 use crate::command::{EDITS, MAX_EDITS, MODE, START};
 use clap::ArgMatches;
 
-/// What the program is to do.
+/// Modes of the program.
 #[derive(Clone, Copy, Debug, PartialEq, Eq)]
 pub enum Mode {
     /// Step a machine with the lines of the standard input.
@@ -20,7 +20,7 @@ pub enum Mode {
 /// A mode, with the numbers of a generated script.
 #[derive(Clone, Copy, Debug, PartialEq, Eq)]
 pub struct Asked {
-    /// What to do.
+    /// The mode.
     pub mode: Mode,
     /// Where the generator of edits starts.
     pub start: u64,
@@ -71,9 +71,9 @@ fn number_of(matches: &ArgMatches<'_>, id: &str, most: u64) -> Option<u64>
     }
 }
 
-/// What the values ask for; nothing where one of the three is missing, or no value of its kind.
+/// The values as a request; nothing where one of the three is missing, or no value of its kind.
 pub(crate) fn asked_by(matches: &ArgMatches<'_>) -> Option<Asked>
-    ensures { meant_asked result ≡ accepted (rows_of (found_of matches.now)) }
+    ensures { meant_asked result ≡ meaning_of_rows (rows_of (found_of matches.now)) }
 {
     let mode = mode_of(matches)?;
     let start = number_of(matches, START, u64::MAX)?;

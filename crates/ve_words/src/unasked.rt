@@ -32,7 +32,7 @@ impl From<AllocError> for Unasked {
 }
 
 impl Unasked {
-    /// What a kind of `clap`'s errors comes to.
+    /// The answer for a kind of `clap`'s errors.
     pub(crate) fn by(kind: ErrorKind) -> Unasked
         ensures { result ≡ unasked_by kind }
     {

@@ -1,4 +1,4 @@
--- What follows a node, by the item at its end.
+-- The rest of a list after a node, by the item at its end.
 use Rattle.std.proofs.Common.{◌≡◌, ℕ, ◌+◌, List, [], ◌∷◌, drop, sym, ap, subst, ◌∙◌, None, Some, Option, Bool, true, false}
 use Rattle.std.specs.List.{slice_get}
 use Rattle.ve_base.specs.declared.value.ValueId.{ValueId}

@@ -1,4 +1,4 @@
--- Which nodes are bare, by the item at a place.
+-- Which nodes are bare, by the item at a position.
 use Rattle.std.proofs.Common.{◌≡◌, ◌≢◌, ℕ, ◌+◌, Bool, true, false, List, [], ◌∷◌, drop, refl, sym, ap, ◌∙◌, subst, Option, Some, None, Result, Ok, Err}
 use Rattle.std.specs.Prelude.{◌&&◌, not, is_some, IfOk}
 use Rattle.std.specs.List.{slice_get}
@@ -32,7 +32,7 @@ turned : (b c : Bool) → c ≡ not b → b ≡ not c
 turned true c e = sym (ap not e)
 turned false c e = sym (ap not e)
 
--- ---- no whitespace at a place
+-- ---- no whitespace at a position
 
 pub tight_end : (values : List Value) (items : List Item) (at : ℕ) → drop at items ≡ [] → IsTightAt values items at true
 tight_end values items at e bodies =
@@ -54,7 +54,7 @@ tight_closing values items at kind pre tight all found is bodies =
     turned tight (is_some pre) is ∙ white_is values pre (all at _ found)
     ∙ sym (ap (λ (x : NodesEnding). is_empty (white_after x.here (first_outer x.outer).pre)) (closing_here (record { values = values; bodies = bodies }) items at kind pre (found_at items at _ found)))
 
--- ---- the node at a place
+-- ---- the node at a position
 
 pub char_bare : (values : List Value) (items : List Item) (at : ℕ) (ch : ℕ) (marks : Option ValueId) (before : Bool) → slice_get items at ≡ Some (Char ch marks) → IsBareAt values items before at false
 char_bare values items at ch marks before found bodies =

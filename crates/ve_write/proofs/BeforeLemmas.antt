@@ -1,4 +1,4 @@
--- Places before the internal list, among the items that values are cited by.
+-- Positions before the internal list, among the items that values are cited by.
 use Rattle.std.proofs.Common.{◌≡◌, ◌≢◌, ℕ, ◌+◌, ◌≤◌, Bool, false, List, [], ◌∷◌, ◌++◌, length, take, drop, sym, ap, ◌∙◌, arith, Option, Some, None}
 use Rattle.std.specs.Prelude.{◌||◌}
 use Rattle.std.specs.List.{list_any, slice_get, drop-map, take-map}

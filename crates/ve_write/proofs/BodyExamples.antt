@@ -1,4 +1,5 @@
--- A reference, its body in the internal list, and a reference to the same body there, by computation.
+-- A reference, its body in the internal list, and a reference to the same body there, by
+-- computation.
 use Rattle.std.proofs.Common.{◌≡◌, Bool, true, false, List, [], ◌∷◌, ◌++◌, refl}
 use Rattle.std.specs.Prelude.{Some, None, codes}
 use Rattle.ve_base.specs.declared.head.Head.{Head}

@@ -29,7 +29,8 @@ no_texts texts empty k = sym (ap (λ entries. option_map encode_utf8_all (lookup
 abbrev nothing : ℕ → Option Body
 nothing at = None
 
--- The siblings of the one are those of the other, which ends where so many more nodes are closed and one is left, with this whitespace before its closing.
+-- The siblings of the one are those of the other, which ends where so many more nodes are closed
+-- and one is left, with this whitespace before its closing.
 record IsCut (whole cut : NodesEnding) (depth : ℕ) (pre : List ℕ) : Type 0 where
   here : whole.here ≡ cut.here
   outer : take depth whole.outer ≡ cut.outer

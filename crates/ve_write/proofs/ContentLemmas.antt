@@ -61,7 +61,7 @@ char_put k at ch opened marks old mid new found e f w bodies told =
     three old mid new (content_at w v items (marks_in (value_at values marks)) (at + 1)) _ _ e f
     ∙ sym (ap (λ (x : NodesEnding). old ++ content w (marks_in (value_at values opened)) x.here) (char_here v items at ch marks (found_at items at _ found)))
 
--- ---- a character of a lent piece
+-- ---- a character of a borrowed piece
 
 pub letter_in : (items piece : List Item) (at n : ℕ) (item : Item) (ch : ℕ) (marks : Option ValueId) → piece ≡ slice_range items at (at + length piece) → at + length piece ≤ length items →
     n < length piece → get_or piece n item ≡ Char ch marks → slice_get items (at + n) ≡ Some (Char ch marks)

@@ -1,4 +1,4 @@
--- The block at a place is kept, or written afresh.
+-- The block at a position is kept, or written afresh.
 use Rattle.std.proofs.Common.{◌≡◌, ◌≢◌, ℕ, ◌+◌, Bool, true, false, List, [], ◌++◌, drop, refl, sym, ap, ◌∙◌, Option, Some, None}
 use Rattle.std.specs.Prelude.{not, ◌&&◌, if◌then◌else◌, unwrap_or, encode_utf8_all}
 use Rattle.std.specs.List.{slice_get}

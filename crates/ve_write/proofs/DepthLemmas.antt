@@ -1,4 +1,4 @@
--- Where siblings end: how many more nodes are open at a later place.
+-- Where siblings end: how many more nodes are open at a later position.
 use Rattle.std.proofs.Common.{◌≡◌, ℕ, zero, suc, ◌+◌, ◌-◌, ◌≤◌, Bool, true, List, [], ◌∷◌, length, get_or, take, drop, refl, sym, ap, subst, ◌∙◌, arith, Some, Option, drop-drop}
 use Rattle.std.specs.List.{slice_get, slice_range}
 use Rattle.std.proofs.lemmas.List.{get_or-take, get_or-drop}
@@ -35,7 +35,7 @@ over_closing items from at d e item kind pre found is same so v =
 pub piece_on : (items : List Item) (from at n d : ℕ) → Inside items from d (at + n + 1) → Inside items from d (at + (n + 1))
 piece_on items from at n d so = let e : at + n + 1 ≡ at + (n + 1) = omega arith in subst (Inside items from d) e so
 
--- a piece that is lent stands in its list
+-- a piece that is borrowed stands in its list
 pub piece_stands : (items piece : List Item) (at : ℕ) → piece ≡ slice_range items at (at + length piece) → at + length piece ≤ length items → StandsAt items piece at
 piece_stands items piece at is within n item found =
     let less = slice_get_within piece n item found in

@@ -1,4 +1,4 @@
--- What is written from a place on, by computation.
+-- The text that is written from a position on, by computation.
 use Rattle.std.specs.Prelude.{◌≡◌, true, false, List, [], ◌∷◌, ◌++◌, Some, None, codes, refl}
 use Rattle.indexmap.specs.Layout.{hash_map}
 use Rattle.ve_base.specs.declared.marks.Mark.{Mark}
@@ -20,7 +20,8 @@ first_value = record { 0 = 0 }
 abbrev open_ : Kind → Item
 open_ kind = Opening kind false None None None None
 
--- a list item with a paragraph that was made for its text, and a line break before its closing; a paragraph; a body
+-- a list item with a paragraph that was made for its text, and a line break before its closing; a
+-- paragraph; a body
 abbrev items : List Item
 items =
     open_ Ul ∷ open_ Li ∷ Opening P true None None None None ∷ Char 97 None ∷ open_ Br ∷ Closing Br None ∷ Closing P None ∷ Closing Li None ∷ Closing Ul (Some first_value)
@@ -54,7 +55,7 @@ some_content : content_at bare_writer here items (bold ∷ []) 3 ≡ codes "</b>
 unfolding ending_at page_on_literals
 some_content = refl
 
--- ---- texts by places
+-- ---- texts by positions
 
 known : text_of (hash_map ((3, codes "x") ∷ []) (tt {0}) 0) 3 ≡ Some (codes "x")
 unfolding page_on_literals

@@ -7,7 +7,7 @@ use Rattle.ve_kinds.specs.Table.{kind_same, is_content_branch, may_hold}
 use Rattle.model_items.specs.declared.law_fault.LawFault.{LawFault}
 use Rattle.model_items.specs.declared.plain_item.PlainItem.{PlainItem}
 use Rattle.model_items.specs.declared.plain_item.PlainItem.TheVariants.{Char, Opening, Closing}
-use Rattle.model_items.specs.Law.{State, after, finish, is_over, may_open, opened, start, step, top, Lawful}
+use Rattle.model_items.specs.Law.{State, after, finish, is_over, may_open, state_opened, start, step, top, Lawful}
 use Rattle.model_items.specs.Law.{is_empty as is_empty_stack}
 use Rattle.model_items.proofs.LawLemmas.{after_from_Lawful, after_parts, closed_before, if_ok, joined-ok, opened_before, Ok-same}
 use Rattle.std.proofs.lemmas.Bool.{and_parts}
@@ -79,7 +79,7 @@ spelled bodies at (Opening kind head marks pre origin generated ∷ items) s h =
     joined t inside (o ∷ outer) cs n f =
         ap (λ l. start_item t ∷ l) (f ∙ sym (append_assoc (node_list_items inside) (record { item = Closing t.kind o.pre; body = None } ∷ node_list_items o.later) (closings s.stack outer)))
 
--- ---- the node at a place
+-- ---- the node at a position
 
 node_over : (n : Nodes) (rest : List Carried) (depth : ℕ) → node_from (node_list_items n ++ rest) depth ≡ node_list_items n ++ node_from rest depth
 node_over Empty rest depth = refl
@@ -133,7 +133,7 @@ record IsPast (n : Nodes) (rest : List PlainItem) (s : State) : Type 0 where
   after : after state rest ≡ Ok finish
   none : list_any opens_notes (map item_of (node_list_items n)) ≡ false
 
-not_notes : (s p : State) (kind k : Kind) (kinds : List Kind) → opened s kind ≡ Ok p → s.stack ≡ k ∷ kinds → kind_same kind InternalList ≡ false
+not_notes : (s p : State) (kind k : Kind) (kinds : List Kind) → state_opened s kind ≡ Ok p → s.stack ≡ k ∷ kinds → kind_same kind InternalList ≡ false
 not_notes s p kind k kinds h e = by (kind_same kind InternalList) refl
   where
     by : (b : Bool) → kind_same kind InternalList ≡ b → b ≡ false
@@ -166,7 +166,7 @@ past (Node t inside pre later) rest s k kinds e h =
     map item_of (node_list_items inside) ++ (Closing t.kind pre ∷ (map item_of (node_list_items later) ++ rest)) =
     ap (λ l. l ++ rest) (map-append item_of (node_list_items inside) (record { item = Closing t.kind pre; body = None } ∷ node_list_items later))
     ∙ append_assoc (map item_of (node_list_items inside)) (Closing t.kind pre ∷ map item_of (node_list_items later)) rest in
-    let p = joined-ok 1 (opened s t.kind) (λ next. after next (map item_of (node_list_items inside ++ (record { item = Closing t.kind pre; body = None } ∷ node_list_items later)) ++ rest)) finish h in
+    let p = joined-ok 1 (state_opened s t.kind) (λ next. after next (map item_of (node_list_items inside ++ (record { item = Closing t.kind pre; body = None } ∷ node_list_items later)) ++ rest)) finish h in
     let kinds_in = (opened_before s p.0 t.kind p.1).0 in
     let within = past inside (Closing t.kind pre ∷ (map item_of (node_list_items later) ++ rest)) p.0 t.kind s.stack (sym kinds_in) (ap (after p.0) (sym split) ∙ p.2) in
     let q = joined-ok 1 (step within.state (Closing t.kind pre)) (λ next. after next (map item_of (node_list_items later) ++ rest)) finish within.after in
@@ -183,7 +183,7 @@ past (Node t inside pre later) rest s k kinds e h =
     tails : (xs ys : List Kind) (a b : Kind) → a ∷ xs ≡ b ∷ ys → xs ≡ ys
     tails xs ys a b e = cc
 
--- ---- a place among siblings that begin before the internal list
+-- ---- a position among siblings that begin before the internal list
 
 closings_length : (k l : List Kind) (outer : List Outer) → length k ≡ length l → length (closings k outer) ≡ length (closings l outer)
 closings_length [] [] outer e = refl
@@ -213,7 +213,7 @@ seen_is (Closing kind pre ∷ items) s t h =
     let p = joined-ok 1 (step s (Closing kind pre)) (λ next. after next items) t h in
     seen_is items p.0 t p.2 ∙ ap (λ b. b || list_any opens_notes items) (sym (closed_before s.stack s.seen kind p.0 p.1).1)
 seen_is (Opening kind head marks pre origin generated ∷ items) s t h =
-    let p = joined-ok 1 (opened s kind) (λ next. after next items) t h in
+    let p = joined-ok 1 (state_opened s kind) (λ next. after next items) t h in
     let q = if_ok (nat_lt (length s.stack) 100) _ _ p.0 (if_ok (may_open s kind) _ _ p.0 p.1).1 in
     let e = Ok-same {E = LawFault} (record { stack = kind ∷ s.stack; seen = s.seen || kind_same kind InternalList }) p.0 q.1 in
     seen_is items p.0 t p.2 ∙ ap (λ (x : State). x.seen || list_any opens_notes items) (sym e) ∙ or_assoc s.seen (kind_same kind InternalList) (list_any opens_notes items)

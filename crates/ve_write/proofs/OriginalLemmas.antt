@@ -75,7 +75,7 @@ by_kept values items refs o at k kept b has lent distinct cites before e keeps i
     ap (λ c. if c then Some (part_at o.page (slice_get (spans o.rows) k)) else None) (sym is ∙ known)
     ∙ sym (ap (λ j. original_at (opened_over values o) (carried_items (plain_list values o.items)) j (node_at (carried_items (plain_list values items)) at)) e)
 
--- ---- what is lent
+-- ---- what is borrowed
 
 of_first : (values : List Value) (items : List Item) (first : Option First) (f : First) (at : ℕ) (o : Option (List ℕ)) → first ≡ Some f → o ≡ original_there (opened_over values f.origins.now) (plain_list values items) at →
     o ≡ originals_of (read_of first) values items at

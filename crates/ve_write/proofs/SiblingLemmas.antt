@@ -1,4 +1,4 @@
--- The siblings that begin at a place, by the item there.
+-- The siblings that begin at a position, by the item there.
 use Rattle.std.proofs.Common.{◌≡◌, ℕ, suc, ◌+◌, Bool, true, false, List, [], ◌∷◌, drop, refl, sym, ap, ◌∙◌, arith, Some, Option}
 use Rattle.std.specs.List.{slice_get}
 use Rattle.ve_base.specs.declared.value.ValueId.{ValueId}

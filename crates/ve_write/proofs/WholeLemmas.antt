@@ -40,12 +40,12 @@ whole_is : (v : View) (items : List Item) → ending_at v items 0 ≡ nodes_endi
 unfolding ending_at
 whole_is v items = refl
 
--- ---- the original bytes of the node at a place
+-- ---- the original bytes of the node at a position
 
 no_rest : (items : List Item) (at : ℕ) (x : Item) (rest : List Item) → drop at items ≡ x ∷ rest → drop at items ≡ x ∷ drop (at + 1) items
 no_rest items at x rest e = e ∙ ap (λ l. x ∷ l) (sym (sym (drop-drop 1 at items) ∙ ap (drop 1) e))
 
--- the node that is spelled at a place has the items of the node that begins there
+-- the node that is spelled at a position has the items of the node that begins there
 node_there : (values : List Value) (items : List Item) (at : ℕ) (kind : Kind) (generated : Bool) (head marks pre : Option ValueId) (origin : Option ℕ) → Lawful (plain_list values items) →
     drop at items ≡ ItemOpening kind generated head marks pre origin ∷ drop (at + 1) items →
     let bodies = body_carried (plain_list values items) in

@@ -1,4 +1,4 @@
--- What follows a node.
+-- The rest of a list after a node.
 use Rattle.std.specs.Prelude.{◌≡◌, ℕ, List, drop}
 use Rattle.model_items.specs.declared.item.Item.{Item}
 use Rattle.model_items.specs.Plain.{value_at, white_in}
@@ -6,7 +6,8 @@ use Rattle.model_page_write.specs.Nodes.{first_outer}
 use Rattle.ve_write.specs.Siblings.{View, ending_at}
 use Rattle.ve_write.specs.declared.ends.After.{After}
 
--- after the siblings that end here: the whitespace before the closing, and the later siblings of the node that they stand in
+-- after the siblings that end here: the whitespace before the closing, and the later siblings of
+-- the node that they stand in
 pub record Follows (items : List Item) (end : ℕ) (after : After) : Type 0 where
   pub pre : (v : View) → (first_outer (ending_at v items end).outer).pre ≡ white_in (value_at v.values after.pre)
   pub later : (v : View) → (first_outer (ending_at v items end).outer).later ≡ (ending_at v items after.at).here

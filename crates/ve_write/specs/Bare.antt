@@ -12,7 +12,7 @@ use Rattle.model_page_write.specs.Written.{all_stay_inline, has_content, is_bare
 use Rattle.ve_write.specs.Siblings.{View, ending_at}
 use Rattle.ve_write.specs.declared.run.Step.{Step}
 
--- what the items from a place on spell, where references carry these bodies
+-- what the items from a position on spell, where references carry these bodies
 abbrev pub spelled_at : List Value → List Item → ℕ → (ℕ → Option Body) → NodesEnding
 spelled_at values items at bodies = ending_at (record { values = values; bodies = bodies }) items at
 
@@ -22,7 +22,7 @@ bare_in before closing Empty = false
 bare_in before closing (Letter c marks later) = false
 bare_in before closing (Node s inside pre later) = is_bare before s inside (white_after later closing)
 
--- whether the node at a place is bare; the first argument says whether the sibling before it is
+-- whether the node at a position is bare; the first argument says whether the sibling before it is
 abbrev pub IsBareAt : List Value → List Item → Bool → ℕ → Bool → Type 0
 IsBareAt values items before at bare =
     (bodies : ℕ → Option Body) →
@@ -31,7 +31,7 @@ IsBareAt values items before at bare =
 
 -- ---- private functions
 
--- no whitespace stands at a place among siblings
+-- no whitespace stands at a position among siblings
 abbrev pub IsTightAt : List Value → List Item → ℕ → Bool → Type 0
 IsTightAt values items at tight =
     (bodies : ℕ → Option Body) →

@@ -1,4 +1,5 @@
--- What stands at a place among blocks: an element that holds blocks, or a node that is written by itself.
+-- The node at a position among blocks: an element that holds blocks, or a node that is written by
+-- itself.
 use Rattle.std.specs.Prelude.{ℕ, Bool, false, not, ◌&&◌, if◌then◌else◌, Option, List, [], ◌∷◌}
 use Rattle.ve_base.specs.declared.head.Head.{Head}
 use Rattle.ve_kinds.specs.declared.kind.Kind.{Kind}

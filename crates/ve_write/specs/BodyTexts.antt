@@ -12,14 +12,15 @@ use Rattle.ve_origin.specs.Rows.{carried_place}
 abbrev pub notes_place : List PlainItem → ℕ
 notes_place items = position_or_len opens_notes items
 
--- the body of the internal item at this place, as text
+-- the body of the internal item at this position, as text
 abbrev pub text_at : List PlainItem → ℕ → List ℕ
 text_at items at = html_of (body_after at (drop (at + 1) items))
 
--- where the internal item opens whose body the reference of a row carries; one that stands past the opening of the internal list carries none
+-- where the internal item opens whose body the reference of a row carries; one that stands past the
+-- opening of the internal list carries none
 abbrev pub carried_outside : ℕ → RefRow → Option ℕ
 carried_outside notes row = if nat_lt notes row.at then None else carried_place (Some row)
 
--- the text that the reference at a place carries, by the rows
+-- the text that the reference at a position carries, by the rows
 abbrev pub text_by : List PlainItem → List RefRow → ℕ → Option (List ℕ)
 text_by items rows at = option_map (text_at items) (option_and_then (carried_outside (notes_place items)) (find (λ r. r.at == at) rows))

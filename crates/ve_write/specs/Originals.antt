@@ -1,4 +1,5 @@
--- The bytes that nodes were in the page that was first read: what is lent of it, and which of them are written again.
+-- The bytes that nodes were in the page that was first read: what is borrowed of it, and which of
+-- them are written again.
 use Rattle.std.specs.Prelude.{◌≡◌, ◌<◌, ⊤, ℕ, false, List, [], ◌∷◌, drop, take, slice_get, length, All, Option, Some, None}
 use Rattle.std.specs.List.{list_any}
 use Rattle.ve_base.specs.declared.value.Value.{Value}
@@ -29,7 +30,7 @@ origin_of (Char c marks ∷ items) = None
 origin_of (Closing kind pre ∷ items) = None
 origin_of (Opening kind head marks pre origin generated ∷ items) = origin
 
--- the bytes that the node at a place was, where it is kept
+-- the bytes that the node at a position was, where it is kept
 abbrev pub original_there : Opened → List PlainItem → ℕ → Option (List ℕ)
 original_there o items at = original_at o (carried_items o.items) (origin_of (drop at items)) (node_at (carried_items items) at)
 
@@ -48,8 +49,8 @@ original_in w Empty = None
 original_in w (Letter c marks later) = None
 original_in w (Node start inside pre later) = w.original start (node_items start inside pre)
 
--- The page that was first read stands over these values: each origin's node is the range of its row, each origin in its list has a row, and the
--- table is that of its list.
+-- The page that was first read stands over these values. Each origin's node is the range of its
+-- row, each origin in its list has a row, and the table is that of its list.
 pub record IsFirst (values : List Value) (o : FirstRead) : Type 0 where
   pub cites : All (CitesWell values) o.items
   pub ranges : (k : ℕ) (row : OriginRow) → slice_get o.rows k ≡ Some row → IsNodeRange (plain_list values o.items) k row.from row.to
@@ -72,7 +73,7 @@ abbrev pub AreLent : List Value → List Item → List RefRow → Option First �
 AreLent values items refs None = ⊤
 AreLent values items refs (Some first) = IsLent values items refs first.origins.now
 
--- Where originals are looked for, the internal list opens at this place or after it.
+-- Where originals are looked for, the internal list opens at this position or after it.
 abbrev pub IsBefore : List Value → List Item → Option First → ℕ → Type 0
 IsBefore values items None at = ⊤
 IsBefore values items (Some first) at = list_any opens_notes (take at (plain_list values items)) ≡ false

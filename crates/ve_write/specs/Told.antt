@@ -1,4 +1,5 @@
--- What a writer is told of the texts of bodies and of the bytes that nodes were, and what writing appends.
+-- A writer that is told the texts of bodies and the bytes that nodes were, and the text that
+-- writing appends.
 use Rattle.std.specs.Prelude.{◌≡◌, ℕ, Bool, List, ◌++◌, nat_eq, encode_utf8_all, Option, None, option_map}
 use Rattle.indexmap.specs.IndexMap.{IndexMap, get}
 use Rattle.ve_base.specs.declared.marks.Mark.{Mark}
@@ -13,16 +14,17 @@ use Rattle.ve_write.specs.Siblings.{View, ending_at}
 use Rattle.ve_write.specs.declared.first_page.Page.{Page}
 use Rattle.ve_write.specs.Originals.{original_in, originals_of, read_of, AreLent, IsBefore}
 
--- the text that is known for a place
+-- the text that is known for a position
 abbrev pub text_of : {S : Type 0} → IndexMap ℕ (List ℕ) S → ℕ → Option (List ℕ)
 text_of texts at = option_map encode_utf8_all (get nat_eq texts at)
 
--- These are the texts of the bodies that the references of the list carry, by the places of the references.
+-- These are the texts of the bodies that the references of the list carry, by the positions of the
+-- references.
 abbrev pub AreBodyTexts : List PlainItem → (ℕ → Option (List ℕ)) → Type 0
 AreBodyTexts items texts = (at : ℕ) → option_map html_of (body_carried items at) ≡ texts at
 
--- What is known where a list is written: the bytes that the nodes at each place were, where they are kept, and the texts of the bodies that the
--- references at each place carry.
+-- The knowledge of a writer. It has the bytes that the nodes at each position were, where they are
+-- kept, and the texts of the bodies that the references at each position carry.
 pub record Known : Type 0 where
   pub values : List Value
   pub items : List Item
@@ -37,11 +39,11 @@ known_of page = record {
   texts = text_of page.texts.now;
 }
 
--- Where the page that was first read is lent, it stands over the list and its values.
+-- Where the page that was first read is borrowed, it stands over the list and its values.
 abbrev pub LendsFirst : Page → Type 0
 LendsFirst page = AreLent page.store.now page.list.now.items page.refs.now page.first
 
--- Where it is lent, the internal list opens at this place or after it.
+-- Where it is borrowed, the internal list opens at this position or after it.
 abbrev pub StandsBefore : Page → ℕ → Type 0
 StandsBefore page at = IsBefore page.store.now page.list.now.items page.first at
 
@@ -53,11 +55,11 @@ pub record Told (k : Known) (w : Writer) (bodies : ℕ → Option Body) : Type 0
   pub original : (at : ℕ) → original_in w (ending_at (view_of k bodies) k.items at).here ≡ k.originals at
   pub known : (at : ℕ) → option_map w.html (bodies at) ≡ k.texts at
 
--- the text of the content from a place on, where these marks are open
+-- the text of the content from a position on, where these marks are open
 abbrev pub content_at : Writer → View → List Item → List Mark → ℕ → List ℕ
 content_at w v items opened at = content w opened (ending_at v items at).here
 
--- the text of the blocks from a place on: whether the sibling before them is bare
+-- the text of the blocks from a position on: whether the sibling before them is bare
 abbrev pub blocks_at : Writer → View → List Item → Bool → ℕ → List ℕ
 blocks_at w v items before at = blocks w before (first_outer (ending_at v items at).outer).pre (ending_at v items at).here
 
@@ -81,7 +83,7 @@ copied_in w before closing (Node s inside pre later) = original_of w (is_bare be
 abbrev pub copied_first : Writer → Bool → NodesEnding → Option (List ℕ)
 copied_first w before e = copied_in w before (first_outer e.outer).pre e.here
 
--- The block at a place is written afresh.
+-- The block at a position is written afresh.
 abbrev pub IsAfresh : Known → Bool → ℕ → Type 0
 IsAfresh k before at =
     (w : Writer) (bodies : ℕ → Option Body) → Told k w bodies → copied_first w before (ending_at (view_of k bodies) k.items at) ≡ None

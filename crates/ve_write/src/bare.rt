@@ -18,7 +18,8 @@ use ve_kinds::Kind;
 use ve_node_text::head_of;
 use ve_store::Store;
 
-/// Whether an opening is that of a paragraph without attributes that was made for text, with no whitespace before it.
+/// Whether an opening is that of a paragraph without attributes that was made for text, with no
+/// whitespace before it.
 fn is_plain_paragraph(
     alloc: Global,
     store: &Store,
@@ -29,16 +30,23 @@ fn is_plain_paragraph(
 ) -> bool
     requires head { CitesHead store.now head }
     requires pre { CitesWhite store.now pre }
-    ensures { result ≡ (kind_same kind kinds.P && generated && is_empty (head_in (value_at store.now head)).attrs && is_empty (white_in (value_at store.now pre))) }
+    ensures { result
+        ≡ (kind_same kind kinds.P
+        && generated
+        && is_empty (head_in (value_at store.now head)).attrs
+        && is_empty (white_in (value_at store.now pre))) }
 {
     let none = Head::empty(alloc);
     kind == Kind::P && generated && head_of(store, head, &none).attrs.is_empty() && pre.is_none()
 }
 
-/// Whether no whitespace stands at a place among siblings: before the next one, or before their parent's closing.
+/// Whether no whitespace stands at a position among siblings: before the next one, or before their
+/// parent's closing.
 fn is_tight(list: &Linear, at: usize) -> bool
     requires { at ≤ length list.now.items }
-    ensures { (values : List Cited) → AllCite values list.now.items → IsTightAt values list.now.items at result }
+    ensures { (values : List Cited)
+        → AllCite values list.now.items
+        → IsTightAt values list.now.items at result }
 {
     if at == list.len() {
         return true;
@@ -50,7 +58,8 @@ fn is_tight(list: &Linear, at: usize) -> bool
     }
 }
 
-/// Whether the node at a place is written without its tags; `before` says whether the sibling before it is.
+/// Whether the node at a position is written without its tags; `before` says whether the sibling
+/// before it is.
 pub fn is_bare(
     alloc: Global,
     list: &Linear,

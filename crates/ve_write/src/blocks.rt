@@ -23,15 +23,15 @@ use ve_items::Linear;
 use ve_kinds::{Kind, is_content_branch, is_leaf};
 use ve_node_text::put_letter;
 
-/// Whether nodes of the kind hold blocks that are written. The internal list isn't written, since bodies are
-/// written where references carry them.
+/// Whether nodes of the kind hold blocks that are written. The internal list isn't written, since
+/// bodies are written where references carry them.
 fn holds_blocks(kind: Kind) -> bool
     ensures { result ≡ holds_blocks kind }
 {
     kind != Kind::InternalList && !is_leaf(kind) && !is_content_branch(kind)
 }
 
-/// The element that holds blocks, if one begins at a place.
+/// The element that holds blocks, if one begins at a position.
 fn nest_at(list: &Linear, at: usize) -> Option<Element>
     requires { at < length list.now.items }
     ensures kind { IfSome result (λ element. holds_blocks element.kind ≡ true) }
@@ -63,15 +63,16 @@ struct Step {
     bare: bool,
 }
 
-/// Whether a paragraph that was made for its text is to have tags. It had none in the page that was read, so
-/// it is written afresh.
+/// Whether a paragraph that was made for its text is to have tags. It had none in the page that was
+/// read, so it is written afresh.
 fn needs_tags(generated: bool, bare: bool) -> bool
     ensures { result ≡ (generated && not bare) }
 {
     generated && !bare
 }
 
-/// Whether the node that opens at a place is written without its tags: only one that was made for text is, as `generated` says.
+/// Whether the node that opens at a position is written without its tags: only one that was made
+/// for text is, as `generated` says.
 fn is_bare_at(
     alloc: Global,
     page: Page<'_, '_>,
@@ -91,7 +92,8 @@ fn is_bare_at(
     is_bare(alloc, page.list, page.store, at, before)
 }
 
-/// Appends the block at a place by the bytes that it was, if it is kept, with the whitespace before it.
+/// Appends the block at a position by the bytes that it was, if it is kept, with the whitespace
+/// before it.
 fn put_kept(
     alloc: Global,
     out: &mut Bytes,
@@ -104,8 +106,10 @@ fn put_kept(
     requires before { StandsBefore page at }
     requires within { at < length page.list.now.items }
     ensures more { IfOk result (λ kept. IfSome kept (λ step. at < step.at)) }
-    ensures within { IfOk result (λ kept. IfSome kept (λ step. step.at ≤ length page.entry.list.now.items)) }
-    ensures outer { IfOk result (λ kept. IfSome kept (λ step. SameOuter page.entry.list.now.items at step.at)) }
+    ensures within { IfOk result (λ kept.
+        IfSome kept (λ step. step.at ≤ length page.entry.list.now.items)) }
+    ensures outer { IfOk result (λ kept.
+        IfSome kept (λ step. SameOuter page.entry.list.now.items at step.at)) }
     ensures text { IfOk result (λ kept. IfSome kept (λ step. GoesOn (known_of page.entry) out.old out.new
         (λ w v. blocks_at w v page.entry.list.now.items before at) (λ w v. blocks_at w v page.entry.list.now.items step.bare step.at))) }
     ensures utf8 { OnOk result (IsUtf8 out.old → IsUtf8 out.new) }
@@ -147,7 +151,11 @@ fn put_single(
 ) -> Result<(), Memory>
     requires cites { CitesHead page.store.now head }
     requires refers { head_refers kind (head_in (value_at page.store.now head)) ≡ true }
-    ensures text { OnOk result (out.new ≡ out.old ++ single (head_in (value_at page.entry.store.now head)) (text_of page.entry.texts.now at) kind) }
+    ensures text { OnOk result (
+        out.new
+        ≡ out.old
+        ++ single (head_in (value_at page.entry.store.now head))
+        (text_of page.entry.texts.now at) kind) }
     ensures utf8 { OnOk result (IsUtf8 out.old → IsUtf8 out.new) }
 {
     if kind == Kind::InternalList {
@@ -156,7 +164,8 @@ fn put_single(
     put_cited_leaf(alloc, out, page, at, head, kind)
 }
 
-/// Appends the content branch at a place afresh, without its tags where it is bare; `before` says whether the sibling before it is bare.
+/// Appends the content branch at a position afresh, without its tags where it is bare; `before`
+/// says whether the sibling before it is bare.
 fn put_branch(
     alloc: Global,
     out: &mut Bytes,
@@ -190,7 +199,8 @@ fn put_branch(
     Ok(Step { at: after.at, bare })
 }
 
-/// Appends the block at a place afresh, one that holds no blocks; `before` says whether the sibling before it is bare.
+/// Appends the block at a position afresh, one that holds no blocks; `before` says whether the
+/// sibling before it is bare.
 fn put_block(
     alloc: Global,
     out: &mut Bytes,
@@ -243,9 +253,9 @@ fn put_block(
     }
 }
 
-/// Appends the blocks that begin at a place of the list, and says where they end: where their parent closes,
-/// or the list ends. A reference carries the body whose text is lent for its place, and is written without
-/// one where none is.
+/// Appends the blocks that begin at a position of the list, and says where they end: where their
+/// parent closes, or the list ends. A reference carries the body whose text is borrowed for its
+/// position, and is written without one where none is.
 pub fn put_blocks(
     alloc: Global,
     out: &mut Bytes,

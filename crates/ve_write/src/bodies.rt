@@ -41,7 +41,8 @@ fn notes_in(items: &[Item]) -> usize
     at
 }
 
-/// Where the internal list opens, or the length of a list without one. It goes over lent pieces.
+/// Where the internal list opens, or the length of a list without one. It goes over borrowed
+/// pieces.
 fn notes_at(list: &Linear) -> usize
     ensures { (values : List Cited) → result ≡ notes_place (plain_list values list.now.items) }
 {
@@ -58,8 +59,8 @@ fn notes_at(list: &Linear) -> usize
     at
 }
 
-/// Where the internal item opens whose body a reference carries. One that stands past the opening of the
-/// internal list is in it, and carries none.
+/// Where the internal item opens whose body a reference carries. One that stands past the opening
+/// of the internal list is in it, and carries none.
 fn carried_at(row: &RefRow, notes: usize) -> Option<usize>
     ensures { result ≡ carried_outside notes row.now }
 {
@@ -69,12 +70,13 @@ fn carried_at(row: &RefRow, notes: usize) -> Option<usize>
     if row.carrier { row.body_at } else { None }
 }
 
-/// The text of the body whose internal item stands at a place.
+/// The text of the body whose internal item stands at a position.
 fn body_text(alloc: Global, list: &Linear, store: &Store, at: usize) -> Result<Text, Memory>
     requires cites { AllCite store.now list.now.items }
     requires refers { all_refer (plain_list store.now list.now.items) ≡ true }
     requires within { at < length list.now.items }
-    ensures { IfOk result (λ text. encode_utf8_all text ≡ text_at (plain_list store.now list.now.items) at) }
+    ensures { IfOk result (λ text.
+        encode_utf8_all text ≡ text_at (plain_list store.now list.now.items) at) }
 {
     let mut spelled = Bytes::new(alloc);
     put_body(alloc, &mut spelled, list, store, at)?;
@@ -84,7 +86,8 @@ fn body_text(alloc: Global, list: &Linear, store: &Store, at: usize) -> Result<T
     Ok(Text::from_str(alloc, text)?)
 }
 
-/// The text of each body that a reference carries, by the place of the reference. `refs` is the table of the list.
+/// The text of each body that a reference carries, by the position of the reference. `refs` is the
+/// table of the list.
 pub fn body_texts(
     alloc: Global,
     list: &Linear,
@@ -94,7 +97,8 @@ pub fn body_texts(
     requires cites { AllCite store.now list.now.items }
     requires refers { all_refer (plain_list store.now list.now.items) ≡ true }
     requires refs { refs.now ≡ table (plain_list store.now list.now.items) }
-    ensures { IfOk result (λ texts. AreBodyTexts (plain_list store.now list.now.items) (text_of texts)) }
+    ensures { IfOk result (λ texts.
+        AreBodyTexts (plain_list store.now list.now.items) (text_of texts)) }
 {
     let notes = notes_at(list);
     let mut texts = IndexMap::new(alloc);

@@ -1,4 +1,4 @@
-// What content branches hold.
+// The text of content branches.
 ghost use Rattle.std.specs.Prelude.{◌≡◌, ◌≤◌, ◌<◌, ◌++◌, [], true, false, OnOk, IfOk, length, drop, unwrap_or, IsUtf8};
 ghost use Rattle.model_items.specs.Plain.{value_at, head_in, marks_in, plain_list, CitesHead, CitesMarks};
 ghost use Rattle.model_page.specs.Editable.{all_refer, head_refers};
@@ -25,7 +25,8 @@ struct Step {
     opened: Option<ValueId>,
 }
 
-/// Appends what comes between marks: the open ones are closed that end here, and those are opened that begin.
+/// Appends the tags between marks: the open ones are closed that end here, and those are opened
+/// that begin.
 fn change_cited(
     alloc: Global,
     out: &mut Bytes,
@@ -35,13 +36,17 @@ fn change_cited(
 ) -> Result<(), Memory>
     requires opened { CitesMarks store.now opened }
     requires marks { CitesMarks store.now marks }
-    ensures text { OnOk result (out.new ≡ out.old ++ marks_changed (marks_in (value_at store.now opened)) (marks_in (value_at store.now marks))) }
+    ensures text { OnOk result (
+        out.new
+        ≡ out.old
+        ++ marks_changed (marks_in (value_at store.now opened)) (
+        marks_in (value_at store.now marks))) }
     ensures utf8 { OnOk result (IsUtf8 out.old → IsUtf8 out.new) }
 {
     change_marks(alloc, out, marks_of(store, opened), marks_of(store, marks))
 }
 
-/// What is written of the opening of a leaf in content.
+/// The text of the opening of a leaf in content.
 #[derive(Clone, Copy, Debug)]
 struct Leaf {
     kind: Kind,
@@ -49,7 +54,7 @@ struct Leaf {
     origin: Option<u32>,
 }
 
-/// Appends the leaf at a place: the bytes that it was, if it is kept, or else its text.
+/// Appends the leaf at a position: the bytes that it was, if it is kept, or else its text.
 fn put_inline_leaf(
     alloc: Global,
     out: &mut Bytes,
@@ -61,7 +66,8 @@ fn put_inline_leaf(
     requires lent { LendsFirst page }
     requires before { StandsBefore page at }
     requires within { at ≤ length page.list.now.items }
-    requires origin { origin_of (drop at (plain_list page.store.now page.list.now.items)) ≡ leaf.origin }
+    requires origin { origin_of (drop at (plain_list page.store.now page.list.now.items))
+        ≡ leaf.origin }
     requires head { CitesHead page.store.now leaf.head }
     requires refers { head_refers leaf.kind (head_in (value_at page.store.now leaf.head)) ≡ true }
     ensures text { OnOk result (out.new ≡ out.old ++ unwrap_or ((known_of page.entry).originals at)
@@ -127,7 +133,8 @@ fn put_inline(
     }
 }
 
-/// Appends the characters that stand from a place on, as far as a lent piece goes, where these marks are open.
+/// Appends the characters that stand from a position on, as far as a borrowed piece goes, where
+/// these marks are open.
 fn put_letters(
     alloc: Global,
     out: &mut Bytes,
@@ -169,7 +176,7 @@ fn put_letters(
     })
 }
 
-/// Appends the content that begins at a place, and says where it ends.
+/// Appends the content that begins at a position, and says where it ends.
 pub fn put_content(
     alloc: Global,
     out: &mut Bytes,

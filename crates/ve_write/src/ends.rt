@@ -1,4 +1,4 @@
-// Where siblings end, and what follows the node that they stand in.
+// The ends of siblings, and the rest after the node that they stand in.
 ghost use Rattle.std.specs.Prelude.{List, true, ◌≡◌, ◌≤◌, ◌<◌, ◌+◌, ◌^◌, length, drop};
 ghost use Rattle.ve_base.specs.declared.value.Value.{Value as Cited};
 ghost use Rattle.model_items.specs.Plain.{CitesWhite};
@@ -10,7 +10,7 @@ use model_items::Item;
 use ve_base::ValueId;
 use ve_items::Linear;
 
-/// Whether siblings end at a place: a closing stands there, or the list ends.
+/// Whether siblings end at a position: a closing stands there, or the list ends.
 pub fn ends_at(list: &Linear, at: usize) -> bool
     requires { at ≤ length list.now.items }
     ensures { result ≡ is_end (drop at list.now.items) }
@@ -25,15 +25,16 @@ pub fn ends_at(list: &Linear, at: usize) -> bool
     }
 }
 
-/// How many items of a piece were passed, and how many nodes are open there. Where not all were, a closing follows
-/// that closes none of these nodes.
+/// How many items of a piece were passed, and how many nodes are open there. Where not all were, a
+/// closing follows that closes none of these nodes.
 #[derive(Clone, Copy, Debug)]
 struct Passed {
     count: usize,
     depth: usize,
 }
 
-/// Passes the items of a piece, where so many nodes are open before it, up to the closing of their parent.
+/// Passes the items of a piece, where so many nodes are open before it, up to the closing of their
+/// parent.
 fn pass(items: &[Item], depth: usize) -> Passed
     requires { depth + length items.now < 2 ^ 64 }
     ensures inside { Passes items.now depth result }
@@ -59,7 +60,8 @@ fn pass(items: &[Item], depth: usize) -> Passed
     Passed { count, depth }
 }
 
-/// The end of the siblings that begin at a place: where their parent closes, or the list's end. It goes over lent pieces.
+/// The end of the siblings that begin at a position: where their parent closes, or the list's end.
+/// It goes over borrowed pieces.
 pub fn siblings_end(list: &Linear, from: usize) -> usize
     requires { from ≤ length list.now.items }
     ensures end { Ends list.now.items from result }
@@ -82,21 +84,23 @@ pub fn siblings_end(list: &Linear, from: usize) -> usize
     at
 }
 
-/// What follows the siblings in a node: the whitespace before its closing, and the place after it.
+/// The end of a node's siblings: the whitespace before its closing, and the position after it.
 #[derive(Clone, Copy, Debug)]
 pub struct After {
     pub pre: Option<ValueId>,
     pub at: usize,
 }
 
-/// What follows the siblings that end at a place. Where the list ends there, nothing does.
+/// The end of the siblings that end at a position. Where the list ends there, nothing follows.
 pub fn after_siblings(list: &Linear, end: usize) -> After
     requires within { end ≤ length list.now.items }
     requires ends { is_end (drop end list.now.items) ≡ true }
     ensures more { end ≤ result.at }
     ensures within { result.at ≤ length list.now.items }
     ensures follows { Follows list.now.items end result }
-    ensures cites { (values : List Cited) → AllCite values list.now.items → CitesWhite values result.pre }
+    ensures cites { (values : List Cited)
+        → AllCite values list.now.items
+        → CitesWhite values result.pre }
 {
     if end == list.len() {
         return After { pre: None, at: end };

@@ -1,4 +1,5 @@
-// What is lent to writing, and what of it stands for itself: whitespace and leaves.
+// The borrowed page of writing, and those of its items that are written by themselves: whitespace
+// and leaves.
 ghost use Rattle.std.specs.Prelude.{◌≡◌, ◌++◌, true, OnOk, option_map, encode_utf8_all, IsUtf8};
 ghost use Rattle.model_items.specs.Plain.{value_at, head_in, white_in, CitesHead, CitesWhite};
 ghost use Rattle.model_page.specs.Editable.{head_refers};
@@ -21,9 +22,9 @@ pub struct First<'a> {
     pub origins: &'a Origins<'a>,
 }
 
-/// What is written: a list and its values, the texts of the bodies that its references carry, by the places of
-/// the references, and the table of its references. Where the page that was first read is lent, too, nodes that
-/// are kept are copied; else the table may be empty.
+/// The page to write: a list and its values, the texts of the bodies that its references carry, by
+/// the positions of the references, and the table of its references. Where the page that was first
+/// read is borrowed, too, nodes that are kept are copied; else the table may be empty.
 #[derive(Clone, Copy)]
 pub struct Page<'a, 'b> {
     pub list: &'a Linear,
@@ -33,7 +34,7 @@ pub struct Page<'a, 'b> {
     pub first: Option<First<'b>>,
 }
 
-/// The text of the body that the reference at a place carries, if it carries one.
+/// The text of the body that the reference at a position carries, if it carries one.
 fn text_at<'a>(texts: &'a IndexMap<usize, Text>, at: usize) -> Option<&'a str>
     ensures { option_map (λ text. text.now) result ≡ text_of texts.now at }
 {
@@ -46,13 +47,14 @@ fn text_at<'a>(texts: &'a IndexMap<usize, Text>, at: usize) -> Option<&'a str>
 /// Appends the whitespace that an item cites.
 pub fn put_white(out: &mut Bytes, store: &Store, id: Option<ValueId>) -> Result<(), Memory>
     requires { CitesWhite store.now id }
-    ensures text { OnOk result (out.new ≡ out.old ++ encode_utf8_all (white_in (value_at store.now id))) }
+    ensures text { OnOk result (
+        out.new ≡ out.old ++ encode_utf8_all (white_in (value_at store.now id))) }
     ensures utf8 { OnOk result (IsUtf8 out.old → IsUtf8 out.new) }
 {
     out.push(white_of(store, id).as_bytes())
 }
 
-/// Appends the leaf at a place, which cites this head.
+/// Appends the leaf at a position, which cites this head.
 pub fn put_cited_leaf(
     alloc: Global,
     out: &mut Bytes,
@@ -63,7 +65,11 @@ pub fn put_cited_leaf(
 ) -> Result<(), Memory>
     requires cites { CitesHead page.store.now head }
     requires refers { head_refers kind (head_in (value_at page.store.now head)) ≡ true }
-    ensures text { OnOk result (out.new ≡ out.old ++ leaf_of (head_in (value_at page.entry.store.now head)) (text_of page.entry.texts.now at) kind) }
+    ensures text { OnOk result (
+        out.new
+        ≡ out.old
+        ++ leaf_of (head_in (value_at page.entry.store.now head))
+        (text_of page.entry.texts.now at) kind) }
     ensures utf8 { OnOk result (IsUtf8 out.old → IsUtf8 out.new) }
 {
     let none = Head::empty(alloc);

@@ -14,8 +14,8 @@ use ve_internal::table;
 use ve_items::Linear;
 use ve_store::Store;
 
-/// Appends the nodes of a list, all written afresh: no origin is looked at. Each body is written at the
-/// reference that carries it. An `Err` changes nothing.
+/// Appends the nodes of a list, all written afresh: no origin is looked at. Each body is written at
+/// the reference that carries it. An `Err` changes nothing.
 pub fn write_fresh(
     alloc: Global,
     list: &Linear,

@@ -28,10 +28,13 @@ fn is_inline_node(token: &Token<'_>) -> bool
     }
 }
 
-/// Whether all nodes of the top level are inline elements and whitespace. What is in them is passed over.
+/// Whether all nodes of the top level are inline elements and whitespace. What is in them is passed
+/// over.
 fn are_inline(forest: &Forest<'_>) -> bool
     requires { (f : spelled.Forest) × ShowNodes forest.now (forest_nodes 0 0 f) }
-    ensures { (f : spelled.Forest) → ShowNodes forest.now (forest_nodes 0 0 f) → result ≡ is_inline_source f }
+    ensures { (f : spelled.Forest)
+        → ShowNodes forest.now (forest_nodes 0 0 f)
+        → result ≡ is_inline_source f }
 {
     let mut n = 0;
     while n < forest.len() {
@@ -46,16 +49,19 @@ fn are_inline(forest: &Forest<'_>) -> bool
 
 /// Reads a source, and says whether it is inline elements and whitespace.
 fn read_inline(alloc: Global, source: &str) -> Result<bool, HtmlFault>
-    ensures found { IfOk result (λ b. (f : spelled.Forest) × spelled.Spells source.now f × (b ≡ is_inline_source f)) }
+    ensures found { IfOk result (λ b.
+        (f : spelled.Forest) × spelled.Spells source.now f × (b ≡ is_inline_source f)) }
     ensures fault { IfErr result (λ e. IsFirstFault e (fault_of source.now)) }
 {
     let forest = read(alloc, source)?;
     Ok(are_inline(&forest))
 }
 
-/// Whether a source reads as inline elements and whitespace alone. One that doesn't read at all does not.
+/// Whether a source reads as inline elements and whitespace alone. One that doesn't read at all
+/// does not.
 pub fn reads_inline(alloc: Global, source: &str) -> Result<bool, Memory>
-    ensures { IfOk result (λ b. b ≡ unwrap_or (option_map is_inline_source (forest_of source.now)) false) }
+    ensures { IfOk result (λ b.
+        b ≡ unwrap_or (option_map is_inline_source (forest_of source.now)) false) }
 {
     match read_inline(alloc, source) {
         Ok(inline) => Ok(inline),

@@ -7,7 +7,7 @@ ghost use Rattle.ve_write.specs.Told.{LendsFirst, StandsBefore};
 
 use crate::first_page::Page;
 
-/// The bytes that the node at a place was, if it is kept; its opening has this origin.
+/// The bytes that the node at a position was, if it is kept; its opening has this origin.
 pub fn original_at<'b>(page: Page<'_, 'b>, at: usize, origin: Option<u32>) -> Option<&'b str>
     requires cites { AllCite page.store.now page.list.now.items }
     requires lent { LendsFirst page }

@@ -1,17 +1,23 @@
-//! A list of items as the text of a page.
+//! Writing of a list of items as the text of a page: nodes that are kept by the bytes that they
+//! had, all others afresh. It reads no `data-mw` but to compose it.
 //!
-//! - `write` appends the page that a list gives after the page that was first read: model_page_write's `write`. A node that is
-//!   as it was read is copied; that is asked once for each node on the way down (`Originals` in specs/).
+//! - `write` appends the page that a list gives after the page that was first read:
+//!   model_page_write's `write`. A node that is as it was read is copied; that is asked once for
+//!   each node on the way down (`Originals` in specs/).
 //! - `write_fresh` appends the nodes of a list without origins: model_page_write's `fresh`.
-//! - `put_list`, `put_blocks` and `put_body` do the same for a writer that is told where bodies stand (`Told`). One walk goes
-//!   forward over the items, and calls itself for an element in an element alone.
-//! - `is_bare` says which paragraphs need no tags, and `reads_inline` whether a source is inline elements and whitespace
-//!   (`Bare`, `Inline`). The parser is asked last, and only for sources that are kept.
-//! - `siblings_end` and `after_siblings` say where siblings end and what follows the node that they stand in (`Siblings`,
-//!   `After`). model_page_write reads a list from its end; here a walk goes forward (`ending_at`).
+//! - `put_list`, `put_blocks` and `put_body` do the same for a writer that is told where bodies
+//!   stand (`Told`). One walk goes forward over the items, and calls itself for an element in an
+//!   element alone.
+//! - `is_bare` says which paragraphs need no tags, and `reads_inline` whether a source is inline
+//!   elements and whitespace (`Bare`, `Inline`). The parser is asked last, and only for sources
+//!   that are kept.
+//! - `siblings_end` and `after_siblings` say where siblings end and what follows the node that they
+//!   stand in (`Siblings`, `After`). model_page_write reads a list from its end; here a walk goes
+//!   forward (`ending_at`).
 //!
-//! `BodyTexts`, `Begun` and `Passing` serve private functions. An `Err` is want of memory: `write` and `write_fresh` then leave
-//! what was there, the others may leave a part. There are no laws here: that what is written is read back is model_page_law's.
+//! `BodyTexts`, `Begun` and `Passing` serve private functions. An `Err` is want of memory: `write`
+//! and `write_fresh` then leave the buffer as it was, the others may leave a part. There are no
+//! laws here: reading back is a law of model_page_law.
 #![tactic(auto)]
 
 mod bare;

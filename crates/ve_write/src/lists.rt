@@ -19,14 +19,15 @@ use ve_base::{Bytes, Memory};
 use ve_items::Linear;
 use ve_store::Store;
 
-/// Appends the whole list: the bytes of nodes that are kept, and the text of all others. The texts that are
-/// lent with it have to be those of all bodies that its references carry.
+/// Appends the whole list: the bytes of nodes that are kept, and the text of all others. The texts
+/// that are borrowed with it have to be those of all bodies that its references carry.
 pub fn put_list(alloc: Global, out: &mut Bytes, page: Page<'_, '_>) -> Result<(), Memory>
     requires cites { AllCite page.store.now page.list.now.items }
     requires refers { all_refer (plain_list page.store.now page.list.now.items) ≡ true }
     requires lawful { Lawful (plain_list page.store.now page.list.now.items) }
     requires lent { LendsFirst page }
-    requires texts { AreBodyTexts (plain_list page.store.now page.list.now.items) (text_of page.texts.now) }
+    requires texts { AreBodyTexts (plain_list page.store.now page.list.now.items)
+        (text_of page.texts.now) }
     ensures text { OnOk result (out.new ≡ out.old ++ list_text (read_of page.entry.first) page.entry.store.now
         (plain_list page.entry.store.now page.entry.list.now.items)) }
     ensures utf8 { OnOk result (IsUtf8 out.old → IsUtf8 out.new) }
@@ -35,7 +36,8 @@ pub fn put_list(alloc: Global, out: &mut Bytes, page: Page<'_, '_>) -> Result<()
     Ok(())
 }
 
-/// Appends the text of the body whose internal item stands at a place of the list. References in it carry no bodies.
+/// Appends the text of the body whose internal item stands at a position of the list. References in
+/// it carry no bodies.
 pub fn put_body(
     alloc: Global,
     out: &mut Bytes,
@@ -46,7 +48,10 @@ pub fn put_body(
     requires cites { AllCite store.now list.now.items }
     requires refers { all_refer (plain_list store.now list.now.items) ≡ true }
     requires within { at < length list.now.items }
-    ensures text { OnOk result (out.new ≡ out.old ++ html_of (body_after at (plain_list store.now (drop (at + 1) list.now.items)))) }
+    ensures text { OnOk result (
+        out.new
+        ≡ out.old
+        ++ html_of (body_after at (plain_list store.now (drop (at + 1) list.now.items)))) }
     ensures utf8 { OnOk result (IsUtf8 out.old → IsUtf8 out.new) }
 {
     let _len = list.len();

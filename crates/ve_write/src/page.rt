@@ -16,13 +16,14 @@ use ve_items::Linear;
 use ve_origin::Origins;
 use ve_store::Store;
 
-/// Appends the page that a list gives, after the page that was first read: what stood before its body, the
-/// nodes of the list, and what stood after its body. A node that is still as it was first read is copied, and
-/// every other is written afresh, with each body at the reference that carries it. An `Err` changes nothing.
+/// Appends the page that a list gives, after the page that was first read: its text before the
+/// body, the nodes of the list, and its text after the body. A node that is still as it was first
+/// read is copied. Every other is written afresh, with each body at the reference that carries it.
+/// An `Err` changes nothing.
 ///
-/// It is asked that the list is lawful and its references are editable; that the list as it was first read cites
-/// values of this store, and its table is given; and that each row is the range of a node of that list, before its
-/// internal list, and each origin in it is the number of a row.
+/// The list has to be lawful, and its references editable. The list as it was first read has to
+/// cite values of this store, and its table is given. Each row has to be the range of a node of
+/// that list, before its internal list, and each origin in it the number of a row.
 pub fn write<'a>(
     alloc: Global,
     list: &Linear,
@@ -34,7 +35,10 @@ pub fn write<'a>(
     requires refers { all_refer (plain_list store.now list.now.items) ≡ true }
     requires lawful { Lawful (plain_list store.now list.now.items) }
     requires first { IsFirst store.now origins.now }
-    ensures ok { OnOk result (out.new ≡ out.old ++ write (opened_over store.now origins.now) (plain_list store.now list.now.items)) }
+    ensures ok { OnOk result (
+        out.new
+        ≡ out.old
+        ++ write (opened_over store.now origins.now) (plain_list store.now list.now.items)) }
     ensures err { OnErr result (out.new ≡ out.old) }
     ensures utf8 { OnOk result (IsUtf8 out.old → IsUtf8 out.new) }
 {

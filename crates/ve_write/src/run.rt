@@ -1,4 +1,4 @@
-// What a paragraph holds that is to be read as a run.
+// Paragraphs that are to be read as a run.
 ghost use Rattle.std.specs.Prelude.{◌≡◌, ◌≤◌, ◌<◌, ◌||◌, List, not, false, length, drop, IfOk, IfSome};
 ghost use Rattle.ve_base.specs.declared.value.Value.{Value as Cited};
 ghost use Rattle.model_items.specs.Plain.{value_at, head_in, marks_in, CitesHead, CitesMarks};
@@ -25,12 +25,15 @@ fn is_white(ch: char) -> bool
 
 /// Whether a character is more than whitespace: the tags of its marks are.
 fn is_content(ch: char, marks: Option<ValueId>) -> bool
-    ensures { (values : List Cited) → CitesMarks values marks → result ≡ (not (is_white_char ch) || not (is_empty (marks_in (value_at values marks)))) }
+    ensures { (values : List Cited)
+        → CitesMarks values marks
+        → result ≡ (not (is_white_char ch) || not (is_empty (marks_in (value_at values marks)))) }
 {
     !is_white(ch) || marks.is_some()
 }
 
-/// Whether an inline leaf is read as a part of a run again: a source that is kept and has no marks has to be inline.
+/// Whether an inline leaf is read as a part of a run again: a source that is kept and has no marks
+/// has to be inline.
 fn stays_inline(
     alloc: Global,
     store: &Store,
@@ -40,7 +43,10 @@ fn stays_inline(
 ) -> Result<bool, Memory>
     requires head { CitesHead store.now head }
     requires marks { CitesMarks store.now marks }
-    ensures { IfOk result (λ b. b ≡ stays_of kind (marks_in (value_at store.now marks)) (head_in (value_at store.now head)).raw) }
+    ensures { IfOk result (λ b.
+        b
+        ≡ stays_of kind (marks_in (value_at store.now marks))
+        (head_in (value_at store.now head)).raw) }
 {
     if kind != Kind::TransInline && kind != Kind::AlienInline {
         return Ok(true);
@@ -52,7 +58,8 @@ fn stays_inline(
     reads_inline(alloc, head_of(store, head, &none).raw.as_str())
 }
 
-/// What is known of a run after an item: where it goes on, and whether some content was seen. `None` where a leaf doesn't stay in the run.
+/// The state of a run after an item: where it goes on, and whether some content was seen. `None`
+/// where a leaf doesn't stay in the run.
 #[derive(Clone, Copy, Debug)]
 struct Step {
     at: usize,
@@ -108,7 +115,7 @@ fn pass_one(
     }
 }
 
-/// Whether the siblings from a place on hold some content, and their leaves stay in a run.
+/// Whether the siblings from a position on hold some content, and their leaves stay in a run.
 pub fn is_run(alloc: Global, list: &Linear, store: &Store, from: usize) -> Result<bool, Memory>
     requires cites { AllCite store.now list.now.items }
     requires within { from ≤ length list.now.items }

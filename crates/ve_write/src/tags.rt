@@ -12,7 +12,7 @@ use ve_kinds::Kind;
 use ve_node_text::{head_of, put_end_tag, put_start_tag};
 use ve_store::Store;
 
-/// What is written of the opening of a block.
+/// The text of the opening of a block.
 #[derive(Clone, Copy, Debug)]
 pub struct Element {
     pub kind: Kind,
@@ -57,7 +57,11 @@ pub fn put_closing(
     bare: bool,
 ) -> Result<(), Memory>
     requires { CitesWhite store.now pre }
-    ensures text { OnOk result (out.new ≡ out.old ++ (if bare then [] else encode_utf8_all (white_in (value_at store.now pre)) ++ end_tag (tag_of kind))) }
+    ensures text { OnOk result (
+        out.new
+        ≡ out.old
+        ++ (if bare then [] else encode_utf8_all (white_in (value_at store.now pre))
+        ++ end_tag (tag_of kind))) }
     ensures utf8 { OnOk result (IsUtf8 out.old → IsUtf8 out.new) }
 {
     if bare {

@@ -1,10 +1,12 @@
-// Readers and writers of std as sources and sinks. They are the edge that is trusted: what a terminal or a pipe holds no clause knows.
+// Readers and writers of std as sources and sinks. They are the edge that is trusted: no clause
+// knows what a terminal or a pipe holds.
 ghost use Rattle.std.specs.Prelude.{◌≡◌};
 
 use std::io::{Read, Write};
 use ve_base::{Failed, Sink, Source};
 
-/// A reader as a source. It tells what is left where the reader does, and counts the reader's errors.
+/// A reader as a source. It tells what is left where the reader does, and counts the reader's
+/// errors.
 #[derive(Drop)]
 pub struct ReadSource<R: Read + Drop> {
     reader: R,
@@ -36,8 +38,8 @@ impl<R: Read + Drop> Source for ReadSource<R> {
     }
 }
 
-/// A writer as a sink. It tells what it holds where the writer does. It counts the writer's errors, and each time that it
-/// takes nothing of a piece.
+/// A writer as a sink. It tells what it holds where the writer does. It counts the writer's errors,
+/// and each time that it takes nothing of a piece.
 #[derive(Drop)]
 pub struct WriteSink<W: Write + Drop> {
     writer: W,

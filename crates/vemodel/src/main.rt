@@ -1,10 +1,11 @@
 //! The program: a script from standard input, its replies to standard output.
 //!
-//! It calls `run_program` on the words, standard input and standard output, and ends with the status's number. Standard
-//! input and output are adapted here (`adapters`) in a few lines: each error raises a count, so the clauses on faults hold
-//! of them. `run_all` says of each reader and writer of std that tell their bytes that the promise holds with these lines in
-//! between. What a terminal or a pipe gave or got is known to no clause, nor what the words were: the one generic body is
-//! the evidence for it, and a stored run shows it. Nothing else may touch the outside.
+//! It calls `run_program` on the words, standard input and standard output, and ends with the
+//! status's number. Standard input and output are adapted here (`adapters`) in a few lines. Each
+//! error raises a count, so the clauses on faults hold of them. `run_all` says of each reader and
+//! writer of std that tell their bytes that the promise holds with these lines in between. No
+//! clause knows what a terminal or a pipe gave or got, nor what the words were. The one generic
+//! body is the evidence for it, and a stored run shows it. Nothing else may touch the outside.
 #![tactic(auto)]
 
 mod adapters;
@@ -27,7 +28,8 @@ use std::sync::ledger::{Blank, Ledger};
 use ve_base::{Memory, Steps, Text};
 use ve_session::{Status, run_program};
 
-/// The words after the program's name. Where one of them isn't UTF-8, none is understood, and there are none.
+/// The words after the program's name. Where one of them isn't UTF-8, none is understood, and there
+/// are none.
 fn words(rt: &HostRuntime) -> Result<Vec<Text>, Memory> {
     let mut words = Vec::new(rt.alloc());
     match env::args(rt) {
@@ -42,7 +44,8 @@ fn words(rt: &HostRuntime) -> Result<Vec<Text>, Memory> {
     Ok(words)
 }
 
-/// Runs the program on a reader and a writer of std. It alone owns the steps, and `run_program` the world.
+/// Runs the program on a reader and a writer of std. It alone owns the steps, and `run_program` the
+/// world.
 fn run_all<R: Read + Drop, W: Write + Drop, L: Ledger>(
     rt: &HostRuntime,
     words: &[Text],
@@ -53,7 +56,8 @@ fn run_all<R: Read + Drop, W: Write + Drop, L: Ledger>(
     requires name { blank.name ≡ L.name }
     requires parts { blank.parts ≡ L.parts }
     requires one { blank.parts ≡ 1 }
-    // Where reader and writer tell their bytes, what the definitions write for the script is written, and nothing else.
+    // Where reader and writer tell their bytes, the output that the definitions give for the script
+    // is written, and nothing else.
     ensures headline { IsRun words.now → result ≡ Status.Done → IfSome (R.remaining source.old.reader) (λ script.
         Appends (W.contents sink.old.writer) (W.contents sink.new.writer) (output_of Closed script)
         × (R.remaining source.new.reader ≡ Some [])) }

@@ -1,6 +1,7 @@
-// Scripts of megabytes, from a source in memory to a sink in memory: lines, pages, lists and scripts at their limits and just past
-// them. All shorter scripts are one, the stored run (`stdin`, `stdout`). The replies were worked out by hand from what the commands
-// mean. `rt try --test`, which checks each step as it runs, takes longer over some of them than it gives a test.
+// Scripts of megabytes, from a source in memory to a sink in memory: lines, pages, lists and
+// scripts at their limits and just past them. All shorter scripts are one, the stored run (`stdin`,
+// `stdout`). The replies were worked out by hand from what the commands mean. `rt try --test`,
+// which checks each step as it runs, takes longer over some of them than it gives a test.
 ghost use Rattle.std.specs.Prelude.{◌≡◌};
 
 mod modes;
@@ -18,7 +19,7 @@ const ROOM: usize = 4096;
 #[derive(Clone, Copy)]
 struct Long {
     name: &'static str,
-    /// What each line is made of, and the reply to it; no text where there is none.
+    /// The text of each line, in pieces, and the reply to it; no text where there is none.
     lines: &'static [(&'static [(&'static str, usize)], &'static str)],
     status: Status,
 }
@@ -98,7 +99,8 @@ fn first_wrong(rt: &HostRuntime, cases: &[Long]) -> Result<Option<&'static str>,
     Ok(None)
 }
 
-/// A line of 8,388,608 bytes, and one of a byte more; a page of 4,194,304 bytes, and one of a byte more; the most changes of a batch.
+/// A line of 8,388,608 bytes, and one of a byte more; a page of 4,194,304 bytes, and one of a byte
+/// more; the most changes of a batch.
 const LINES: [Long; 3] = [
     Long {
         name: "a line that is too long",
@@ -184,7 +186,8 @@ fn long_lines_and_pages_are_refused(rt: HostRuntime) -> Result<(), Fail> {
     Ok(())
 }
 
-/// A list of 4,194,304 items, and one of an item more: by an edit, and in a page of the greatest length.
+/// A list of 4,194,304 items, and one of an item more: by an edit, and in a page of the greatest
+/// length.
 const FULL: [Long; 2] = [
     Long {
         name: "a list that is full",

@@ -1,8 +1,10 @@
-// The modes, help, and words that are refused, by the whole program from a source to a sink in memory.
+// The modes, help, and words that are refused, by the whole program from a source to a sink in
+// memory.
 //
-// What is written for a generated script was worked out by a program in another language: the script from the rule of its
-// definition; the replies to few edits by hand (`ok 4002`, `no nothing_to_undo` and the page), and to thirty edits by the
-// program itself in mode `run` on that script; and the digests of the replies by its SHA-256.
+// The output for a generated script was worked out by a program in another language. The script
+// came from the rule of its definition. The replies to few edits were found by hand (`ok 4002`, `no
+// nothing_to_undo` and the page), and those to thirty edits by the program itself in mode `run` on
+// that script. The digests of the replies came by its SHA-256.
 use super::run_all;
 use std::alloc::Global;
 use std::marker::Brand;
@@ -19,7 +21,7 @@ const ROOM: usize = 8192;
 struct Case {
     words: &'static [&'static str],
     status: Status,
-    /// What is written begins so and ends so, and has so many bytes.
+    /// The beginning and the end of the output, and how many bytes it has.
     begins: &'static [u8],
     ends: &'static [u8],
     len: usize,

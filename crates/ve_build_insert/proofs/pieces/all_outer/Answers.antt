@@ -3,7 +3,7 @@ use Rattle.std.specs.List.{list_all}
 use Rattle.std.proofs.lemmas.List.{drop_all, drop_more}
 use Rattle.model_items.specs.Plain.{plain_list}
 use Rattle.model_edit.specs.Insert.{outer_items}
-use Rattle.ve_build_insert.specs.Placed.{asked}
+use Rattle.ve_build_insert.specs.Placed.{item_answer}
 use Rattle.ve_build_insert.proofs.PieceLemmas.{outer_fails, outer_passes, depth_rises}
 use Rattle.ve_build_insert.proofs.pieces.all_outer.Goals as goal
 
@@ -27,5 +27,5 @@ loop-item-preserved c =
 pub returns : goal.returns
 returns c = λ values.
     let l = c.loop-item in
-    sym (ap (λ r. list_all (asked c.args.question) (outer_items l.depth (plain_list values r))) (drop_all l.item-index c.args.pieces.now (omega arith)))
+    sym (ap (λ r. list_all (item_answer c.args.question) (outer_items l.depth (plain_list values r))) (drop_all l.item-index c.args.pieces.now (omega arith)))
     ∙ l.invariant.rest values

@@ -4,7 +4,7 @@ use Rattle.model_items.specs.Plain.{plain}
 use Rattle.model_world.specs.Edits.{needs}
 use Rattle.ve_offsets.specs.Docs.{page_items}
 use Rattle.ve_store.specs.Following.{together}
-use Rattle.ve_changes.specs.Applied.{passed}
+use Rattle.ve_changes.specs.Applied.{items_passed}
 use Rattle.ve_changes.proofs.AppliedLemmas.{Applying, applying_all, applying_filled, applying_next, applying_none, needs_within}
 use Rattle.ve_changes.proofs.applied.ops_on.Goals as goal
 
@@ -47,7 +47,7 @@ loop-op-preserved c =
     let next = applying_next v0 v w P ops rest o at made c.in_ok-next.next s c.in_ok-next.ensures.cites c.in_ok-next.ensures.means c.in_ok-next.ensures.values in (
       c.in_ok-next.ensures.follows,
       subst (λ k. Applying v0 w P ops rest (at + k) c.push.new.self) (sym c.passed-at.ensures)
-          (subst (Applying v0 w P ops rest (at + passed o)) (sym c.in_ok-push.ensures.ok) next),
+          (subst (Applying v0 w P ops rest (at + items_passed o)) (sym c.in_ok-push.ensures.ok) next),
     )
 
 pub returns-clause-cites : goal.returns-clause-cites

@@ -1,7 +1,7 @@
 use Rattle.std.proofs.Common.{◌≡◌, ◌≤◌, ◌-◌, ◌++◌, false, drop, nat_lt, slice_range}
 use Rattle.serde_json.specs.Written.{items_text}
 use Rattle.model_items.specs.Plain.{plain_list}
-use Rattle.model_world.specs.Shown.{all_shown, json_items, shown}
+use Rattle.model_world.specs.Shown.{all_shown, json_items, as_shown}
 use Rattle.ve_json.specs.Runs.{plain_before}
 use Rattle.ve_json.proofs.item_replies.push_items.Given as goal
 
@@ -13,7 +13,7 @@ invariant-items l =
     record {
       on : l.from ≤ l.at;
       within : l.at ≤ l.to;
-      text : l.out.text ++ items_text (nat_lt l.from l.at) (json_items (all_shown (shown (drop l.at items)))) ≡ l.initial.out.text ++ items_text false (json_items (all_shown (shown range)));
+      text : l.out.text ++ items_text (nat_lt l.from l.at) (json_items (all_shown (as_shown (drop l.at items)))) ≡ l.initial.out.text ++ items_text false (json_items (all_shown (as_shown range)));
       before : l.out.before ≡ l.initial.out.before;
     }
 

@@ -1,5 +1,5 @@
 use Rattle.std.proofs.Common.{◌≡◌, None, drop}
-use Rattle.model_world.specs.declared.change.OpWords.TheVariants.{Attr}
+use Rattle.model_world.specs.declared.edit_command.OpWords.TheVariants.{Attr}
 use Rattle.model_world.specs.Operations.{word_may_precede}
 use Rattle.ve_json.proofs.operations.setting_may_precede.Given as goal
 

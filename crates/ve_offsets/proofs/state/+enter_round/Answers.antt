@@ -69,7 +69,7 @@ enter-requires t c =
     let within : r.x.from < length c.args.doc.list.now.items = omega (arith, s.within, length-map c.args.doc.list.now.items (plain [])) in
     let before = c.enter_round.ensures r.x.from within
     (up c.args.n c.requires.round.at c.node-node.result.now c.in-Some.parent r.x r.outer c.if-n-doc.false c.requires.round.round c.node-node.ensures c.in-Some.is r.opens_are) in
-    subst (λ kind. IsOk (law.opened c.enter_round.new.state kind)) (sym kind) (may_enter items c.requires.round.at r.x r.outer c.enter_round.new.state c.requires.doc.links.lawful r.opens_are before)
+    subst (λ kind. IsOk (law.state_opened c.enter_round.new.state kind)) (sym kind) (may_enter items c.requires.round.at r.x r.outer c.enter_round.new.state c.requires.doc.links.lawful r.opens_are before)
 
 pub returns : goal.returns
 returns t c = λ o within round.
@@ -82,4 +82,4 @@ returns t c = λ o within round.
     let before = c.enter_round.ensures r.x.from inside
     (up c.args.n o c.node-node.result.now c.in-Some.parent r.x r.outer c.if-n-doc.false round c.node-node.ensures c.in-Some.is r.opens_are) in
     entered items o r.x r.outer c.enter_round.new.state c.enter.new.state c.requires.doc.links.lawful (omega (arith, within, long)) r.opens_are before
-    (ap (law.opened c.enter_round.new.state) (sym kind) ∙ c.enter.ensures)
+    (ap (law.state_opened c.enter_round.new.state) (sym kind) ∙ c.enter.ensures)

@@ -10,7 +10,7 @@ use Rattle.ve_read.proofs.BlockLemmas.{branch_token, branch_children, branch_rea
 use Rattle.ve_read.proofs.BlockLoops.{unit_text, unit_parts, unit_block, white_read, run_read, block_read, run_over, block_over, run_marks, block_marks, all_left, left_after, left_stops, some_unit, all_read, all_white, all_within, content_parts, content_read, content_white, content_limits}
 use Rattle.ve_read.proofs.blocks.+blocks.Goals as goal
 
--- What is required stands in order behind what the parameters are: the measure, and then each clause.
+-- The requirements stand in order behind the parameters: the measure, and then each clause.
 
 -- ---- a branch
 

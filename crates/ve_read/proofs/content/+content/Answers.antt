@@ -5,7 +5,7 @@ use Rattle.ve_read.proofs.AnnotationLemmas.{marks_tag, annotated, annotation_wit
 use Rattle.ve_read.proofs.ContentLoops.{all_left, all_read, all_within, goes_on, stops_here, some_left}
 use Rattle.ve_read.proofs.content.+content.Goals as goal
 
--- What is required stands in order behind what the parameters are: the measure, and then each clause.
+-- The requirements stand in order behind the parameters: the measure, and then each clause.
 
 pub annotation-unreachable-requires : goal.annotation-unreachable-requires
 annotation-unreachable-requires t c =

@@ -2,7 +2,7 @@ use Rattle.std.proofs.Common.{ap, ◌∙◌}
 use Rattle.model_site.specs.Site.{Site}
 use Rattle.model_world.specs.declared.command.Request.TheVariants as request
 use Rattle.model_world.specs.Answers.{batch_or_no}
-use Rattle.ve_site.specs.Settled.{settled}
+use Rattle.ve_site.specs.Settled.{with_new_entry}
 use Rattle.ve_sites.specs.Shared.{site_at}
 use Rattle.ve_session.specs.Asked.{asker}
 use Rattle.ve_session.proofs.BatchLemmas.{batch_at, batch_settled, still_there}
@@ -11,7 +11,7 @@ use Rattle.ve_session.proofs.batches.batch.Goals as goal
 
 pub len_at-requires : goal.len_at-requires
 len_at-requires g c =
-    record { site = still_there c.args.k (settled c.in-Ok.batch.editor c.in-Ok.batch.entry (site_at c.args.session.now c.args.k)) c.args.session.now c.settle.new.self c.in_ok-settle.ensures.site c.requires.site }
+    record { site = still_there c.args.k (with_new_entry c.in-Ok.batch.editor c.in-Ok.batch.entry (site_at c.args.session.now c.args.k)) c.args.session.now c.settle.new.self c.in_ok-settle.ensures.site c.requires.site }
 
 pub returns-clause-answer : goal.returns-clause-answer
 returns-clause-answer g c =

@@ -1,6 +1,6 @@
 use Rattle.std.specs.Prelude.{Ok}
 use Rattle.model_world.specs.declared.command.Request.TheVariants as request
-use Rattle.model_world.specs.Edits.{allowed, change_of}
+use Rattle.model_world.specs.Edits.{checked_transaction, change_of}
 use Rattle.ve_changes.specs.Stops.{IsRefused}
 use Rattle.ve_editor.specs.Edited.{drafted}
 use Rattle.ve_session.specs.Asked.{IsAnswered, IsPerformed, IsStopped}
@@ -33,7 +33,7 @@ returns-clause-refused g c =
     let t = drafted s.replica.store c.in_ok-draft.draft in
     let r = request.Edit c.args.change.now in
     let d = drafted_at (λ items. change_of items c.args.change.now) _ _ _ _ c.in_ok-draft.draft c.doc_at.ensures.store c.doc_at.ensures.items c.in_ok-draft.ensures.ok in
-    err_as (λ why. IsRefused why (allowed s.replica (Ok t))) (IsStopped r c.args.k old) c.perform.result
+    err_as (λ why. IsRefused why (checked_transaction s.replica (Ok t))) (IsStopped r c.args.k old) c.perform.result
     (λ why is. barred r c.args.k old (change_of s.replica.items c.args.change.now) (λ page. refl) t why d.same is) c.perform.ensures.refused
 
 pub returns-clause-steps : goal.returns-clause-steps

@@ -2,9 +2,9 @@ use Rattle.std.proofs.Common.{ap, ◌∙◌}
 use Rattle.std.proofs.lemmas.Result.{err_from_is_err_and}
 use Rattle.std.specs.Prelude.{Ok}
 use Rattle.model_site.specs.Replica.{Replica}
-use Rattle.model_world.specs.declared.change.Change.TheVariants as change
+use Rattle.model_world.specs.declared.edit_command.EditCommand.TheVariants as change
 use Rattle.model_world.specs.declared.command.Request.TheVariants as request
-use Rattle.model_world.specs.Edits.{allowed, change_of}
+use Rattle.model_world.specs.Edits.{checked_transaction, change_of}
 use Rattle.ve_changes.specs.Stops.{IsRefused}
 use Rattle.ve_editor.specs.Edited.{drafted}
 use Rattle.ve_session.specs.Asked.{IsAnswered, IsPerformed, IsStopped}
@@ -53,7 +53,7 @@ returns-clause-refused g c =
     let selected = c.selection-selection.ensures ∙ ap (λ (r : Replica). r.selection) (c.editor.ensures ∙ ap (λ s. s.replica) c.site.ensures) in
     let e = erased_at c.args.k old c.args.dir c.args.by _ _ c.in_ok-range.range c.doc_at.ensures.items selected c.in_ok-range.ensures.ok in
     let d = drafted_at (λ items. change_of items remove) _ _ _ _ c.in_ok-draft.draft c.doc_at-2.ensures.store c.doc_at-2.ensures.items c.in_ok-draft.ensures.ok in
-    err_as (λ why. IsRefused why (allowed s.replica (Ok t))) (IsStopped r c.args.k old) c.perform.result
+    err_as (λ why. IsRefused why (checked_transaction s.replica (Ok t))) (IsStopped r c.args.k old) c.perform.result
     (λ why is. barred r c.args.k old (change_of s.replica.items remove)
     (erases c.args.k old c.args.dir c.args.by c.in_ok-range.range e c.min.result c.max.result c.min.ensures c.max.ensures) t why d.same is) c.perform.ensures.refused
 

@@ -1,6 +1,6 @@
 use Rattle.std.proofs.Common.{◌≤◌, ◌+◌, sym, subst}
 use Rattle.std.specs.Prelude.{Ok}
-use Rattle.model_world.specs.Edits.{allowed}
+use Rattle.model_world.specs.Edits.{checked_transaction}
 use Rattle.ve_changes.specs.Moves.{moved_by}
 use Rattle.ve_changes.specs.Stops.{IsRefused}
 use Rattle.ve_editor.specs.Edited.{drafted}
@@ -33,7 +33,7 @@ returns-clause-refused g c =
     let t = drafted s.replica.store c.in_ok-draft.draft in
     let r = c.args.request.now in
     let d = drafted_at (λ items. moved_by items c.args.request.now) _ _ _ _ c.in_ok-draft.draft c.doc_at.ensures.store c.doc_at.ensures.items c.in_ok-draft.ensures.ok in
-    err_as (λ why. IsRefused why (allowed s.replica (Ok t))) (IsStopped r c.args.k old) c.perform.result
+    err_as (λ why. IsRefused why (checked_transaction s.replica (Ok t))) (IsStopped r c.args.k old) c.perform.result
     (λ why is. barred r c.args.k old (moved_by s.replica.items c.args.request.now) (λ page. c.moves_are_asked.ensures (asker page old c.args.k) r c.requires.moves) t why d.same is) c.perform.ensures.refused
 
 pub returns-clause-steps : goal.returns-clause-steps

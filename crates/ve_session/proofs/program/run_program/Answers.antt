@@ -1,5 +1,5 @@
 use Rattle.std.proofs.Common.{◌≡◌, [], List, ℕ}
-use Rattle.ve_session.specs.Program.{seen}
+use Rattle.ve_session.specs.Program.{seen_of}
 use Rattle.ve_session.proofs.ProgramLemmas.{ended_new, headline_new, prefix_new}
 use Rattle.ve_session.proofs.program.run_program.Goals as goal
 
@@ -10,15 +10,15 @@ returns-clause-headline g c is done =
 pub returns-clause-ended : goal.returns-clause-ended
 returns-clause-ended g c =
     ended_new _ c.new-world.result c.run.new.world
-    (seen c.args.steps.now (g.S.Source.left c.args.source.now) (g.K.Sink.held c.args.sink.now) (g.S.Source.faults c.args.source.now) (g.K.Sink.faults c.args.sink.now))
-    (seen c.run.new.steps (g.S.Source.left c.run.new.source) (g.K.Sink.held c.run.new.sink) (g.S.Source.faults c.run.new.source) (g.K.Sink.faults c.run.new.sink))
+    (seen_of c.args.steps.now (g.S.Source.left c.args.source.now) (g.K.Sink.held c.args.sink.now) (g.S.Source.faults c.args.source.now) (g.K.Sink.faults c.args.sink.now))
+    (seen_of c.run.new.steps (g.S.Source.left c.run.new.source) (g.K.Sink.held c.run.new.sink) (g.S.Source.faults c.run.new.source) (g.K.Sink.faults c.run.new.sink))
     c.run.result c.new-world.ensures c.run.ensures.ended
 
 pub returns-clause-prefix : goal.returns-clause-prefix
 returns-clause-prefix g c is =
     prefix_new c.new-world.result c.run.new.world
-    (seen c.args.steps.now (g.S.Source.left c.args.source.now) (g.K.Sink.held c.args.sink.now) (g.S.Source.faults c.args.source.now) (g.K.Sink.faults c.args.sink.now))
-    (seen c.run.new.steps (g.S.Source.left c.run.new.source) (g.K.Sink.held c.run.new.sink) (g.S.Source.faults c.run.new.source) (g.K.Sink.faults c.run.new.sink))
+    (seen_of c.args.steps.now (g.S.Source.left c.args.source.now) (g.K.Sink.held c.args.sink.now) (g.S.Source.faults c.args.source.now) (g.K.Sink.faults c.args.sink.now))
+    (seen_of c.run.new.steps (g.S.Source.left c.run.new.source) (g.K.Sink.held c.run.new.sink) (g.S.Source.faults c.run.new.source) (g.K.Sink.faults c.run.new.sink))
     c.new-world.ensures (c.run.ensures.prefix is)
 
 pub returns-clause-unread : goal.returns-clause-unread

@@ -4,7 +4,7 @@ use Rattle.model_items.specs.Plain.{plain_list}
 use Rattle.model_site.specs.Site.{starting}
 use Rattle.ve_editor.specs.Page.{page_of}
 use Rattle.ve_tree.specs.TreeOf.{most_steps}
-use Rattle.ve_sites.specs.Senders.{begun}
+use Rattle.ve_sites.specs.Senders.{first_senders}
 use Rattle.ve_sites.proofs.BeginLemmas.{begun_more, steps_of_next, steps_so_far, steps_with_next}
 use Rattle.ve_sites.proofs.sites.all_begun.Goals as goal
 
@@ -47,7 +47,7 @@ returns-clause-ok g c =
     let h = c.loop-number.invariant.within in
     let e = c.loop-number-test.false in
     let all : c.loop-number.number ≡ c.args.sites = omega (arith, h, e) in
-    c.loop-number.invariant.members ∙ ap (λ n. begun 0 n (starting (page_of c.args.values.now c.args.list.now.items (between 0 0)))) all
+    c.loop-number.invariant.members ∙ ap (λ n. first_senders 0 n (starting (page_of c.args.values.now c.args.list.now.items (between 0 0)))) all
 
 pub returns-clause-counted : goal.returns-clause-counted
 returns-clause-counted g c = c.loop-number.invariant.counted

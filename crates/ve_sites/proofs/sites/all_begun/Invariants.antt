@@ -4,13 +4,13 @@ use Rattle.model_items.specs.Plain.{plain_list}
 use Rattle.model_site.specs.Site.{starting}
 use Rattle.ve_editor.specs.Page.{page_of}
 use Rattle.ve_tree.specs.TreeOf.{most_steps}
-use Rattle.ve_sites.specs.Senders.{begun}
+use Rattle.ve_sites.specs.Senders.{first_senders}
 use Rattle.ve_sites.proofs.sites.all_begun.Given as goal
 
 abbrev pub invariant-loop-number : goal.invariant-loop-number
 invariant-loop-number g l = record {
   within : l.number ≤ l.sites;
-  members : l.members.items ≡ begun 0 l.number (starting (page_of l.values l.list.items (between 0 0)));
+  members : l.members.items ≡ first_senders 0 l.number (starting (page_of l.values l.list.items (between 0 0)));
   counted : l.fn.steps ≤ l.steps;
   spent : l.steps ≤ l.fn.steps + l.number * most_steps (plain_list l.values l.list.items);
 }

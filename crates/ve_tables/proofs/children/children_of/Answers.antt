@@ -4,7 +4,7 @@ use Rattle.model_items.specs.Plain.{plain}
 use Rattle.model_items.specs.Offsets.{is_closing, partner}
 use Rattle.ve_offsets.specs.Docs.{page_items}
 use Rattle.ve_edits.proofs.BracketLemmas.{slice_get-plain}
-use Rattle.ve_tables.specs.Rows.{noted}
+use Rattle.ve_tables.specs.Rows.{place_if_among}
 use Rattle.ve_tables.proofs.ChildLemmas.{places_from, place_more, place_closed, partner_after, IsAfter}
 use Rattle.ve_tables.proofs.children.children_of.Goals as goal
 
@@ -54,7 +54,7 @@ loop-place-preserved c =
     let p = c.partner-place.ensures store in
     let n : c.partner-place.result + 1 ≡ suc (partner P place) = omega (arith, p) in
     ap (λ v. v ++ places_from kinds P (c.partner-place.result + 1)) (c.in_ok-note.ensures store)
-    ∙ append_assoc places (noted kinds place item) (places_from kinds P (c.partner-place.result + 1))
-    ∙ ap (λ k. places ++ (noted kinds place item ++ places_from kinds P k)) n
+    ∙ append_assoc places (place_if_among kinds place item) (places_from kinds P (c.partner-place.result + 1))
+    ∙ ap (λ k. places ++ (place_if_among kinds place item ++ places_from kinds P k)) n
     ∙ ap (λ v. places ++ v) (sym (place_more kinds P place item h (sym (c.closes.ensures store) ∙ c.if-closes.false)))
     ∙ c.loop-place.invariant

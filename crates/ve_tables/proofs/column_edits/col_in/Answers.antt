@@ -9,7 +9,7 @@ use Rattle.model_edit.specs.Causes.{BadColumn, SpanFull}
 use Rattle.model_edit.specs.Tables.{at_first}
 use Rattle.ve_tables.specs.declared.cell_questions.CellQuestion.TheVariants.{IsFullAtColumn}
 use Rattle.ve_tables.specs.declared.rows.TableRow.{TableRow}
-use Rattle.ve_tables.specs.CellQuestions.{asked, col_in_causes, ragged_causes}
+use Rattle.ve_tables.specs.CellQuestions.{cell_answer, col_in_causes, ragged_causes}
 use Rattle.ve_tables.specs.Covered.{AreInRows}
 use Rattle.ve_tables.specs.PartWay.{IsLaid, col_in_edits}
 use Rattle.ve_tables.specs.Rows.{row_of}
@@ -71,8 +71,8 @@ put_column-requires-clause-order c =
 pub put_column-requires-clause-room : goal.put_column-requires-clause-room
 put_column-requires-clause-room c =
     let G = c.in_ok-table.table.grid in
-    let full = at_first (asked (IsFullAtColumn c.args.column)) G.cells (λ at. SpanFull at) in
+    let full = at_first (cell_answer (IsFullAtColumn c.args.column)) G.cells (λ at. SpanFull at) in
     let ragged = ragged_causes c.args.column G 0 G.rows in
     let none = none_of_them (col_in_causes c.args.column G) (sym c.in-Ok.ensures ∙ no_answer c.in-Ok.refused c.in_default-refused.not-Some) in
-    none_asked (asked (IsFullAtColumn c.args.column)) G.cells (λ at. SpanFull at)
+    none_asked (cell_answer (IsFullAtColumn c.args.column)) G.cells (λ at. SpanFull at)
     (none_after ragged full (none_later ((G.columns == 0) || nat_lt G.columns c.args.column) (BadColumn c.args.column G.columns) (ragged ++ full) none))

@@ -10,7 +10,7 @@ use Rattle.model_edit.specs.Causes.{BadRow, TooWide, SpanFull}
 use Rattle.model_edit.specs.Tables.{row_in_edits, at_first}
 use Rattle.ve_tables.specs.declared.cell_questions.CellQuestion.TheVariants.{IsFullAtRow}
 use Rattle.ve_tables.specs.declared.rows.TableRow.{TableRow}
-use Rattle.ve_tables.specs.CellQuestions.{asked, row_in_causes}
+use Rattle.ve_tables.specs.CellQuestions.{cell_answer, row_in_causes}
 use Rattle.ve_tables.specs.PartWay.{IsLaid}
 use Rattle.ve_tables.specs.Rows.{row_of}
 use Rattle.ve_tables.proofs.QuestionLemmas.{refused_by, none_of_them, none_first, none_later, none_asked, no_answer}
@@ -28,7 +28,7 @@ pub put_row-requires-clause-room : goal.put_row-requires-clause-room
 put_row-requires-clause-room c =
     let G = c.in_ok-table.table.grid in
     let none = none_of_them (row_in_causes c.args.row G) (sym c.row_in_fault.ensures ∙ no_answer c.row_in_fault.result c.in_default.not-Some) in
-    none_asked (asked (IsFullAtRow c.args.row)) G.cells (λ at. SpanFull at) (none_later (nat_lt max_column_span G.columns) (TooWide G.columns) (at_first (asked (IsFullAtRow c.args.row)) G.cells (λ at. SpanFull at)) (none_later ((G.rows == 0) || nat_lt G.rows c.args.row) (BadRow c.args.row G.rows) ((nat_lt max_column_span G.columns, TooWide G.columns) ∷ (at_first (asked (IsFullAtRow c.args.row)) G.cells (λ at. SpanFull at))) none))
+    none_asked (cell_answer (IsFullAtRow c.args.row)) G.cells (λ at. SpanFull at) (none_later (nat_lt max_column_span G.columns) (TooWide G.columns) (at_first (cell_answer (IsFullAtRow c.args.row)) G.cells (λ at. SpanFull at)) (none_later ((G.rows == 0) || nat_lt G.rows c.args.row) (BadRow c.args.row G.rows) ((nat_lt max_column_span G.columns, TooWide G.columns) ∷ (at_first (cell_answer (IsFullAtRow c.args.row)) G.cells (λ at. SpanFull at))) none))
 
 pub put_row-requires-clause-some : goal.put_row-requires-clause-some
 put_row-requires-clause-some c =
@@ -39,7 +39,7 @@ put_row-requires-clause-some c =
     let laid : IsLaid P table = record { at = c.args.at; grid = c.in_ok-table.ensures.means; rows = c.in_ok-table.ensures.rows } in
     let lawful = lawful_plain S items c.requires.doc.links.lawful in
     let none = none_of_them (row_in_causes c.args.row table.grid) (sym c.row_in_fault.ensures ∙ no_answer c.row_in_fault.result c.in_default.not-Some) in
-    let some = eqb-false table.grid.rows 0 (or_parts (table.grid.rows == 0) (nat_lt table.grid.rows c.args.row) (none_first ((table.grid.rows == 0) || nat_lt table.grid.rows c.args.row) (BadRow c.args.row table.grid.rows) ((nat_lt max_column_span table.grid.columns, TooWide table.grid.columns) ∷ (at_first (asked (IsFullAtRow c.args.row)) table.grid.cells (λ at. SpanFull at))) none)).0 in
+    let some = eqb-false table.grid.rows 0 (or_parts (table.grid.rows == 0) (nat_lt table.grid.rows c.args.row) (none_first ((table.grid.rows == 0) || nat_lt table.grid.rows c.args.row) (BadRow c.args.row table.grid.rows) ((nat_lt max_column_span table.grid.columns, TooWide table.grid.columns) ∷ (at_first (cell_answer (IsFullAtRow c.args.row)) table.grid.cells (λ at. SpanFull at))) none)).0 in
     let count = row_count P table lawful laid in
     omega (arith, count, some)
 

@@ -9,7 +9,7 @@ use Rattle.model_edit.specs.Causes.{BadRow, Spanned}
 use Rattle.model_edit.specs.Tables.{at_first}
 use Rattle.ve_tables.specs.declared.cell_questions.CellQuestion.TheVariants.{GoesBelow}
 use Rattle.ve_tables.specs.declared.rows.TableRow.{TableRow}
-use Rattle.ve_tables.specs.CellQuestions.{asked, row_out_causes}
+use Rattle.ve_tables.specs.CellQuestions.{cell_answer, row_out_causes}
 use Rattle.ve_tables.specs.PartWay.{IsLaid, row_out_edits}
 use Rattle.ve_tables.specs.Rows.{row_of}
 use Rattle.ve_tables.proofs.QuestionLemmas.{refused_by, none_of_them, none_first, no_answer}
@@ -32,7 +32,7 @@ take_row-requires-clause-row c =
     let laid : IsLaid P table = record { at = c.args.at; grid = c.in_ok-table.ensures.means; rows = c.in_ok-table.ensures.rows } in
     let lawful = lawful_plain S items c.requires.doc.links.lawful in
     let none = none_of_them (row_out_causes c.args.row table.grid) (sym c.row_out_fault.ensures ∙ no_answer c.row_out_fault.result c.in_default.not-Some) in
-    let less = leb-false table.grid.rows c.args.row (none_first (nat_le table.grid.rows c.args.row) (BadRow c.args.row table.grid.rows) (at_first (asked (GoesBelow c.args.row)) table.grid.cells (λ at. Spanned at)) none) in
+    let less = leb-false table.grid.rows c.args.row (none_first (nat_le table.grid.rows c.args.row) (BadRow c.args.row table.grid.rows) (at_first (cell_answer (GoesBelow c.args.row)) table.grid.cells (λ at. Spanned at)) none) in
     let count = row_count P table lawful laid in
     omega (arith, count, less)
 

@@ -4,7 +4,7 @@ use Rattle.ve_base.specs.declared.head.Head.{Head}
 use Rattle.model_items.specs.declared.item.Item.{Item}
 use Rattle.model_items.specs.Plain.{plain, plain_list, CitesWell}
 use Rattle.model_change.specs.Store.{fill, head_cited, head_if}
-use Rattle.ve_tx.specs.Making.{Extends, headed, headed_from, IsOpening, IsSettled, MayHead}
+use Rattle.ve_tx.specs.Making.{Extends, item_with_head, headed_from, IsOpening, IsSettled, MayHead}
 use Rattle.ve_tx.proofs.ValuesLemmas.{extends_by_fill, cites-extended, plain-extended}
 use Rattle.ve_tx.proofs.MakingLemmas.{All-at, settled-item, settled-store, still_opening}
 use Rattle.ve_tx.proofs.making.settle.Goals as goal
@@ -21,9 +21,9 @@ returns-clause-splices c =
     let opening : IsOpening (plain S item) = subst (λ h. MayHead h (plain S item)) c.in-Some.is (c.requires.opening item c.get-item.ensures) in
     let listed : CitesWell S item = All-at S list c.args.at item c.requires.list c.get-item.ensures in
     let same : plain S' item ≡ plain S item = plain-extended S S' extends item listed in
-    let is : plain S' new ≡ headed (Some head) (plain S item) =
+    let is : plain S' new ≡ item_with_head (Some head) (plain S item) =
     c.with_head.ensures.item S' (still_opening (plain S item) (plain S' item) same opening)
-    ∙ ap (λ h. headed (Some h) (plain S' item)) c.in_ok-id.ensures.head ∙ ap (headed (Some head)) same in
+    ∙ ap (λ h. item_with_head (Some h) (plain S' item)) c.in_ok-id.ensures.head ∙ ap (item_with_head (Some head)) same in
     let cites : CitesWell S' new = c.with_head.ensures.cites S' (cites-extended S S' extends item listed) c.in_ok-id.ensures.cites in
     let items : c.push.new.self ≡ new ∷ [] = c.in_ok-push.ensures.ok ∙ ap (λ l. l ++ new ∷ []) c.new-items.ensures in
     let P : List Item → Type 0 = All (CitesWell S') in

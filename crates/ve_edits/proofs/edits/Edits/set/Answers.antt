@@ -1,7 +1,7 @@
 use Rattle.std.proofs.Common.{◌≡◌, List, [], ℕ, sym, ap, ◌∙◌, subst}
 use Rattle.model_change.specs.Transaction.{Transaction}
 use Rattle.model_edit.specs.Edits.{retaining}
-use Rattle.ve_edits.specs.Collected.{Collected, shown, AreCited}
+use Rattle.ve_edits.specs.Collected.{Collected, collected_transaction, AreCited}
 use Rattle.ve_tx.specs.Operation.{by_value, unkept}
 use Rattle.ve_edits.specs.Collected.{SetsOneMore}
 use Rattle.ve_edits.proofs.BracketLemmas.{cites_there}
@@ -18,7 +18,7 @@ returns-clause-makes c = λ edits m.
     let old = c.args.self.now in
     let put = c.self-2.inside.ops in
     let N : List ℕ → Type 0 = λ name. SetsOneMore S items c.args.at name c.args.to old (record { at = c.self-2.inside.at; ops = c.push.new.self; retained = c.self-2.inside.retained; removed = c.self-2.inside.removed; inserted = c.self-2.inside.inserted }) in
-    let down : by_value S (unkept put) ≡ shown S c.pass.new.self [] = ap (λ (s : Collected). by_value S (unkept s.ops)) c.self-2.view_is ∙ c.in_ok-settle.ensures.means S in
+    let down : by_value S (unkept put) ≡ collected_transaction S c.pass.new.self [] = ap (λ (s : Collected). by_value S (unkept s.ops)) c.self-2.view_is ∙ c.in_ok-settle.ensures.means S in
     let cited = (subst (AreCited S) (sym c.self-2.view_is) (c.in_ok-settle.ensures.cites S (c.in_ok-pass.ensures.cites S m.cited))).ops in
     let at = ap (λ (s : Collected). s.at) c.self-2.view_is ∙ c.in_ok-settle.ensures.at ∙ c.in_ok-pass.ensures.at in
     let retained = ap (λ (s : Collected). s.retained) c.self-2.view_is ∙ c.in_ok-settle.ensures.retained in

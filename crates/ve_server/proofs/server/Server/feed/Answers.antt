@@ -1,7 +1,7 @@
 use Rattle.std.proofs.Common.{◌<◌, length, option_map, sym, ap, subst, ◌∙◌}
 use Rattle.std.proofs.lemmas.List.{length-map}
 use Rattle.ve_server.specs.Fed.{feed_of}
-use Rattle.ve_server.specs.Serving.{fed}
+use Rattle.ve_server.specs.Serving.{first_feed}
 use Rattle.ve_server.specs.Waiting.{Waiting}
 use Rattle.ve_server.proofs.ServerLemmas.{is_fed}
 use Rattle.ve_server.proofs.server.Server.feed.Goals as goal
@@ -12,4 +12,4 @@ returns c =
     let count = ap (λ v. length v.queues) (sym c.self.view_is) ∙ length-map queues (λ (q : Waiting). q.feeds) in
     let within = subst (λ n. c.args.site < n) count c.requires in
     is_fed c.args.site c.self.inside.committed queues c.index_mut.result.now c.pop.new.self (option_map feed_of c.pop.result) within c.index_mut.ensures.value c.pop.ensures
-    ∙ ap (fed c.args.site) c.self.view_is
+    ∙ ap (first_feed c.args.site) c.self.view_is

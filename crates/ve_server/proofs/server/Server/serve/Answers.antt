@@ -2,7 +2,7 @@ use Rattle.std.proofs.Common.{◌≡◌, map, ap, ◌∙◌, rules}
 use Rattle.std.proofs.lemmas.List.{with_items_is, places}
 use Rattle.std.specs.Vec.{with_items}
 use Rattle.ve_server.specs.Fed.{submission_of}
-use Rattle.ve_server.specs.Serving.{served}
+use Rattle.ve_server.specs.Serving.{after_serving}
 use Rattle.ve_server.specs.Waiting.{all_staged, released, feeds_in}
 use Rattle.ve_server.proofs.ServerLemmas.{is_served}
 use Rattle.ve_server.proofs.server.Server.serve.Goals as goal
@@ -18,4 +18,4 @@ returns-clause-server c =
     with_items_is (with_items queues c.stage_all.new.queues) c.release_all.new.queues (search (rules, places)) in
     ap (λ qs. record { committed = c.append.new.self; queues = feeds_in qs }) second
     ∙ (is_served sender submission c.self.inside.committed c.in_ok-kept.kept c.append.new.self queues.items c.stage_all.new.queues c.release_all.new.queues
-    c.in_ok-kept.ensures.kept c.in_ok-append.ensures.ok staged (c.release_all.ensures ∙ ap (map released) (c.as_mut_slice-2.ensures.value ∙ first)) ∙ ap (served sender submission) c.self.view_is)
+    c.in_ok-kept.ensures.kept c.in_ok-append.ensures.ok staged (c.release_all.ensures ∙ ap (map released) (c.as_mut_slice-2.ensures.value ∙ first)) ∙ ap (after_serving sender submission) c.self.view_is)

@@ -3,7 +3,7 @@ use Rattle.std.specs.Prelude.{Ok, OnOk}
 use Rattle.model_world.specs.declared.command.Command.TheVariants.{Ask}
 use Rattle.model_world.specs.declared.reply.Reply.{Reply}
 use Rattle.model_world.specs.Spelled.{reply_text}
-use Rattle.ve_session.specs.Asked.{obeyed}
+use Rattle.ve_session.specs.Asked.{reply_and_world}
 use Rattle.ve_session.specs.Cost.{steps_of}
 use Rattle.ve_session.specs.Opened.{lent_of, world_on, OnPage}
 use Rattle.ve_session.proofs.PageLemmas.{after_open, after_world, always, cost_within, may_turn, replied}
@@ -37,7 +37,7 @@ returns-clause-reply g c =
     let k = c.args.k in
     let within = subst (λ (q : OnPage). k < length q.session.members) (sym c.self.view_is) c.requires.site in
     let told = sym (replied i.text i.body i.rows i.first_refs i.session k within c.self.invariant r c.turn.new.session c.in_ok-answer.answer c.in_ok-answer.ensures.answer)
-    ∙ ap (λ (q : OnPage). (obeyed (world_on q) (Ask r k)).0) c.self.view_is in
+    ∙ ap (λ (q : OnPage). (reply_and_world (world_on q) (Ask r k)).0) c.self.view_is in
     subst (λ (x : Reply). OnOk c.reply_text.result (c.reply_text.new.out ≡ c.args.out.now ++ (reply_text x ++ 10 ∷ []))) told c.reply_text.ensures.ok
 
 pub returns-clause-world : goal.returns-clause-world
@@ -48,7 +48,7 @@ returns-clause-world g c =
     let within = subst (λ (q : OnPage). k < length q.session.members) (sym c.self.view_is) c.requires.site in
     always _ c.reply_text.result
     (after_world i.text i.body i.rows i.first_refs i.session k within c.self.invariant r c.requires.asked c.turn.new.session c.in_ok-answer.answer c.in_ok-answer.ensures.answer
-    ∙ ap (λ (q : OnPage). (obeyed (world_on q) (Ask r k)).1) c.self.view_is)
+    ∙ ap (λ (q : OnPage). (reply_and_world (world_on q) (Ask r k)).1) c.self.view_is)
 
 pub returns-clause-cost : goal.returns-clause-cost
 returns-clause-cost g c =

@@ -9,7 +9,7 @@ use Rattle.model_world.specs.declared.reply.Reply.{Reply}
 use Rattle.model_world.specs.Spelled.{reply_text}
 use Rattle.ve_offsets.specs.Docs.{page_items}
 use Rattle.ve_origin.specs.Origins.{first_read, AreRows, FirstRead}
-use Rattle.ve_session.specs.Asked.{obeyed}
+use Rattle.ve_session.specs.Asked.{reply_and_world}
 use Rattle.ve_session.specs.Opened.{lent_of, page_on, world_on, OnPage}
 use Rattle.ve_session.proofs.HtmlLemmas.{first_there, first_again, html_is, items_at, untouched_at}
 use Rattle.ve_session.proofs.PageLemmas.{refers}
@@ -70,4 +70,4 @@ returns-clause-reply c =
     let told = html_is o i.session c.args.k within c.self.invariant c.every_site_holds.ensures c.doc_at-doc.result.store.now c.new-origins.result c.doc_at-doc.ensures.store lent
     c.replies_are_as_asked.ensures.html (page_items c.doc_at-doc.result) _ c.doc_at-doc.ensures.items c.in_ok-answer.ensures.reply in
     subst (λ (r : Reply). OnOk c.reply_text.result (c.reply_text.new.out ≡ c.args.out.now ++ (reply_text r ++ 10 ∷ [])))
-    (told ∙ ap (λ (q : OnPage). (obeyed (world_on q) (Ask request.Html c.args.k)).0) c.self.view_is) c.reply_text.ensures.ok
+    (told ∙ ap (λ (q : OnPage). (reply_and_world (world_on q) (Ask request.Html c.args.k)).0) c.self.view_is) c.reply_text.ensures.ok

@@ -6,7 +6,7 @@ use Rattle.model_world.specs.declared.reply.Reply.{Reply}
 use Rattle.model_world.specs.declared.reply.Reply.TheVariants.{No}
 use Rattle.model_world.specs.Spelled.{reply_text}
 use Rattle.model_world.specs.World.{World}
-use Rattle.ve_session.specs.Asked.{obeyed}
+use Rattle.ve_session.specs.Asked.{reply_and_world}
 use Rattle.ve_session.specs.Opened.{world_of, world_on}
 use Rattle.ve_session.specs.States.{State}
 use Rattle.ve_session.proofs.PageLemmas.{always}
@@ -20,7 +20,7 @@ returns-then-site-sites-clause-reply g c =
     let r = c.args.request.now in
     let past : length p.session.members ≤ k = omega (arith, c.sites-sites.ensures, c.if-site-sites.true) in
     let world : world_on p ≡ c.args.self.now.world = sym (ap world_of c.in-Some.is) ∙ ap (λ (s : State). s.world) c.self.view_is in
-    let told = ap (λ n. No (BadSite n)) c.sites-sites.ensures ∙ sym (ap (λ (x : Reply × World). x.0) (bad_site p k r past)) ∙ ap (λ (w : World). (obeyed w (Ask r k)).0) world in
+    let told = ap (λ n. No (BadSite n)) c.sites-sites.ensures ∙ sym (ap (λ (x : Reply × World). x.0) (bad_site p k r past)) ∙ ap (λ (w : World). (reply_and_world w (Ask r k)).0) world in
     subst (λ (x : Reply). OnOk c.refuse-then-site-sites.result (c.refuse-then-site-sites.new.out ≡ c.args.out.now ++ (reply_text x ++ 10 ∷ []))) told c.refuse-then-site-sites.ensures.ok
 
 pub returns-then-site-sites-clause-world : goal.returns-then-site-sites-clause-world
@@ -31,5 +31,5 @@ returns-then-site-sites-clause-world g c =
     let past : length p.session.members ≤ k = omega (arith, c.sites-sites.ensures, c.if-site-sites.true) in
     let world : world_on p ≡ c.args.self.now.world = sym (ap world_of c.in-Some.is) ∙ ap (λ (s : State). s.world) c.self.view_is in
     always _ c.refuse-then-site-sites.result
-    (ap (λ (w : World). record { world = w; is_spent = c.self.inside.is_spent }) (sym (ap (λ (x : Reply × World). x.1) (bad_site p k r past)) ∙ ap (λ (w : World). (obeyed w (Ask r k)).1) world)
-    ∙ ap (λ (b : Bool). record { world = (obeyed c.args.self.now.world (Ask r k)).1; is_spent = b }) (ap (λ (s : State). s.is_spent) c.self.view_is))
+    (ap (λ (w : World). record { world = w; is_spent = c.self.inside.is_spent }) (sym (ap (λ (x : Reply × World). x.1) (bad_site p k r past)) ∙ ap (λ (w : World). (reply_and_world w (Ask r k)).1) world)
+    ∙ ap (λ (b : Bool). record { world = (reply_and_world c.args.self.now.world (Ask r k)).1; is_spent = b }) (ap (λ (s : State). s.is_spent) c.self.view_is))

@@ -6,7 +6,7 @@ use Rattle.model_site_law.specs.Sound.{AllMayRun}
 use Rattle.ve_tx.proofs.ChangeLemmas.{ok-holds}
 use Rattle.ve_editor.specs.Edited.{entry_by_value}
 use Rattle.ve_site.specs.Numbered.{Numbered, site_of, with_site}
-use Rattle.ve_site.specs.Settled.{settled}
+use Rattle.ve_site.specs.Settled.{with_new_entry}
 use Rattle.ve_site.proofs.SettleLemmas.{settled_is}
 use Rattle.ve_site.proofs.StepLemmas.{roomy_same, roomy_is, with_entry_same, with_entry_is}
 use Rattle.ve_site.proofs.site.Site.settle.Goals as goal
@@ -46,4 +46,4 @@ returns-clause-site c =
     let same = roomy_same s.editor s.seen s.sent.items s.history s.shared s.in_flight c.self.invariant room c.reserve.ensures.done c.reserve.ensures.undone in
     ap (λ (x : Site). record { number = s.number; site = x })
     (with_entry_same s.editor s.seen s.sent.items room s.shared s.in_flight is h.ts c.args.editor e now page entry h.cites done undone ∙ ap (with_entry h.ts) same ∙ sym (settled_is c.args.editor e (site_of s.editor s.seen s.sent.items s.history s.shared s.in_flight) (record { ts = h.ts; may = may; page = page; entry = entry; cites = h.cites })))
-    ∙ ap (λ (v : Numbered). with_site (settled c.args.editor e v.site) v) c.self.view_is
+    ∙ ap (λ (v : Numbered). with_site (with_new_entry c.args.editor e v.site) v) c.self.view_is

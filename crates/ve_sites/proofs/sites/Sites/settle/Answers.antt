@@ -1,7 +1,7 @@
 use Rattle.std.specs.Prelude.{vec_len}
 use Rattle.std.proofs.Common.{rules, arith, length, ◌≡◌, OnOk, ap, ◌∙◌}
 use Rattle.model_site.specs.Site.{Site}
-use Rattle.ve_site.specs.Settled.{settled, Settles}
+use Rattle.ve_site.specs.Settled.{with_new_entry, Settles}
 use Rattle.ve_site.proofs.SettleLemmas.{settled_is}
 use Rattle.ve_sites.specs.Senders.{at_site}
 use Rattle.ve_sites.specs.Shared.{with_site_at}
@@ -30,7 +30,7 @@ invariant_of-self c =
     let m = c.index_mut.result.now in
     let t = c.settle.new.self in
     let h = asked p (λ (x : Site). Settles x.replica c.args.editor c.args.entry) c.requires.settles in
-    either c.settle.result (t ≡ at_site (settled c.args.editor c.args.entry m.site) m) (t ≡ m) _ c.settle.ensures.site c.settle.ensures.kept
+    either c.settle.result (t ≡ at_site (with_new_entry c.args.editor c.args.entry m.site) m) (t ≡ m) _ c.settle.ensures.site c.settle.ensures.kept
     (λ e. settled_stays p t h.ts h.may (e ∙ ap (λ (x : Site). at_site x m) (settled_is c.args.editor c.args.entry m.site h))) (kept_stays p t)
 
 pub returns-clause-site : goal.returns-clause-site
@@ -40,8 +40,8 @@ returns-clause-site c =
     record { holds = c.self.invariant; view = c.self.view_is; inside = c.requires.site; is = c.index_mut.ensures.value } in
     let m = c.index_mut.result.now in
     let t = c.settle.new.self in
-    told p (λ (x : Site). OnOk c.settle.result (with_sender p t ≡ with_site_at c.args.k (settled c.args.editor c.args.entry x) c.args.self.now))
-    (on_ok c.settle.result (t ≡ at_site (settled c.args.editor c.args.entry m.site) m) _ (with_site_is p t (settled c.args.editor c.args.entry m.site)) c.settle.ensures.site)
+    told p (λ (x : Site). OnOk c.settle.result (with_sender p t ≡ with_site_at c.args.k (with_new_entry c.args.editor c.args.entry x) c.args.self.now))
+    (on_ok c.settle.result (t ≡ at_site (with_new_entry c.args.editor c.args.entry m.site) m) _ (with_site_is p t (with_new_entry c.args.editor c.args.entry m.site)) c.settle.ensures.site)
 
 pub returns-clause-kept : goal.returns-clause-kept
 returns-clause-kept c =
