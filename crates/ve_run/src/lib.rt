@@ -11,12 +11,14 @@
 //!   (`Ran`, `Stopped`, `Broke`, `Starved`, `WrotePrefix`);
 //! - `Status`: the usage line, and the number of a status;
 //! - `Asked`: the meaning of the words after the program's name, which is `ve_words`'s;
-//! - `Soak`: the sums of the replies to a generated script, `ve_gen`'s;
+//! - `Soak`: the sums of the replies to a generated script, `ve_gen`'s. The law
+//!   [`soak_hashes_the_output`] says that their digest is of the very bytes that a run writes;
 //! - `Ended`: the end of a run, by its words and its status, which `run` promises.
 #![tactic(auto)]
 
 mod answer;
 mod feed;
+mod laws;
 mod machine;
 mod make;
 mod script;
@@ -26,6 +28,7 @@ mod stop;
 mod tally;
 mod top;
 
+pub use laws::soak_hashes_the_output;
 pub use machine::Machine;
 pub use status::Status;
 pub use top::run;
