@@ -97,6 +97,7 @@ fn check_spelled(alloc: Global, text: &str) -> Result<(), HtmlFault>
     ensures found { OnOk result ((f : spelled.Forest) × spelled.Spells text.now f) }
     ensures fault { IfErr result (λ e. IsFirstFault e (fault_of text.now)) }
 {
+    // whether there is a forest is all that is asked
     let _forest = read(alloc, text)?;
     Ok(())
 }
