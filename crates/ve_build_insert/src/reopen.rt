@@ -87,8 +87,8 @@ fn reopened(
     Ok(made)
 }
 
-/// The change that puts pieces at an offset, where so many of the innermost open nodes are closed
-/// before them and opened again after them.
+/// The transaction that puts pieces at an offset, where so many of the innermost open nodes are
+/// closed before them and opened again after them.
 pub fn put(
     alloc: Global,
     doc: Doc<'_>,
