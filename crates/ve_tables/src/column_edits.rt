@@ -90,7 +90,7 @@ fn grow_cells(
     Ok(())
 }
 
-/// Where a new cell stands in a row that has these cells: before the first at or right of the
+/// The position of a new cell in a row that has these cells: before the first at or right of the
 /// column, else after the last, else before the row's closing.
 fn cell_place(doc: Doc<'_>, row: TableRow, column: usize, cells: &[GridCell]) -> usize
     requires doc { IsDoc doc }
