@@ -13,7 +13,8 @@
 //!   carries it, and its number. Keys are found by their hashes and borrowed from the store
 //!   (`Keys`). `Noted` serves private functions.
 //!
-//! There are no laws here: those of model_page_law speak of these definitions.
+//! There are no laws here. Those of model_page_law speak of readings and of composed texts
+//! (`references_are_editable`, `composed_reads_back`), and none of the table.
 //!
 //! A reference's number past those of a `u32` is want of memory. No list within the limits comes
 //! near, so the table asks for no bound.
