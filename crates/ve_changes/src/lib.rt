@@ -2,7 +2,7 @@
 //! no site. It knows which builder makes each change, and which refusal each fault is.
 //!
 //! Proved: each change, and each move of a row, a column or a list item, is the draft that the
-//! model says, over the page's store and with just the values that the store takes; or it is the
+//! model says, over the page's store and with just the values that the store takes. Else it is the
 //! model's refusal. Changes made in turn are the model's transactions and one entry, or the first
 //! refusal with its number. Their steps have bounds.
 //!

@@ -1,4 +1,4 @@
-// What holds of every handle.
+// Laws of every handle.
 ghost use denote.Param.Send.{IsSend};
 ghost use Rattle.vemodel_c.specs.contracts.handle.Handle.{the_row};
 

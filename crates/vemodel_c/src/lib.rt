@@ -1,8 +1,8 @@
 //! A world for a program that isn't Rattle's: it keeps a handle, and calls four functions on it by
 //! C's rules.
 //!
-//! What a handle holds is a session: a world of ve_session, and its reply to the last line
-//! (specs/Sessions.antt). The four functions say of it what the world says of itself: the reply and
+//! A handle holds a session: a world of ve_session, and its reply to the last line
+//! (specs/Sessions.antt). The four functions say of it what the world says of itself. The reply and
 //! the world after a line are the model's, and want of memory is the one free answer.
 //! `handles_cross` is a law: a handle may be handed on from thread to thread.
 //!
@@ -32,7 +32,7 @@ use std::mem::replace;
 use std::sync::ledger::{Blank, Ledger};
 use ve_base::{Memory, Steps};
 
-/// What became of a line.
+/// The outcome of a line.
 #[repr(C)]
 #[derive(Clone, Copy)]
 pub struct Stepped {
