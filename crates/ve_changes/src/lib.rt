@@ -1,10 +1,10 @@
 //! The changes that a line makes on the page, one or several together. It reads no line, and knows
 //! no site. It knows which builder makes each change, and which refusal each fault is.
 //!
-//! Proved: each change, and each move of a row, a column or a list item, is the draft that the
-//! model says, over the page's store and with just the values that the store takes. Else it is the
-//! model's refusal. Changes made in turn are the model's transactions and one entry, or the first
-//! refusal with its number. Their steps have bounds.
+//! Proved: but for want of memory, each change, and each move of a row, a column or a list item, is
+//! the draft that the model says, over the page's store and with just the values that the store
+//! takes. Else it is the model's refusal. Changes made in turn are the model's transactions and one
+//! entry, or the first refusal with its number. Their steps have bounds.
 //!
 //! - `change_draft` gives the draft of a change over a page's store, or the refusal that answers
 //!   it. `move_draft` gives the draft of a row, a column or a list item that is moved. Each calls

@@ -3,8 +3,8 @@
 //! head. Builders also find here the other bracket of a node, the nodes that are open at an offset,
 //! the value of an attribute, and whether a range may be edited.
 //!
-//! Proved: edits at rising positions, set attributes among them, are the model's one transaction.
-//! An opening's copy, partners, open nodes and bad ranges are the model's.
+//! Proved: but for want of memory, edits at rising positions, set attributes among them, are the
+//! model's one transaction. An opening's copy, partners, open nodes and bad ranges are the model's.
 //!
 //! It gives transactions and writes nothing. A page is borrowed as a `Doc`: brackets are found by
 //! the tree, and a range by its items. It doesn't know which edits a user's command is; that is

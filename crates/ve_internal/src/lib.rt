@@ -1,8 +1,8 @@
 //! The `data-mw` of references, and the table of the references of a list. It knows JSON as
 //! `serde_json` reads it, and no page.
 //!
-//! Proved: a `data-mw` is read exactly where it is editable, and its text with another body is the
-//! model's. So is the table of the references of a list.
+//! Proved: but for want of memory, a `data-mw` is read exactly where it is editable, and its text
+//! with another body is the model's. So is the table of the references of a list.
 //!
 //! - `reference_of` gives group, name and body of a `data-mw` that is editable, as model_page's
 //!   `reference_of` says; `RefRead` holds them as texts (`Read` in specs/).

@@ -2,9 +2,9 @@
 //! doesn't say when a reply is given. The meaning of both stands in model_world: `Commands`, and
 //! `Spelled`.
 //!
-//! Proved: a line is read as the model's command, or as its refusal. The text of every answer, with
-//! its newline, is the model's text of the reply, where the items that it borrows cite values of
-//! their store; or nothing changes.
+//! Proved: but for want of memory, a line is read as the model's command, or as its refusal. The
+//! text of every answer, with its newline, is the model's text of the reply, where the items that
+//! it borrows cite values of their store; or nothing changes.
 //!
 //! - `command` reads a line: each command's members, as JSON has them. A well-formed command may
 //!   still be refused by the page or the site. `Gives` in specs/: a reader gives the model's value,

@@ -2,10 +2,10 @@
 //! and a row for each origin, or the first refusal. The text of a fragment becomes items over a
 //! store. It leaves it to ve_reader where items go.
 //!
-//! Proved: a page is the model's page, with its list, the values that the list cites and a row for
-//! each origin. Or it is refused as the model refuses it, with the model's first cause and its
-//! byte. A fragment is the model's where these kinds are open, over a store and just the values
-//! that it takes.
+//! Proved: but for want of memory, a page is the model's page, with its list, the values that the
+//! list cites and a row for each origin. Or it is refused as the model refuses it, with the model's
+//! first cause and its byte. A fragment is the model's where these kinds are open, over a store and
+//! just the values that it takes.
 //!
 //! - `page` gives model_page's page as it was opened (`IsReadPage` in `Pages` of specs/), or the
 //!   model's refusal in the model's order. `fragment` gives the model's fragment where these kinds

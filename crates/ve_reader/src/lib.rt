@@ -1,8 +1,8 @@
 //! Items of a page, a body or a fragment, as they grow from the first one on. It knows pieces of
 //! items, and neither forests nor siblings: its caller walks over a page and says what comes next.
 //!
-//! Proved: items, heads, marks, characters and leaves of one node, and the key of a reference, are
-//! model_page's. The first opening that is too deep is the model's.
+//! Proved: but for want of memory, items, heads, marks, characters and leaves of one node, and the
+//! key of a reference, are model_page's. The first opening that is too deep is the model's.
 //!
 //! - A `Reader` holds items over their values, a row for each origin, the marks around, the owners,
 //!   and how many kinds are open (`ReadSoFar` in specs/). Each call adds a piece of model_page's

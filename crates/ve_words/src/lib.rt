@@ -1,8 +1,8 @@
 //! The words of the command line: they ask for a mode, and the two numbers of the modes that write
 //! a script.
 //!
-//! Proved: the words ask for what `clap`'s rules for a simple command say of the one command that
-//! we describe.
+//! Proved: but for want of memory, the words ask for what `clap`'s rules for a simple command say
+//! of the one command that we describe.
 //!
 //! The words are one simple command of `clap`. It has one required word of `run`, `make` and
 //! `soak`, `--start` with a number below 2^64, and `--edits` with a number to 100,000. Their
