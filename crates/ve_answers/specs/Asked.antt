@@ -8,7 +8,7 @@ use Rattle.model_world.specs.Answers.{Asked, Outcome, request_outcome, site_item
 use Rattle.model_world.specs.Laws.{is_refusal}
 use Rattle.ve_answers.specs.Replies.{caret_reply, grid_reply, html_reply, items_reply, near_reply, node_reply, refs_reply, tree_reply}
 
--- what comes of a reply that leaves the session as it is
+-- the outcome of a reply that leaves the session as it is
 abbrev pub outcome_of : Session → Reply → Outcome
 outcome_of session answer = if is_refusal answer then Err answer else Ok (answer, session)
 
