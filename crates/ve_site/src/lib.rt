@@ -3,6 +3,9 @@
 //! `undo`, `redo`, `adopt`, `send`, `take` and `select` make of a site what model_site says, or
 //! refuse it exactly where that does. `pending` gives its pending entries serialised.
 //!
+//! Proved: each call is the model's, or is refused as it is and changes nothing. An edit, an undo,
+//! a redo, an adoption and a take have bounds on their steps.
+//!
 //! The view of a site is its number beside the model's site (specs/Numbered.antt), and the type
 //! keeps the invariant of one (specs/Ground.antt). So these calls have two conditions alone: what
 //! it takes runs from its confirmed list (the ground), and what it adopts on its list.
@@ -16,6 +19,10 @@
 //! which takes a changed copy of its editor has the changes as a new entry.
 //!
 //! It knows neither the server nor other sites.
+//!
+//! The type keeps the invariant on the site's confirmed list: its list with its pending entries
+//! taken back. Neither the opened page nor a committed entry is kept for that. A take is counted by
+//! definition, so one that copied the page for each entry wouldn't meet the bound.
 #![tactic(auto)]
 
 mod laws;
