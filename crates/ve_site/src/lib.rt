@@ -7,8 +7,8 @@
 //! a redo, an adoption and a take have bounds on their steps.
 //!
 //! The view of a site is its number beside the model's site (specs/Numbered.antt), and the type
-//! keeps the invariant of one (specs/Ground.antt). So these calls have two conditions alone: what
-//! it takes runs from its confirmed list (the ground), and what it adopts on its list.
+//! keeps the invariant of one (specs/Ground.antt). So of the site these calls ask two things alone:
+//! what it takes has to run from its confirmed list (the ground), and what it adopts on its list.
 //! specs/Refusal.antt says how a refusal is told. specs/Counted.antt says what a call performs, by
 //! which its steps are bounded. specs/Taking.antt says both of a take, and specs/Settled.antt
 //! defines the changed copy that a site takes. specs/Dropped.antt serves private functions: pending
