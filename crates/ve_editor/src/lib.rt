@@ -2,9 +2,10 @@
 //! selection, which change together or not at all. It doesn't choose edits, and keeps no history.
 //! Each change that is performed is given as an entry, which its owner can have taken back.
 //!
-//! Proved: a draft is performed as the model does it, or the first cause is named and nothing
-//! changes. So are an entry taken back and another's parcel performed, and copies are equal. Each
-//! counts at most eight steps for each node that a transaction touches, and sixteen more.
+//! Proved: but for want of memory, a draft is performed as the model does it, or the first cause is
+//! named. An entry is taken back and another's parcel performed as the model does it, and copies
+//! are equal. Where a call fails nothing changes. Each counts at most eight steps for each node
+//! that a transaction touches, and sixteen more.
 //!
 //! The view of an `Editor` is the model's `Replica` (model_site), by value. `perform` is the
 //! model's `performed`, with the entry `entry_of` and the refusal of `edit_cause`. `admit` is

@@ -3,8 +3,9 @@
 //! `undo`, `redo`, `adopt`, `send`, `take` and `select` make of a site what model_site says, or
 //! refuse it exactly where that does. `pending` gives its pending entries serialised.
 //!
-//! Proved: each call is the model's, or is refused as it is and changes nothing. An edit, an undo,
-//! a redo, an adoption and a take have bounds on their steps.
+//! Proved: but for want of memory, each call is the model's, or is refused as it is. Where a call
+//! fails nothing changes. An edit, an undo, a redo, an adoption and a take have bounds on their
+//! steps.
 //!
 //! The view of a site is its number beside the model's site (specs/Numbered.antt), and the type
 //! keeps the invariant of one (specs/Ground.antt). So of the site these calls ask two things alone:

@@ -1,8 +1,8 @@
 //! The sites of a page: a page under edit by several sites, with their queues and one server, in
 //! one process. It is model_site's session, and each call is one turn of it.
 //!
-//! Proved: each call is the turn of the model's session that its name says, or changes nothing. An
-//! edit, an undo, a redo, a revoke and a take have bounds on their steps.
+//! Proved: each call is the turn of the model's session that its name says. Where a call fails
+//! nothing changes. An edit, an undo, a redo, a revoke and a take have bounds on their steps.
 //!
 //! The view of `Sites` is the model's session, beside the list that it was opened with (`Shared` in
 //! specs/). `edit`, `settle`, `select`, `undo`, `redo` and `revoke` change one site and nothing

@@ -2,8 +2,8 @@
 //! that cite a store. It doesn't choose edits: the crates above turn a user's command into a
 //! transaction.
 //!
-//! Proved: each call is the model's `apply`, `change`, `inverse` or `filled`, or names exactly the
-//! first fault. A recited transaction is the same by value.
+//! Proved: but for want of memory, each call is the model's `apply`, `change`, `inverse` or
+//! `filled`, or names exactly the first fault. A recited transaction is the same by value.
 //!
 //! - `Op`, `OpList` and `Transaction` make up an edit. A transaction is in normal form and keeps
 //!   positions beside its operations (specs/Operation.antt, specs/Normal.antt); its meaning by
