@@ -2,8 +2,8 @@
 //! text that no forest spells. It knows tokens and open elements; what elements mean as items is
 //! not its matter. The list of nodes is all the memory that it takes.
 //!
-//! Proved: the nodes are exactly those of the forest that spells the text, or the fault is its
-//! first.
+//! Proved: but for want of memory, the nodes are exactly those of the forest that spells the text,
+//! or the fault is its first.
 //!
 //! - `read`: the nodes of the one forest that spells the text (`ShowNodes` in `Nodes`), or its
 //!   first fault (`IsFirstFault` in `Seen`);
