@@ -2,6 +2,9 @@
 //! nodes are open there. Also the unmatched brackets of a range, and the nearest offset where
 //! characters may stand, on both sides or on one.
 //!
+//! Proved: an offset's class and state, the unmatched brackets and the nearest content offset are
+//! the model's.
+//!
 //! It knows a page as a `Doc`: its list, tree and values, borrowed together. It changes nothing,
 //! takes no memory, and reads no value. The state at an offset is found from the innermost node
 //! round it, by its parents. A class is found by the one item before the offset, and unmatched
