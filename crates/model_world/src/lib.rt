@@ -28,8 +28,8 @@
 //! performed.
 #![tactic(auto)]
 
-mod edit_command;
 mod command;
+mod edit_command;
 mod field;
 mod laws;
 mod names;
@@ -37,8 +37,8 @@ mod refusal;
 mod reply;
 mod shown;
 
-pub use edit_command::{EditCommand, EditCommandList, OpWordList, OpWords, TextMarks};
 pub use command::{Command, Request};
+pub use edit_command::{EditCommand, EditCommandList, OpWordList, OpWords, TextMarks};
 pub use field::Field;
 pub use laws::{batches_are_whole, refusals_change_nothing};
 pub use names::{class_name, field_name, html_word, kind_name};

@@ -46,4 +46,4 @@ mod values;
 pub use answer::{Answer, reply_text};
 pub use fault::CommandFault;
 pub use line::command;
-pub use model_world::{EditCommand, Command, Field, Refusal, Request};
+pub use model_world::{Command, EditCommand, Field, Refusal, Request};
