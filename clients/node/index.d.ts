@@ -30,6 +30,8 @@ export class Core {
   tree(members?: Site): Promise<Tree>;
   /** Shows the innermost node round an offset. */
   at(members: { at: number } & Site): Promise<Node>;
+  /** Tells the nearest offset where text may stand: this one, or the first on that side. */
+  near(members: { at: number; dir: "back" | "ahead" } & Site): Promise<number>;
   /** Shows the references. */
   refs(members?: Site): Promise<Reference[]>;
   /** Shows the cells of the table that begins at an offset. */

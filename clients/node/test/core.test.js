@@ -90,6 +90,7 @@ describe("commands", () => {
     assert.deepEqual(await core.data({ from: 1, to: 4 }), ["a", ["X", [["b", []]]], "b"]);
     assert.equal(await core.undo(), 7);
     assert.deepEqual(await core.at({ at: 1 }), { kind: "p", begin: 0, end: 5, state: "content" });
+    assert.equal(await core.near({ at: 0, dir: "ahead" }), 1);
     assert.deepEqual(await core.select({ anchor: 1, focus: 1 }), { anchor: 1, focus: 1 });
   });
 

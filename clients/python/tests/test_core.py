@@ -108,6 +108,7 @@ class Commands(unittest.TestCase):
         self.assertEqual(core.data(1, 4), ["a", ["X", [["b", []]]], "b"])
         self.assertEqual(core.undo(), 7)
         self.assertEqual(core.at(1), Node("p", 0, 5, "content"))
+        self.assertEqual(core.near(0, "ahead"), 1)
         self.assertEqual(core.select(anchor=1, focus=1), Selection(1, 1))
         self.assertEqual(core.caret().focus, 1)
 

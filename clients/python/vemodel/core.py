@@ -184,6 +184,10 @@ class Core:
         kind, begin, end, state = self._ask("at", site, at=at).split(" ")
         return Node(kind, int(begin), int(end), state)
 
+    def near(self, at: int, dir: Dir, site: int = 0) -> int:
+        """Returns the nearest offset where text may stand: this one, or the first on that side."""
+        return int(self._ask("near", site, at=at, dir=dir))
+
     def refs(self, site: int = 0) -> list[Reference]:
         """Returns the references."""
         return [Reference(*it) for it in json.loads(self._ask("refs", site))]

@@ -14,6 +14,18 @@
 //! The laws stand in `laws`: each public function there does nothing, and its contract is a law
 //! that is proved. "Names apart" means everywhere that no head has two attributes of one name.
 //! Lists of attributes keep that by their type; a law over plain lists has it as a premise.
+//!
+//! `is_reduced` is the normal form without its bound; `is_normal` adds that all lengths add up to
+//! at most 2^60. Joining keeps the first always, and the bound where the list with all that both
+//! sides insert is within it.
+//!
+//! The inverse isn't filled, as its removals keep no position. So laws ask for `IsRestorable`: what
+//! is removed can be put back. Filling gives it; inverse and joining keep it.
+//!
+//! Names apart is a premise of the laws, since the inverse is wrong without it. Of `id=x, id=y` let
+//! `id` go: an `id` is left, and the inverse, which asks for none, is refused.
+//!
+//! An attribute operation from absent to absent is allowed; it meets another one by its name alone.
 #![tactic(auto)]
 
 mod laws;

@@ -14,6 +14,16 @@
 //!   next.
 //!
 //! The offsets of a list are defined in `model_items`; the laws of edits are `model_edit_law`'s.
+//!
+//! Converting a branch keeps its head and the whitespace before it, and drops origin and generated.
+//! A new opening's head has attributes alone.
+//!
+//! In a wrap, a closing that is to go is the partner of its opening. In a sibling that is too short
+//! openings are judged first, then closings. A marked range may hold the brackets of the internal
+//! list and of its items. Indenting takes the kind of the item's own list.
+//!
+//! Setting an attribute to the value that it has is still an operation, and so an entry; so is a
+//! removal of brackets that all stay.
 #![tactic(auto)]
 
 mod build_fault;

@@ -13,6 +13,9 @@
 //!
 //! The laws stand in `laws`: each public function there does nothing, and its contract is a law
 //! that is proved.
+//!
+//! The items that edits insert are judged without the law: names are apart where they are in the
+//! list and in what is given.
 #![tactic(auto)]
 
 mod laws;

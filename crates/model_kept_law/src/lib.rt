@@ -19,6 +19,11 @@
 //! writer's text is spelled by a forest that is read as the list. An original element, run or leaf
 //! stands in it in place of the canonical one (`OwnContent`, `WholeContent`, `WrittenBlocks`,
 //! `KeptBlocks`, `StandingBlocks`).
+//!
+//! Two leaves of one `about` that come to stand side by side are read back as one group; so the law
+//! asks that they don't (`is_apart`). A leaf that is kept whole is read back where its source by
+//! itself is read as that leaf in its parent (`IsWholeLeaf`): a `td` kept whole in the root would
+//! be a cell in a row.
 #![tactic(auto)]
 
 mod laws;

@@ -9,6 +9,9 @@
 //!   there is none over no limit ([`limits_are_of_items`]).
 //!
 //! It speaks of pages and fragments that are UTF-8, as are those that lines give.
+//!
+//! That a fragment over its limit has an item with over 64 marks asks that it is UTF-8: 65 `<b>`
+//! round the byte 195 alone make no item.
 #![tactic(auto)]
 
 mod laws;

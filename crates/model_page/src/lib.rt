@@ -12,6 +12,14 @@
 //!
 //! How items are written is `model_page_write`'s. The laws of both are `model_page_law`'s: a page
 //! that is opened and written is itself, and fresh text is read back.
+//!
+//! Numbers in `data-mw` are judged on what `serde_json` reads; a number that a later member of the
+//! same name replaces isn't judged. Numbers of nameless owners count over all groups.
+//!
+//! Too deep in a body counts the internal list and its item, and a leaf counts as a kind. Too many
+//! marks names the start of the 65th annotation.
+//!
+//! A whitespace character with marks counts as content; an annotation is never whitespace.
 #![tactic(auto)]
 
 mod ref_table;

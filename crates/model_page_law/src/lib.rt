@@ -15,6 +15,9 @@
 //!   editable, and are written as what they say;
 //! - `Formed`, `ReadBack`, `WritesFresh`, `Replaced` (`fresh_is_read_back`, `writes_fresh`,
 //!   `written_page_opens`): what is written anew is read back.
+//!
+//! A reference whose body no forest of 200 levels spells is written as an element that isn't
+//! editable. The law of written references tells both cases apart.
 #![tactic(auto)]
 
 mod laws;

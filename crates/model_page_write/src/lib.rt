@@ -7,4 +7,8 @@
 //! - `PageText`: fresh text, which nodes are kept, and the page.
 //!
 //! The laws are `model_page_law`'s.
+//!
+//! A leaf whose source nothing spells makes its paragraph not bare. A leaf in content keeps its
+//! bytes, also where the text beside it changed. A range that is written fresh is written as
+//! siblings by themselves.
 #![tactic(auto)]

@@ -14,6 +14,16 @@
 //! - `Events`: what may happen in a session.
 //!
 //! Their laws are `model_site_law`'s.
+//!
+//! Edit, batch, typing and revoking are one thing: a list of transactions that is performed as one
+//! entry, and travels by value.
+//!
+//! Undone entries survive sending, and a redo after it makes a new unsent entry. Any take forgets
+//! them. A submission stays in flight with the number submitted, also where a take has dropped some
+//! of it.
+//!
+//! A revoke names a committed entry that was seen; pending ones count among the later ones. Which
+//! of two conflicts is named goes by the submitted transactions first, then by the committed ones.
 #![tactic(auto)]
 
 mod edit_fault;

@@ -14,6 +14,15 @@
 //! - `Laws`, `Standing`, `Utf8`, proved in `laws`: texts are read exactly as they are spelled; at
 //!   most one forest spells a text. A fault lasts however the text goes on, or is one of the text's
 //!   end, and then some text after it makes it go.
+//!
+//! The first fault, where the subject leaves a choice. A start tag with a fault inside, where 200
+//! elements are open, has the tag's fault. `<!d` and `<!doctyp`, cut short, are bad tags. `&am`
+//! before U+0000 is a bad character, `&ax` a bad reference. At the text's end `&am` is a bad
+//! reference in text and an unclosed tag in a value. `<p/` is a bad attribute also at the end,
+//! `<br/` there an unclosed tag. Void and raw elements count for depth.
+//!
+//! In a whole page the first `<body` counts, also one in a comment of the head. Names keep their
+//! case. A comment and raw text end at their first end, where a browser is more lenient.
 #![tactic(auto)]
 
 mod laws;

@@ -1,4 +1,4 @@
--- Worked scripts by computation: selections, carets and typing.
+-- Worked scripts by computation: selections, carets, typing, and where text may stand nearby.
 use Rattle.std.specs.Prelude.{[], ◌∷◌, codes, refl, encode_utf8_all}
 use Rattle.std.specs.Fmt.{digits}
 use Rattle.std.specs.Str.{is_utf8}
@@ -74,3 +74,23 @@ typing_between : Answered
     ∷ [])
 unfolding page_on_literals is_utf8 digits unicode_segmentation
 typing_between = refl
+
+-- a content offset is its own nearest; from inside a leaf and from among nodes either side is told, and none beyond the last
+near_places : Answered
+    ((codes "{\"do\":\"near\",\"at\":0,\"dir\":\"back\"}", codes "no not_open")
+    ∷ (codes "{\"do\":\"open\",\"page\":\"<p>a<br>b</p><ul><li>c</li></ul>\"}", codes "ok 15")
+    ∷ (codes "{\"do\":\"near\",\"at\":1,\"dir\":\"back\"}", codes "ok 1")
+    ∷ (codes "{\"do\":\"near\",\"at\":1,\"dir\":\"ahead\"}", codes "ok 1")
+    ∷ (codes "{\"do\":\"near\",\"at\":3,\"dir\":\"back\"}", codes "ok 2")
+    ∷ (codes "{\"do\":\"near\",\"at\":3,\"dir\":\"ahead\"}", codes "ok 4")
+    ∷ (codes "{\"do\":\"near\",\"at\":6,\"dir\":\"back\"}", codes "ok 5")
+    ∷ (codes "{\"do\":\"near\",\"at\":6,\"dir\":\"ahead\"}", codes "ok 9")
+    ∷ (codes "{\"do\":\"near\",\"at\":0,\"dir\":\"back\"}", codes "no edge 0")
+    ∷ (codes "{\"do\":\"near\",\"at\":11,\"dir\":\"ahead\"}", codes "no edge 11")
+    ∷ (codes "{\"do\":\"near\",\"at\":15,\"dir\":\"back\"}", codes "ok 10")
+    ∷ (codes "{\"do\":\"near\",\"at\":16,\"dir\":\"back\"}", codes "no bad_offset 16")
+    ∷ (codes "{\"do\":\"near\",\"at\":16,\"dir\":\"up\"}", codes "no bad_command dir")
+    ∷ (codes "{\"do\":\"caret\"}", codes "ok 0 0")
+    ∷ [])
+unfolding page_on_literals is_utf8 digits
+near_places = refl

@@ -138,6 +138,10 @@ selects : Asks (codes "{\"do\":\"select\",\"anchor\":3,\"focus\":1}") (request.S
 unfolding page_on_literals is_utf8
 selects = refl
 
+nears : Asks (codes "{\"do\":\"near\",\"at\":3,\"dir\":\"ahead\"}") (request.Near 3 Ahead)
+unfolding page_on_literals is_utf8
+nears = refl
+
 moves : Asks (codes "{\"do\":\"move\",\"dir\":\"back\"}") (request.Move Back Cluster false)
 unfolding page_on_literals is_utf8
 moves = refl
@@ -322,6 +326,15 @@ bad_in_batch = refl
 other_direction : IsBad (codes "{\"do\":\"move\",\"dir\":\"up\",\"by\":\"line\"}") field.Dir
 unfolding page_on_literals is_utf8
 other_direction = refl
+
+-- its place comes first, and it has no default direction
+near_nothing : IsBad (codes "{\"do\":\"near\",\"dir\":\"up\"}") field.At
+unfolding page_on_literals is_utf8
+near_nothing = refl
+
+near_nowhere : IsBad (codes "{\"do\":\"near\",\"at\":0,\"site\":-1}") field.Dir
+unfolding page_on_literals is_utf8
+near_nowhere = refl
 
 other_step : IsBad (codes "{\"do\":\"move\",\"dir\":\"back\",\"by\":\"line\",\"keep\":1}") field.By
 unfolding page_on_literals is_utf8

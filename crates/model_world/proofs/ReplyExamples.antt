@@ -15,7 +15,7 @@ use Rattle.model_world.specs.declared.shown.TreeWord.TheVariants as tree
 use Rattle.model_world.specs.declared.refusal.HtmlWord.TheVariants as word
 use Rattle.model_world.specs.declared.refusal.Refusal.TheVariants as refusal
 use Rattle.model_world.specs.declared.reply.Reply.{Reply}
-use Rattle.model_world.specs.declared.reply.Reply.TheVariants.{Length, Page, Items, Tree, At, Refs, Caret, Sent, Served, TookForeign, TookAck, Grid, No, NoBatch}
+use Rattle.model_world.specs.declared.reply.Reply.TheVariants.{Length, Page, Items, Tree, At, Offset, Refs, Caret, Sent, Served, TookForeign, TookAck, Grid, No, NoBatch}
 use Rattle.model_world.specs.Spelled.{reply_text}
 
 abbrev Reads : Reply → List ℕ → Type 0
@@ -54,6 +54,10 @@ tree_of_runs = refl
 node : Reads (At Br 2 4 Inside) (codes "ok br 2 4 inside")
 unfolding page_on_literals digits
 node = refl
+
+offset : Reads (Offset 9) (codes "ok 9")
+unfolding page_on_literals digits
+offset = refl
 
 references : Reads (Refs (record { at = 2; key = record { group = []; key = Named (codes "n") }; number = 1; carrier = true; body_at = Some 11 } ∷ record { at = 7; key = record { group = codes "g"; key = Auto 3 }; number = 2; carrier = false; body_at = None } ∷ [])) (codes "ok [[2,\"\",\"n:n\",1,true,11],[7,\"g\",\"a:3\",2,false,null]]")
 unfolding page_on_literals digits

@@ -3,6 +3,7 @@ use Rattle.std.proofs.Common.{◌≡◌, ℕ, nat_lt, Bool, true, false, List, l
 use Rattle.model_change.specs.Transaction.{Transaction}
 use Rattle.model_page.specs.PageItems.{Opened}
 use Rattle.model_edit.specs.Causes.{TableCause, ListCause}
+use Rattle.model_edit.specs.declared.selection.Dir.{Dir}
 use Rattle.model_edit.specs.declared.selection.Selection.{Selection}
 use Rattle.model_edit.specs.Translate.{between}
 use Rattle.model_edit.specs.Grid.{Grid, grid}
@@ -26,7 +27,7 @@ use Rattle.model_world.specs.Commands.{command}
 use Rattle.model_world.specs.Refusals.{refused_as, undo_refusal, redo_refusal, send_refusal, revoke_refusal, table_refusal, list_refusal}
 use Rattle.model_world.specs.Edits.{BatchRefusal, checked_transaction, change_on, batch_on}
 use Rattle.model_world.specs.Opening.{open_page}
-use Rattle.model_world.specs.Answers.{Outcome, Asked, request_outcome, site_of, replica_of, site_items, unchanged_outcome, refusal_outcome, changed_or_no, performed_or_no, batch_or_no, selection_outcome, is_no_end, select_between, next_place, moved_or_no, lower, higher, to_erase, erased_or_no, typing, typed_or_no, items_shown_or_no, node_told, node_or_no, grid_or_no, table_changed, list_changed, sent_or_no, served_or_no, taken_or_no, taken_reply, revoked_or_no}
+use Rattle.model_world.specs.Answers.{Outcome, Asked, request_outcome, site_of, replica_of, site_items, unchanged_outcome, refusal_outcome, changed_or_no, performed_or_no, batch_or_no, selection_outcome, is_no_end, select_between, next_place, moved_or_no, lower, higher, to_erase, erased_or_no, typing, typed_or_no, items_shown_or_no, node_told, node_or_no, content_near, edge_or, offset_told, near_or_no, grid_or_no, table_changed, list_changed, sent_or_no, served_or_no, taken_or_no, taken_reply, revoked_or_no}
 use Rattle.ve_base.specs.Limits.{max_line}
 use Rattle.model_world.specs.World.{World, Closed, Open, Answer, opened_or_no, on_page, asked_of, answer_of, answered_if, answer, reply_and_next}
 use Rattle.model_world.specs.Laws.{is_refusal, RefusalsChangeNothing}
@@ -108,6 +109,15 @@ show_answers a from to =
 node_answers : (a : Asked) (at : ℕ) → Answers (node_or_no a at)
 node_answers a at = either (nat_lt (length (site_items a)) at) (refusal_outcome (BadOffset at)) (node_told a at) tt refl
 
+offset_answers : (a : Asked) (r : Result ℕ Refusal) → Answers (offset_told a r)
+offset_answers a (Ok at) = refl
+offset_answers a (Err refusal) = tt
+
+near_answers : (a : Asked) (at : ℕ) (dir : Dir) → Answers (near_or_no a at dir)
+near_answers a at dir =
+    let found = edge_or at (content_near (site_items a) at dir) in
+    either (nat_lt (length (site_items a)) at) (refusal_outcome (BadOffset at)) (offset_told a found) tt (offset_answers a found)
+
 select_answers : (a : Asked) (anchor focus : ℕ) → Answers (select_between a anchor focus)
 select_answers a anchor focus =
     let done = selection_outcome a (between anchor focus) in
@@ -127,6 +137,7 @@ asked_answers a request.Serve = served_answers (serve_next a.k a.member a.sessio
 asked_answers a request.Take = taken_answers (take_next a.k a.member a.session)
 asked_answers a (request.ShowItems from to) = show_answers a from (unwrap_or to (length (site_items a)))
 asked_answers a (request.At at) = node_answers a at
+asked_answers a (request.Near at dir) = near_answers a at dir
 asked_answers a (request.Edit change) = performed_answers a (change_on (replica_of a) change)
 asked_answers a (request.Batch cmds) = batch_answers a (batch_on (replica_of a) cmds)
 asked_answers a (request.Select anchor focus) = select_answers a anchor focus

@@ -1,5 +1,5 @@
 -- The reply to a site's request, and the session after it.
-use Rattle.std.specs.Prelude.{ℕ, suc, ◌+◌, ◌==◌, min, max, chars, nat_lt, Bool, true, false, ◌||◌, if◌then◌else◌, List, [], ◌∷◌, ◌++◌, length, slice_range, Option, Some, None, unwrap_or, Result, Ok, Err}
+use Rattle.std.specs.Prelude.{ℕ, suc, ◌+◌, ◌==◌, min, max, chars, nat_le, nat_lt, Bool, true, false, ◌||◌, if◌then◌else◌, List, [], ◌∷◌, ◌++◌, length, find, reverse, slice_range, Option, Some, None, unwrap_or, Result, Ok, Err}
 use Rattle.model_items.specs.declared.plain_item.PlainItem.{PlainItem}
 use Rattle.model_items.specs.declared.plain_item.PlainItem.TheVariants.{Char}
 use Rattle.model_items.specs.Tree.{tree_of, node_at, class_at}
@@ -10,9 +10,10 @@ use Rattle.model_page.specs.PageItems.{Opened}
 use Rattle.model_page_write.specs.PageText.{write}
 use Rattle.model_edit.specs.declared.selection.Selection.{Selection}
 use Rattle.model_edit.specs.declared.selection.Dir.{Dir}
+use Rattle.model_edit.specs.declared.selection.Dir.TheVariants.{Back, Ahead}
 use Rattle.model_edit.specs.declared.selection.By.{By}
 use Rattle.model_edit.specs.Causes.{TableCause, ListCause}
-use Rattle.model_items.specs.Offsets.{is_content, is_inside_leaf}
+use Rattle.model_items.specs.Offsets.{content_offsets, is_content, is_inside_leaf}
 use Rattle.model_edit.specs.Translate.{between}
 use Rattle.model_edit.specs.Next.{next}
 use Rattle.model_edit.specs.Grid.{Grid, grid}
@@ -188,6 +189,20 @@ node_told a at = let node = node_at (site_items a) at in unchanged_outcome a (re
 abbrev pub node_or_no : Asked → ℕ → Outcome
 node_or_no a at = if nat_lt (length (site_items a)) at then refusal_outcome (BadOffset at) else node_told a at
 
+-- the last content offset up to a place, or the first from there on
+abbrev pub content_near : List PlainItem → ℕ → Dir → Option ℕ
+content_near items at Back = find (λ o. nat_le o at) (reverse (content_offsets items))
+content_near items at Ahead = find (λ o. nat_le at o) (content_offsets items)
+
+abbrev pub offset_told : Asked → Result ℕ Refusal → Outcome
+offset_told a (Err refusal) = refusal_outcome refusal
+offset_told a (Ok at) = unchanged_outcome a (reply.Offset at)
+
+abbrev pub near_or_no : Asked → ℕ → Dir → Outcome
+near_or_no a at dir =
+    if nat_lt (length (site_items a)) at then refusal_outcome (BadOffset at)
+    else offset_told a (edge_or at (content_near (site_items a) at dir))
+
 abbrev pub grid_or_no : Asked → Result Grid TableCause → Outcome
 grid_or_no a (Err fault) = refusal_outcome (table_refusal fault)
 grid_or_no a (Ok g) = unchanged_outcome a (reply.Grid g.rows g.columns g.cells)
@@ -238,6 +253,7 @@ request_outcome a request.Serve = served_or_no (serve_next a.k a.member a.sessio
 request_outcome a request.Take = taken_or_no (take_next a.k a.member a.session)
 request_outcome a (request.ShowItems from to) = items_shown_or_no a from (unwrap_or to (length (site_items a)))
 request_outcome a (request.At at) = node_or_no a at
+request_outcome a (request.Near at dir) = near_or_no a at dir
 request_outcome a (request.Edit change) = performed_or_no a (change_on (replica_of a) change)
 request_outcome a (request.Batch cmds) = batch_or_no a (batch_on (replica_of a) cmds)
 request_outcome a (request.Select anchor focus) = select_between a anchor focus

@@ -67,6 +67,12 @@ dir_in = word_in ((codes "back", Back) ∷ (codes "ahead", Ahead) ∷ [])
 abbrev pub by_in : Data → Option By
 by_in = word_in ((codes "cluster", Cluster) ∷ (codes "word", Word) ∷ [])
 
+abbrev pub near_read : Reader Request
+near_read members = do
+  at ← required_member field.At number_in members
+  dir ← required_member field.Dir dir_in members
+  Ok (request.Near at dir)
+
 abbrev pub move_read : Reader Request
 move_read members = do
   dir ← required_member field.Dir dir_in members
@@ -104,6 +110,7 @@ requests =
     ∷ (codes "take", alone request.Take)
     ∷ (codes "data", show_read)
     ∷ (codes "at", at_read (λ at. request.At at))
+    ∷ (codes "near", near_read)
     ∷ (codes "batch", batch_read)
     ∷ (codes "select", select_read)
     ∷ (codes "move", move_read)

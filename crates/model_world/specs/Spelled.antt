@@ -87,6 +87,7 @@ reply_text (reply.Page page) = ok_json (json_text page)
 reply_text (reply.Items items) = ok_json (items_shown items)
 reply_text (reply.Tree words) = codes "ok" ++ flat_map tree_word words
 reply_text (reply.At kind from to class) = codes "ok " ++ (with_numbers (kind_name kind) (from ∷ to ∷ []) ++ 32 ∷ class_name class)
+reply_text (reply.Offset at) = with_numbers (codes "ok") (at ∷ [])
 reply_text (reply.Refs rows) = ok_json (json_list (map row_shown rows))
 reply_text (reply.Caret anchor focus) = with_numbers (codes "ok") (anchor ∷ focus ∷ [])
 reply_text (reply.Sent entries) = with_numbers (codes "ok") (entries ∷ [])

@@ -28,6 +28,8 @@ pub enum Request {
     ShowItems { from: usize, to: Option<usize> },
     /// `at`: the innermost node at an offset, and what the offset is.
     At { at: usize },
+    /// `near`: the nearest content offset, there or on one side.
+    Near { at: usize, dir: Dir },
     /// One of the ten commands that a batch may hold.
     Edit { change: EditCommand },
     /// `batch`: 1 to 1,000 changes as one entry.

@@ -17,10 +17,19 @@
 //! The laws, each the contract of a function that does nothing: refusals change nothing
 //! ([`refusals_change_nothing`]), and a batch is whole or nothing ([`batches_are_whole`]). What
 //! holds of every world is `model_world_law`'s.
+//!
+//! A line that isn't UTF-8 is `bad_json`. `null` is not an absent member. A `site` inside a batch
+//! isn't read. Beside `close` only `pre` is read. `[text, []]` is a text without marks. Only U+000A
+//! ends a line.
+//!
+//! After `type` the caret is just after the last typed character, also where the text came to stand
+//! in a new paragraph. Want of memory is no cause: the types of causes have none. An operation that
+//! a line writes keeps no position of an attribute that it removes: it is found when the change is
+//! performed.
 #![tactic(auto)]
 
-mod edit_command;
 mod command;
+mod edit_command;
 mod field;
 mod laws;
 mod names;
@@ -28,8 +37,8 @@ mod refusal;
 mod reply;
 mod shown;
 
-pub use edit_command::{EditCommand, EditCommandList, OpWordList, OpWords, TextMarks};
 pub use command::{Command, Request};
+pub use edit_command::{EditCommand, EditCommandList, OpWordList, OpWords, TextMarks};
 pub use field::Field;
 pub use laws::{batches_are_whole, refusals_change_nothing};
 pub use names::{class_name, field_name, html_word, kind_name};

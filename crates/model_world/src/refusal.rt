@@ -74,7 +74,7 @@ pub enum Refusal {
     NotContent {
         at: usize,
     },
-    /// The caret is at its branch's edge.
+    /// The caret is at its branch's edge; or no content offset is there or on that side.
     Edge {
         at: usize,
     },

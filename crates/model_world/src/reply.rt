@@ -23,6 +23,8 @@ pub enum Reply {
         to: usize,
         class: OffsetClass,
     },
+    /// To `near`: a content offset.
+    Offset(usize),
     /// To `refs`: the table of references.
     Refs(RefTable),
     /// To `select`, `caret` and `move`: where the selection stands.

@@ -43,7 +43,7 @@ use Rattle.model_world.specs.declared.refusal.Refusal.TheVariants.{BadRange, Bad
 use Rattle.model_world.specs.declared.reply.Reply.TheVariants as reply
 use Rattle.model_world.specs.Refusals.{refused_as, build_refusal, undo_refusal, redo_refusal, send_refusal, revoke_refusal, table_refusal, list_refusal}
 use Rattle.model_world.specs.Edits.{BatchRefusal, checked_transaction, unless_faulty, change_of, change_on, batch_from, batch_on}
-use Rattle.model_world.specs.Answers.{Outcome, Asked, request_outcome, with_site, site_of, replica_of, site_items, unchanged_outcome, refusal_outcome, changed_or_no, performed_or_no, batch_or_no, selection_outcome, is_no_end, select_between, next_place, moved_or_no, lower, higher, is_collapsed, to_erase, erased_or_no, typing, after_text, typed_or_no, items_shown_or_no, node_told, node_or_no, grid_or_no, table_changed, list_changed, sent_or_no, served_or_no, taken_or_no, revoked_or_no, edge_or}
+use Rattle.model_world.specs.Answers.{Outcome, Asked, request_outcome, with_site, site_of, replica_of, site_items, unchanged_outcome, refusal_outcome, changed_or_no, performed_or_no, batch_or_no, selection_outcome, is_no_end, select_between, next_place, moved_or_no, lower, higher, is_collapsed, to_erase, erased_or_no, typing, after_text, typed_or_no, items_shown_or_no, node_told, node_or_no, content_near, offset_told, near_or_no, grid_or_no, table_changed, list_changed, sent_or_no, served_or_no, taken_or_no, revoked_or_no, edge_or}
 use Rattle.model_change.proofs.Fits.{parts_of_Applies}
 use Rattle.model_site_law.specs.ItemLaws.{AllInsert, AllPass, Inserts}
 use Rattle.model_site_law.specs.Protocol.{Every}
@@ -353,6 +353,15 @@ show_leads a from to =
 node_leads : (a : Asked) (at : ℕ) → Leads a (node_or_no a at)
 node_leads a at = either a (nat_lt (length (site_items a)) at) (refusal_outcome (BadOffset at)) (node_told a at) tt (stays a)
 
+offset_leads : (a : Asked) (r : Result ℕ Refusal) → Leads a (offset_told a r)
+offset_leads a (Err refusal) = tt
+offset_leads a (Ok at) = stays a
+
+near_leads : (a : Asked) (at : ℕ) (dir : Dir) → Leads a (near_or_no a at dir)
+near_leads a at dir =
+    let found = edge_or at (content_near (site_items a) at dir) in
+    either a (nat_lt (length (site_items a)) at) (refusal_outcome (BadOffset at)) (offset_told a found) tt (offset_leads a found)
+
 stands_from : (items : List PlainItem) (at : ℕ) → is_no_end items at ≡ false → selection.EndStands items at
 stands_from items at h = let p = or_parts (nat_lt (length items) at) (is_inside_leaf items at) h in (ltb-false (length items) at p.0, p.1)
 
@@ -378,6 +387,7 @@ asked_leads fit a s request.Serve o = serve_leads a s (serve_next a.k a.member a
 asked_leads fit a s request.Take o = take_leads a s (take_next a.k a.member a.session) refl
 asked_leads fit a s (request.ShowItems from to) o = show_leads a from (unwrap_or to (length (site_items a)))
 asked_leads fit a s (request.At at) o = node_leads a at
+asked_leads fit a s (request.Near at dir) o = near_leads a at dir
 asked_leads fit a s (request.Edit c) o = change_leads fit a s c o
 asked_leads fit a s (request.Batch cmds) o =
     batch_leads a s (batch_on (replica_of a) cmds) (λ ts e. batch_may fit 0 cmds (replica_of a) ts o s.sound e) (λ ts e p. batch_stand fit 0 cmds (replica_of a) ts o s.sound p e)

@@ -23,7 +23,7 @@ use Rattle.model_world.specs.Members as members
 use Rattle.model_world.specs.Attributes.{name_in, attrs_in, branch_in, kinds_in, shapes_in}
 use Rattle.model_world.specs.Operations.{ops_in}
 use Rattle.model_world.specs.Changes.{some_text_in, some_source_in, text_marks_in, text_read, insert_read, remove_read, split_read, mark_read, wrap_read, convert_read, attr_read, apply_read, changes, reader_in, if_well_formed, change_with, change_in}
-use Rattle.model_world.specs.Commands.{some_number_in, dir_in, by_in, at_read, table_read, show_read, is_batch, batch_read, select_read, move_read, type_read, erase_read, revoke_read, requests, ask_read, open_read, commands, or_bad_command, read_by, command_in, command_or_refusal}
+use Rattle.model_world.specs.Commands.{some_number_in, dir_in, by_in, at_read, table_read, show_read, near_read, is_batch, batch_read, select_read, move_read, type_read, erase_read, revoke_read, requests, ask_read, open_read, commands, or_bad_command, read_by, command_in, command_or_refusal}
 use Rattle.model_world.specs.Values.{line_json}
 use Rattle.model_edit.specs.declared.wrap_plan.Shape.{Shape}
 use Rattle.model_world.specs.declared.edit_command.OpWords.{OpWords}
@@ -169,6 +169,9 @@ show_written ms = bind RequestWritten (optional_member field.From 0 number_in ms
 select_written : Reads RequestWritten select_read
 select_written ms = bind RequestWritten (required_member field.Anchor number_in ms) _ (λ anchor. bind RequestWritten (required_member field.Focus number_in ms) _ (λ focus. tt))
 
+near_written : Reads RequestWritten near_read
+near_written ms = bind RequestWritten (required_member field.At number_in ms) _ (λ at. bind RequestWritten (required_member field.Dir dir_in ms) _ (λ dir. tt))
+
 move_written : Reads RequestWritten move_read
 move_written ms = bind RequestWritten (required_member field.Dir dir_in ms) _ (λ dir. bind RequestWritten (optional_member field.By Cluster by_in ms) _ (λ by. bind RequestWritten (optional_member field.Keep false as_bool ms) _ (λ keep. tt)))
 
@@ -215,32 +218,35 @@ requests_written = (
                     (
                       at_written (λ at. request.At at) (λ at. tt),
                       (
-                        batch_written,
+                        near_written,
                         (
-                          select_written,
+                          batch_written,
                           (
-                            move_written,
+                            select_written,
                             (
-                              type_written,
+                              move_written,
                               (
-                                erase_written,
+                                type_written,
                                 (
-                                  at_written (λ at. request.Grid at) (λ at. tt),
+                                  erase_written,
                                   (
-                                    table_written field.Row (λ at row. request.RowIn at row) (λ at row. tt),
+                                    at_written (λ at. request.Grid at) (λ at. tt),
                                     (
-                                      table_written field.Row (λ at row. request.RowOut at row) (λ at row. tt),
+                                      table_written field.Row (λ at row. request.RowIn at row) (λ at row. tt),
                                       (
-                                        table_written field.Column (λ at column. request.ColIn at column) (λ at column. tt),
+                                        table_written field.Row (λ at row. request.RowOut at row) (λ at row. tt),
                                         (
-                                          table_written field.Column (λ at column. request.ColOut at column) (λ at column. tt),
+                                          table_written field.Column (λ at column. request.ColIn at column) (λ at column. tt),
                                           (
-                                            at_written (λ at. request.Indent at) (λ at. tt),
+                                            table_written field.Column (λ at column. request.ColOut at column) (λ at column. tt),
                                             (
-                                              at_written (λ at. request.Outdent at) (λ at. tt),
+                                              at_written (λ at. request.Indent at) (λ at. tt),
                                               (
-                                                revoke_written,
-                                                edit_rows changes changes_written,
+                                                at_written (λ at. request.Outdent at) (λ at. tt),
+                                                (
+                                                  revoke_written,
+                                                  edit_rows changes changes_written,
+                                                ),
                                               ),
                                             ),
                                           ),

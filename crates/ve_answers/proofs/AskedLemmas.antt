@@ -1,12 +1,14 @@
 -- The replies are the model's answers.
 use Rattle.std.proofs.Common.{◌≡◌, ◌||◌, ℕ, Bool, true, false, if◌then◌else◌, length, refl}
-use Rattle.std.specs.Prelude.{nat_lt, slice_range, unwrap_or}
+use Rattle.std.specs.Prelude.{nat_lt, slice_range, unwrap_or, Result, Ok, Err}
 use Rattle.model_items.specs.Tree.{NodeExtent, node_at, class_at}
+use Rattle.model_world.specs.declared.refusal.Refusal.{Refusal}
 use Rattle.model_world.specs.declared.refusal.Refusal.TheVariants.{BadOffset, BadRange}
 use Rattle.model_world.specs.declared.reply.Reply.{Reply}
 use Rattle.model_world.specs.declared.reply.Reply.TheVariants as reply
-use Rattle.model_world.specs.Answers.{refusal_outcome, site_items, unchanged_outcome}
-use Rattle.ve_answers.specs.Asked.{outcome_of, CaretIsAsked, HtmlIsAsked, ItemsAreAsked, NodeIsAsked, RefsAreAsked, TreeIsAsked}
+use Rattle.model_world.specs.Answers.{content_near, edge_or, offset_told, refusal_outcome, site_items, unchanged_outcome}
+use Rattle.ve_answers.specs.Replies.{offset_reply}
+use Rattle.ve_answers.specs.Asked.{outcome_of, CaretIsAsked, HtmlIsAsked, ItemsAreAsked, NearIsAsked, NodeIsAsked, RefsAreAsked, TreeIsAsked}
 
 pub html_is_asked : HtmlIsAsked
 html_is_asked a = refl
@@ -45,3 +47,11 @@ node_is_asked a at = along (nat_lt (length (site_items a)) at)
     along : (c : Bool) → (if c then refusal_outcome (BadOffset at) else unchanged_outcome a shown) ≡ outcome_of a.session (if c then reply.No (BadOffset at) else shown)
     along true = refl
     along false = refl
+
+pub near_is_asked : NearIsAsked
+near_is_asked a at dir = along (nat_lt (length (site_items a)) at) (edge_or at (content_near (site_items a) at dir))
+  where
+    along : (c : Bool) (found : Result ℕ Refusal) → (if c then refusal_outcome (BadOffset at) else offset_told a found) ≡ outcome_of a.session (if c then reply.No (BadOffset at) else offset_reply found)
+    along true found = refl
+    along false (Ok o) = refl
+    along false (Err refusal) = refl

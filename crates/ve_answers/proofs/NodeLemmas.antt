@@ -20,7 +20,7 @@ use Rattle.ve_json.specs.Answers.{reply_of}
 use Rattle.ve_tree.specs.IsTree.{unvalued}
 use Rattle.ve_answers.specs.Replies.{node_reply}
 
-opens_same : (values others : List Value) (opens : List Open) (at : ℕ) (items : List Item) → opens_after opens at (plain_list values items) ≡ opens_after opens at (plain_list others items)
+pub opens_same : (values others : List Value) (opens : List Open) (at : ℕ) (items : List Item) → opens_after opens at (plain_list values items) ≡ opens_after opens at (plain_list others items)
 opens_same values others opens at [] = refl
 opens_same values others opens at (Char ch marks ∷ items) = opens_same values others opens (suc at) items
 opens_same values others opens at (Opening kind generated head marks pre origin ∷ items) = opens_same values others (record { kind = kind; from = at } ∷ opens) (suc at) items

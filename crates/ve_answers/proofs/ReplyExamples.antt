@@ -10,10 +10,11 @@ use Rattle.model_items.specs.Plain.{plain_list}
 use Rattle.model_items.specs.declared.plain_item.PlainItem.{PlainItem}
 use Rattle.model_items.specs.declared.plain_item.PlainItem.TheVariants.{Char}
 use Rattle.model_edit.specs.declared.grid_cell.GridCell.{GridCell}
-use Rattle.model_world.specs.declared.refusal.Refusal.TheVariants.{BadOffset, BadRange, NotTable}
+use Rattle.model_edit.specs.declared.selection.Dir.TheVariants.{Back, Ahead}
+use Rattle.model_world.specs.declared.refusal.Refusal.TheVariants.{BadOffset, BadRange, Edge, NotTable}
 use Rattle.model_world.specs.declared.reply.Reply.TheVariants as reply
 use Rattle.model_world.specs.declared.shown.TreeWord.TheVariants as tree
-use Rattle.ve_answers.specs.Replies.{grid_reply, items_reply, node_reply, refs_reply, tree_reply}
+use Rattle.ve_answers.specs.Replies.{grid_reply, items_reply, near_reply, node_reply, refs_reply, tree_reply}
 use Rattle.ve_answers.specs.Words.{words_after}
 
 abbrev cited : List Item
@@ -49,6 +50,9 @@ in_the_paragraph = refl
 
 no_offset : node_reply page 7 ≡ reply.No (BadOffset 7)
 no_offset = refl
+
+near_the_end : (near_reply page 6 Back ≡ reply.Offset 3) × (near_reply page 6 Ahead ≡ reply.No (Edge 6)) × (near_reply page 7 Back ≡ reply.No (BadOffset 7))
+near_the_end = (refl, refl, refl)
 
 no_references : refs_reply page ≡ reply.Refs []
 no_references = refl

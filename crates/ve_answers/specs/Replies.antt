@@ -8,10 +8,13 @@ use Rattle.model_page.specs.PageItems.{Opened}
 use Rattle.model_page_write.specs.PageText.{write}
 use Rattle.model_edit.specs.declared.selection.Selection.{Selection}
 use Rattle.model_edit.specs.Causes.{TableCause}
+use Rattle.model_edit.specs.declared.selection.Dir.{Dir}
 use Rattle.model_edit.specs.Grid.{Grid, grid}
+use Rattle.model_world.specs.declared.refusal.Refusal.{Refusal}
 use Rattle.model_world.specs.declared.refusal.Refusal.TheVariants.{BadOffset, BadRange}
 use Rattle.model_world.specs.declared.reply.Reply.{Reply}
 use Rattle.model_world.specs.declared.reply.Reply.TheVariants as reply
+use Rattle.model_world.specs.Answers.{content_near, edge_or}
 use Rattle.model_world.specs.Refusals.{table_refusal}
 use Rattle.model_world.specs.Shown.{tree_words}
 
@@ -32,6 +35,17 @@ abbrev pub node_reply : List PlainItem → ℕ → Reply
 node_reply items at =
     if nat_lt (length items) at then reply.No (BadOffset at)
     else (let node = node_at items at in reply.At node.kind node.from node.to (class_at items at))
+
+-- an offset, or why there is none
+abbrev pub offset_reply : Result ℕ Refusal → Reply
+offset_reply (Err refusal) = reply.No refusal
+offset_reply (Ok at) = reply.Offset at
+
+-- the nearest content offset at a place or beyond it
+abbrev pub near_reply : List PlainItem → ℕ → Dir → Reply
+near_reply items at dir =
+    if nat_lt (length items) at then reply.No (BadOffset at)
+    else offset_reply (edge_or at (content_near items at dir))
 
 abbrev pub refs_reply : List PlainItem → Reply
 refs_reply items = reply.Refs (table items)

@@ -1,5 +1,5 @@
 //! Answers of a page and one of its sites to the requests that change nothing: `html`, `data`,
-//! `tree`, `at`, `refs`, `caret` and `grid`. Each is the model's. It knows nothing of lines, of
+//! `tree`, `at`, `near`, `refs`, `caret` and `grid`. Each is the model's. It knows nothing of lines, of
 //! sessions and of who asks.
 //!
 //! It knows a page as a `Doc`, its list, tree and values, borrowed together, and what is left of
@@ -23,6 +23,6 @@ mod words;
 pub use laws::replies_are_as_asked;
 pub use page::html;
 pub use parts::{caret, items, refs};
-pub use place::node;
+pub use place::{near, node};
 pub use table::grid;
 pub use words::tree;

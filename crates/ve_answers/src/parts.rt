@@ -13,8 +13,8 @@ use ve_internal::table;
 use ve_json::Answer;
 use ve_offsets::Doc;
 
-/// To `data`: the items from one position up to another, up to the list's end where none is named;
-/// or the range is none of the list. They are borrowed.
+/// To `data`: the items from one position up to another, borrowed. Where none is named they go up
+/// to the list's end. It is refused where the range is none of the list.
 pub fn items<'a>(doc: Doc<'a>, from: usize, to: Option<usize>) -> Answer<'a>
     requires cites { All (CitesWell doc.store.now) doc.list.now.items }
     ensures reply { reply_of result

@@ -1,6 +1,9 @@
 //! An arena of tree nodes, linked by numbers: each has a parent, a first and a last child, a
 //! sibling on either side, and a length.
 //!
+//! Proved: each write changes one node and counts one step. Making a node is one step also where
+//! there is no memory for it; the arena is then as before.
+//!
 //! It knows which numbers have a node, and each node's fields. A new node has no links, and a write
 //! changes one field of one node. A number is given out again only after its node was freed. It
 //! doesn't know whether the links are those of a tree, whether a link leads to a node, or what a

@@ -70,6 +70,6 @@ pub record HoldsPlaced (pieces : List Item) (stack : List Kind) (placed : Placed
   pub cites : CitesAsPieces pieces placed.items
   pub within : placed.levels ≤ length stack
 
--- what is meant by the insertion into a page of pieces that are read with what follows its store
+-- the meaning of inserting pieces into a page, where they are read with what follows its store
 abbrev pub insertion_meant : Doc → Following → ℕ → List Item → Result Transaction BuildCause
 insertion_meant doc new at pieces = insertion (page_items doc) at (plain_list (together doc.store.now new) pieces)

@@ -28,7 +28,7 @@ AreLetters marks text items = (values : List Value) → plain_list values items 
 abbrev pub LettersCite : Option ValueId → List Item → Type 0
 LettersCite marks items = (values : List Value) → CitesMarks values marks → All (CitesWell values) items
 
--- what is meant by the insertion into a page of a text that is spelled
+-- the meaning of inserting a text into a page, where the text is bytes
 abbrev pub text_meant : Doc → ℕ → List ℕ → Result Transaction BuildCause
 text_meant doc at text = text_insertion (page_items doc) at (chars text)
 

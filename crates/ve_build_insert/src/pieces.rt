@@ -20,7 +20,7 @@ pub enum Question {
     IsHeldBy(Kind),
 }
 
-/// Whether a node of the kind may hold what the item is or opens.
+/// Whether a node of the kind may hold the item, or the node that it opens.
 fn may_hold_item(parent: Kind, item: Item) -> bool
     ensures { (values : _) → result ≡ model.may_hold_item parent (plain values item) }
 {

@@ -1,4 +1,4 @@
-// Open nodes that are closed, and after what is put there opened again.
+// Open nodes that are closed, and opened again after the inserted items.
 ghost use Rattle.std.specs.Prelude.{◌≡◌, ◌≤◌, IfOk, All, length, map, reverse};
 ghost use Rattle.model_items.specs.Plain.{plain, plain_list, CitesWell};
 ghost use Rattle.model_items.specs.Offsets.{opens_at};
@@ -20,7 +20,7 @@ use ve_offsets::Doc;
 use ve_store::{NewValues, Store};
 use ve_tx::Transaction;
 
-/// The closing of what an item opens; a character or a closing is its own.
+/// The closing of the node that an item opens; a character or a closing is its own.
 fn closing_for(item: Item) -> Item
     ensures means { (values : _) → plain values result ≡ brackets.closing_for (plain values item) }
     ensures cites { (values : _) → CitesWell values item → CitesWell values result }
@@ -87,8 +87,8 @@ fn reopened(
     Ok(made)
 }
 
-/// The change that puts pieces at an offset, where so many of the innermost open nodes are closed
-/// before them and opened again after them.
+/// The transaction that puts pieces at an offset, where so many of the innermost open nodes are
+/// closed before them and opened again after them.
 pub fn put(
     alloc: Global,
     doc: Doc<'_>,

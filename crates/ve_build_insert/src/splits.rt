@@ -37,8 +37,8 @@ fn is_bad_depth(state: &State, depth: usize) -> bool
     false
 }
 
-/// The change that splits the innermost open nodes at an offset, as many as `depth` says: each is
-/// closed there, and a copy of it goes on.
+/// The transaction that splits the innermost open nodes at an offset, as many as `depth` says: each
+/// is closed there, and a copy of it goes on.
 ///
 /// `BadOffset` comes exactly where the offset is the list's length or past it, or inside a leaf.
 /// Then `NotContent` comes where the innermost open node is no branch of content. Last, `BadDepth`

@@ -91,7 +91,7 @@ pub fn text_insertion(
     insertion(alloc, doc, at, pieces.as_slice(), new)
 }
 
-/// The change that puts a text without marks at an offset. It is refused as `insertion` is.
+/// The transaction that puts a text without marks at an offset. It is refused as `insertion` is.
 pub fn plain_text_insertion(
     alloc: Global,
     doc: Doc<'_>,

@@ -24,6 +24,6 @@ IsJoinTo items first q join =
 abbrev pub item_at : List Item → ℕ → List Value → Option PlainItem
 item_at items p values = slice_get (plain_list values items) p
 
--- what is removed of a range that may be
+-- the edits that remove a range which may be removed
 abbrev pub edits_between : (from to : ℕ) → List PlainItem → List Edit
 edits_between from to items = model.removal_edits items from to (model.join_at items (unmatched_places items from to))

@@ -26,7 +26,7 @@ abbrev pub marks_after : Remark → Mark → List Mark → List Mark
 marks_after Set mark = with_mark mark
 marks_after TakeOff mark = without_mark mark
 
--- what is cited is the item's marks, over every list of values
+-- the cited number is that of the item's marks, over every list of values
 abbrev pub CitesItsMarks : Item → Option ValueId → Type 0
 CitesItsMarks item id = (values : List Value) → (marks_at values id ≡ item_marks (plain values item)) × (CitesWell values item → CitesMarks values id)
 

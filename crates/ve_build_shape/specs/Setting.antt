@@ -32,7 +32,7 @@ begins_element items at = passes (opens_kind is_element) (slice_get items at)
 abbrev pub value_spelled : Option (Bor (List ℕ)) → Option (List ℕ)
 value_spelled to = option_map (λ (value : Bor (List ℕ)). chars value.now) to
 
--- what the model answers where the name and the value are given as they are spelled
+-- the model's answer where the name and the value are given as bytes
 abbrev pub attribute_spelled : List PlainItem → ℕ → List ℕ → Option (Bor (List ℕ)) → Result Transaction BuildCause
 attribute_spelled items at name to = attribute items at (chars name) (value_spelled to)
 

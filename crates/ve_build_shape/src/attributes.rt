@@ -83,8 +83,8 @@ fn setting_ops(
     Ok(ops)
 }
 
-/// The change that sets an attribute of the element at a position. One whose lengths add up to more
-/// than 2^60 is a want of memory like any other.
+/// The transaction that sets an attribute of the element at a position. One whose lengths add up to
+/// more than 2^60 is a want of memory like any other.
 fn set(
     alloc: Global,
     doc: Doc<'_>,
@@ -110,9 +110,9 @@ fn set(
     Ok(tx)
 }
 
-/// The change that sets an attribute of the element that begins at a position to a value, or takes
-/// it off where that is `None`. Where it takes one off, it keeps the attribute's position, so that
-/// the inverse puts it back there.
+/// The transaction that sets an attribute of the element that begins at a position to a value, or
+/// takes it off where that is `None`. Where it takes one off, it keeps the attribute's position, so
+/// that the inverse puts it back there.
 ///
 /// `NotOpening` comes exactly where no element begins at the position; then `BadAttr` where the
 /// name is `about` or `typeof`.

@@ -73,7 +73,7 @@ fn with_kind(item: Item, kind: Kind) -> Item
     }
 }
 
-/// The change that gives both brackets of a branch the kind.
+/// The transaction that gives both brackets of a branch the kind.
 fn converted(alloc: Global, doc: Doc<'_>, at: usize, kind: Kind) -> Result<Transaction, Memory>
     requires doc { IsDoc doc }
     requires within { at < length doc.list.now.items }
@@ -92,8 +92,8 @@ fn converted(alloc: Global, doc: Doc<'_>, at: usize, kind: Kind) -> Result<Trans
     Ok(tx)
 }
 
-/// The change that gives a branch of content another kind of content; it keeps its attributes and
-/// the whitespace before it. `NotBranch` comes exactly where no branch of content begins at the
+/// The transaction that gives a branch of content another kind of content; it keeps its attributes
+/// and the whitespace before it. `NotBranch` comes exactly where no branch of content begins at the
 /// position, or the kind is none.
 pub fn convert(
     alloc: Global,

@@ -13,6 +13,11 @@
 //! put them). Most serve private functions. The edits are defined in `model_edit`'s `Convert`,
 //! `Marking` and `Wrap`, their refusals in `ve_edits`' `Refused`. There are no laws here: those of
 //! `model_edit_law` hold of the results by the clauses.
+//!
+//! `marking` passes the range twice: the first pass finds the first item that would have too many
+//! marks, and brings no value. `attribute` has `Transaction::filled` find the position of an
+//! attribute that goes. The name is copied before it is tested, so want of memory may come first. A
+//! wrap's brackets are made once for all nodes of the range.
 #![tactic(auto)]
 
 mod attributes;

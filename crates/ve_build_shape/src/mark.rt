@@ -92,7 +92,7 @@ fn remark_range(
     Ok(tx)
 }
 
-/// The change that sets a mark on each character and inline leaf of a range, inside its other
+/// The transaction that sets a mark on each character and inline leaf of a range, inside its other
 /// marks, unless it has an equal one. Origins stay.
 ///
 /// `BadRange` comes exactly where the range is none of the list or an end of it is inside a leaf.
@@ -134,8 +134,8 @@ pub fn marking(
     }
 }
 
-/// The change that takes each mark equal to this off the characters and inline leaves of a range.
-/// Origins stay.
+/// The transaction that takes each mark equal to this off the characters and inline leaves of a
+/// range. Origins stay.
 ///
 /// `BadRange` and then `BadMark` come as in `marking`. After a refusal `new` may hold further
 /// values.

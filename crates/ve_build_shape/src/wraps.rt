@@ -70,8 +70,8 @@ fn put_round_each(
     Ok(())
 }
 
-/// The change that puts brackets round a range and round each of its nodes, in the place of those
-/// that stand there.
+/// The transaction that puts brackets round a range and round each of its nodes, in the place of
+/// those that stand there.
 fn put_all(
     alloc: Global,
     doc: Doc<'_>,

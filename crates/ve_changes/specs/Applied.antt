@@ -12,13 +12,13 @@ items_passed (op.Retain count) = count
 items_passed (op.Remove count insert) = count
 items_passed (op.Attr name to) = 0
 
--- what one is, these items being next
+-- the operation of its words, these items being next
 abbrev pub op_on : OpWords → List PlainItem → Op
 op_on (op.Retain count) items = Retain count
 op_on (op.Remove count insert) items = Replace (take count items) insert
 op_on (op.Attr name to) items = Attribute (set_first name to items)
 
--- what one inserts
+-- the items that one inserts
 abbrev pub inserted_by : OpWords → List PlainItem
 inserted_by (op.Retain count) = []
 inserted_by (op.Remove count insert) = insert

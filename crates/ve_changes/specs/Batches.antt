@@ -50,7 +50,7 @@ pub record IsPerformed (r : Replica) (meant : Result Transaction Refusal) (new :
   pub entry : entry_by_value new.store e ≡ entry_of (t ∷ []) r
   pub cites : EntryCites new.store e
 
--- what stops the change at a position, as what stops all of them
+-- the stop of the change at a position, as the stop of all of them
 abbrev pub stop_at : ℕ → ChangeStop → BatchStop
 stop_at at (one.Refused refusal) = stop.Refused at refusal
 stop_at at one.Memory = stop.Memory

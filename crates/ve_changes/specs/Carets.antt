@@ -18,7 +18,7 @@ selection_between items anchor focus =
     else (if is_no_end items focus then Err (BadOffset focus)
     else Ok (between anchor focus))
 
--- what is erased: the selection, or from the caret to its next position; no values are read
+-- the range to erase: the selection, or from the caret to its next position; no values are read
 abbrev pub range_to_erase : List PlainItem → Selection → Dir → By → Result Selection Refusal
 range_to_erase items selection dir by = to_erase (record { items = items; store = []; selection = selection }) dir by
 

@@ -26,6 +26,6 @@ pub record HasSeen (items : List Item) (seen : Seen) : Type 0 where
   pub count : seen.count ≡ length items
   pub last : (values : List Value) → seen.last ≡ to_last_char (plain_list values items)
 
--- what was seen before, and then more items
+-- the items seen before, and then more
 abbrev pub SeesMore : Seen → List Item → Seen → Type 0
 SeesMore seen items next = (before : List Item) → HasSeen before seen → HasSeen (before ++ items) next

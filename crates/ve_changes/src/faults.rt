@@ -94,8 +94,8 @@ impl From<ListFault> for ChangeStop {
     }
 }
 
-/// That an item differs never comes of what a line asks, since what it takes out is the list's own; it would have the word of
-/// a full store.
+/// A line never asks for an item that differs, since its removed items are the list's own. It would
+/// have the word of a full store.
 impl From<EditFault> for ChangeStop {
     ghost use Rattle.std.specs.Prelude.{◌≡◌};
     ghost use Rattle.ve_changes.specs.Stops.{edit_stop};

@@ -1,6 +1,11 @@
 //! The changes that a line makes on the page, one or several together. It reads no line, and knows
 //! no site. It knows which builder makes each change, and which refusal each fault is.
 //!
+//! Proved: but for want of memory, each change, and each move of a row, a column or a list item, is
+//! the draft that the model says, over the page's store and with just the values that the store
+//! takes. Else it is the model's refusal. Changes made in turn are the model's transactions and one
+//! entry, or the first refusal with its number. Their steps have bounds.
+//!
 //! - `change_draft` gives the draft of a change over a page's store, or the refusal that answers
 //!   it. `move_draft` gives the draft of a row, a column or a list item that is moved. Each calls
 //!   one builder and names its fault (`Stops`, `HtmlStops`, `Drafts`, `Moves` in specs/). Nothing
@@ -17,6 +22,9 @@
 //! `Answers`. Laws: a move is answered by performing the transaction that `Moves` defines
 //! (`moves_are_asked`), and so carets (`carets_are_asked`). That a batch is whole or nothing is a
 //! law of model_world.
+//!
+//! A text typed at a caret is one change in place. Over a selection it is two, made on a copy of
+//! the page, as every batch is: both are one entry or none.
 #![tactic(auto)]
 
 mod applied;

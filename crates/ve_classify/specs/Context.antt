@@ -11,7 +11,7 @@ use Rattle.model_page.specs.Fragment.{may_hold_tag, fits_in, context_of}
 use Rattle.ve_html_tree.specs.Nodes.{ShowNodes}
 use Rattle.ve_html_tree.specs.declared.node.Node.{Node}
 
--- what is answered of whatever forest spells a text and has these nodes
+-- the answer holds of whatever forest spells a text and has these nodes
 abbrev pub OfRead : {A : Type 0} → List ℕ → List Node → (Forest → A) → A → Type 0
 OfRead text nodes ask result = (f : Forest) → Spells text f → ShowNodes nodes (forest_nodes 0 0 f) → result ≡ ask f
 

@@ -72,18 +72,18 @@ IsGroupFit nodes n around result =
 
 -- ---- as the code asks
 
--- what is asked of the siblings that stand between two numbers
+-- the answer holds of the siblings that stand between two numbers
 abbrev pub OfSiblings : {A : Type 0} → List Node → ℕ → ℕ → (Forest → A) → A → Type 0
 OfSiblings nodes from to ask result =
     (f : Forest) (at : ℕ) (more : List ForestNode) → ShownFrom nodes from at f more → to ≡ from + forest_size f → result ≡ ask f
 
--- what is asked of the children of the element at the number n
+-- the answer holds of the children of the element at the number n
 abbrev pub OfChildren : List Node → ℕ → (Parts → Fit) → Fit → Type 0
 OfChildren nodes n ask result =
     (f : Forest) (at : ℕ) (more : List ForestNode) (node : Node) → ShownFrom nodes (n + 1) at f more → slice_get nodes n ≡ Some node
     → node.next ≡ n + 1 + forest_size f → result ≡ ask (parts_of f)
 
--- what the elements of a group are asked for
+-- the test of a group's elements
 abbrev pub element_passes : GroupTest → List ℕ → List g.Attr → Bool
 element_passes ask.Generated name attrs = has_type is_generator attrs
 element_passes ask.BlockTag name attrs = not (is_inline_tag name)

@@ -49,14 +49,14 @@ abbrev pub IsPastPart : List Node → ℕ → ℕ → Type 0
 IsPastPart nodes n result =
     (f : Forest) (at : ℕ) (more : List ForestNode) → Stands nodes n at f more → has_node f ≡ true → result ≡ n + forest_size (part_nodes f)
 
--- what is asked of the first part of whatever siblings stand at a node, of which so many parts
--- reach up to a node and a byte
+-- the end of the first part of whatever siblings stand at a node, of which so many parts reach up
+-- to a node and a byte
 abbrev pub IsPartEnd : List Node → ℕ → ℕ → ℕ → ℕ → ℕ → Type 0
 IsPartEnd nodes n to last end byte =
     (text : List ℕ) (f : Forest) (at m : ℕ) (more : List ForestNode) → StandsIn text nodes n at f more → PartsTo f n at to last m
     → PartEnds text nodes n at f more end byte
 
--- what is said of the source of the first part of whatever siblings stand at a node
+-- the source of the first part of whatever siblings stand at a node
 abbrev pub IsPartSource : List ℕ → List Node → ℕ → ℕ → ℕ → List ℕ → Type 0
 IsPartSource text nodes n end byte source =
     (f : Forest) (at : ℕ) (more : List ForestNode) → StandsIn text nodes n at f more → has_node f ≡ true → PartEnds text nodes n at f more end byte

@@ -16,7 +16,7 @@ use Rattle.model_page.specs.Convert.{inside_piece, words_before, group_made, lea
 use Rattle.ve_classify.specs.FirstPart.{has_part, later_of, first_source}
 use Rattle.ve_classify.specs.Runs.{then_parts, is_run, starts_block}
 
--- what all siblings become in their parent, from this position on
+-- the conversion of all siblings in their parent, from this position on
 abbrev pub siblings : Around → Parts → Progress → Made
 siblings around parts w = inside_piece around w (made_of around parts w)
 

@@ -41,8 +41,8 @@ pub record WholeRun (text : List ℕ) (nodes : List Node) (n at : ℕ) (f : Fore
   pub split : parts_of f ≡ then_parts (take_parts so_far.parts (parts_of f)) (parts_of so_far.run.after)
   pub next : starts_block (parts_of so_far.run.after) ≡ true
 
--- what is answered of whatever siblings stand at a node, the first of which is a part of a run, up
--- to a node and a byte
+-- the end of the run of whatever siblings stand at a node, the first of which is a part of a run,
+-- up to a node and a byte
 abbrev pub IsRunAt : List Node → ℕ → ℕ → ℕ → ℕ → ℕ → Bool → Type 0
 IsRunAt nodes n to last end byte white =
     (text : List ℕ) (f : Forest) (at : ℕ) (more : List ForestNode) → StandsIn text nodes n at f more → Whole f n at to last

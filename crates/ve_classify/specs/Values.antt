@@ -7,7 +7,7 @@ use Rattle.ve_html_scan.specs.declared.attr_tokens.AttrTokens.{AttrTokens}
 use Rattle.ve_classify.specs.declared.types.TypeTest.{TypeTest}
 use Rattle.ve_classify.specs.declared.types.TypeTest.TheVariants as ask
 
--- what is asked of the attributes that tokens show
+-- the answer holds of the attributes that tokens show
 abbrev pub OfAttrs : {A : Type 0} → AttrTokens → (List Attr → A) → A → Type 0
 OfAttrs tokens ask result = (attrs : List Attr) (slash : Bool) → ShowsAttrs tokens attrs slash → result ≡ ask attrs
 
@@ -16,7 +16,7 @@ abbrev pub spelled_value : List ℕ → List Attr → Option (List ℕ)
 spelled_value name [] = None
 spelled_value name (a ∷ attrs) = if bytes_eq a.name name then Some a.value else spelled_value name attrs
 
--- what a test asks of a word
+-- the answer of a test for a word
 abbrev pub answer_of_test : TypeTest → List ℕ → Bool
 answer_of_test ask.Held word = begins_with (codes "mw:") word
 answer_of_test ask.Generator word = is_generator word

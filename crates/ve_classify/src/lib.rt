@@ -2,6 +2,10 @@
 //! page, and what it becomes. It goes over a forest as `ve_html_tree` gives it. It makes no items,
 //! and no call takes memory. Clauses speak of whatever siblings stand at a node.
 //!
+//! Proved: the first part of siblings, its fit, and the ends of it, its group and its run are
+//! model_page's. So are the open kind that a fragment goes into, and the groups that may be
+//! references.
+//!
 //! - `fit` says what the first of them becomes in its parent, and `group_end` where its group ends
 //!   (`Fits`, `Groups` in specs/). `has_type`, `is_held` and `spelled_value` read attributes as
 //!   they stand in the page (`Values`).

@@ -41,7 +41,13 @@ pub struct Editor {
 
 impl Drop for Editor {
     fn drop(self) {
-        let Editor { list, store, tree, selection, alloc } = self;
+        let Editor {
+            list,
+            store,
+            tree,
+            selection,
+            alloc,
+        } = self;
         drop(list);
         drop(store);
         drop(tree);

@@ -2,6 +2,11 @@
 //! selection, which change together or not at all. It doesn't choose edits, and keeps no history.
 //! Each change that is performed is given as an entry, which its owner can have taken back.
 //!
+//! Proved: but for want of memory, a draft is performed as the model does it, or the first cause is
+//! named. An entry is taken back and another's parcel performed as the model does it, and copies
+//! are equal. Where a call fails nothing changes. Each counts at most eight steps for each node
+//! that a transaction touches, and sixteen more.
+//!
 //! The view of an `Editor` is the model's `Replica` (model_site), by value. `perform` is the
 //! model's `performed`, with the entry `entry_of` and the refusal of `edit_cause`. `admit` is
 //! `all_performed` of another's parcel, with its `entry_of`; `revert` is `reverted`. The type keeps
@@ -19,6 +24,15 @@
 //! most), `Refusal` (how a refusal names its cause). `Prepared` serves private functions: a change
 //! whose tree is there and whose list needs no more memory. There is no law of its own: those of
 //! model_site_law hold by the clauses.
+//!
+//! A draft's values go into the store before it is known that the draft applies, since its removed
+//! items are compared over the store. A refusal cuts them off again.
+//!
+//! `revert` asks that its reversals apply and leave lawful lists, and that no value is cut that
+//! stays cited. So its one refusal is want of memory. Values are cut off after the last reversal.
+//!
+//! One transaction counts no step of a copy; several count the tree of the copy and of the lists
+//! that they make. So an editor that copied the page for each undo wouldn't meet the bound.
 #![tactic(auto)]
 
 mod editor;

@@ -3,6 +3,9 @@
 //! head. Builders also find here the other bracket of a node, the nodes that are open at an offset,
 //! the value of an attribute, and whether a range may be edited.
 //!
+//! Proved: but for want of memory, edits at rising positions, set attributes among them, are the
+//! model's one transaction. An opening's copy, partners, open nodes and bad ranges are the model's.
+//!
 //! It gives transactions and writes nothing. A page is borrowed as a `Doc`: brackets are found by
 //! the tree, and a range by its items. It doesn't know which edits a user's command is; that is
 //! what the crates above it say.
@@ -12,6 +15,8 @@
 //! (how a builder refuses). The transaction of some edits, a copy and the refusals are defined in
 //! `model_edit`; partners and open nodes are `model_items`'s. Law: `values_may_grow` (collected
 //! edits are the same over a longer list of values, so values may be put in between two edits).
+//!
+//! Edits whose operations add up to more than 2^60 items are answered as want of memory.
 #![tactic(auto)]
 
 mod attributes;

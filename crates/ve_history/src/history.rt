@@ -18,7 +18,11 @@ pub struct History {
 
 impl Drop for History {
     fn drop(self) {
-        let History { done, undone, spare: _ } = self;
+        let History {
+            done,
+            undone,
+            spare: _,
+        } = self;
         drop(done);
         drop(undone);
     }

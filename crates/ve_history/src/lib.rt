@@ -2,6 +2,8 @@
 //! undone. An undone entry is kept as a parcel, with its own values, since an undo may cut these
 //! values off the store.
 //!
+//! Proved: both stacks are exact, and a push or a move succeeds within the spare room.
+//!
 //! It moves entries and parcels, and makes none: what an undo does to a list is not its matter.
 //! Definitions: `Stacks` is the view of a history, `without_last` takes the top off the first
 //! stack.

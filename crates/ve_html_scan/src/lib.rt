@@ -2,6 +2,8 @@
 //! `model_spelling` says. Which elements are open is known to `ve_html_tree` alone. Nothing is
 //! copied, and no call but `decoded` takes memory.
 //!
+//! Proved: the next token is the one that the grammar spells, or the fault is exactly the first.
+//!
 //! - `Scanner`: the next token, or the first fault, which it then repeats (`ScannerState`, `Gives`
 //!   and `next_of` in `Shown`);
 //! - `AttrTokens`: the attributes of a start tag, one after the other (`AttrsStep` in `Shown`);

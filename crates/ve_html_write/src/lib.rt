@@ -2,6 +2,10 @@
 //! `<` and `>` are references in values too). It knows texts, names and attributes; which text or
 //! tag comes next is its caller's matter.
 //!
+//! Proved: texts and tags come in the canonical spelling, whole or not at all; `push_escaped` may
+//! leave a prefix. Bytes that were UTF-8 still are when a call succeeds (clause `utf8`). It is no
+//! law of the model, where a character is any number.
+//!
 //! - `put_text`: the characters of a text; `put_start`, `put_end`: the tags of an element. Each
 //!   appends whole, or not at all;
 //! - `push_escaped` appends the characters of a text or a value directly, without a copy. So an
@@ -11,6 +15,9 @@
 //!   its `Grammar`.
 //!
 //! There are no laws here: that what is written is read back is a law of `model_spelling`.
+//!
+//! Writing a tag takes an allocator: a tag is built beside the page and appended in one piece. So
+//! want of memory leaves the page as it was.
 #![tactic(auto)]
 
 mod escape;

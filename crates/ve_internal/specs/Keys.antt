@@ -8,7 +8,7 @@ use Rattle.model_items.specs.Same.{ref_key_same, text_same}
 use Rattle.model_items.proofs.SameLemmas.{Means-ref_key_same, Means-text_same}
 use Rattle.ve_store.specs.HashInput.{text_input, key_input}
 
--- what the hash of a key is taken of
+-- the input of a key's hash
 abbrev pub ref_key_input : RefKey → List (List ℕ)
 ref_key_input k = text_input k.group ++ key_input k.key
 

@@ -25,8 +25,8 @@ place_if owner at = if owner then Some at else None
 abbrev pub seen_again : Seen → ℕ → Bool → Seen
 seen_again seen at owner = record { number = seen.number; first = seen.first; owner = option_or seen.owner (place_if owner at) }
 
--- what is known of a key after one more reference, where so many keys of its group came before it
--- if it is new
+-- the notes of a key after one more reference, where so many keys of its group came before it if it
+-- is new
 abbrev pub seen_next : Option Seen → ℕ → ℕ → Bool → Seen
 seen_next None count at owner = record { number = suc count; first = at; owner = place_if owner at }
 seen_next (Some seen) count at owner = seen_again seen at owner
@@ -42,7 +42,7 @@ first_place test refs = first_of_refs (filter test refs)
 abbrev pub is_owner_of : RefKey → RefAt → Bool
 is_owner_of key r = has_key key r && r.owner
 
--- what is known of a key where its first reference stands at a position
+-- the notes of a key where its first reference stands at a position
 abbrev pub seen_from : RefKey → List RefAt → Option ℕ → Option Seen
 seen_from key refs None = None
 seen_from key refs (Some first) =
@@ -64,7 +64,7 @@ abbrev pub counts_if : {S : Type 0} → Option Seen → IndexMap (List ℕ) ℕ 
 counts_if None old new group = Counts old new group
 counts_if (Some seen) old new group = (g : List ℕ) → counted new g ≡ counted old g
 
--- what is answered of a key that is referred to once more, and which group is counted
+-- the answer for a key that is referred to once more, and which group is counted
 abbrev pub SeesKey : {S T : Type 0} → IndexMap RefKey Seen S → IndexMap (List ℕ) ℕ T → IndexMap (List ℕ) ℕ T → Cited → Bool → Result Seen Memory → Type 0
 SeesKey keys old new cited owner result =
     let before = get ref_key_same keys cited.key.now in

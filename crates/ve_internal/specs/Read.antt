@@ -33,7 +33,7 @@ abbrev pub or_no_members : Option Members → Members
 or_no_members None = no_members
 or_no_members (Some members) = members
 
--- what the members of a `data-mw` say
+-- the reference that the members of a `data-mw` describe
 abbrev pub in_members : Members → Option model.RefRead
 in_members members = do
   attrs ← model.members_or_none (get_member (codes "attrs") members)

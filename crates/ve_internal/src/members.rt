@@ -92,11 +92,12 @@ pub fn text_or_empty<'a>(value: Option<&'a Value>) -> Option<&'a str>
     }
 }
 
-/// Reads a text as a forest and lets it go again.
+/// Reads a text as a forest and drops it.
 fn check_spelled(alloc: Global, text: &str) -> Result<(), HtmlFault>
     ensures found { OnOk result ((f : spelled.Forest) × spelled.Spells text.now f) }
     ensures fault { IfErr result (λ e. IsFirstFault e (fault_of text.now)) }
 {
+    // whether there is a forest is all that is asked
     let _forest = read(alloc, text)?;
     Ok(())
 }

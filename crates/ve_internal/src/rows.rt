@@ -42,8 +42,8 @@ fn rows_of(alloc: Global, notes: &Notes<'_>) -> Result<RefTable, Memory>
 
 /// A row for each reference of the list, in order: which body it names, its number, whether the
 /// body is written at it, and where the body opens. Its time goes with the length of the list, as
-/// keys are found by their hashes. Numbers past those of a `u32`, which no list within the limits
-/// of a page reaches, are a want of memory like any other.
+/// keys are found by their hashes. A number past those of a `u32` is a want of memory like any
+/// other; no list within the limits of a page reaches it.
 pub fn table(alloc: Global, list: &Linear, store: &Store) -> Result<RefTable, Memory>
     requires { All (CitesWell store.now) list.now.items }
     ensures { IfOk result (λ rows. rows ≡ table (plain_list store.now list.now.items)) }

@@ -35,7 +35,13 @@ pub struct Linear {
 
 impl Drop for Linear {
     fn drop(self) {
-        let Linear { table, aside, pool, spare: _, alloc } = self;
+        let Linear {
+            table,
+            aside,
+            pool,
+            spare: _,
+            alloc,
+        } = self;
         drop(table);
         drop(aside);
         drop(pool);

@@ -72,6 +72,7 @@ own_words =
     ∷ (codes "take", a_request.Bare a_bare.Take)
     ∷ (codes "data", a_request.Show)
     ∷ (codes "at", a_request.Place a_place.At)
+    ∷ (codes "near", a_request.Near)
     ∷ (codes "batch", a_request.Batch)
     ∷ (codes "select", a_request.Select)
     ∷ (codes "move", a_request.Move)
@@ -129,6 +130,7 @@ request_read (a_request.Bare word) = commands.alone (bare_request word)
 request_read (a_request.Place word) = place_read word
 request_read (a_request.Table word) = table_read word
 request_read a_request.Show = commands.show_read
+request_read a_request.Near = commands.near_read
 request_read a_request.Batch = commands.batch_read
 request_read a_request.Select = commands.select_read
 request_read a_request.Move = commands.move_read

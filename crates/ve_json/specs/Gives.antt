@@ -27,7 +27,7 @@ abbrev pub Gives : {A : Type 0} → Result A BadMember → Result A Field → Ty
 Gives (Ok x) meant = meant ≡ Ok x
 Gives (Err why) meant = IsBad why meant
 
--- what is made of what was read
+-- a result that is mapped
 abbrev pub made_of : {A B : Type 0} → (A → B) → Result A BadMember → Result B BadMember
 made_of f (Ok x) = Ok (f x)
 made_of f (Err why) = Err why

@@ -23,7 +23,7 @@ abbrev pub comma_and_member : List ℕ → Option Data → List ℕ
 comma_and_member name None = []
 comma_and_member name (Some value) = 44 ∷ member_text name value
 
--- what is shown where it is not empty; a string is its bytes
+-- a string that is shown where it is not empty; it is its bytes
 abbrev pub some_string : List ℕ → Option Data
 some_string [] = None
 some_string (b ∷ bytes) = Some (string (b ∷ bytes))

@@ -1,7 +1,7 @@
 -- A text that is being spelled.
 use Rattle.std.specs.Prelude.{ℕ, List}
 
--- what stood in the buffer before, and the text after it so far, both as bytes
+-- the former content of the buffer, and the text after it so far, both as bytes
 pub record Spelled : Type 0 where
   pub before : List ℕ
   pub text : List ℕ

@@ -49,6 +49,8 @@ pub enum Answer<'a> {
         to: usize,
         class: OffsetClass,
     },
+    /// A content offset.
+    Offset(usize),
     /// The table of references.
     Refs(RefTable),
     /// Where the selection stands.
@@ -295,6 +297,7 @@ fn push_answer(alloc: Global, answer: &Answer<'_>, out: &mut Spelling) -> Result
             to,
             class,
         } => push_at(alloc, *kind, (*from, *to), *class, out),
+        Answer::Offset(at) => push_count(alloc, "ok", Numbers::One(*at), out),
         Answer::Refs(rows) => push_rows(alloc, rows.as_slice(), out),
         Answer::Caret { anchor, focus } => {
             push_count(alloc, "ok", Numbers::Two(*anchor, *focus), out)

@@ -79,6 +79,7 @@ fn attrs_of(alloc: Global, list: &[Value]) -> Result<Attrs, ValueFault>
         }
         attrs.push(attr)?;
     }
+    // its type keeps that names are apart, which `as_slice` tells
     let _apart = attrs.as_slice();
     Ok(attrs)
 }

@@ -2,6 +2,10 @@
 //! doesn't say when a reply is given. The meaning of both stands in model_world: `Commands`, and
 //! `Spelled`.
 //!
+//! Proved: but for want of memory, a line is read as the model's command, or as its refusal. The
+//! text of every answer, with its newline, is the model's text of the reply, where the items that
+//! it borrows cite values of their store; or nothing changes.
+//!
 //! - `command` reads a line: each command's members, as JSON has them. A well-formed command may
 //!   still be refused by the page or the site. `Gives` in specs/: a reader gives the model's value,
 //!   or for want of memory nothing of it. `CommandWords`: the commands by their words, and the
@@ -12,6 +16,9 @@
 //!   themselves in a JSON string. `ReplyWords`: words with their numbers. `ReplyMembers`: the
 //!   members of an object. `Runs`: the characters of one list of marks. `Answers`: the reply that
 //!   an answer is.
+//!
+//! A command's texts are copied out of its line once; the page of `open` alone is taken out of the
+//! line's value.
 #![tactic(auto)]
 
 mod answer;
@@ -39,4 +46,4 @@ mod values;
 pub use answer::{Answer, reply_text};
 pub use fault::CommandFault;
 pub use line::command;
-pub use model_world::{EditCommand, Command, Field, Refusal, Request};
+pub use model_world::{Command, EditCommand, Field, Refusal, Request};

@@ -23,6 +23,15 @@ fn show_members(members: &Map<String, Value>) -> Result<Request, BadMember>
     Ok(Request::ShowItems { from, to })
 }
 
+/// The members of `near`.
+fn near_members(members: &Map<String, Value>) -> Result<Request, BadMember>
+    ensures { Gives result (commands.near_read (members_view members.now.entries)) }
+{
+    let at = number(members, Field::At)?;
+    let dir = dir(members, Field::Dir)?;
+    Ok(Request::Near { at, dir })
+}
+
 /// The members of `select`.
 fn select_members(members: &Map<String, Value>) -> Result<Request, BadMember>
     ensures { Gives result (commands.select_read (members_view members.now.entries)) }
@@ -156,6 +165,7 @@ pub fn request_members(
         RequestWord::Place(word) => place_members(word, members),
         RequestWord::Table(word) => table_members(word, members),
         RequestWord::Show => show_members(members),
+        RequestWord::Near => near_members(members),
         RequestWord::Batch => batch_members(alloc, members),
         RequestWord::Select => select_members(members),
         RequestWord::Move => move_members(members),

@@ -2,6 +2,8 @@
 //! a piece of one fails. It knows kinds and items, and reads none of the values that items cite. It
 //! takes no memory.
 //!
+//! Proved: the verdict is the law's, with the first position that fails.
+//!
 //! - `State` is the stack of open kinds, the innermost first, and whether the internal list was
 //!   opened (specs/Stack.antt says how it is kept). The law itself is in model_items,
 //!   specs/Law.antt. At most `max_open_kinds` kinds are open.

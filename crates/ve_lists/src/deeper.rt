@@ -44,8 +44,8 @@ fn joined(alloc: Global, doc: Doc<'_>, at: usize, kind: Kind) -> Result<Edits, M
     Ok(edits)
 }
 
-/// The change that moves the item, where another one stands before it in the list, which has the
-/// kind.
+/// The transaction that moves the item, where another one stands before it in the list, which has
+/// the kind.
 fn indented(alloc: Global, doc: Doc<'_>, at: usize, kind: Kind) -> Result<Transaction, Memory>
     requires doc { IsDoc doc }
     requires sibling { 0 < at }

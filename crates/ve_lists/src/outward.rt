@@ -41,7 +41,7 @@ fn ended(alloc: Global, doc: Doc<'_>, at: usize, list: ListStart) -> Result<Edit
     Ok(edits)
 }
 
-/// The change that moves the item out of the list.
+/// The transaction that moves the item out of the list.
 fn outdented(
     alloc: Global,
     doc: Doc<'_>,

@@ -9,3 +9,4 @@ pub mod RootLemmas
 pub mod WayUpLemmas
 pub mod RangeLemmas
 pub mod NearestModelLemmas
+pub mod SideLemmas

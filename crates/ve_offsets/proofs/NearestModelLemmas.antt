@@ -28,7 +28,7 @@ branch_in false false h = cc
 same_class : (items : List PlainItem) (o : ℕ) → class_at items o ≡ class_in (model.kind_at items o)
 same_class items o = ap class_in (kind_is (opens_after [] 0 (take o items)) o (drop o items))
 
-content_there : (items : List Item) (o : ℕ) → IsContent items o → model.is_content (unvalued items) o ≡ true
+pub content_there : (items : List Item) (o : ℕ) → IsContent items o → model.is_content (unvalued items) o ≡ true
 content_there items o h =
     branch_in (is_content_branch (model.kind_at (unvalued items) o)) (is_leaf (model.kind_at (unvalued items) o)) (sym (same_class (unvalued items) o) ∙ h)
 
@@ -37,7 +37,7 @@ content_here items o h =
     same_class (unvalued items) o
     ∙ ap (λ branch. if branch then Content else (if is_leaf (model.kind_at (unvalued items) o) then Inside else Structural)) h
 
-no_content : (items : List Item) (o : ℕ) → (IsContent items o → ⊥) → model.is_content (unvalued items) o ≡ false
+pub no_content : (items : List Item) (o : ℕ) → (IsContent items o → ⊥) → model.is_content (unvalued items) o ≡ false
 no_content items o none = by_test (model.is_content (unvalued items) o) refl
   where
     by_test : (t : Bool) → model.is_content (unvalued items) o ≡ t → model.is_content (unvalued items) o ≡ false

@@ -1,6 +1,9 @@
 //! Offsets of a page's list: whether characters may stand there, or nodes, or nothing, and which
 //! nodes are open there. Also the unmatched brackets of a range, and the nearest offset where
-//! characters may stand.
+//! characters may stand, on both sides or on one.
+//!
+//! Proved: an offset's class and state, the unmatched brackets and the nearest content offset are
+//! the model's.
 //!
 //! It knows a page as a `Doc`: its list, tree and values, borrowed together. It changes nothing,
 //! takes no memory, and reads no value. The state at an offset is found from the innermost node
@@ -26,7 +29,7 @@ mod state;
 pub use class::{is_content, is_inside_leaf, is_structural};
 pub use doc::Doc;
 pub use laws::{items_decide_classes, unmatched_are_open};
-pub use nearest::nearest_content;
+pub use nearest::{content_ahead, content_back, nearest_content};
 pub use range::unmatched;
 pub use state::state_at;
 pub use ve_lawful::State;

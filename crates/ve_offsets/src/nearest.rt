@@ -1,5 +1,6 @@
-// The nearest content offset.
+// The nearest content offset, on both sides or on one.
 ghost use Rattle.std.specs.Prelude.{◌≡◌, ◌≤◌, ◌↔◌, IsTrue, IfSome, IfNone, length};
+ghost use Rattle.std.specs.Prelude.{nat_le, find, reverse};
 ghost use Rattle.model_items.specs.Law.{Lawful};
 ghost use Rattle.model_items.specs.Offsets as model;
 ghost use Rattle.model_items.specs.Tree as tree;
@@ -7,6 +8,7 @@ ghost use Rattle.ve_tree.specs.IsTree.{unvalued};
 ghost use Rattle.ve_offsets.specs.Docs.{IsDoc};
 ghost use Rattle.ve_offsets.specs.Classes.{IsContent};
 ghost use Rattle.ve_offsets.specs.Nearest.{IsNearestContent, HasNoContent, IsContentBefore, IsContentAfter};
+ghost use Rattle.ve_offsets.specs.Nearest.{IsLastContent, IsFirstContent, HasNoneUpTo, HasNoneFrom};
 
 use crate::Doc;
 use crate::class::class_after;
@@ -95,4 +97,66 @@ pub fn nearest_content(doc: Doc<'_>, o: usize) -> Option<usize>
     ensures { result ≡ model.nearest_content (unvalued doc.entry.list.now.items) o }
 {
     search(doc, o)
+}
+
+/// The content offset nearest to an offset among it and those before.
+fn search_back(doc: Doc<'_>, o: usize) -> Option<usize>
+    requires doc { IsDoc doc }
+    requires within { o ≤ length doc.list.now.items }
+    ensures last { IfSome result (λ p. IsLastContent doc.entry.list.now.items o p) }
+    ensures none { IfNone result (HasNoneUpTo doc.entry.list.now.items o) }
+{
+    let mut items = OffsetReader::new(doc.list);
+    let mut at = o;
+    loop {
+        if is_content_in(&mut items, at) {
+            return Some(at);
+        }
+        if at == 0 {
+            return None;
+        }
+        at -= 1;
+    }
+}
+
+/// The content offset nearest to an offset among it and those after.
+fn search_ahead(doc: Doc<'_>, o: usize) -> Option<usize>
+    requires doc { IsDoc doc }
+    requires within { o ≤ length doc.list.now.items }
+    ensures first { IfSome result (λ p. IsFirstContent doc.entry.list.now.items o p) }
+    ensures none { IfNone result (HasNoneFrom doc.entry.list.now.items o) }
+{
+    let end = doc.list.len();
+    let mut items = OffsetReader::new(doc.list);
+    let mut at = o;
+    loop {
+        if is_content_in(&mut items, at) {
+            return Some(at);
+        }
+        if at == end {
+            return None;
+        }
+        at += 1;
+    }
+}
+
+/// The last content offset that is at most an offset. It looks at the items between the two alone.
+pub fn content_back(doc: Doc<'_>, o: usize) -> Option<usize>
+    requires doc { IsDoc doc }
+    requires within { o ≤ length doc.list.now.items }
+    ensures { result
+        ≡ find (λ p. nat_le p o)
+        (reverse (model.content_offsets (unvalued doc.entry.list.now.items))) }
+{
+    search_back(doc, o)
+}
+
+/// The first content offset that is at least an offset. It looks at the items between the two alone.
+pub fn content_ahead(doc: Doc<'_>, o: usize) -> Option<usize>
+    requires doc { IsDoc doc }
+    requires within { o ≤ length doc.list.now.items }
+    ensures { result
+        ≡ find (λ p. nat_le o p) (model.content_offsets (unvalued doc.entry.list.now.items)) }
+{
+    search_ahead(doc, o)
 }

@@ -5,7 +5,7 @@ use Rattle.model_items.specs.declared.item.Item.TheVariants.{Char, Opening, Clos
 use Rattle.ve_origin.specs.declared.bodies.Compared.{Compared}
 use Rattle.ve_origin.specs.declared.bodies.Compared.TheVariants.{Same, Different, Open}
 
--- what stands before the closing of the node that is open, where so many more are open in it
+-- the items before the closing of the node that is open, where so many more are open in it
 abbrev pub cited_inside : ℕ → List Item → List Item
 cited_inside depth [] = []
 cited_inside zero (Closing kind pre ∷ items) = []

@@ -34,7 +34,7 @@ AllCarrySame now first count =
 abbrev pub node_in : Side → NodeIn
 node_in side = record { items = side.list.now.items; refs = side.refs.now; from = side.from }
 
--- what is told of two nodes, where both tables rise
+-- the answer for two nodes, where both tables rise
 abbrev pub TellsCarried : Side → Side → ℕ → Bool → Type 0
 TellsCarried now first count told =
     RowsRise now.refs.now → RowsRise first.refs.now → IsTrue told ↔ AllCarrySame (node_in now) (node_in first) count

@@ -1,6 +1,9 @@
 //! Origins: the parts of the page that was first read, and which nodes of a list are still as they
 //! were read. It knows neither trees nor stores, and writes nothing.
 //!
+//! Proved: a node whose range is given, before the internal list and over distinct values, is kept
+//! exactly where the model keeps it. The page's own parts are the model's.
+//!
 //! - `OriginTable` has a row for each origin: its bytes of the page, and the positions of its node
 //!   in the list that was first read. `Origins` borrows the page, that table, that list and the
 //!   table of its references together (specs/Origins.antt).

@@ -39,6 +39,7 @@ pub fn same_node(now: &Linear, from: usize, first: &Linear, place: usize, count:
     requires there { place + count ≤ length first.now.items }
     ensures { IsTrue result ↔ AreSameNodes now.now.items from first.now.items place count }
 {
+    // both lists' lengths fit, and so does each position in them
     let _here = now.len();
     let _there = first.len();
     let equal = alike(now, from, first, place, count);

@@ -3,6 +3,9 @@
 //! later entries; or the first two ranges that conflict. It is a parcel, which any site that has
 //! these entries can perform.
 //!
+//! Proved: but for want of memory, `reversal` is the model's `revoke`, or names the first two
+//! ranges in conflict.
+//!
 //! `Refusal` in specs/ says how a refusal is told. It knows serialised entries, and neither lists
 //! nor stores, nor whose entries they are.
 //!

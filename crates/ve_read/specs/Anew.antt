@@ -10,7 +10,7 @@ use Rattle.model_items.specs.declared.item.Item.TheVariants.{Char, Opening, Clos
 abbrev pub StandThere : (values others : List Value) → List ValueId → Type 0
 StandThere values others ids = map Some values ≡ map (λ id. slice_get others id.0) ids
 
--- what cites a value there: the citation at its position
+-- the new number of a value: the one at its position
 abbrev pub id_anew : List ValueId → Option ValueId → Option ValueId
 id_anew ids None = None
 id_anew ids (Some id) = slice_get ids id.0

@@ -9,7 +9,8 @@ use Rattle.ve_classify.specs.Siblings.{siblings, paragraph}
 use Rattle.ve_reader.specs.ReadSoFar.{ReadSoFar, place_in, with_piece}
 use Rattle.ve_reader.specs.Stops.{deep_in}
 
--- what all siblings become in their parent after what is read, where they begin at this byte
+-- the conversion of all siblings in their parent after the items so far, where they begin at this
+-- byte
 abbrev pub siblings_made : Around → Parts → ℕ → ReadSoFar → Made
 siblings_made around parts at r = siblings around parts (place_in r at)
 

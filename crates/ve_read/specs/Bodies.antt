@@ -22,6 +22,6 @@ AreSpelled (o ∷ owners) = (fault_of o.html ≡ None) × AreSpelled owners
 abbrev pub with_items : List PlainItem → ReadSoFar → ReadSoFar
 with_items more r = record r { items = r.items ++ more }
 
--- what has no origin has no bytes in the page
+-- a node without origin has no bytes in the page
 abbrev pub no_span : SourceSpan
 no_span = record { from = 0; to = 0 }

@@ -11,8 +11,8 @@ use Rattle.ve_classify.specs.FirstPart.{first_source}
 use Rattle.ve_reader.specs.ReadSoFar.{ReadSoFar, place_in, with_piece}
 use Rattle.ve_reader.specs.Stops.{deep_in}
 
--- what parts become in content after what is read, inside of the marks around, where they begin at
--- this byte
+-- the conversion of parts in content after the items so far, inside of the marks around, where they
+-- begin at this byte
 abbrev pub content_made : Parts → ℕ → ReadSoFar → Made
 content_made parts at r = made_of (Content r.marks) parts (place_in r at)
 

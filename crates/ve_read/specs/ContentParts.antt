@@ -30,12 +30,12 @@ pub record SomeElement (text : List ℕ) (nodes : List Node) (n : ℕ) : Type 0 
   pub more : List ForestNode
   pub stands : StandsIn text nodes n at (Element name attrs children rest) more
 
--- what is said of these parts and the byte where they begin
+-- the statement holds of these parts and the byte where they begin
 abbrev pub OfParts : List ℕ → List Node → ℕ → ℕ → ℕ → (Parts → ℕ → Type 0) → Type 0
 OfParts text nodes n to byte says =
     (f : Forest) (at m : ℕ) (more : List ForestNode) → StandsIn text nodes n at f more → PartsTo f n at to byte m → says (take_parts m (parts_of f)) at
 
--- what is said of the first part alone, which ends there
+-- the statement holds of the first part alone, which ends there
 abbrev pub OfPart : List ℕ → List Node → ℕ → ℕ → ℕ → (Parts → ℕ → Type 0) → Type 0
 OfPart text nodes n end byte says =
     (f : Forest) (at : ℕ) (more : List ForestNode) → StandsIn text nodes n at f more → has_node f ≡ true

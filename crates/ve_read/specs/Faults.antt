@@ -36,8 +36,7 @@ IsOver (fault.Html f) limit = ⊥
 IsOver (fault.TooManyItems count) limit = ⊥
 IsOver fault.StoreFull limit = ⊥
 
--- what was to be read is within the limits where it was read, and else is over the one that is
--- named
+-- an `Ok` is within the limits, and an `Err` names the limit that is passed
 abbrev pub Within : {A : Type 0} → Result A ReadFault → Option Limit → Type 0
 Within (Ok x) limit = limit ≡ None
 Within (Err e) limit = IsOver e limit
@@ -66,6 +65,6 @@ abbrev pub Sized : {A : Type 0} → Result A ReadFault → Opened → Type 0
 Sized (Ok x) o = if_small o ≡ Ok o
 Sized (Err e) o = IsRefusal e (if_small o)
 
--- what is said of whatever page has so many items and values
+-- the statement holds of whatever page has so many items and values
 abbrev pub OfSize : {A : Type 0} → ℕ → ℕ → Result A ReadFault → Type 0
 OfSize count values result = (o : Opened) → length o.items ≡ count → length (values_of o) ≡ values → Sized result o

@@ -21,7 +21,7 @@ AreNodesOf text nodes = (f : Forest) × Spells text f × ShowNodes nodes (forest
 abbrev pub parts_in : List ℕ → Parts
 parts_in text = parts_of (or_nothing (forest_of text))
 
--- what the body becomes by itself, before the internal list
+-- the conversion of the body by itself, before the internal list
 abbrev pub piece_in : List ℕ → Piece
 piece_in text = (page_made 0 (or_nothing (forest_of text))).later
 

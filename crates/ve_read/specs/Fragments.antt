@@ -53,7 +53,7 @@ abbrev pub OverMarks : {A : Type 0} → Result A FragmentFault → Option ℕ �
 OverMarks (Ok x) limit = limit ≡ None
 OverMarks (Err e) limit = IsOverMarks e limit
 
--- what the text becomes as what stands in a node of the kind
+-- the conversion of the text as the inside of a node of the kind
 abbrev pub pieces_of : Kind → List ℕ → List PlainItem
 pieces_of kind text = map item_unmade (pieces_in kind (parts_in text)).later.items
 
@@ -65,7 +65,7 @@ paragraph_of text = Opening P empty_head [] [] None false ∷ map (λ c. Char c 
 abbrev pub is_blank_in : Kind → List ℕ → Bool
 is_blank_in kind text = is_flow kind && is_white text
 
--- what the text becomes in the open kind that it fits
+-- the conversion of the text in the open kind that it fits
 abbrev pub items_in : Kind → List ℕ → List PlainItem
 items_in kind text = if is_blank_in kind text then paragraph_of (chars text) else pieces_of kind text
 

@@ -21,7 +21,7 @@ pub record SomeSiblings (text : List ℕ) (nodes : List Node) (n to byte : ℕ) 
   pub stands : StandsIn text nodes n at forest more
   pub whole : Whole forest n at to byte
 
--- what is said of these siblings and the byte where they begin
+-- the statement holds of these siblings and the byte where they begin
 abbrev pub OfSiblings : List ℕ → List Node → ℕ → ℕ → ℕ → (Parts → ℕ → Type 0) → Type 0
 OfSiblings text nodes n to byte says =
     (f : Forest) (at : ℕ) (more : List ForestNode) → StandsIn text nodes n at f more → Whole f n at to byte → says (parts_of f) at
@@ -42,7 +42,7 @@ pub record SomeBlock (text : List ℕ) (nodes : List Node) (around : Around) (n 
   pub block : first_block around (parts_of forest) ≡ true
   pub part : PartEnds text nodes n at forest more end byte
 
--- what is said of this block alone
+-- the statement holds of this block alone
 abbrev pub OfBlock : List ℕ → List Node → Around → ℕ → ℕ → ℕ → (Parts → ℕ → Type 0) → Type 0
 OfBlock text nodes around n end byte says =
     (f : Forest) (at : ℕ) (more : List ForestNode) → StandsIn text nodes n at f more → has_node f ≡ true → first_block around (parts_of f) ≡ true

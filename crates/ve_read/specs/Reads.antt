@@ -32,7 +32,7 @@ ReadsBlock text nodes around n end byte white old new = OfBlock text nodes aroun
 abbrev pub StopsInBlock : {A : Type 0} → List ℕ → List Node → Around → ℕ → ℕ → ℕ → ReadSoFar → Result A ReadStop → Type 0
 StopsInBlock text nodes around n end byte old result = OfBlock text nodes around n end byte (λ parts at. Stops result (siblings_limit around parts at old))
 
--- what stands first is read where whitespace is waiting, other whitespace is waiting then; or
+-- the first unit is read where whitespace is waiting, and other whitespace is waiting then; or
 -- reading stops in it
 abbrev pub ReadsUnit : List ℕ → List Node → Around → ℕ → Unit → List ℕ → List ℕ → ReadSoFar → ReadSoFar → Type 0
 ReadsUnit text nodes around n unit white next old new =

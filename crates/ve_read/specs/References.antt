@@ -49,7 +49,7 @@ ReadsClaim claim byte old new name attrs children at =
 abbrev pub claim_limit : Claim → ℕ → ReadSoFar → List ℕ → List Attr → Forest → ℕ → Option Limit
 claim_limit claim byte r name attrs children at = deep_in r (ref_leaf at byte (claimed_node at name attrs children claim) r)
 
--- what is said of the element that stands at a node, whatever element it is
+-- the statement holds of the element that stands at a node, whatever element it is
 abbrev pub OfElement : List ℕ → List Node → ℕ → (List ℕ → List Attr → Forest → ℕ → Type 0) → Type 0
 OfElement text nodes n says =
     (name : List ℕ) (attrs : List Attr) (children rest : Forest) (at : ℕ) (more : List ForestNode)
@@ -60,7 +60,7 @@ abbrev pub IsForElement : Forest → Option Claim → Type 0
 IsForElement (Element name attrs children Nothing) claim = Unit {0}
 IsForElement group claim = claim ≡ None
 
--- what is claimed for the group at a node, whatever siblings stand there: with it, the group is the
+-- the claim for the group at a node, whatever siblings stand there: with it, the group is the
 -- reference that the model says
 abbrev pub IsClaimed : ReadSoFar → List Node → ℕ → ℕ → Option Claim → Type 0
 IsClaimed r nodes n end claim =

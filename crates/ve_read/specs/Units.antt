@@ -73,7 +73,7 @@ SortIs sort.White text nodes around n at f more end byte = IsWhite text nodes ar
 SortIs sort.Run text nodes around n at f more end byte = IsRun text nodes around n at f more end byte
 SortIs sort.Block text nodes around n at f more end byte = IsBlockAt text nodes around n at f more end byte
 
--- what is answered of whatever siblings stand at a node, up to another node and a byte
+-- the first unit of whatever siblings stand at a node, up to another node and a byte
 abbrev pub IsUnitAt : List Node → Around → ℕ → ℕ → ℕ → Unit → Type 0
 IsUnitAt nodes around n to byte unit =
     (text : List ℕ) (f : Forest) (at : ℕ) (more : List ForestNode) → StandsIn text nodes n at f more → Whole f n at to byte
@@ -89,8 +89,8 @@ pub record SomeUnit (text : List ℕ) (nodes : List Node) (around : Around) (n :
 
 -- ---- what is left after it
 
--- what is said of whatever siblings stand at a node, of which this stands first and before which
--- the whitespace may be waiting
+-- the statement holds of whatever siblings stand at a node, of which this is the first unit and
+-- before which the whitespace may be waiting
 abbrev pub OfUnit : List ℕ → List Node → Around → ℕ → Unit → List ℕ → (Forest → ℕ → List ForestNode → Type 0) → Type 0
 OfUnit text nodes around n unit white says =
     (f : Forest) (at : ℕ) (more : List ForestNode) → StandsIn text nodes n at f more

@@ -162,8 +162,9 @@ fn items_in(
 /// cite them. The fragment is read in the innermost open kind that it fits, and whitespace alone is
 /// a paragraph where blocks may stand. No item has an origin, and none is generated.
 ///
-/// `Html` comes exactly where no forest spells the text; then `TooManyMarks` where an annotation would stand inside of more than
-/// `MAX_MARKS` marks. How deep the items are isn't judged. After an `Err` further values may follow the store.
+/// `Html` comes exactly where no forest spells the text; then `TooManyMarks` where an annotation
+/// would stand inside of more than `MAX_MARKS` marks. How deep the items are isn't judged. After an
+/// `Err` further values may follow the store.
 pub fn fragment(
     alloc: Global,
     text: &str,

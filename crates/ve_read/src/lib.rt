@@ -2,6 +2,11 @@
 //! and a row for each origin, or the first refusal. The text of a fragment becomes items over a
 //! store. It leaves it to ve_reader where items go.
 //!
+//! Proved: but for want of memory, a page is the model's page, with its list, the values that the
+//! list cites and a row for each origin. Or it is refused as the model refuses it, with the model's
+//! first cause and its byte. A fragment is the model's where these kinds are open, over a store and
+//! just the values that it takes.
+//!
 //! - `page` gives model_page's page as it was opened (`IsReadPage` in `Pages` of specs/), or the
 //!   model's refusal in the model's order. `fragment` gives the model's fragment where these kinds
 //!   are open, or its refusal (`Fragments`).
@@ -17,6 +22,9 @@
 //! Laws: each row has whole characters of the page and is the range of its node (`rows_stand`).
 //! Content and siblings are read one after the other, and reading stops at the first limit in the
 //! text (`content_in_turn`, `siblings_in_turn`).
+//!
+//! The whitespace after the last sibling is handed back by who reads siblings: it belongs to the
+//! closing of their parent, which the reader alone puts.
 #![tactic(auto)]
 
 mod anew;

@@ -25,7 +25,7 @@ claim_of owners reading =
     let key = text_key owners reading.group reading.name in
     if is_some reading.html && is_owned owners key then None else Some (record { key = key; html = reading.html })
 
--- what model_page takes a reading for
+-- the claim of a reading by model_page
 abbrev pub page_claim : List PageOwner → page.RefRead → Claim
 page_claim owners reading = record { key = key_of owners reading; html = option_map chars reading.html }
 

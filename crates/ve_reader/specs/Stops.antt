@@ -35,8 +35,7 @@ stop_limit (stop.TooDeep at) limit = limit ≡ Some (TooDeep at)
 stop_limit (stop.TooManyMarks at) limit = limit ≡ Some (TooManyMarks at)
 stop_limit stop.Memory limit = Unit {0}
 
--- what was to be read is within the limits where it was read, and else is over the limit that is
--- named, unless memory ran out
+-- an `Ok` is within the limits, and an `Err` names the limit that is passed, unless memory ran out
 abbrev pub Stops : {A : Type 0} → Result A ReadStop → Option Limit → Type 0
 Stops (Ok x) limit = limit ≡ None
 Stops (Err e) limit = stop_limit e limit

@@ -1,6 +1,9 @@
 //! Items of a page, a body or a fragment, as they grow from the first one on. It knows pieces of
 //! items, and neither forests nor siblings: its caller walks over a page and says what comes next.
 //!
+//! Proved: but for want of memory, items, heads, marks, characters and leaves of one node, and the
+//! key of a reference, are model_page's. The first opening that is too deep is the model's.
+//!
 //! - A `Reader` holds items over their values, a row for each origin, the marks around, the owners,
 //!   and how many kinds are open (`ReadSoFar` in specs/). Each call adds a piece of model_page's
 //!   conversion (`with_piece`), or an opening or a closing. Reading stops at an opening that is too
@@ -18,6 +21,9 @@
 //! deep is found so (`pieces_are_even`, `pieces_join`, `depths_join`). Leaves, heads and marks are
 //! model_page's (`leaves_are_pieces`, `tags_are_read`), and so are the keys that are claimed
 //! (`claims_are_keys`).
+//!
+//! The items read so far have the rows of origins themselves. Opening a branch hands out the node
+//! and closing takes it back, so nothing keeps a stack of open nodes.
 #![tactic(auto)]
 
 mod cite;

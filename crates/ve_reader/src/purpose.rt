@@ -1,8 +1,8 @@
-// What is read, and why reading stops.
+// The purpose of reading, and why reading stops.
 use thiserror::Error;
 use ve_base::Memory;
 
-/// What is read.
+/// Whether a page, a body or a fragment is read.
 #[derive(Clone, Copy, Debug, PartialEq, Eq)]
 pub enum Purpose {
     /// The body of a page: its nodes have origins, and its references are editable.

@@ -22,6 +22,9 @@
 //! Laws: `spans_decide` says that the spans of two joined transactions, their lengths and whether
 //! their ranges overlap are found from the two spans alone. `joined_stay_normal` says that joined
 //! transactions keep the bound of 2^60 where the list with all that both sides insert is within it.
+//!
+//! A site's transactions over another's are moved along as spans, and copied before each entry. A
+//! conflict leaves them half moved, and those joined up to it have to stand.
 #![tactic(auto)]
 
 mod entries;

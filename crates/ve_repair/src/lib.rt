@@ -24,6 +24,10 @@
 //! Reading: `Reader`, `Courses`, `Made`. Nodes that match, and the bound: `Pieces`, `Traced`,
 //! `Moved`, `Numbered`, `Matching`, `Charged`, `Bounded`. All of it: `Assembly`, `Scene`. The law
 //! is `nodes_outside_stand` (`Outside`).
+//!
+//! A node that moves needs at most eight writes, one that comes seven, one that goes three. Links
+//! between siblings that stay are never written, since they keep their order. A closing has no
+//! identity.
 #![tactic(auto)]
 
 mod assembly;

@@ -32,10 +32,12 @@ moment scene left reads_failed writes_failed =
 -- The lines of the source were to be answered:
 --   Done          the source was read to its end, and every line was answered
 --   ReadFault     the source failed, and all lines that had ended by then were answered
--- InputTooLong  as many bytes as a script may have and one more were taken, and all lines that end
--- before that one were answered
---   WriteFault    the sink failed: the lines whose replies were written were taken, and the one whose reply was not, or not whole
---   Memory        there was no memory to go on, and the replies to some lines from the first on were written
+--   InputTooLong  as many bytes as a script may have and one more were taken,
+--                 and all lines that end before that one were answered
+--   WriteFault    the sink failed: the lines whose replies were written were taken,
+--                 and the one whose reply was not, or not whole
+--   Memory        there was no memory to go on,
+--                 and the replies to some lines from the first on were written
 abbrev pub LinesEnded : {W : Type 0} → Meaning W Reply → (before after : Moment W) → Status → Type 0
 LinesEnded m before after Done = Ran m before.left after.left before.scene after.scene
 LinesEnded m before after ReadFault = Rose before.reads_failed after.reads_failed × Stopped m before.left after.left before.scene after.scene []

@@ -18,7 +18,7 @@ pub record Scene (W : Type 0) : Type 0 where
   pub world : W
   -- the steps counted so far
   pub steps : ℕ
-  -- what the sink holds, where it is known
+  -- the bytes that the sink holds, where they are known
   pub held : Option (List ℕ)
 
 abbrev pub scene : {W : Type 0} → W → ℕ → Option (List ℕ) → Scene W

@@ -32,7 +32,7 @@ abbrev pub summed_up : (answers : List (List ℕ)) → List ℕ
 summed_up answers =
     four_lines (length answers) (how_many_begin (codes "ok") answers) (how_many_begin (codes "no") answers) (sha256 (concat answers))
 
--- what a machine's replies to these lines are summed up as
+-- the sums of a machine's replies to these lines
 abbrev pub soak_text : {W : Type 0} → Meaning W Reply → W → (lines : List (List ℕ)) → List ℕ
 soak_text m world lines = summed_up (reply_lines m world lines)
 

@@ -1,6 +1,9 @@
 //! The server, which puts the entries of all sites into one order, and the messages between sites
 //! and server.
 //!
+//! Proved: a submission is served exactly as the model does it, or nothing changes. Feeds come
+//! first in, first out.
+//!
 //! - `Parcels` are serialised entries, seen by value; each cites its own values, by the type.
 //!   `Submit` is a site's message, `Feed` the server's (specs/Fed.antt).
 //! - The view of `Server` is the committed entries and the queue to each site (specs/Serving.antt).

@@ -188,6 +188,7 @@ module _ (o : FirstRead) (old : Shared) (k : ℕ) (within : k < sites old) (is :
     caret_stands request.Take asked = tt
     caret_stands (request.ShowItems from to) asked = tt
     caret_stands (request.At at) asked = tt
+    caret_stands (request.Near at dir) asked = tt
     caret_stands (request.Edit change) asked = tt
     caret_stands (request.Batch cmds) asked = tt
     caret_stands (request.Select anchor focus) asked = tt

@@ -41,6 +41,7 @@ is_shown request.Refs = true
 is_shown request.Caret = true
 is_shown (request.ShowItems from to) = true
 is_shown (request.At at) = true
+is_shown (request.Near at dir) = true
 is_shown (request.Grid at) = true
 is_shown _ = false
 

@@ -15,7 +15,7 @@ counting_meaning = record meaning { cost = λ w line. steps_of_line w line }
 -- All that the caller of a run can see of it, at one moment.
 pub record Seen : Type 0 where
   pub steps : ℕ
-  -- what the source has left and the sink holds, where they are known
+  -- the bytes that the source has left and the sink holds, where they are known
   pub left : Option (List ℕ)
   pub held : Option (List ℕ)
   -- the faults counted so far

@@ -19,7 +19,9 @@ use model_world_law::layers_fit;
 use std::alloc::Global;
 use std::sync::ledger::Ledger;
 use ve_base::Steps;
-use ve_changes::{ChangeStop, EditCommand, change_draft, erased_range, move_draft, moves_are_asked};
+use ve_changes::{
+    ChangeStop, EditCommand, change_draft, erased_range, move_draft, moves_are_asked,
+};
 use ve_json::{Answer, Request};
 use ve_offsets::Doc;
 use ve_sites::Sites;

@@ -1,5 +1,9 @@
 //! A world: the page that is open with the sites that edit it, and the commands on it.
 //!
+//! Proved: a step answers as `model_world`'s machine and leads to the model's next world, and its
+//! steps have a bound. After want of memory the world is spent: every later step says so.
+//! `run_program` makes a world and runs it.
+//!
 //! The reply to a line is `model_world`'s, and the world after it is the model's. A world holds the
 //! page as it was first read beside the session on it, and its type keeps that some lines lead to
 //! its world. So the invariants of every world that lines lead to hold of it
@@ -14,6 +18,12 @@
 //!   ([`unedited_page_is_told`]); so it is answered without a walk. And a world answers a script as
 //!   the plain machine of the definitions does ([`world_answers_as_defined`]);
 //! - `Program`: a run of a new world, in the words of the definitions ([`run_program`]).
+//!
+//! The page as it was first read stands beside the sites: text, rows, list with values, table of
+//! references. So the items of a page just opened for one site stand in two lists.
+//!
+//! The bound on a line's steps counts the transaction that a change would make, also where it is
+//! refused.
 #![tactic(auto)]
 
 mod batches;

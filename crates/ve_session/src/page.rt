@@ -115,6 +115,7 @@ impl OpenPage {
         ensures led { IsLed (world_on self.now) }
         ensures utf8 { HasUtf8Page (world_on self.now) }
     {
+        // its type keeps that it is UTF-8, which `as_str` tells
         let _text = self.text.as_str();
     }
 

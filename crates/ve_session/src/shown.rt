@@ -5,7 +5,7 @@ ghost use Rattle.ve_sites.specs.Shared.{sites};
 
 use crate::edits::doc_at;
 use std::alloc::Global;
-use ve_answers::{caret, grid, items, node, refs, replies_are_as_asked, tree};
+use ve_answers::{caret, grid, items, near, node, refs, replies_are_as_asked, tree};
 use ve_base::Memory;
 use ve_json::{Answer, Request};
 use ve_sites::Sites;
@@ -22,6 +22,7 @@ pub fn is_shown(request: &Request) -> bool
             | Request::Caret
             | Request::ShowItems { .. }
             | Request::At { .. }
+            | Request::Near { .. }
             | Request::Grid { .. }
     )
 }
@@ -46,6 +47,7 @@ pub fn shown<'a>(
         Request::Refs => refs(alloc, doc),
         Request::ShowItems { from, to } => Ok(items(doc, *from, *to)),
         Request::At { at } => Ok(node(doc, *at)),
+        Request::Near { at, dir } => Ok(near(doc, *at, *dir)),
         Request::Grid { at } => grid(alloc, doc, *at),
         Request::Caret => Ok(caret(session.site(k).editor().selection())),
         _ => unreachable!(),

@@ -3,9 +3,13 @@
 //! `undo`, `redo`, `adopt`, `send`, `take` and `select` make of a site what model_site says, or
 //! refuse it exactly where that does. `pending` gives its pending entries serialised.
 //!
+//! Proved: but for want of memory, each call is the model's, or is refused as it is. Where a call
+//! fails nothing changes. An edit, an undo, a redo, an adoption and a take have bounds on their
+//! steps.
+//!
 //! The view of a site is its number beside the model's site (specs/Numbered.antt), and the type
-//! keeps the invariant of one (specs/Ground.antt). So these calls have two conditions alone: what
-//! it takes runs from its confirmed list (the ground), and what it adopts on its list.
+//! keeps the invariant of one (specs/Ground.antt). So of the site these calls ask two things alone:
+//! what it takes has to run from its confirmed list (the ground), and what it adopts on its list.
 //! specs/Refusal.antt says how a refusal is told. specs/Counted.antt says what a call performs, by
 //! which its steps are bounded. specs/Taking.antt says both of a take, and specs/Settled.antt
 //! defines the changed copy that a site takes. specs/Dropped.antt serves private functions: pending
@@ -16,6 +20,10 @@
 //! which takes a changed copy of its editor has the changes as a new entry.
 //!
 //! It knows neither the server nor other sites.
+//!
+//! The type keeps the invariant on the site's confirmed list: its list with its pending entries
+//! taken back. Neither the opened page nor a committed entry is kept for that. A take is counted by
+//! definition, so one that copied the page for each entry wouldn't meet the bound.
 #![tactic(auto)]
 
 mod laws;

@@ -43,7 +43,16 @@ pub struct Site {
 
 impl Drop for Site {
     fn drop(self) {
-        let Site { number: _, editor, seen: _, sent, history, shared: _, in_flight: _, alloc } = self;
+        let Site {
+            number: _,
+            editor,
+            seen: _,
+            sent,
+            history,
+            shared: _,
+            in_flight: _,
+            alloc,
+        } = self;
         drop(editor);
         drop(sent);
         drop(history);

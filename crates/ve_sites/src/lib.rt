@@ -1,6 +1,9 @@
 //! The sites of a page: a page under edit by several sites, with their queues and one server, in
 //! one process. It is model_site's session, and each call is one turn of it.
 //!
+//! Proved: each call is the turn of the model's session that its name says. Where a call fails
+//! nothing changes. An edit, an undo, a redo, a revoke and a take have bounds on their steps.
+//!
 //! The view of `Sites` is the model's session, beside the list that it was opened with (`Shared` in
 //! specs/). `edit`, `settle`, `select`, `undo`, `redo` and `revoke` change one site and nothing
 //! else. `send` puts a submission behind those that wait; `serve` is the server's turn and `take` a
@@ -9,6 +12,9 @@
 //! fields `Senders` reads. So each call asks only for such a site, and for what that site asks.
 //!
 //! It knows no page text and no script.
+//!
+//! A submission or a feed is taken off its queue only after it was served or taken; so a turn that
+//! fails changes nothing.
 #![tactic(auto)]
 
 mod edits;

@@ -1,6 +1,8 @@
 //! The distinct values that items cite by their positions, looked up by their hash. It knows
 //! values, and no items and no lists of items.
 //!
+//! Proved: values are distinct and found by position; a store is full exactly at the limit.
+//!
 //! - `Store` is the list of its values. `admit` and `intern` give a value's position, the first one
 //!   where an equal value stands, and append it where it is new; `intern` takes none past
 //!   `max_values`.
@@ -13,6 +15,10 @@
 //!   have one hash.
 //!
 //! That a value is found without a walk over the store is how it is written, and no clause says it.
+//!
+//! `admit` may grow a store past 2^20 values; `intern` is then full for a value that is new. A hash
+//! is taken of all texts in order, without their lengths. That affects speed alone, since equal
+//! hashes are compared by value.
 #![tactic(auto)]
 
 mod fault;

@@ -90,7 +90,7 @@ fn grow_cells(
     Ok(())
 }
 
-/// Where a new cell stands in a row that has these cells: before the first at or right of the
+/// The position of a new cell in a row that has these cells: before the first at or right of the
 /// column, else after the last, else before the row's closing.
 fn cell_place(doc: Doc<'_>, row: TableRow, column: usize, cells: &[GridCell]) -> usize
     requires doc { IsDoc doc }
@@ -140,7 +140,7 @@ fn widen_row(
     Ok(())
 }
 
-/// The change that puts a column in, where none of the cells that grow is full.
+/// The transaction that puts a column in, where none of the cells that grow is full.
 fn put_column(
     alloc: Global,
     doc: Doc<'_>,
@@ -195,7 +195,7 @@ fn take_cell(alloc: Global, doc: Doc<'_>, edits: &mut Edits, cell: GridCell) -> 
     Ok(())
 }
 
-/// The change that takes a column out.
+/// The transaction that takes a column out.
 fn take_column(
     alloc: Global,
     doc: Doc<'_>,
@@ -259,8 +259,8 @@ pub fn col_in(
     }
 }
 
-/// The change that takes the column of a number out of the table that opens at a position. A cell
-/// of more columns that covers it loses one column.
+/// The transaction that takes the column of a number out of the table that opens at a position. A
+/// cell of more columns that covers it loses one column.
 ///
 /// It is refused as by `grid`; then `BadColumn` comes exactly where the number isn't below that of
 /// the columns.

@@ -38,7 +38,7 @@ fn row_place(doc: Doc<'_>, rows: &[TableRow], row: usize) -> usize
     node_end(doc, rows[rows.len() - 1].at)
 }
 
-/// The change that puts a row in, where none of the cells that grow is full.
+/// The transaction that puts a row in, where none of the cells that grow is full.
 fn put_row(
     alloc: Global,
     doc: Doc<'_>,
@@ -68,7 +68,7 @@ fn put_row(
     Ok(tx)
 }
 
-/// The change that takes a row out, no cell of which covers more rows.
+/// The transaction that takes a row out, no cell of which covers more rows.
 fn take_row(
     alloc: Global,
     doc: Doc<'_>,
@@ -124,8 +124,8 @@ pub fn row_in(alloc: Global, doc: Doc<'_>, at: usize, row: usize) -> Result<Tran
     }
 }
 
-/// The change that takes the row of a number out of the table that opens at a position. The cells
-/// that span into it from above lose one row.
+/// The transaction that takes the row of a number out of the table that opens at a position. The
+/// cells that span into it from above lose one row.
 ///
 /// It is refused as by `grid`. Then `BadRow` comes exactly where the number isn't below that of the
 /// rows. Last is `Spanned` with the position of the first cell that begins in the row and covers

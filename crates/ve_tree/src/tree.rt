@@ -30,7 +30,11 @@ pub struct Tree {
 
 impl Drop for Tree {
     fn drop(self) {
-        let Tree { arena, root, landmarks } = self;
+        let Tree {
+            arena,
+            root,
+            landmarks,
+        } = self;
         drop(arena);
         drop(root);
         drop(landmarks);

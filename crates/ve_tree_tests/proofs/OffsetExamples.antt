@@ -15,7 +15,7 @@ the_whole_list_is_searched = refl
 abbrev items : List Item
 items = Opening P false None None None None ∷ Char 97 None ∷ Char 98 None ∷ Closing P None ∷ []
 
--- what was borrowed back from the closing begins at the opening: where the closing's position was
--- noted, the opening would stand there
+-- a piece borrowed backwards from the closing begins at the opening: where the closing's position
+-- was noted, the opening would stand there
 a_piece_begins_at_its_first_item : IsPiece items 3 items → ⊥
 a_piece_begins_at_its_first_item piece = let first : Some (Opening P false None None None None) ≡ Some (Closing P None) = ap (λ (xs : List Item). slice_get xs 0) piece in cc

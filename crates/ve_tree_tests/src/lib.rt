@@ -1,6 +1,6 @@
-//! The tests of items and tree that the stored run of `vemodel` doesn't show: of ve_items and
-//! ve_arena, and of the pages in one line of ve_samples, a module for each. They are proved once as
-//! they stand here. There are no other functions and no laws here, and nothing stands on it.
+//! The tests of items and tree that the stored run of `vemodel` doesn't show: of ve_items, ve_arena
+//! and ve_samples, a module for each. They are proved once as they stand here. There are no other
+//! functions and no laws here, and nothing stands on it.
 #![tactic(auto)]
 
 #[cfg(test)]

@@ -2,6 +2,9 @@
 //! that cite a store. It doesn't choose edits: the crates above turn a user's command into a
 //! transaction.
 //!
+//! Proved: but for want of memory, each call is the model's `apply`, `change`, `inverse` or
+//! `filled`, or names exactly the first fault. A recited transaction is the same by value.
+//!
 //! - `Op`, `OpList` and `Transaction` make up an edit. A transaction is in normal form and keeps
 //!   positions beside its operations (specs/Operation.antt, specs/Normal.antt); its meaning by
 //!   value is model_change's.
@@ -18,6 +21,18 @@
 //!
 //! The laws are clauses of these calls: `undone` of `inverse`, `restorable` of `filled`, `applied`
 //! of `apply`. The tests stand in ve_tx_samples.
+//!
+//! A transaction is checked in three passes over the old list alone: lengths, removed items,
+//! attributes. The checks take no memory, so want of memory is answered only where there is no
+//! fault.
+//!
+//! Performing puts only the final head of each changed opening into the store. A parcel's values
+//! are the cited ones in the order of first citation, removed items before inserted ones; in one
+//! item head, marks, whitespace.
+//!
+//! Kept positions stand beside the operations, in a list that may be shorter: an operation without
+//! one beside it keeps none. A transaction is recited over another store whole, and the store takes
+//! in the values of removed items, too.
 #![tactic(auto)]
 
 mod attributes;

@@ -13,7 +13,7 @@ use Rattle.ve_words.specs.declared.read.Asked.{Asked}
 use Rattle.ve_words.specs.declared.unasked.Unasked.{Unasked}
 use Rattle.ve_words.specs.declared.unasked.Unasked.TheVariants as unasked
 
--- what words come to: a mode with its numbers, a refusal, or help
+-- the meaning of words: a mode with its numbers, a refusal, or help
 pub data Meant : Type 0 where
   Asks : (mode : Mode) (start edits : ℕ) → Meant
   Refused : Meant
@@ -31,7 +31,7 @@ abbrev pub number_up_to : ℕ → Text → Option ℕ
 number_up_to most text =
     if is_unsigned_in 0 most text then Some (digits_value 10 (without_leading_plus text)) else None
 
--- what is read of the rows of a parse, by the argument's name
+-- the values in the rows of a parse, by the argument's name
 abbrev pub mode_in : List Row → Option Mode
 mode_in rows = option_and_then mode_named (first_of (codes "mode") rows)
 
@@ -52,7 +52,7 @@ meant_asked None = Refused
 
 -- ---- the refusals
 
--- what a kind of `clap`'s errors comes to
+-- the answer for a kind of `clap`'s errors
 abbrev pub unasked_by : ErrorKind → Unasked
 unasked_by kind.DisplayHelp = unasked.Help
 unasked_by kind.OutOfMemory = unasked.Memory
@@ -67,10 +67,10 @@ abbrev pub meant_by : Kinds → List Row → Meant
 meant_by [] rows = meaning_of_rows rows
 meant_by (kind ∷ more) rows = meant_unasked (unasked_by kind)
 
--- what words in UTF-8 mean
+-- the meaning of words in UTF-8
 abbrev pub meant_texts : List Text → Meant
 meant_texts texts = meant_by (fault_of (vemodel mode_names) texts) (matches_of (vemodel mode_names) texts)
 
--- what the words after the program's name mean, by `clap`'s rules for this command
+-- the meaning of the words after the program's name, by `clap`'s rules for this command
 abbrev pub meaning_of : List (List ℕ) → Meant
 meaning_of words = meant_texts (map encode_utf8_all words)

@@ -12,7 +12,7 @@ use Rattle.model_page_write.specs.Written.{all_stay_inline, has_content, is_bare
 use Rattle.ve_write.specs.Siblings.{View, ending_at}
 use Rattle.ve_write.specs.declared.run.Step.{Step}
 
--- what the items from a position on spell, where references carry these bodies
+-- the siblings of the items from a position on, where references carry these bodies
 abbrev pub spelled_at : List Value → List Item → ℕ → (ℕ → Option Body) → NodesEnding
 spelled_at values items at bodies = ending_at (record { values = values; bodies = bodies }) items at
 

@@ -4,7 +4,8 @@ use Rattle.model_items.specs.declared.item.Item.{Item}
 use Rattle.ve_write.specs.Siblings.{View, ending_at, is_end}
 use Rattle.ve_write.specs.declared.ends.Passed.{Passed}
 
--- what follows the nodes round the first position, where so many more nodes are open at the second
+-- the rest after the nodes round the first position, where so many more nodes are open at the
+-- second
 abbrev pub Inside : List Item → ℕ → ℕ → ℕ → Type 0
 Inside items from depth at = (v : View) → drop depth (ending_at v items at).outer ≡ (ending_at v items from).outer
 

@@ -71,6 +71,7 @@ pub fn is_bare(
     requires within { at < length list.now.items }
     ensures { IfOk result (IsBareAt store.now list.now.items before at) }
 {
+    // a list's length fits, and so does each position in it
     let _len = list.len();
     match list.get(at) {
         Item::Char { .. } => Ok(false),

@@ -116,6 +116,7 @@ fn put_kept(
     ensures none { IfOk result (λ kept. IfNone kept (out.new ≡ out.old)) }
     ensures afresh { IfOk result (λ kept. IfNone kept (IsAfresh (known_of page.entry) before at)) }
 {
+    // a list's length fits, and so does each position in it
     let _len = page.list.len();
     let Item::Opening {
         generated,
@@ -190,6 +191,7 @@ fn put_branch(
         (λ w v. blocks_at w v page.entry.list.now.items before at) (λ w v. blocks_at w v page.entry.list.now.items step.bare step.at)) }
     ensures utf8 { OnOk result (IsUtf8 out.old → IsUtf8 out.new) }
 {
+    // a list's length fits, and so does each position in it
     let _len = page.list.len();
     let bare = is_bare(alloc, page.list, page.store, at, before)?;
     put_opening(alloc, out, page.store, element, bare)?;
@@ -223,6 +225,7 @@ fn put_block(
         (λ w v. blocks_at w v page.entry.list.now.items before at) (λ w v. blocks_at w v page.entry.list.now.items step.bare step.at)) }
     ensures utf8 { OnOk result (IsUtf8 out.old → IsUtf8 out.new) }
 {
+    // a list's length fits, and so does each position in it
     let _len = page.list.len();
     match page.list.get(at) {
         Item::Char { ch, .. } => {
@@ -275,6 +278,7 @@ pub fn put_blocks(
         (λ w v. blocks_at w v page.entry.list.now.items false from)) }
     ensures utf8 { OnOk result (IsUtf8 out.old → IsUtf8 out.new) }
 {
+    // a list's length fits, and so does each position in it
     let _len = page.list.len();
     let mut at = from;
     let mut before = false;

@@ -104,6 +104,7 @@ fn put_inline(
         (λ w v. content_at w v page.entry.list.now.items (marks_in (value_at page.entry.store.now step.opened)) step.at)) }
     ensures utf8 { OnOk result (IsUtf8 out.old → IsUtf8 out.new) }
 {
+    // a list's length fits, and so does each position in it
     let _len = page.list.len();
     match page.list.get(at) {
         Item::Char { ch, marks } => {

@@ -22,9 +22,10 @@ pub struct First<'a> {
     pub origins: &'a Origins<'a>,
 }
 
-/// The page to write: a list and its values, the texts of the bodies that its references carry, by
-/// the positions of the references, and the table of its references. Where the page that was first
-/// read is borrowed, too, nodes that are kept are copied; else the table may be empty.
+/// The page to write: a list and its values, and the table of its references. With them come the
+/// texts of the bodies that its references carry, by the positions of the references. Where the
+/// page that was first read is borrowed, too, nodes that are kept are copied; else the table may be
+/// empty.
 #[derive(Clone, Copy)]
 pub struct Page<'a, 'b> {
     pub list: &'a Linear,

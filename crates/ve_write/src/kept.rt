@@ -17,6 +17,7 @@ pub fn original_at<'b>(page: Page<'_, 'b>, at: usize, origin: Option<u32>) -> Op
     ensures { option_map (λ text. text.now) result
         ≡ originals_of (read_of page.entry.first) page.entry.store.now page.entry.list.now.items at }
 {
+    // its type keeps that its values are distinct, which `len` tells
     let _values = page.store.len();
     let Some(first) = page.first else {
         return None;

@@ -1,6 +1,9 @@
 //! Writing of a list of items as the text of a page: nodes that are kept by the bytes that they
 //! had, all others afresh. It reads no `data-mw` but to compose it.
 //!
+//! Proved: a lawful list in which every reference is editable is written as the model writes it,
+//! each body at the reference that carries it; or nothing changes.
+//!
 //! - `write` appends the page that a list gives after the page that was first read:
 //!   model_page_write's `write`. A node that is as it was read is copied; that is asked once for
 //!   each node on the way down (`Originals` in specs/).
@@ -18,6 +21,10 @@
 //! `BodyTexts`, `Begun` and `Passing` serve private functions. An `Err` is want of memory: `write`
 //! and `write_fresh` then leave the buffer as it was, the others may leave a part. There are no
 //! laws here: reading back is a law of model_page_law.
+//!
+//! The caller tells where the node of each origin stood (`IsFirst`), so whether a node is kept is
+//! asked without a walk. An origin that the page hadn't keeps nothing. Bytes that were UTF-8 still
+//! are after each call that succeeds (clause `utf8`).
 #![tactic(auto)]
 
 mod bare;

@@ -54,6 +54,7 @@ pub fn put_body(
         ++ html_of (body_after at (plain_list store.now (drop (at + 1) list.now.items)))) }
     ensures utf8 { OnOk result (IsUtf8 out.old → IsUtf8 out.new) }
 {
+    // a list's length fits, and so does each position in it
     let _len = list.len();
     let texts = IndexMap::new(alloc);
     let refs = RefTable::new(alloc);

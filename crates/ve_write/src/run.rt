@@ -87,6 +87,7 @@ fn pass_one(
     ensures within { IfOk result (λ step. IfSome step (λ s. s.at ≤ length list.now.items)) }
     ensures passed { IfOk result (λ step. IsPassed store.now list.now.items at seen step) }
 {
+    // a list's length fits, and so does each position in it
     let _len = list.len();
     match list.get(at) {
         Item::Char { ch, marks } => {

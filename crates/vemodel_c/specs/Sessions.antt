@@ -1,4 +1,4 @@
--- What stands behind a handle, and what a line makes of it.
+-- The session behind a handle, and its change by a line.
 use Rattle.std.specs.Prelude.{List, ℕ, [], if◌then◌else◌}
 use Rattle.model_world.specs.Spelled.{reply_text}
 use Rattle.model_world.specs.World.{reply}

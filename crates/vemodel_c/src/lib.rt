@@ -1,14 +1,17 @@
-//! A world for a program that isn't Rattle's: it keeps a handle, and calls four functions on it by C's rules.
+//! A world for a program that isn't Rattle's: it keeps a handle, and calls four functions on it by
+//! C's rules.
 //!
-//! What a handle holds is a session: a world of ve_session, and its reply to the last line (specs/Sessions.antt). The four
-//! functions say of it what the world says of itself: the reply and the world after a line are the model's, and want of
-//! memory is the one free answer. `handles_cross` is a law: a handle may be handed on from thread to thread.
+//! A handle holds a session: a world of ve_session, and its reply to the last line
+//! (specs/Sessions.antt). The four functions say of it what the world says of itself. The reply and
+//! the world after a line are the model's, and want of memory is the one free answer.
+//! `handles_cross` is a law: a handle may be handed on from thread to thread.
 //!
-//! No clause knows the caller. It has to pass a handle that these functions made, or one of zeros; never a copy of an open
-//! one; and slices that are there. clients/c/vemodel.h tells it so.
+//! No clause knows the caller. It has to pass a handle that these functions made, or one of zeros;
+//! never a copy of an open one; and slices that are there. clients/c/vemodel.h tells it so.
 //!
-//! No type that owns memory crosses to C, so a handle is a pointer, with what it points to as a ghost (specs/Ownership.antt).
-//! The functions of `handle` and `loose` are proved by hand: they alone turn a box into its pointer and back.
+//! No type that owns memory crosses to C, so a handle is a pointer, with what it points to as a
+//! ghost (specs/Ownership.antt). The functions of `handle` and `loose` are proved by hand: they
+//! alone turn a box into its pointer and back.
 #![tactic(auto)]
 
 ghost use Rattle.std.specs.Prelude.{◌≡◌, ◌≤◌, ◌++◌, true, false, IfSome, length, min, take, drop};
@@ -29,7 +32,7 @@ use std::mem::replace;
 use std::sync::ledger::{Blank, Ledger};
 use ve_base::{Memory, Steps};
 
-/// What became of a line.
+/// The outcome of a line.
 #[repr(C)]
 #[derive(Clone, Copy)]
 pub struct Stepped {
@@ -108,7 +111,8 @@ fn copied(from: &[u8], out: &mut [u8]) -> usize
     count
 }
 
-/// Opens a closed handle with a world without a page. False: the handle was open, or there was no memory; it is as it was.
+/// Opens a closed handle with a world without a page. False: the handle was open, or there was no
+/// memory; it is as it was.
 #[unsafe(no_mangle)]
 pub extern "C" fn vemodel_open(alloc: Global, handle: &mut Handle) -> bool
     ensures opened { result ≡ true → (handle.old.is_open ≡ false) × (handle.new.is_open ≡ true)
@@ -153,7 +157,8 @@ pub extern "C" fn vemodel_step(alloc: Global, handle: &mut Handle, line: &[u8]) 
     stepped
 }
 
-/// Copies what fits of the last reply's text, and tells how many bytes that is. A closed handle has no bytes to copy.
+/// Copies what fits of the last reply's text, and tells how many bytes that is. A closed handle has
+/// no bytes to copy.
 #[unsafe(no_mangle)]
 pub extern "C" fn vemodel_reply(alloc: Global, handle: &mut Handle, out: &mut [u8]) -> usize
     ensures count { result ≡ min (length (told handle.old)) (length out.old) }

@@ -25,7 +25,8 @@ impl Session {
         }
     }
 
-    /// Answers a line, keeps the reply's text, and tells how long it is. After `Memory` the world is spent.
+    /// Answers a line, keeps the reply's text, and tells how long it is. After `Memory` the world
+    /// is spent.
     pub fn step<L: Ledger>(&mut self, line: &[u8], steps: &mut Steps<L>) -> Result<usize, Memory>
         ensures done { OnOk result (self.new ≡ answered self.old line.now) }
         ensures length { IfOk result (λ n. n ≡ length self.new.reply) }

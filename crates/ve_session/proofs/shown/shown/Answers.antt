@@ -2,7 +2,7 @@ use Rattle.std.proofs.Common.{◌≡◌, length, sym, subst}
 use Rattle.std.specs.Prelude.{unwrap_or, IfOk}
 use Rattle.model_world.specs.declared.command.Request.{Request}
 use Rattle.model_world.specs.declared.command.Request.TheVariants as request
-use Rattle.ve_answers.specs.Replies.{grid_reply, items_reply, node_reply, refs_reply, tree_reply}
+use Rattle.ve_answers.specs.Replies.{grid_reply, items_reply, near_reply, node_reply, refs_reply, tree_reply}
 use Rattle.ve_offsets.specs.Docs.{page_items}
 use Rattle.ve_json.specs.Answers.{reply_of, AnswerCites}
 use Rattle.ve_session.specs.Asked.{asker, IsAnswered}
@@ -52,6 +52,18 @@ returns-in-At c =
       answer = subst (λ (r : Request). IsAnswered r k s c.node.result s) (sym c.in-At.is)
           (shown_over (request.At at) k s (λ items. node_reply items at) (page_items c.doc_at-doc.result) (λ page. c.replies_are_as_asked.ensures.node (asker page s k) at)
           c.doc_at-doc.ensures.items c.node.result c.node.ensures.reply c.node.ensures.cites);
+    }
+
+pub returns-in-Near : goal.returns-in-Near
+returns-in-Near c =
+    let s = c.args.session.now in
+    let k = c.args.k in
+    let at = c.in-Near.at in
+    let dir = c.in-Near.dir in
+    record {
+      answer = subst (λ (r : Request). IsAnswered r k s c.near.result s) (sym c.in-Near.is)
+          (shown_over (request.Near at dir) k s (λ items. near_reply items at dir) (page_items c.doc_at-doc.result)
+          (λ page. c.replies_are_as_asked.ensures.near (asker page s k) at dir) c.doc_at-doc.ensures.items c.near.result c.near.ensures.reply c.near.ensures.cites);
     }
 
 pub returns-in-Grid : goal.returns-in-Grid

@@ -1,4 +1,4 @@
--- What a handle owns is no thread's own: a session, and the right to free its box.
+-- A handle is no thread's own: it owns a session, and the right to free its box.
 use Rattle.std.specs.Prelude.{Bool, true, false}
 use mir.Raw.{raw}
 use base.Shift.{Keyless}
