@@ -1,9 +1,9 @@
 // A page that is open, with the sites that edit it.
-ghost use Rattle.std.specs.Prelude.{◌≡◌, ◌≤◌, ◌<◌, ◌+◌, ◌++◌, ◌∷◌, [], true, false, length, Ok, Some, IfOk, IfErr, OnOk, OnErr, IsUtf8, encode_utf8_all, option_map, slice_get};
+ghost use Rattle.std.specs.Prelude.{◌≡◌, ◌≤◌, ◌<◌, ◌+◌, ◌++◌, true, false, length, Ok, Some, IfOk, IfErr, OnOk, OnErr, IsUtf8, encode_utf8_all, option_map, slice_get};
 ghost use Rattle.model_world.specs.declared.command.Command.TheVariants.{Ask};
 ghost use Rattle.model_world.specs.declared.command.Request.TheVariants as request;
 ghost use Rattle.model_world.specs.Opening.{open_page, session_of};
-ghost use Rattle.model_world.specs.Spelled.{reply_text};
+ghost use Rattle.ve_run.specs.Run.{reply_line};
 ghost use Rattle.ve_changes.specs.Stops.{IsRefused};
 ghost use Rattle.ve_read.specs.Pages.{HasPlaces, IsReadPage};
 ghost use Rattle.ve_session.specs.Asked.{is_shown, reply_and_world, IsAsked};
@@ -152,9 +152,7 @@ impl OpenPage {
         ensures reply { OnOk result (
             out.new
             ≡ out.old
-            ++ (reply_text (reply_and_world (world_on self.now) (Ask request.Html k)).0
-            ++ 10
-            ∷ [])) }
+            ++ reply_line (reply_and_world (world_on self.now) (Ask request.Html k)).0) }
         ensures err { OnErr result (out.new ≡ out.old) }
     {
         unedited_page_is_told();
@@ -169,9 +167,7 @@ impl OpenPage {
         ensures reply { OnOk result (
             out.new
             ≡ out.old
-            ++ (reply_text (reply_and_world (world_on self.now) (Ask request.Html k)).0
-            ++ 10
-            ∷ [])) }
+            ++ reply_line (reply_and_world (world_on self.now) (Ask request.Html k)).0) }
         ensures same { (reply_and_world (world_on self.now) (Ask request.Html k)).1
             ≡ world_on self.now }
         ensures err { OnErr result (out.new ≡ out.old) }
@@ -213,9 +209,7 @@ impl OpenPage {
         ensures reply { OnOk result (
             out.new
             ≡ out.old
-            ++ (reply_text (reply_and_world (world_on self.now) (Ask request.now k)).0
-            ++ 10
-            ∷ [])) }
+            ++ reply_line (reply_and_world (world_on self.now) (Ask request.now k)).0) }
         ensures same { OnOk result (
             (reply_and_world (world_on self.now) (Ask request.now k)).1 ≡ world_on self.now) }
         ensures err { OnErr result (out.new ≡ out.old) }
@@ -242,9 +236,7 @@ impl OpenPage {
         ensures reply { OnOk result (
             out.new
             ≡ out.old
-            ++ (reply_text (reply_and_world (world_on self.old) (Ask request.now k)).0
-            ++ 10
-            ∷ [])) }
+            ++ reply_line (reply_and_world (world_on self.old) (Ask request.now k)).0) }
         ensures world { OnOk result (
             world_on self.new ≡ (reply_and_world (world_on self.old) (Ask request.now k)).1) }
         ensures unsaid { OnErr result (out.new ≡ out.old) }
@@ -272,9 +264,7 @@ impl OpenPage {
         ensures reply { OnOk result (
             out.new
             ≡ out.old
-            ++ (reply_text (reply_and_world (world_on self.old) (Ask request.now k)).0
-            ++ 10
-            ∷ [])) }
+            ++ reply_line (reply_and_world (world_on self.old) (Ask request.now k)).0) }
         ensures world { OnOk result (
             world_on self.new ≡ (reply_and_world (world_on self.old) (Ask request.now k)).1) }
         ensures unsaid { OnErr result (out.new ≡ out.old) }

@@ -1,8 +1,8 @@
 // The page that is open, and the commands on it.
-ghost use Rattle.std.specs.Prelude.{◌≡◌, ◌≤◌, ◌+◌, ◌++◌, ◌∷◌, [], true, Ok, IsErr, OnOk, OnErr, option_map};
+ghost use Rattle.std.specs.Prelude.{◌≡◌, ◌≤◌, ◌+◌, ◌++◌, true, Ok, IsErr, OnOk, OnErr, option_map};
 ghost use Rattle.model_world.specs.declared.command.Command.TheVariants.{Ask, OpenPage as OpensPage};
 ghost use Rattle.model_world.specs.declared.reply.Reply.TheVariants as reply;
-ghost use Rattle.model_world.specs.Spelled.{reply_text};
+ghost use Rattle.ve_run.specs.Run.{reply_line};
 ghost use Rattle.model_world.specs.World.{reply as model_reply};
 ghost use Rattle.ve_session.specs.Asked.{reply_and_world, IsAsked};
 ghost use Rattle.ve_session.specs.Cost.{steps_of, steps_of_line};
@@ -39,7 +39,7 @@ impl Model for World {
 
 /// Appends a refusal as a reply.
 fn refuse(alloc: Global, refusal: Refusal, out: &mut Bytes) -> Result<(), Memory>
-    ensures ok { OnOk result (out.new ≡ out.old ++ (reply_text (reply.No refusal) ++ 10 ∷ [])) }
+    ensures ok { OnOk result (out.new ≡ out.old ++ reply_line (reply.No refusal)) }
     ensures err { OnErr result (out.new ≡ out.old) }
 {
     reply_text(alloc, &Answer::No(refusal), out)
@@ -47,7 +47,7 @@ fn refuse(alloc: Global, refusal: Refusal, out: &mut Bytes) -> Result<(), Memory
 
 /// Appends the length of a list as a reply.
 fn tell_length(alloc: Global, len: usize, out: &mut Bytes) -> Result<(), Memory>
-    ensures ok { OnOk result (out.new ≡ out.old ++ (reply_text (reply.Length len) ++ 10 ∷ [])) }
+    ensures ok { OnOk result (out.new ≡ out.old ++ reply_line (reply.Length len)) }
     ensures err { OnErr result (out.new ≡ out.old) }
 {
     reply_text(alloc, &Answer::Length(len), out)
@@ -98,9 +98,7 @@ impl World {
         ensures reply { OnOk result (
             out.new
             ≡ out.old
-            ++ (reply_text (reply_and_world self.old.world (OpensPage text sites)).0
-            ++ 10
-            ∷ [])) }
+            ++ reply_line (reply_and_world self.old.world (OpensPage text sites)).0) }
         ensures world { OnOk result (
             self.new ≡ record self.old {
               world = (reply_and_world self.old.world (OpensPage text sites)).1;
@@ -133,9 +131,7 @@ impl World {
         ensures reply { OnOk result (
             out.new
             ≡ out.old
-            ++ (reply_text (reply_and_world self.old.world (Ask request.now site)).0
-            ++ 10
-            ∷ [])) }
+            ++ reply_line (reply_and_world self.old.world (Ask request.now site)).0) }
         ensures world { OnOk result (
             self.new ≡ record self.old {
               world = (reply_and_world self.old.world (Ask request.now site)).1;
@@ -164,7 +160,7 @@ impl World {
         requires asked { IsAsked command }
         ensures reply { OnOk result (
             out.new
-            ≡ out.old ++ (reply_text (reply_and_world self.old.world command).0 ++ 10 ∷ [])) }
+            ≡ out.old ++ reply_line (reply_and_world self.old.world command).0) }
         ensures world { OnOk result (
             self.new ≡ record self.old { world = (reply_and_world self.old.world command).1 }) }
         ensures unsaid { OnErr result (out.new ≡ out.old) }
@@ -186,7 +182,7 @@ impl World {
     ) -> Result<(), Memory>
         ensures reply { OnOk result (
             out.new
-            ≡ out.old ++ (reply_text (model_reply self.old.world line.now).0 ++ 10 ∷ [])) }
+            ≡ out.old ++ reply_line (model_reply self.old.world line.now).0) }
         ensures state { OnOk result (self.new ≡ after self.old line.now) }
         ensures unsaid { OnErr result (out.new ≡ out.old) }
         ensures stays_spent { self.old.is_spent ≡ true → IsErr result }
@@ -219,7 +215,7 @@ impl World {
     ) -> Result<(), Memory>
         ensures reply { OnOk result (
             out.new
-            ≡ out.old ++ (reply_text (model_reply self.old.world line.now).0 ++ 10 ∷ [])) }
+            ≡ out.old ++ reply_line (model_reply self.old.world line.now).0) }
         ensures state { OnOk result (self.new ≡ after self.old line.now) }
         ensures unsaid { OnErr result (out.new ≡ out.old) }
         ensures spent_state { OnErr result (self.new ≡ spent_state) }
