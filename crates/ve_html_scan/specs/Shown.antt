@@ -9,7 +9,7 @@ use Rattle.ve_html_scan.specs.declared.token.Token.{Token}
 use Rattle.ve_html_scan.specs.declared.token.Token.TheVariants as lent
 use Rattle.model_spelling.specs.Grammar as g
 use Rattle.model_spelling.specs.Reading as reading
-use Rattle.model_spelling.specs.Reading.{ScanMode, Between, After, Failed, Step, token_at, attrs_from}
+use Rattle.model_spelling.specs.Reading.{Mode, Between, After, Failed, Step, token_at, attrs_from}
 use Rattle.ve_kinds.specs.Tags.{is_raw}
 use Rattle.ve_html_scan.specs.Parts.{close_text}
 
@@ -53,7 +53,7 @@ ShowsToken (lent.Comment text span) (g.Comment t) = text.now ≡ t
 ShowsToken _ _ = ⊥
 
 -- the mode of a scanner after a token
-abbrev pub mode_after_lent : Token → ScanMode
+abbrev pub mode_after_lent : Token → Mode
 mode_after_lent (lent.StartTag name attrs span) = if is_raw name.now then After name.now else Between
 mode_after_lent (lent.EndTag name span) = Between
 mode_after_lent (lent.Chars text span) = Between
@@ -82,7 +82,7 @@ Gives text at (Err f) read = read ≡ Err f
 pub record ScannerState : Type 0 where
   pub text : List ℕ
   pub at : ℕ
-  pub mode : ScanMode
+  pub mode : Mode
 
 -- where a scanner stands after it gave this answer
 abbrev pub scanner_after : Result (Option Token) ScanFault → ScannerState → ScannerState
