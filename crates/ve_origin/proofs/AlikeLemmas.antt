@@ -1,10 +1,13 @@
 -- Going on by a piece of each of two lists.
-use Rattle.std.proofs.Common.{◌≡◌, ◌≢◌, ℕ, ◌+◌, ◌-◌, ◌<◌, ◌≤◌, List, ◌++◌, length, get_or, take, drop, sym, ap, ◌∙◌, arith, drop-drop, inl, inr, Some}
+use Rattle.std.proofs.Common.{◌≡◌, ◌≢◌, ℕ, zero, suc, ◌+◌, ◌-◌, ◌<◌, ◌≤◌, List, [], ◌∷◌, ◌++◌, refl, length, get_or, take, drop, sym, ap, ◌∙◌, arith, drop-drop, inl, inr, Some}
 use Rattle.std.specs.List.{slice_range, slice_get}
 use Rattle.std.proofs.Math.Seq.{take-add}
 use Rattle.std.proofs.lemmas.List.{take-take, get_or-take, get_or-drop}
 use Rattle.std.proofs.lemmas.Option.{slice_get-get_or, get_or_from_slice_get, slice_get_cases}
+use Rattle.model_items.specs.declared.item.Item.{Item}
 use Rattle.ve_origin.specs.Agree.{Agree}
+use Rattle.ve_origin.specs.Known.{AreAlike}
+use Rattle.ve_origin.specs.declared.known.Run.{Run}
 
 pub piece_is : {A : Type 0} (xs piece : List A) (at : ℕ) → piece ≡ slice_range xs at (at + length piece) → piece ≡ take (length piece) (drop at xs)
 piece_is xs piece at is = is ∙ ap (λ m. take m (drop at xs)) (let e : at + length piece - at ≡ length piece = omega arith in e)
@@ -53,3 +56,48 @@ pub differs_on : {A : Type 0} (xs ys one other : List A) (from place n k most : 
 differs_on xs ys one other from place n k most agree here there less less' in_one in_other long long' same =
     agree.differ less less'
     (sym (at_piece xs one from n k here less (omega (arith, in_one, long))) ∙ same ∙ at_piece ys other place n k there less' (omega (arith, in_other, long')))
+
+-- ---- what is known
+
+inside : {A : Type 0} (xs ys : List A) (n p m : ℕ) → p + m ≤ n → take n xs ≡ take n ys → take m (drop p xs) ≡ take m (drop p ys)
+inside xs ys n zero m le e = sym (take-take m n xs (omega (arith, le))) ∙ ap (take m) e ∙ take-take m n ys (omega (arith, le))
+inside xs ys zero (suc p) m le e = absurd (omega (arith, le))
+inside [] [] (suc n) (suc p) m le e = refl
+inside [] (y ∷ ys) (suc n) (suc p) m le e = cc
+inside (x ∷ xs) [] (suc n) (suc p) m le e = cc
+inside (x ∷ xs) (y ∷ ys) (suc n) (suc p) m le e = let rest : take n xs ≡ take n ys = cc in inside xs ys n p m (omega (arith, le)) rest
+
+range_take : {A : Type 0} (xs : List A) (from n : ℕ) → slice_range xs from (from + n) ≡ take n (drop from xs)
+range_take xs from n = ap (λ m. take m (drop from xs)) (let e : from + n - from ≡ n = omega arith in e)
+
+-- a part of two ranges that are alike
+pub range_part : {A : Type 0} (xs ys : List A) (a b n p m : ℕ) → p + m ≤ n → slice_range xs a (a + n) ≡ slice_range ys b (b + n) → slice_range xs (a + p) (a + p + m) ≡ slice_range ys (b + p) (b + p + m)
+range_part xs ys a b n p m le e =
+    range_take xs (a + p) m ∙ ap (take m) (sym (drop-drop p a xs))
+    ∙ inside (drop a xs) (drop b ys) n p m le (sym (range_take xs a n) ∙ e ∙ range_take ys b n)
+    ∙ ap (take m) (drop-drop p b ys) ∙ sym (range_take ys (b + p) m)
+
+-- two ranges one after the other
+pub ranges_join : {A : Type 0} (xs ys : List A) (a b n k : ℕ) → slice_range xs a (a + n) ≡ slice_range ys b (b + n) → slice_range xs (a + n) (a + n + k) ≡ slice_range ys (b + n) (b + n + k) →
+    slice_range xs a (a + (n + k)) ≡ slice_range ys b (b + (n + k))
+ranges_join {A = A} xs ys a b n k e f =
+    parts xs a ∙ (λ i. e i ++ f i) ∙ sym (parts ys b)
+  where
+    parts : (l : List A) (from : ℕ) → slice_range l from (from + (n + k)) ≡ slice_range l from (from + n) ++ slice_range l (from + n) (from + n + k)
+    parts l from =
+        range_take l from (n + k) ∙ take-add n k (drop from l)
+        ∙ (λ i. sym (range_take l from n) i ++ (ap (take k) (drop-drop n from l) ∙ sym (range_take l (from + n) k)) i)
+
+-- so many items of a known run from two places on are alike
+pub known_part : (xs ys : List Item) (run : Run) (from place n m : ℕ) → AreAlike xs ys run → (0 < n → run.now ≤ from) → (0 < n → place ≡ run.first + (from - run.now)) → (0 < n → from - run.now + n ≡ run.count) →
+    m ≤ n → slice_range xs from (from + m) ≡ slice_range ys place (place + m)
+known_part xs ys run from place n zero known before step end le = range_take xs from 0 ∙ sym (range_take ys place 0)
+known_part xs ys run from place n (suc m) known before step end le =
+    let some : 0 < n = omega (arith, le) in
+    let b = before some in
+    let s = step some in
+    let e = end some in
+    let here : run.now + (from - run.now) ≡ from = omega (arith, b) in
+    let there : run.first + (from - run.now) ≡ place = sym s in
+    let part = range_part xs ys run.now run.first run.count (from - run.now) (suc m) (omega (arith, e, le)) known.same in
+    (λ i. slice_range xs (sym here i) (sym here i + suc m)) ∙ part ∙ (λ i. slice_range ys (there i) (there i + suc m))

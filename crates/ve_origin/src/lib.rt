@@ -14,6 +14,9 @@
 //!   values, so its clause holds over every list of distinct values. Rows.antt and Bodies.antt in
 //!   specs/ say by which rows and items it is found; Agree.antt and Without.antt serve private
 //!   functions.
+//! - `Origins::compared` notes in a `Known` how far a node and its origin's are alike, and
+//!   `kept_after` is `kept` that compares none of that again (specs/Known.antt). Nodes in nodes are
+//!   so compared once.
 //! - `Origins::is_first` tells whether a whole list is the one that was first read.
 //!
 //! No call takes memory but `OriginTable::push`. There are no laws here: that the node of each
@@ -23,7 +26,9 @@
 mod bodies;
 mod carried;
 mod compare;
+mod known;
 mod node;
 mod origin;
 
+pub use known::{Known, Run};
 pub use origin::{OriginRow, OriginTable, Origins};

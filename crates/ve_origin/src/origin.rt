@@ -1,11 +1,13 @@
 // The page that was first read, and which nodes are still as they were.
 ghost use Rattle.std.specs.Prelude.{◌≡◌, ◌≤◌, ◌<◌, ◌↔◌, IsTrue, length, take, drop, slice_get, Some};
 ghost use Rattle.model_page_write.specs.PageText.{part_at};
+ghost use Rattle.ve_origin.specs.Known.{IsKnown};
 ghost use Rattle.ve_origin.specs.Origins.{spans, first_read, FirstRead, IsCut, IsRow, AreRows, Keeps};
 
 use crate::carried::{Side, all_carry_same};
 use crate::compare::alike;
-use crate::node::same_node;
+use crate::known::Known;
+use crate::node::{run_of, same_node};
 use model_page::RefTable;
 use std::marker::Model;
 use ve_base::ListOf;
@@ -126,12 +128,29 @@ impl<'a> Origins<'a> {
         requires within { from ≤ length now.now.items }
         ensures { Keeps self.now k now.now.items from refs.now result }
     {
+        self.kept_after(k, now, from, refs, Known::nothing())
+    }
+
+    /// As `kept`, and what is known isn't compared again.
+    pub fn kept_after(
+        &self,
+        k: u32,
+        now: &Linear,
+        from: usize,
+        refs: &RefTable,
+        known: Known,
+    ) -> bool
+        requires number { k < length self.now.rows }
+        requires within { from ≤ length now.now.items }
+        requires known { IsKnown now.now.items refs.now self.now known }
+        ensures { Keeps self.now k now.now.items from refs.now result }
+    {
         let row = self.row(k);
         let count = row.to - row.from;
         if now.len() - from < count {
             return false;
         }
-        if !same_node(now, from, self.first, row.from, count) {
+        if !same_node(now, from, self.first, row.from, count, known.alike) {
             return false;
         }
         let now = Side {
@@ -145,5 +164,29 @@ impl<'a> Origins<'a> {
             from: row.from,
         };
         all_carry_same(now, first, count)
+    }
+
+    /// Compares the node that begins at a place of a list with that of the origin, and says what is known then. Asked
+    /// with it, `kept_after` compares no item of this node or of those in it up to their first difference.
+    pub fn compared(
+        &self,
+        k: u32,
+        now: &Linear,
+        from: usize,
+        refs: &RefTable,
+        known: Known,
+    ) -> Known
+        requires number { k < length self.now.rows }
+        requires within { from ≤ length now.now.items }
+        requires known { IsKnown now.now.items refs.now self.now known }
+        ensures { IsKnown now.now.items refs.now self.now result }
+    {
+        let row = self.row(k);
+        let count = row.to - row.from;
+        if now.len() - from < count {
+            return known;
+        }
+        let alike = run_of(now, from, self.first, row.from, count, known.alike);
+        Known { alike }
     }
 }

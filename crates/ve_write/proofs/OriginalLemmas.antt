@@ -15,9 +15,11 @@ use Rattle.model_page_write.specs.Nodes.{Carried, body_carried, carried_from, ca
 use Rattle.model_page_write.specs.PageText.{carried_same, node_from, node_with, original_at, part_at, without_pre}
 use Rattle.ve_write.specs.Siblings.{AllCite}
 use Rattle.ve_origin.specs.Kept.{first_node, node_at, opens_notes}
+use Rattle.ve_origin.specs.Known.{IsKnown}
+use Rattle.ve_origin.specs.declared.known.Known.{Known}
 use Rattle.ve_origin.specs.Origins.{spans, FirstRead, Keeps}
 use Rattle.ve_origin.proofs.RowLemmas.{not_same}
-use Rattle.ve_write.specs.Originals.{opened_over, origin_of, original_there, originals_of, read_of, AreLent, IsBefore, IsFirst, IsLent}
+use Rattle.ve_write.specs.Originals.{opened_over, origin_of, original_there, originals_of, read_of, AreLent, IsBefore, IsFirst, IsKnownFor, IsLent}
 use Rattle.ve_write.specs.declared.first_page.First.{First}
 
 pub all_cite : (values : List Value) (items : List Item) → AllCite values items → All (CitesWell values) items
@@ -91,3 +93,9 @@ pub past_lent : (values : List Value) (items : List Item) (refs : List RefRow) (
     origin_of (drop at (plain_list values items)) ≡ Some k → None ≡ originals_of (read_of first) values items at
 past_lent values items refs first f at k is past lent e =
     of_first values items first f at _ is (not_kept values (plain_list values items) f.origins.now at k (subst (AreLent values items refs) is lent).first past e)
+
+-- ---- what is known
+
+pub nothing_known : (items : List Item) (refs : List RefRow) (first : Option First) (known : Known) → ((now : List Item) (rows : List RefRow) (o : FirstRead) → IsKnown now rows o known) → IsKnownFor items refs first known
+nothing_known items refs None known h = tt
+nothing_known items refs (Some first) known h = h items refs first.origins.now

@@ -15,7 +15,9 @@ use Rattle.model_page_write.specs.Nodes.{Nodes, Empty, Letter, Node, carried_ite
 use Rattle.model_page_write.specs.PageText.{fresh, original_at, page_writer}
 use Rattle.model_page_write.specs.Written.{Writer, blocks}
 use Rattle.ve_origin.specs.Kept.{node_at, opens_notes, IsNodeRange}
+use Rattle.ve_origin.specs.Known.{IsKnown}
 use Rattle.ve_origin.specs.Origins.{FirstRead, source_span, spans}
+use Rattle.ve_origin.specs.declared.known.Known.{Known}
 use Rattle.ve_origin.specs.declared.origin.OriginRow.{OriginRow}
 use Rattle.ve_write.specs.declared.first_page.First.{First}
 
@@ -77,3 +79,8 @@ AreLent values items refs (Some first) = IsLent values items refs first.origins.
 abbrev pub IsBefore : List Value → List Item → Option First → ℕ → Type 0
 IsBefore values items None at = ⊤
 IsBefore values items (Some first) at = list_any opens_notes (take at (plain_list values items)) ≡ false
+
+-- Where it is lent, this is known of its list and of this one.
+abbrev pub IsKnownFor : List Item → List RefRow → Option First → Known → Type 0
+IsKnownFor items refs None known = ⊤
+IsKnownFor items refs (Some first) known = IsKnown items refs first.origins.now known

@@ -12,7 +12,8 @@ use Rattle.model_page_write.specs.PageText.{html_of}
 use Rattle.model_page_write.specs.Written.{Writer, blocks, content, is_bare, original_of, white_after}
 use Rattle.ve_write.specs.Siblings.{View, ending_at}
 use Rattle.ve_write.specs.declared.first_page.Page.{Page}
-use Rattle.ve_write.specs.Originals.{original_in, originals_of, read_of, AreLent, IsBefore}
+use Rattle.ve_origin.specs.declared.known.Known.{Known as Compared}
+use Rattle.ve_write.specs.Originals.{original_in, originals_of, read_of, AreLent, IsBefore, IsKnownFor}
 
 -- the text that is known for a position
 abbrev pub text_of : {S : Type 0} → IndexMap ℕ (List ℕ) S → ℕ → Option (List ℕ)
@@ -46,6 +47,10 @@ LendsFirst page = AreLent page.store.now page.list.now.items page.refs.now page.
 -- Where it is borrowed, the internal list opens at this position or after it.
 abbrev pub StandsBefore : Page → ℕ → Type 0
 StandsBefore page at = IsBefore page.store.now page.list.now.items page.first at
+
+-- Where it is lent, this is known of its list and the one that is written.
+abbrev pub IsKnownOf : Page → Compared → Type 0
+IsKnownOf page known = IsKnownFor page.list.now.items page.refs.now page.first known
 
 abbrev pub view_of : Known → (ℕ → Option Body) → View
 view_of k bodies = record { values = k.values; bodies = bodies }

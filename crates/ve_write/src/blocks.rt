@@ -9,11 +9,11 @@ ghost use Rattle.model_page.specs.Editable.{all_refer, head_refers};
 ghost use Rattle.ve_write.specs.Siblings.{is_end, AllCite, Ends, SameOuter};
 ghost use Rattle.ve_write.specs.Bare.{IsBareAt};
 ghost use Rattle.ve_write.specs.Begun.{holds_blocks, nests, single};
-ghost use Rattle.ve_write.specs.Told.{blocks_at, known_of, text_of, GoesOn, IsAfresh, IsAppended, LendsFirst, StandsBefore};
+ghost use Rattle.ve_write.specs.Told.{blocks_at, known_of, text_of, GoesOn, IsAfresh, IsAppended, IsKnownOf, LendsFirst, StandsBefore};
 
 use crate::content::put_content;
 use crate::first_page::{Page, put_cited_leaf, put_white};
-use crate::kept::original_at;
+use crate::kept::{compared_at, original_at};
 use crate::tags::{Element, put_closing, put_opening};
 use crate::{after_siblings, ends_at, is_bare, siblings_end};
 use model_items::Item;
@@ -22,6 +22,7 @@ use ve_base::{Bytes, Memory, ValueId};
 use ve_items::Linear;
 use ve_kinds::{Kind, is_content_branch, is_leaf};
 use ve_node_text::put_letter;
+use ve_origin::Known;
 
 /// Whether nodes of the kind hold blocks that are written. The internal list isn't written, since
 /// bodies are written where references carry them.
@@ -100,11 +101,13 @@ fn put_kept(
     page: Page<'_, '_>,
     at: usize,
     before: bool,
+    known: Known,
 ) -> Result<Option<Step>, Memory>
     requires cites { AllCite page.store.now page.list.now.items }
     requires lent { LendsFirst page }
     requires before { StandsBefore page at }
     requires within { at < length page.list.now.items }
+    requires known { IsKnownOf page known }
     ensures more { IfOk result (λ kept. IfSome kept (λ step. at < step.at)) }
     ensures within { IfOk result (λ kept.
         IfSome kept (λ step. step.at ≤ length page.entry.list.now.items)) }
@@ -127,7 +130,7 @@ fn put_kept(
     else {
         return Ok(None);
     };
-    let Some(text) = original_at(page, at, origin) else {
+    let Some(text) = original_at(page, at, origin, known) else {
         return Ok(None);
     };
     let bare = is_bare_at(alloc, page, at, generated, before)?;
@@ -259,17 +262,21 @@ fn put_block(
 /// Appends the blocks that begin at a position of the list, and says where they end: where their
 /// parent closes, or the list ends. A reference carries the body whose text is borrowed for its
 /// position, and is written without one where none is.
+/// A node that isn't kept was compared up to its first difference: nodes in it aren't compared
+/// again up to there.
 pub fn put_blocks(
     alloc: Global,
     out: &mut Bytes,
     page: Page<'_, '_>,
     from: usize,
+    known: Known,
 ) -> Result<usize, Memory>
     requires cites { AllCite page.store.now page.list.now.items }
     requires refers { all_refer (plain_list page.store.now page.list.now.items) ≡ true }
     requires lent { LendsFirst page }
     requires before { StandsBefore page from }
     requires within { from ≤ length page.list.now.items }
+    requires known { IsKnownOf page known }
     ensures more { IfOk result (λ end. from ≤ end) }
     ensures within { IfOk result (λ end. end ≤ length page.entry.list.now.items) }
     ensures closed { IfOk result (λ end. is_end (drop end page.entry.list.now.items) ≡ true) }
@@ -283,12 +290,13 @@ pub fn put_blocks(
     let mut at = from;
     let mut before = false;
     'sibling: while !ends_at(page.list, at) {
-        if let Some(step) = put_kept(alloc, out, page, at, before)? {
+        let found = compared_at(page, at, known);
+        if let Some(step) = put_kept(alloc, out, page, at, before, found)? {
             at = step.at;
             before = step.bare;
         } else if let Some(element) = nest_at(page.list, at) {
             put_opening(alloc, out, page.store, element, false)?;
-            let end = put_blocks(alloc, out, page, at + 1)?;
+            let end = put_blocks(alloc, out, page, at + 1, found)?;
             let after = after_siblings(page.list, end);
             put_closing(alloc, out, page.store, element.kind, after.pre, false)?;
             at = after.at;

@@ -16,6 +16,7 @@ use std::alloc::Global;
 use ve_base::{Bytes, Memory, ValueId};
 use ve_kinds::Kind;
 use ve_node_text::{change_marks, marks_of, put_letter};
+use ve_origin::Known;
 use ve_store::Store;
 
 /// Where writing goes on in content, and which marks are open there.
@@ -74,7 +75,7 @@ fn put_inline_leaf(
         (leaf_of (head_in (value_at page.entry.store.now leaf.head)) (text_of page.entry.texts.now at) leaf.kind)) }
     ensures utf8 { OnOk result (IsUtf8 out.old → IsUtf8 out.new) }
 {
-    match original_at(page, at, leaf.origin) {
+    match original_at(page, at, leaf.origin, Known::nothing()) {
         Some(text) => out.push(text.as_bytes()),
         None => put_cited_leaf(alloc, out, page, at, leaf.head, leaf.kind),
     }

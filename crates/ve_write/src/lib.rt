@@ -6,7 +6,8 @@
 //!
 //! - `write` appends the page that a list gives after the page that was first read:
 //!   model_page_write's `write`. A node that is as it was read is copied; that is asked once for
-//!   each node on the way down (`Originals` in specs/).
+//!   each node on the way down (`Originals` in specs/). Items that were found alike in a node aren't
+//!   compared again for the nodes in it (`Known` of ve_origin).
 //! - `write_fresh` appends the nodes of a list without origins: model_page_write's `fresh`.
 //! - `put_list`, `put_blocks` and `put_body` do the same for a writer that is told where bodies
 //!   stand (`Told`). One walk goes forward over the items, and calls itself for an element in an

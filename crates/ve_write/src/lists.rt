@@ -17,6 +17,7 @@ use model_page::RefTable;
 use std::alloc::Global;
 use ve_base::{Bytes, Memory};
 use ve_items::Linear;
+use ve_origin::Known;
 use ve_store::Store;
 
 /// Appends the whole list: the bytes of nodes that are kept, and the text of all others. The texts
@@ -32,7 +33,7 @@ pub fn put_list(alloc: Global, out: &mut Bytes, page: Page<'_, '_>) -> Result<()
         (plain_list page.entry.store.now page.entry.list.now.items)) }
     ensures utf8 { OnOk result (IsUtf8 out.old → IsUtf8 out.new) }
 {
-    put_blocks(alloc, out, page, 0)?;
+    put_blocks(alloc, out, page, 0, Known::nothing())?;
     Ok(())
 }
 
@@ -65,7 +66,7 @@ pub fn put_body(
         refs: &refs,
         first: None,
     };
-    let end = put_blocks(alloc, out, page, at + 1)?;
+    let end = put_blocks(alloc, out, page, at + 1, Known::nothing())?;
     put_white(out, store, after_siblings(list, end).pre)?;
     Ok(())
 }

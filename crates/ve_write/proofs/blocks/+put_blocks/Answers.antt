@@ -31,7 +31,7 @@ put_blocks-requires t c =
     (sym c.ends_at.ensures ∙ c.sibling-test.true) in
     let inside = before_inside c.args.page.store.now c.args.page.list.now.items c.args.page.first c.sibling.at c.in-Some-nest_at.element.kind _ _ _ _ _ here e.3 n.list in
     let less = slice_get_within c.args.page.list.now.items c.sibling.at _ e.3 in
-    (omega (arith, c.decreases, c.sibling.invariant.more, less), (c.requires.cites, (c.requires.refers, (c.requires.lent, (inside, omega (arith, less))))))
+    (omega (arith, c.decreases, c.sibling.invariant.more, less), (c.requires.cites, (c.requires.refers, (c.requires.lent, (inside, (omega (arith, less), c.compared_at-found.ensures))))))
 
 pub sibling-preserved-in-Some-nest_at : goal.sibling-preserved-in-Some-nest_at
 sibling-preserved-in-Some-nest_at t c =
