@@ -16,7 +16,7 @@ use Rattle.model_items.specs.declared.law_fault.LawFault.TheVariants.{Unlawful, 
 use Rattle.model_items.specs.Law.{State, start, top, is_empty, is_over, may_open, state_opened, state_closed, step, outcome_moved, outcome_then, after, verdict_at, Lawful}
 use Rattle.model_page.specs.References.{Body}
 use Rattle.model_page_write.specs.Nodes.{Carried, Start, Nodes, Empty, Letter, Node, node_list_items, start_item, carried_from, carried_items, body_carried}
-use Rattle.model_page_law.proofs.NodesLemmas.{outcome_then as and_then}
+use Rattle.model_page_law.proofs.NodesLemmas.{followed as and_then}
 
 -- each node may stand in its parent, and none is the internal list
 abbrev pub Nested : Kind → Nodes → Type 0

@@ -5,7 +5,7 @@ pub use Rattle.ve_tx.specs.ByValue
 pub use Rattle.ve_tx.specs.Normal
 pub use Rattle.model_site.specs.Joined
 pub use Rattle.model_site.specs.Session
-pub mod ActiveSpan
+pub mod Span
 pub mod Pair
 pub mod Totals
 pub mod Places

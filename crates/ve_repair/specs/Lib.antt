@@ -39,7 +39,7 @@ pub mod Traced
 pub mod Moved
 pub mod Outside
 pub mod Cursors
-pub mod ChangeReader
+pub mod Reader
 pub mod Courses
 pub mod Range
 pub mod Assembly

@@ -22,7 +22,7 @@ pub mod Ends
 pub mod Parcel
 pub mod ByValue
 pub mod Copied
-pub mod CitedValues
+pub mod Taken
 pub mod Checked
 pub mod Attrs
 pub mod Making
