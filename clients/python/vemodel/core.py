@@ -142,7 +142,7 @@ class Core:
         """
         if program is not None and library is not None:
             raise TypeError("a core is over a program or over a library")
-        self._world: World = Library(library) if library is not None else _world(program)
+        self._world = _world(program, library)
 
     def __enter__(self) -> Core:
         return self
@@ -348,13 +348,21 @@ class Core:
 _spelled = json.JSONEncoder(ensure_ascii=False, separators=(",", ":")).encode
 
 
-def _world(program: StrPath | None) -> World:
-    """Returns the program at a path, or what is found."""
-    if program is not None or os.environ.get("VEMODEL"):
+def _world(program: StrPath | None, library: StrPath | None) -> World:
+    """Begins over what is given, or else over what is named or found."""
+    if library is not None:
+        return Library(library)
+    if program is not None:
         return Program(program)
-    library = find_library()
+    return _found()
+
+
+def _found() -> World:
+    library = None if os.environ.get("VEMODEL") else find_library()
+    if library is None:
+        return Program()
     try:
-        return Library(library) if library else Program()
+        return Library(library)
     except OSError:
         # That of the repository is for Linux on x86-64 alone.
         if os.environ.get("VEMODEL_LIBRARY"):
