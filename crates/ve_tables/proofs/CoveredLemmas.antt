@@ -1,4 +1,4 @@
--- The floors of columns, and the positions that cells cover.
+-- What the rows of cells say of the places that they cover.
 use Rattle.std.specs.List.{list_any, range_with_len}
 use Rattle.std.proofs.Common.{◌≡◌, ℕ, zero, suc, ◌+◌, ◌-◌, ◌<◌, ◌≤◌, max, Bool, true, false, not, ◌&&◌, ◌||◌, if◌then◌else◌, nat_lt, nat_le, Some, List, [], ◌∷◌, ◌++◌, length, take, drop, get_or, refl, sym, ap, ◌∙◌, subst, arith, take-append-drop, zero-add}
 use Rattle.std.proofs.lemmas.Bool.{le-leb}
@@ -10,7 +10,7 @@ use Rattle.model_edit.specs.Causes.{TableCause, Ragged}
 use Rattle.model_edit.specs.Grid.{Grid, covers_row, covers_column, is_covered}
 use Rattle.model_edit.specs.Tables.{has_gap_before, first_fault}
 use Rattle.ve_tables.specs.CellQuestions.{ragged_causes}
-use Rattle.ve_tables.specs.Covered.{AreInRows, AreLowered, AreFloors}
+use Rattle.ve_tables.specs.Covered.{AreInRows}
 
 -- a cell at or above a row covers it exactly where it ends below
 covers_below : (cell : GridCell) (r : ℕ) → cell.row ≤ r → covers_row cell r ≡ nat_lt r (cell.row + cell.rows)
@@ -70,67 +70,14 @@ all_covers test row next rows floor cells later above =
     ap (list_any p) (sym (take-append-drop next cells)) ∙ list_any-append p (take next cells) (drop next cells)
     ∙ ap (λ b. list_any p (take next cells) || b) (none_below test row (suc row) rows (drop next cells) (omega arith) later) ∙ or_none (list_any p (take next cells)) ∙ above
 
--- ---- floors of columns
-
-pub floors_more : (row : ℕ) (cells : List GridCell) (cell : GridCell) (old new : List ℕ) → cell.row ≤ row → AreFloors row cells old → AreLowered cell old new → AreFloors row (cells ++ cell ∷ []) new
-floors_more row cells cell old new above floors lowered r k low inside =
-    let n = lowered.long in
-    floor_more (λ (c : GridCell). covers_column c k) cells cell row (get_or old k 0) (get_or new k 0) above (lowered.each k (omega arith)) (λ r low. floors r k low (omega arith)) r low
-
--- over a list and over its positions
-any_places : (p : ℕ → Bool) (f : ℕ → Bool) (xs : List ℕ) (from : ℕ) → ((k : ℕ) → k < length xs → p (get_or xs k 0) ≡ f (from + k)) → list_any p xs ≡ list_any f (range_with_len from (length xs))
-any_places p f [] from same = refl
-any_places p f (x ∷ xs) from same =
-    let z : from + 0 ≡ from = omega arith in
-    let here : p x ≡ f from = same 0 (omega arith) ∙ ap f z in
-    ap (λ b. b || list_any p xs) here
-    ∙ ap (λ b. f from || b) (any_places p f xs (from + 1) (λ k less. same (suc k) (omega arith) ∙ (let y : from + suc k ≡ (from + 1) + k = omega arith in ap f y)))
-
--- a position left of the column is covered by no cell exactly where the column's floor isn't below
--- the row
-pub gap_is : (row next rows : ℕ) (cells : List GridCell) (floors : List ℕ) → AreInRows (suc row) rows (drop next cells) → AreFloors row (take next cells) floors →
-    list_any (λ (floor : ℕ). nat_le floor row) floors ≡ has_gap_before cells row (length floors)
-gap_is row next rows cells floors later are =
-    any_places (λ floor. nat_le floor row) (λ k. not (is_covered cells row k)) floors 0
-    (λ k less.
-    turned (get_or floors k 0)
-    ∙ ap not (sym (all_covers (λ (c : GridCell). covers_column c k) row next rows (get_or floors k 0) cells later (are row k (omega arith) less)))
-    ∙ ap (λ j. not (is_covered cells row j)) (sym (zero-add k)))
-  where
-    turned : (floor : ℕ) → nat_le floor row ≡ not (nat_lt row floor)
-    turned floor = grind (arith, nat_tests)
-
 -- cells of rows from one on are of rows from an earlier one on
 pub rows_lower : (low low' rows : ℕ) (cells : List GridCell) → low' ≤ low → AreInRows low rows cells → AreInRows low' rows cells
 rows_lower low low' rows [] less h = tt
 rows_lower low low' rows (cell ∷ cells) less h = let a = h.0 in (omega arith, h.1, h.2)
 
--- the cell that is passed next, in its row
-pub next_below : (row rows next : ℕ) (cells : List GridCell) (d : GridCell) → next < length cells → row < (get_or cells next d).row → AreInRows 0 rows (drop next cells) → AreInRows (suc row) rows (drop next cells)
-next_below row rows next cells d inside below h =
-    let e = drop_more cells next d inside in
-    let there = subst (AreInRows 0 rows) e h in
-    subst (AreInRows (suc row) rows) (sym e) (below, there.1, there.2)
-
+-- the cell that is passed next
 pub next_passed : (rows next : ℕ) (cells : List GridCell) (d : GridCell) → next < length cells → AreInRows 0 rows (drop next cells) →
     ((get_or cells next d).row + (get_or cells next d).rows ≤ rows) × AreInRows 0 rows (drop (next + 1) cells)
 next_passed rows next cells d inside h =
     let there = subst (AreInRows 0 rows) (drop_more cells next d inside) h in
     (there.1, rows_lower (get_or cells next d).row 0 rows (drop (next + 1) cells) (omega arith) there.2)
-
-pub floors_later : (row later : ℕ) (cells : List GridCell) (floors : List ℕ) → row ≤ later → AreFloors row cells floors → AreFloors later cells floors
-floors_later row later cells floors less are r k low inside = are r k (omega arith) inside
-
--- ---- the first row with a gap
-
-pub ragged_yes : (column : ℕ) (g : Grid) (row count : ℕ) (more : List (Bool × TableCause)) → 0 < count → has_gap_before g.cells row column ≡ true →
-    first_fault (ragged_causes column g row count ++ more) ≡ Some (Ragged row)
-ragged_yes column g row zero more some gap = absurd (omega arith)
-ragged_yes column g row (suc count) more some gap = ap (λ b. first_fault ((b, Ragged row) ∷ ragged_causes column g (row + 1) count ++ more)) gap
-
-pub ragged_no : (column : ℕ) (g : Grid) (row count : ℕ) (more : List (Bool × TableCause)) → 0 < count → has_gap_before g.cells row column ≡ false →
-    first_fault (ragged_causes column g row count ++ more) ≡ first_fault (ragged_causes column g (row + 1) (count - 1) ++ more)
-ragged_no column g row zero more some gap = absurd (omega arith)
-ragged_no column g row (suc count) more some gap =
-    let z : count ≡ suc count - 1 = omega arith in
-    ap (λ b. first_fault ((b, Ragged row) ∷ ragged_causes column g (row + 1) count ++ more)) gap ∙ ap (λ n. first_fault (ragged_causes column g (row + 1) n ++ more)) z

@@ -9,5 +9,8 @@ pub mod PlaceLemmas
 pub mod RiseLemmas
 pub mod StandLemmas
 pub mod ColumnLemmas
+pub mod RunLemmas
+pub mod FloorLemmas
 pub mod PlacingLemmas
+pub mod GapLemmas
 pub mod SpanLemmas

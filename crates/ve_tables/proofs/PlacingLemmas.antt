@@ -7,8 +7,12 @@ use Rattle.std.proofs.lemmas.List.Elements.{All-nil, All-cons, All-append}
 use Rattle.std.proofs.lemmas.Bool.{cases_Bool, and_parts, and_from, le-leb, lt-ltb, leb-true, ltb-true, leb-false, ltb-false, false_from_ne_true, true≢false}
 use Rattle.model_edit.specs.declared.grid_cell.GridCell.{GridCell}
 use Rattle.model_edit.specs.Grid.{covers_row, covers_column, is_covered, first_free, cells_meet, is_crooked}
-use Rattle.ve_tables.specs.Floors.{IsFreeFrom, HasCovered, AreSet, IsBegun, IsPlacing}
+use Rattle.ve_tables.specs.Covered.{IsGap}
+use Rattle.ve_tables.specs.Runs.{count_at, floor_at, IsBelow}
+use Rattle.ve_tables.specs.Floors.{AreApart, IsSettled, IsFirst, HasTaken, AreTaken, IsFound, IsCovering, IsInTheWay, IsBegun, IsPlacing}
+use Rattle.ve_tables.specs.declared.floors.Floors.{Floors}
 use Rattle.ve_tables.specs.Placed.{Placed, next_cell}
+use Rattle.ve_tables.proofs.FloorLemmas.{floor_none, floor_below}
 
 -- the walk of the model, past columns that are covered to one that is not
 seek : (cells : List GridCell) (row from n fuel : ℕ) → ((c : ℕ) → from ≤ c → c < from + n → is_covered cells row c ≡ true) → is_covered cells row (from + n) ≡ false → n ≤ fuel →
@@ -27,15 +31,15 @@ seek cells row from (suc n) (suc fuel) passed free few =
     omega arith
 
 -- The next cell's column is the first one whose floor isn't below the row.
-pub column_is : (cells : List GridCell) (row end column : ℕ) (floors : List ℕ) → IsPlacing cells row end floors → end ≤ column → column ≤ length floors →
-    ((c : ℕ) → end ≤ c → c < column → row < get_or floors c 0) → get_or floors column 0 ≤ row →
+pub column_is : (cells : List GridCell) (row end column : ℕ) (floors : Floors) → IsPlacing cells row end floors → end ≤ column → column ≤ floors.width →
+    ((c : ℕ) → end ≤ c → c < column → row < floor_at floors.taken c) → floor_at floors.taken column ≤ row →
     first_free cells row end (sum_by (λ (c : GridCell). c.columns) cells) ≡ column
 column_is cells row end column floors p low high passed free =
     let z : end + (column - end) ≡ column = omega arith in
     let few = p.few in
     let e = seek cells row end (column - end) (sum_by (λ (c : GridCell). c.columns) cells)
-    (λ c from_ to_. p.covered row c (omega arith) ∙ lt-ltb row (get_or floors c 0) (passed c from_ (omega arith)))
-    (subst (λ c. is_covered cells row c ≡ false) (sym z) (p.covered row column (omega arith) ∙ false_from_ne_true _ (λ t. let l = ltb-true row (get_or floors column 0) t in absurd (omega arith))))
+    (λ c from_ to_. p.covered row c (omega arith) ∙ lt-ltb row (floor_at floors.taken c) (passed c from_ (omega arith)))
+    (subst (λ c. is_covered cells row c ≡ false) (sym z) (p.covered row column (omega arith) ∙ false_from_ne_true _ (λ t. let l = ltb-true row (floor_at floors.taken column) t in absurd (omega arith))))
     (omega arith) in
     e ∙ z
 
@@ -125,31 +129,47 @@ wide_more a [] one = refl
 wide_more a (b ∷ cells) one = wide_more (a + b.columns) cells one
 
 -- A cell more, with the floors of its columns below it.
-pub placed_more : (cells : List GridCell) (one : GridCell) (end : ℕ) (floors new : List ℕ) → IsPlacing cells one.row end floors → 1 ≤ one.columns → one.column ≤ length floors →
-    IsFreeFrom floors one.row one.column (one.column + one.columns) → AreSet floors one.column (one.column + one.columns) (one.row + one.rows) new →
+pub placed_more : (cells : List GridCell) (one : GridCell) (end : ℕ) (floors new : Floors) → IsPlacing cells one.row end floors → All (IsBelow one.row) floors.taken →
+    IsFirst floors one.column → 1 ≤ one.columns → 1 ≤ one.rows → AreTaken floors one.column (one.column + one.columns) (one.row + one.rows) new → AreApart new →
     IsPlacing (cells ++ one ∷ []) one.row (one.column + one.columns) new
-placed_more cells one end floors new p wide within free set_ =
+placed_more cells one end floors new p below first wide high set_ apart =
     let few = p.few in
-    let long = set_.long in
+    let long = set_.width in
+    let within = first.high in
     let more = wide_more 0 cells one in
     record {
       covered = λ r c down. any_more (λ (b : GridCell). covers_row b r && covers_column b c) cells one ∙ at r c down;
       begun = All-append (IsBegun one.row) cells (one ∷ []) p.begun (All-cons (IsBegun one.row) one [] (record { above = omega arith; wide = wide }) (All-nil (IsBegun one.row)));
       wide = long ∙ ap (λ n. max n (one.column + one.columns)) p.wide ∙ sym (ends_more 0 cells one);
       few = omega arith;
-      reached = omega arith;
+      reached = reached;
+      apart = apart;
     }
   where
-    at : (r c : ℕ) → one.row ≤ r → (is_covered cells r c || ((covers_row one r && covers_column one c) || false)) ≡ nat_lt r (get_or new c 0)
+    free : (c : ℕ) → one.column ≤ c → c < one.column + one.columns → floor_at floors.taken c ≤ one.row
+    free c low high_ = let none = floor_none floors.taken c (set_.free c low high_) in omega arith
+
+    reached : (c : ℕ) → c < one.column + one.columns → one.row < floor_at new.taken c
+    reached c less =
+        elim (cases_Bool (nat_lt c one.column)) [
+          | inl t ↦ (let before = ltb-true c one.column t in
+              let same = set_.outside c (inl before) in
+              let passed = first.passed c before in
+              let low = floor_below one.row floors.taken c below (omega arith) in
+              omega arith)
+          | inr f ↦ (let l = ltb-false c one.column f in let is = set_.inside c l less in omega arith)
+        ]
+
+    at : (r c : ℕ) → one.row ≤ r → (is_covered cells r c || ((covers_row one r && covers_column one c) || false)) ≡ nat_lt r (floor_at new.taken c)
     at r c down = ap (λ x. x || ((covers_row one r && covers_column one c) || false)) (p.covered r c down) ∙ by (covers_column one c) refl
       where
-        by : (x : Bool) → covers_column one c ≡ x → (nat_lt r (get_or floors c 0) || ((covers_row one r && x) || false)) ≡ nat_lt r (get_or new c 0)
+        by : (x : Bool) → covers_column one c ≡ x → (nat_lt r (floor_at floors.taken c) || ((covers_row one r && x) || false)) ≡ nat_lt r (floor_at new.taken c)
         by true e =
             let q = and_parts (nat_le one.column c) _ e in
             let low = leb-true one.column c q.0 in
             let high = ltb-true c (one.column + one.columns) q.1 in
             let f = free c low high in
-            let old : nat_lt r (get_or floors c 0) ≡ false = false_from_ne_true _ (λ t. let l = ltb-true r (get_or floors c 0) t in absurd (omega arith)) in
+            let old : nat_lt r (floor_at floors.taken c) ≡ false = false_from_ne_true _ (λ t. let l = ltb-true r (floor_at floors.taken c) t in absurd (omega arith)) in
             let row : nat_le one.row r ≡ true = le-leb one.row r down in
             ap (λ x. x || (((nat_le one.row r && nat_lt r (one.row + one.rows)) && true) || false)) old
             ∙ ap (λ x. (((x && nat_lt r (one.row + one.rows)) && true) || false)) row
@@ -167,46 +187,83 @@ placed_more cells one end floors new p wide within free set_ =
                 | inr f ↦ ltb-false c (one.column + one.columns) f
               ])
             ]) in
-            plain (nat_lt r (get_or floors c 0)) (covers_row one r) ∙ ap (λ n. nat_lt r n) (sym same)
+            plain (nat_lt r (floor_at floors.taken c)) (covers_row one r) ∙ ap (λ n. nat_lt r n) (sym same)
           where
             plain : (b d : Bool) → (b || ((d && false) || false)) ≡ b
             plain true d = refl
             plain false true = refl
             plain false false = refl
 
--- the least free column, found by the floors
-pub record IsFound (p : Placed) (floors : List ℕ) (column : ℕ) : Type 0 where
-  pub low : p.end ≤ column
-  pub high : column ≤ length floors
-  pub passed : (c : ℕ) → p.end ≤ c → c < column → p.row < get_or floors c 0
-  pub free : get_or floors column 0 ≤ p.row
+-- ---- the next cell, by the floors where rows are passed
+
+-- the same floors, where the columns that are covered above the row alone are free
+pub placed_settled : (cells : List GridCell) (row end : ℕ) (floors new : Floors) → IsPlacing cells row end floors → IsSettled row floors new → AreApart new → IsPlacing cells row end new
+placed_settled cells row end floors new p settled apart =
+    let few = p.few in
+    let width = settled.width in
+    record {
+      covered = λ r c down. p.covered r c down ∙ sym (settled.same r c down);
+      begun = p.begun;
+      wide = width ∙ p.wide;
+      few = omega arith;
+      reached = λ c less. ltb-true row (floor_at new.taken c) (settled.same row c (omega arith) ∙ lt-ltb row (floor_at floors.taken c) (p.reached c less));
+      apart = apart;
+    }
 
 abbrev pub cell_at : Placed → (at column rows columns : ℕ) → GridCell
 cell_at p at column rows columns = record { at = at; row = p.row; column = column; rows = rows; columns = columns }
 
--- So the next cell stands there.
-pub next_is : (p : Placed) (floors : List ℕ) (at column rows columns : ℕ) → IsPlacing p.cells p.row p.end floors → IsFound p floors column →
-    next_cell p at rows columns ≡ cell_at p at column rows columns
-next_is p floors at column rows columns placing found =
-    ap (λ n. cell_at p at n rows columns) (column_is p.cells p.row p.end column floors placing found.low found.high found.passed found.free)
+module _ (p : Placed) (old floors : Floors) (column : ℕ) (was : IsPlacing p.cells p.row p.end old) (found : IsFound p.row old column floors) where
+  pub placing : IsPlacing p.cells p.row p.end floors
+  placing = placed_settled p.cells p.row p.end old floors was found.settled found.apart
 
--- It is crooked where one of its columns is covered,
-pub next_crooked : (p : Placed) (floors : List ℕ) (at column rows columns : ℕ) → IsPlacing p.cells p.row p.end floors → IsFound p floors column → 1 ≤ rows →
-    HasCovered floors p.row column (column + columns) → is_crooked p.left p.cells (next_cell p at rows columns) ≡ true
-next_crooked p floors at column rows columns placing found some h =
-    subst (λ one. is_crooked p.left p.cells one ≡ true) (sym (next_is p floors at column rows columns placing found))
-    (or_true (nat_lt p.left rows)
-    (one_meets p.cells (cell_at p at column rows columns) h.0 placing.begun some h.1 h.2 (placing.covered p.row h.0 (omega arith) ∙ lt-ltb p.row (get_or floors h.0 0) h.3)))
-  where
-    or_true : (x : Bool) {y : Bool} → y ≡ true → (x || y) ≡ true
-    or_true true t = refl
-    or_true false t = t
+  first : IsFirst floors column
+  first = found.first
 
--- and it stands where they are free and its section has the rows.
-pub next_stands : (p : Placed) (floors : List ℕ) (at column rows columns : ℕ) → IsPlacing p.cells p.row p.end floors → IsFound p floors column → 1 ≤ columns →
-    rows ≤ p.left → IsFreeFrom floors p.row column (column + columns) → is_crooked p.left p.cells (next_cell p at rows columns) ≡ false
-next_stands p floors at column rows columns placing found some few free =
-    subst (λ one. is_crooked p.left p.cells one ≡ false) (sym (next_is p floors at column rows columns placing found))
-    (ap (λ x. x || list_any (cells_meet (cell_at p at column rows columns)) p.cells) (false_from_ne_true (nat_lt p.left rows) (λ t. let l = ltb-true p.left rows t in absurd (omega arith)))
-    ∙ none_meets p.cells (cell_at p at column rows columns) placing.begun some
-    (λ c low high. placing.covered p.row c (omega arith) ∙ false_from_ne_true _ (λ t. let l = ltb-true p.row (get_or floors c 0) t in let f = free c low high in absurd (omega arith))))
+  -- the columns left of it are covered in the row, and it isn't
+  passed : (c : ℕ) → c < column → p.row < floor_at floors.taken c
+  passed c less = let one = first.passed c less in floor_below p.row floors.taken c found.below (omega arith)
+
+  none : floor_at floors.taken column ≡ 0
+  none = floor_none floors.taken column first.free
+
+  low : p.end ≤ column
+  low =
+      elim (cases_Bool (nat_lt column p.end)) [
+        | inl t ↦ absurd (let reached = placing.reached column (ltb-true column p.end t) in let z = none in omega arith)
+        | inr f ↦ ltb-false column p.end f
+      ]
+
+  pub gap_found : IsGap p.cells p.row column
+  gap_found = record {
+    before = λ c less. placing.covered p.row c (omega arith) ∙ lt-ltb p.row (floor_at floors.taken c) (passed c less);
+    free = placing.covered p.row column (omega arith) ∙ false_from_ne_true _ (λ t. let l = ltb-true p.row (floor_at floors.taken column) t in let z = none in absurd (omega arith));
+  }
+
+  -- So the next cell stands there.
+  pub next_is : (at rows columns : ℕ) → next_cell p at rows columns ≡ cell_at p at column rows columns
+  next_is at rows columns =
+      ap (λ n. cell_at p at n rows columns) (column_is p.cells p.row p.end column floors placing low first.high (λ c from_ less. passed c less) (omega (arith, none)))
+
+  -- It is crooked where one of its columns is covered,
+  pub next_crooked : (at rows columns : ℕ) → 1 ≤ rows → HasTaken floors.taken column (column + columns) → is_crooked p.left p.cells (next_cell p at rows columns) ≡ true
+  next_crooked at rows columns some h =
+      let p_ = placing in
+      let down = floor_below p.row floors.taken h.0 found.below (omega (arith, h.3)) in
+      subst (λ one. is_crooked p.left p.cells one ≡ true) (sym (next_is at rows columns))
+      (or_true (nat_lt p.left rows)
+      (one_meets p.cells (cell_at p at column rows columns) h.0 p_.begun some h.1 h.2 (p_.covered p.row h.0 (omega arith) ∙ lt-ltb p.row (floor_at floors.taken h.0) down)))
+    where
+      or_true : (x : Bool) {y : Bool} → y ≡ true → (x || y) ≡ true
+      or_true true t = refl
+      or_true false t = t
+
+  -- and it stands where they are free and its section has the rows.
+  pub next_stands : (at rows columns : ℕ) → 1 ≤ columns → rows ≤ p.left → ((c : ℕ) → column ≤ c → c < column + columns → count_at floors.taken c ≡ 0) →
+      is_crooked p.left p.cells (next_cell p at rows columns) ≡ false
+  next_stands at rows columns some few free =
+      let p_ = placing in
+      subst (λ one. is_crooked p.left p.cells one ≡ false) (sym (next_is at rows columns))
+      (ap (λ x. x || list_any (cells_meet (cell_at p at column rows columns)) p.cells) (false_from_ne_true (nat_lt p.left rows) (λ t. let l = ltb-true p.left rows t in absurd (omega arith)))
+      ∙ none_meets p.cells (cell_at p at column rows columns) p_.begun some
+      (λ c low high. p_.covered p.row c (omega arith) ∙ false_from_ne_true _ (λ t. let l = ltb-true p.row (floor_at floors.taken c) t in let f = floor_none floors.taken c (free c low high) in absurd (omega arith))))

@@ -1,18 +1,13 @@
--- Which positions cells cover, as they are passed row by row.
-use Rattle.std.specs.Prelude.{◌≡◌, ℕ, suc, ◌+◌, ◌≤◌, ◌<◌, ◌==◌, max, nat_lt, if◌then◌else◌, List, [], ◌∷◌, length, drop, filter, get_or, slice_range}
+-- Which places cells cover, as they are passed row by row.
+use Rattle.std.specs.Prelude.{◌≡◌, ℕ, suc, ◌+◌, ◌≤◌, ◌<◌, ◌==◌, max, true, false, if◌then◌else◌, List, [], ◌∷◌, ◌++◌, length, drop, filter, get_or, slice_range}
 use Rattle.model_edit.specs.declared.grid_cell.GridCell.{GridCell}
-use Rattle.model_edit.specs.Grid.{covers_column, is_covered}
+use Rattle.model_edit.specs.Grid.{is_covered}
 use Rattle.model_edit.specs.Tables.{spans_column}
 
 -- The cells come row by row, from a row on, and none of them passes the last of so many rows.
 abbrev pub AreInRows : (low rows : ℕ) → List GridCell → Type 0
 AreInRows low rows [] = Unit {0}
 AreInRows low rows (cell ∷ cells) = (low ≤ cell.row) × (cell.row + cell.rows ≤ rows) × AreInRows cell.row rows cells
-
--- Those before this one begin in the row or above it, and those from it on below.
-pub record ArePassed (row rows : ℕ) (cells : List GridCell) (next : ℕ) : Type 0 where
-  pub within : next ≤ length cells
-  pub later : AreInRows (suc row) rows (drop next cells)
 
 -- Those from one on up to another are those that begin in a row.
 pub record IsRun (row rows : ℕ) (cells : List GridCell) (from to : ℕ) : Type 0 where
@@ -21,17 +16,25 @@ pub record IsRun (row rows : ℕ) (cells : List GridCell) (from to : ℕ) : Type
   pub run : slice_range cells from to ≡ filter (λ (c : GridCell). c.row == row) (drop from cells)
   pub later : AreInRows (suc row) rows (drop to cells)
 
+-- ---- columns that no cell covers
+
+-- It is the first one in the row.
+pub record IsGap (cells : List GridCell) (row column : ℕ) : Type 0 where
+  pub before : (c : ℕ) → c < column → is_covered cells row c ≡ true
+  pub free : is_covered cells row column ≡ false
+
+-- These are those of so many rows.
+pub record AreGaps (cells : List GridCell) (rows : ℕ) (gaps : List ℕ) : Type 0 where
+  pub count : length gaps ≡ rows
+  pub each : (row : ℕ) → row < rows → IsGap cells row (get_or gaps row 0)
+
+-- that of a row comes after those of others
+pub record HasGapNoted (cells : List GridCell) (row : ℕ) (old new : List ℕ) : Type 0 where
+  pub column : ℕ
+  pub is : IsGap cells row column
+  pub more : new ≡ old ++ column ∷ []
+
 -- ---- the floor of a column: the row below its lowest cell, or 0
-
--- The floors of the columns that the cell covers are lowered to the row below it.
-pub record AreLowered (cell : GridCell) (old new : List ℕ) : Type 0 where
-  pub long : length new ≡ length old
-  pub each : (k : ℕ) → k < length old → get_or new k 0 ≡ (if covers_column cell k then max (get_or old k 0) (cell.row + cell.rows) else get_or old k 0)
-
--- Of the cells these are the floors: from the row on a column is covered in each row above its
--- floor.
-abbrev pub AreFloors : ℕ → List GridCell → List ℕ → Type 0
-AreFloors row cells floors = (r k : ℕ) → row ≤ r → k < length floors → is_covered cells r k ≡ nat_lt r (get_or floors k 0)
 
 -- the floor with one cell more, or with some, where only cells that span into a column count
 abbrev pub floor_with : ℕ → ℕ → GridCell → ℕ

@@ -14,4 +14,5 @@ pub mod Covered
 pub mod Fresh
 pub mod PartWay
 pub mod Placed
+pub mod Runs
 pub mod Floors

@@ -247,10 +247,7 @@ pub fn col_in(
         IsTableRefusal (model.col_in (page_items doc.entry) at column)) }
 {
     let table = laid_table(alloc, doc, at)?;
-    let Ok(refused) = col_in_fault(alloc, &table.grid, column) else {
-        return Err(TableFault::Memory);
-    };
-    if let Some(fault) = refused {
+    if let Some(fault) = col_in_fault(&table.grid, table.gaps.as_slice(), column) {
         return Err(fault);
     }
     match put_column(alloc, doc, &table, column) {

@@ -5,13 +5,14 @@
 //! The rows of a table's sections and the cells of its rows are found by the tree, a look-up for
 //! each node just inside the table, its sections and its rows. The spans of a cell are read once
 //! from its attributes (`span_of`). `Placing` lays the cells out row by row, each at the least
-//! column that isn't left of the cell before it and isn't covered from above. For each column it
-//! keeps down to which row it is covered. A change goes once over the cells, in the order of the
-//! list.
+//! column that isn't left of the cell before it and isn't covered from above. It keeps the runs of
+//! columns that cells cover, by the row below the cell, and those that are free. So a table takes
+//! the time of its rows and cells, times a logarithm, whatever they span. A change goes once over
+//! the cells, in the order of the list.
 //!
 //! Definitions, in reading order: `Placed` (the cells placed so far, and the next one), `Refused`
-//! (how a table is refused). The others serve private functions: `Floors` (the columns' lowest
-//! covered rows beside the cells), `Rows` (nodes just inside another), `CellQuestions` (tests of
+//! (how a table is refused). The others serve private functions: `Runs` (runs of columns, and the
+//! floor that they give a column), `Floors` (the columns' floors beside the cells), `Rows` (nodes just inside another), `CellQuestions` (tests of
 //! cells, and the causes that refuse), `Covered` (which positions cells cover), `Fresh` (the new
 //! cells of a row) and `PartWay` (how far the edits are collected). A grid, and a change of it, are
 //! defined in `model_edit`'s `Grid` and `Tables`. Law: the next cell is the model's
@@ -31,6 +32,7 @@ mod ragged;
 mod refusals;
 mod row_edits;
 mod rows;
+mod runs;
 mod span_attributes;
 mod spans;
 mod table;

@@ -1,11 +1,11 @@
 // Cells placed in a grid, one after the other.
-ghost use Rattle.std.specs.Prelude.{◌≡◌, ◌≤◌, ◌<◌, ◌+◌, ◌^◌, [], ◌∷◌, ◌++◌, length, IfOk, IfErr, OnOk};
+ghost use Rattle.std.specs.Prelude.{◌≡◌, ◌≤◌, ◌<◌, ◌^◌, [], IfOk, IfErr};
 ghost use Rattle.ve_base.specs.Limits.{max_row_span, max_column_span};
 ghost use Rattle.model_edit.specs.Grid.{right_end};
-ghost use Rattle.ve_tables.specs.Floors.{AreSet};
+ghost use Rattle.ve_tables.specs.Covered.{IsGap};
 ghost use Rattle.ve_tables.specs.Placed.{next_cell, IsNext, IsCellRefusal};
 
-use crate::floors::{are_free, free_column, set_floors};
+use crate::floors::{Floors, cover, first_free, no_floors, settle};
 use crate::grid_cells::{Grid, GridCells};
 use model_edit::{GridCell, TableFault};
 use std::alloc::Global;
@@ -16,10 +16,17 @@ use ve_base::Memory;
 #[derive(Drop)]
 pub struct Placing {
     cells: GridCells,
-    floors: Vec<usize>,
+    floors: Floors,
     row: usize,
     left: usize,
     end: usize,
+}
+
+/// A placing at the end of its row, with the first column that no cell covers there.
+#[derive(Drop)]
+pub struct RowEnd {
+    pub placing: Placing,
+    pub gap: usize,
 }
 
 impl Model for Placing {
@@ -30,22 +37,7 @@ impl Model for Placing {
 
     ghost view = { λ p. record { cells = p.cells; row = p.row; left = p.left; end = p.end } };
 
-    ghost invariant = { λ p. IsPlacing p.cells p.row p.end p.floors.items };
-}
-
-/// Puts a cell after the others, and the floors of its columns below it.
-fn put(cells: &mut GridCells, floors: &mut Vec<usize>, cell: GridCell) -> Result<(), Memory>
-    requires within { cell.column ≤ length floors.old.items }
-    requires end { cell.column + cell.columns < 2 ^ 64 }
-    requires floor { cell.row + cell.rows < 2 ^ 64 }
-    ensures cells { OnOk result (cells.new ≡ cells.old ++ cell ∷ []) }
-    ensures floors { OnOk result (
-        AreSet floors.old.items cell.column (cell.column + cell.columns) (cell.row + cell.rows)
-        floors.new.items) }
-{
-    let end = cell.column + cell.columns;
-    set_floors(floors, cell.column, end, cell.row + cell.rows)?;
-    cells.push(cell)
+    ghost invariant = { λ p. IsPlacing p.cells p.row p.end p.floors };
 }
 
 impl Placing {
@@ -55,7 +47,7 @@ impl Placing {
     {
         Placing {
             cells: GridCells::new(alloc),
-            floors: Vec::new(alloc),
+            floors: no_floors(alloc),
             row: 0,
             left: 1,
             end: 0,
@@ -87,13 +79,16 @@ impl Placing {
         ensures ok { IfOk result (IsNext self (next_cell self at rows columns)) }
         ensures refused { IfErr result (IsCellRefusal self (next_cell self at rows columns)) }
     {
-        let column = free_column(&self.floors, self.row, self.end);
         if self.left < rows {
             return Err(TableFault::Crooked { at });
         }
-        if !are_free(&self.floors, self.row, column, column + columns) {
+        let mut floors = self.floors;
+        let Ok(found) = cover(&mut floors, self.row, columns, self.row + rows) else {
+            return Err(TableFault::Memory);
+        };
+        let Some(column) = found else {
             return Err(TableFault::Crooked { at });
-        }
+        };
         let cell = GridCell {
             at,
             row: self.row,
@@ -102,8 +97,7 @@ impl Placing {
             columns,
         };
         let mut cells = self.cells;
-        let mut floors = self.floors;
-        match put(&mut cells, &mut floors, cell) {
+        match cells.push(cell) {
             Ok(()) => Ok(Placing {
                 cells,
                 floors,
@@ -115,12 +109,30 @@ impl Placing {
         }
     }
 
+    /// The first column that no cell covers in the row, with the placing as it is.
+    pub(crate) fn end_row(self) -> Result<RowEnd, Memory>
+        ensures same { IfOk result (λ end. end.placing ≡ self) }
+        ensures gap { IfOk result (λ end. IsGap self.cells self.row end.gap) }
+    {
+        let mut floors = self.floors;
+        settle(&mut floors, self.row)?;
+        let gap = first_free(&floors);
+        let placing = Placing {
+            cells: self.cells,
+            floors,
+            row: self.row,
+            left: self.left,
+            end: self.end,
+        };
+        Ok(RowEnd { placing, gap })
+    }
+
     /// The grid of so many rows with these cells. It takes no memory.
     pub fn finish(self, rows: usize) -> Grid
         ensures { result
             ≡ record { rows = rows; columns = right_end self.cells; cells = self.cells } }
     {
-        let columns = self.floors.len();
+        let columns = self.floors.width;
         Grid::of(rows, columns, self.cells)
     }
 }

@@ -1,16 +1,15 @@
 // Why a row or a column isn't put in or taken out.
-ghost use Rattle.std.specs.Prelude.{◌≡◌, ◌||◌, ◌==◌, nat_lt, IfOk};
+ghost use Rattle.std.specs.Prelude.{◌≡◌, ◌||◌, ◌==◌, nat_lt};
 ghost use Rattle.model_edit.specs.Causes.{SpanFull};
 ghost use Rattle.model_edit.specs.Tables.{at_first};
 ghost use Rattle.ve_tables.specs.CellQuestions.{cell_answer, refusal, row_in_causes, row_out_causes, col_in_causes, col_out_causes};
-ghost use Rattle.ve_tables.specs.Covered.{AreInRows};
+ghost use Rattle.ve_tables.specs.Covered.{AreGaps};
 
 use crate::Grid;
 use crate::cell_questions::{CellQuestion, first_cell};
 use crate::ragged::first_ragged;
 use model_edit::{GridCell, TableFault};
-use std::alloc::Global;
-use ve_base::{MAX_COLUMN_SPAN, Memory};
+use ve_base::MAX_COLUMN_SPAN;
 
 /// Whether there are no rows, or columns, or fewer than a number.
 fn is_past(number: usize, count: usize) -> bool
@@ -57,19 +56,20 @@ pub fn row_out_fault(grid: &Grid, row: usize) -> Option<TableFault>
     Some(TableFault::Spanned { at })
 }
 
-/// Why no column can be put in before a column of the grid, or after the last one.
-pub fn col_in_fault(alloc: Global, grid: &Grid, column: usize) -> Result<Option<TableFault>, Memory>
-    requires rows { AreInRows 0 grid.now.rows grid.now.cells }
-    ensures { IfOk result (λ fault. fault ≡ refusal (col_in_causes column grid.now)) }
+/// Why no column can be put in before a column of the grid, or after the last one. With each row's first column that no
+/// cell covers.
+pub fn col_in_fault(grid: &Grid, gaps: &[usize], column: usize) -> Option<TableFault>
+    requires gaps { AreGaps grid.now.cells grid.now.rows gaps.now }
+    ensures { result ≡ refusal (col_in_causes column grid.now) }
 {
     let columns = grid.columns();
     if is_past(column, columns) {
-        return Ok(Some(TableFault::BadColumn { column, columns }));
+        return Some(TableFault::BadColumn { column, columns });
     }
-    if let Some(row) = first_ragged(alloc, grid, column)? {
-        return Ok(Some(TableFault::Ragged { row }));
+    if let Some(row) = first_ragged(gaps, column) {
+        return Some(TableFault::Ragged { row });
     }
-    Ok(full_fault(grid.cells(), CellQuestion::IsFullAtColumn(column)))
+    full_fault(grid.cells(), CellQuestion::IsFullAtColumn(column))
 }
 
 /// Why a column can't be taken out.

@@ -10,7 +10,7 @@ use Rattle.model_edit.specs.Tables.{at_first}
 use Rattle.ve_tables.specs.declared.cell_questions.CellQuestion.TheVariants.{IsFullAtColumn}
 use Rattle.ve_tables.specs.declared.rows.TableRow.{TableRow}
 use Rattle.ve_tables.specs.CellQuestions.{cell_answer, col_in_causes, ragged_causes}
-use Rattle.ve_tables.specs.Covered.{AreInRows}
+use Rattle.ve_tables.specs.Covered.{AreInRows, AreGaps}
 use Rattle.ve_tables.specs.PartWay.{IsLaid, col_in_edits}
 use Rattle.ve_tables.specs.Rows.{row_of}
 use Rattle.ve_tables.proofs.QuestionLemmas.{refused_by, none_of_them, none_later, none_after, none_asked, no_answer}
@@ -20,13 +20,15 @@ use Rattle.ve_tables.proofs.StandLemmas.{rows_inside, cells_inside, row_count, c
 use Rattle.ve_tables.proofs.column_edits.col_in.Goals as goal
 
 pub col_in_fault-requires : goal.col_in_fault-requires
-col_in_fault-requires c = record { rows = grid_in_rows (plain_list c.args.doc.store.now c.args.doc.list.now.items) c.args.at c.in_ok-table.table.grid c.in_ok-table.ensures.means }
+col_in_fault-requires c =
+    let grid = c.in_ok-table.table.grid in
+    record { gaps = subst (AreGaps grid.cells grid.rows) (sym c.as_slice.ensures) c.in_ok-table.ensures.gaps }
 
 pub returns-in-Some-clause-refused : goal.returns-in-Some-clause-refused
 returns-in-Some-clause-refused c =
     let P = plain_list c.args.doc.store.now c.args.doc.list.now.items in
     refused_by (grid P c.args.at) c.in_ok-table.table.grid (col_in_causes c.args.column) (λ (g : Grid). transaction_of P (col_in_edits P (table_rows P c.args.at) c.args.column g)) c.in_ok-table.ensures.means c.in-Some.fault
-    (sym c.in-Ok.ensures ∙ c.in-Some.is)
+    (sym c.col_in_fault.ensures ∙ c.in-Some.is)
 
 pub put_column-requires-clause-rows : goal.put_column-requires-clause-rows
 put_column-requires-clause-rows c =
@@ -73,6 +75,6 @@ put_column-requires-clause-room c =
     let G = c.in_ok-table.table.grid in
     let full = at_first (cell_answer (IsFullAtColumn c.args.column)) G.cells (λ at. SpanFull at) in
     let ragged = ragged_causes c.args.column G 0 G.rows in
-    let none = none_of_them (col_in_causes c.args.column G) (sym c.in-Ok.ensures ∙ no_answer c.in-Ok.refused c.in_default-refused.not-Some) in
+    let none = none_of_them (col_in_causes c.args.column G) (sym c.col_in_fault.ensures ∙ no_answer c.col_in_fault.result c.in_default.not-Some) in
     none_asked (cell_answer (IsFullAtColumn c.args.column)) G.cells (λ at. SpanFull at)
     (none_after ragged full (none_later ((G.columns == 0) || nat_lt G.columns c.args.column) (BadColumn c.args.column G.columns) (ragged ++ full) none))
