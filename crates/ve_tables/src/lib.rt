@@ -12,11 +12,11 @@
 //!
 //! Definitions, in reading order: `Placed` (the cells placed so far, and the next one), `Refused`
 //! (how a table is refused). The others serve private functions: `Runs` (runs of columns, and the
-//! floor that they give a column), `Floors` (the columns' floors beside the cells), `Rows` (nodes just inside another), `CellQuestions` (tests of
-//! cells, and the causes that refuse), `Covered` (which positions cells cover), `Fresh` (the new
-//! cells of a row) and `PartWay` (how far the edits are collected). A grid, and a change of it, are
-//! defined in `model_edit`'s `Grid` and `Tables`. Law: the next cell is the model's
-//! (`next_is_placed`).
+//! floor that they give a column), `Floors` (the columns' floors beside the cells), `Rows` (nodes
+//! just inside another), `CellQuestions` (tests of cells, and the causes that refuse), `Covered`
+//! (which positions cells cover), `Fresh` (the new cells of a row) and `PartWay` (how far the edits
+//! are collected). A grid, and a change of it, are defined in `model_edit`'s `Grid` and `Tables`.
+//! Law: the next cell is the model's (`next_is_placed`).
 #![tactic(auto)]
 
 mod cell_questions;
