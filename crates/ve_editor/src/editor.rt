@@ -31,29 +31,13 @@ use ve_tx::{Draft, Entry, Parcel, Transaction, TxList};
 
 /// A page's list, the values that its items cite, the tree of the list, and the selection. The view
 /// is a site's replica: the list by value, the store as its values, and the selection.
+#[derive(Drop)]
 pub struct Editor {
     list: Linear,
     store: Store,
     tree: Tree,
     selection: Selection,
     alloc: Global,
-}
-
-impl Drop for Editor {
-    fn drop(self) {
-        let Editor {
-            list,
-            store,
-            tree,
-            selection,
-            alloc,
-        } = self;
-        drop(list);
-        drop(store);
-        drop(tree);
-        drop(selection);
-        drop(alloc);
-    }
 }
 
 impl Model for Editor {

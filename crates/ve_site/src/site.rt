@@ -26,6 +26,7 @@ use ve_tx::{Draft, Entry, EntryList, Parcel};
 
 /// A site: its editor, the entries that it sent and has no answer for, those that it has not sent,
 /// and those that it undid. The view is its number beside the model's site.
+#[derive(Drop)]
 pub struct Site {
     number: u32,
     editor: Editor,
@@ -39,25 +40,6 @@ pub struct Site {
     // how many entries the submission has that is on its way
     in_flight: Option<usize>,
     alloc: Global,
-}
-
-impl Drop for Site {
-    fn drop(self) {
-        let Site {
-            number: _,
-            editor,
-            seen: _,
-            sent,
-            history,
-            shared: _,
-            in_flight: _,
-            alloc,
-        } = self;
-        drop(editor);
-        drop(sent);
-        drop(history);
-        drop(alloc);
-    }
 }
 
 impl Model for Site {
