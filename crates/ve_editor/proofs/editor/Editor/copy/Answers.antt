@@ -16,3 +16,9 @@ returns-clause-steps g c =
     let items = ap (λ l. plain_list c.in_ok-store.store l) c.in_ok-list.ensures.items ∙ ap (λ s. plain_list s c.self.inside.list.items) c.in_ok-store.ensures
     ∙ ap (λ (r : Replica). r.items) c.self.view_is in
     subst (λ l. c.new.new.steps ≤ c.args.steps.now + most_steps l) items c.new.ensures.steps
+
+pub returns-in_err-copy-clause-steps : goal.returns-in_err-copy-clause-steps
+returns-in_err-copy-clause-steps g c =
+    let items = ap (λ l. plain_list c.in_ok-store.store l) c.in_ok-list.ensures.items ∙ ap (λ s. plain_list s c.self.inside.list.items) c.in_ok-store.ensures
+    ∙ ap (λ (r : Replica). r.items) c.self.view_is in
+    subst (λ l. c.new.new.steps ≤ c.args.steps.now + most_steps l) items c.new.ensures.steps
