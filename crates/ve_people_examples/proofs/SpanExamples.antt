@@ -2,12 +2,12 @@
 -- is said above it.
 use Rattle.std.proofs.Common.{◌≡◌, ℕ, true, false, Some, None, codes, refl}
 use Rattle.ve_tx.specs.declared.op.Op.TheVariants.{Attribute}
-use Rattle.ve_rebase.specs.declared.span.Span.{Span}
+use Rattle.ve_rebase.specs.declared.span.ActiveSpan.{ActiveSpan}
 use Rattle.ve_rebase.specs.Places.{passes}
 use Rattle.ve_rebase.specs.Span.{meet}
 
 -- one that replaces items from a position on, in a list of ten
-abbrev replaces : (at reach : ℕ) → Span
+abbrev replaces : (at reach : ℕ) → ActiveSpan
 replaces at reach =
     record { active = true; attributes = false; first = at; reach = reach; last = 10; removed = reach; inserted = 1 }
 
