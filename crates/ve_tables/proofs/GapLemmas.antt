@@ -1,22 +1,23 @@
 -- The first column of each row that no cell covers, and the first row in which it is left of another.
 use Rattle.std.specs.List.{list_any, range_with_len}
-use Rattle.std.proofs.Common.{◌≡◌, ℕ, zero, suc, ◌+◌, ◌-◌, ◌<◌, ◌≤◌, Bool, true, false, not, ◌&&◌, ◌||◌, if◌then◌else◌, nat_lt, nat_le, Some, None, List, [], ◌∷◌, ◌++◌, length, get_or, Result, Ok, Err, inl, inr, refl, sym, ap, ◌∙◌, subst, arith, length-append}
+use Rattle.std.proofs.Common.{◌≡◌, ℕ, zero, suc, ◌+◌, ◌-◌, ◌<◌, ◌≤◌, Bool, true, false, not, ◌&&◌, ◌||◌, if◌then◌else◌, nat_lt, nat_le, Some, None, List, [], ◌∷◌, ◌++◌, drop, length, map, get_or, Result, Ok, Err, inl, inr, refl, sym, ap, ◌∙◌, subst, arith, length-append}
 use Rattle.std.proofs.lemmas.Bool.{cases_Bool, ltb-true, ltb-false}
 use Rattle.std.proofs.lemmas.Bool.Decides.{nat_tests}
-use Rattle.std.proofs.lemmas.List.{get_or_append_left}
+use Rattle.std.proofs.lemmas.List.{drop_more, get_or_append_left}
 use Rattle.std.proofs.lemmas.List.Folds.{list_any-append}
 use Rattle.std.proofs.Math.Seq.{get_or-append_seam}
 use Rattle.model_items.specs.declared.plain_item.PlainItem.{PlainItem}
 use Rattle.model_items.specs.Tree.{Open}
+use Rattle.ve_tables.specs.declared.rows.TableRow.{TableRow}
 use Rattle.model_edit.specs.declared.grid_cell.GridCell.{GridCell}
 use Rattle.model_edit.specs.Causes.{TableCause, Ragged}
-use Rattle.model_edit.specs.Grid.{Grid, covers_row, covers_column, is_covered, placed_cell, is_crooked, row_cells, with_row}
+use Rattle.model_edit.specs.Grid.{Grid, covers_row, covers_column, is_covered, placed_cell, is_crooked, row_cells, with_row, with_rows}
 use Rattle.model_edit.specs.Tables.{has_gap_before, first_fault}
 use Rattle.model_edit_law.proofs.TablePlaceLemmas.{if_ok_else}
 use Rattle.ve_tables.specs.CellQuestions.{ragged_causes, IsFirstRagged}
 use Rattle.ve_tables.specs.Covered.{IsGap, AreGaps, HasGapNoted}
 use Rattle.ve_tables.specs.Placed.{Placed}
-use Rattle.ve_tables.specs.Rows.{HasRow}
+use Rattle.ve_tables.specs.Rows.{HasRow, row_of, rows_after}
 
 -- ---- the gap of a row stays while later rows are placed
 
@@ -69,9 +70,9 @@ gaps_more items left end nodes before cells row gaps new e are noted =
           ]);
     }
 
-pub gaps_row : (items : List PlainItem) (i at : ℕ) (cells : List GridCell) (old placed_cell noted : Placed) (gaps new : List ℕ) → old.cells ≡ cells → old.row ≡ i → HasRow items old at placed_cell → noted ≡ placed_cell →
+pub gaps_row : (items : List PlainItem) (i at : ℕ) (cells : List GridCell) (old placed noted : Placed) (gaps new : List ℕ) → old.cells ≡ cells → old.row ≡ i → HasRow items old at placed → noted ≡ placed →
     AreGaps cells i gaps → HasGapNoted placed.cells placed.row gaps new → AreGaps noted.cells (i + 1) new
-gaps_row items i at cells old placed_cell noted gaps new same row has is are gap =
+gaps_row items i at cells old placed noted gaps new same row has is are gap =
     let e : placed.row ≡ i = has.same ∙ row in
     let before : AreGaps old.cells old.row gaps = subst (λ n. AreGaps old.cells n gaps) (sym row) (subst (λ l. AreGaps l i gaps) (sym same) are) in
     let here : HasGapNoted placed.cells old.row gaps new = subst (λ n. HasGapNoted placed.cells n gaps new) has.same gap in
@@ -144,3 +145,20 @@ module _ (g : Grid) (gaps : List ℕ) (column : ℕ) (are : AreGaps g.cells g.ro
       let count = are.count in
       let none : g.rows - g.rows ≡ 0 = omega arith in
       skipped g.rows more (omega arith) (λ k less. passed k (omega arith)) ∙ ap (λ n. first_fault (ragged_causes column g (0 + g.rows) n ++ more)) none
+
+-- ---- one row more in the table
+
+rows_next : (items : List PlainItem) (rows : List TableRow) (i : ℕ) (cells new : List GridCell) (row : TableRow) → drop i rows ≡ row ∷ drop (i + 1) rows → with_row items i row.left 0 (row_cells items row.at) cells ≡ Ok new →
+    rows_after items (i + 1) (drop (i + 1) rows) new ≡ rows_after items i (drop i rows) cells
+rows_next items rows i cells new row parts is =
+    let n : suc i ≡ i + 1 = omega arith in
+    sym (ap (λ (rest : List TableRow). rows_after items i rest cells) parts
+    ∙ ap (λ r. with_rows items (suc i) (map row_of (drop (i + 1) rows)) r) is
+    ∙ ap (λ k. rows_after items k (drop (i + 1) rows) new) n)
+
+pub row_more : (items : List PlainItem) (rows : List TableRow) (i : ℕ) (d : TableRow) (cells : List GridCell) (old placed noted : Placed) → i < length rows → old ≡ record { cells = cells; row = i; left = (get_or rows i d).left; end = 0 } →
+    HasRow items old (get_or rows i d).at placed → noted ≡ placed → rows_after items (i + 1) (drop (i + 1) rows) noted.cells ≡ rows_after items i (drop i rows) cells
+row_more items rows i d cells old placed noted inside begins has is =
+    let means = subst (λ (p : Placed). with_row items p.row p.left p.end (row_cells items (get_or rows i d).at) p.cells ≡ Ok placed.cells) begins has.means in
+    subst (λ (p : Placed). rows_after items (i + 1) (drop (i + 1) rows) p.cells ≡ rows_after items i (drop i rows) cells) (sym is)
+    (rows_next items rows i cells placed.cells (get_or rows i d) (drop_more rows i d inside) means)
