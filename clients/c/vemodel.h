@@ -22,7 +22,7 @@
  *   A refusal is a reply, `no ..`, and changes nothing. What else can happen is told by the results below: there is no
  *   errno, no abort and no output. A world has no end at 64 MiB of lines, as the program has.
  *
- * Pointers are never null, also where the length is 0. No proof bounds the stack: 256 KiB have been enough for all tests.
+ * Pointers are never null, also where the length is 0. No proof bounds the stack that a call takes.
  */
 #include <stdbool.h>
 #include <stddef.h>
