@@ -74,6 +74,23 @@ impl Attrs {
         Ok(())
     }
 
+    /// The attributes of a list whose names are distinct. It takes no memory.
+    pub fn from_vec(list: Vec<Attr>) -> Attrs
+        requires { NamesApart list.items }
+        ensures { result ≡ list.items }
+    {
+        Attrs { list }
+    }
+
+    /// Hands the attributes over.
+    pub fn into_vec(self) -> Vec<Attr>
+        ensures items { result.items ≡ self }
+        ensures apart { NamesApart self }
+    {
+        let Attrs { list } = self;
+        list
+    }
+
     /// Lends them in order.
     pub fn as_slice(&self) -> &[Attr]
         ensures items { result.now ≡ self.now }
