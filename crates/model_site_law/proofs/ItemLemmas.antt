@@ -18,7 +18,7 @@ use Rattle.model_site.specs.Events.{Event, Perform, Redo, Revoke, Select, Send, 
 use Rattle.model_site.specs.Joined.{join_entries, joined_first}
 use Rattle.model_site.specs.Replica.{Replica, all_filled}
 use Rattle.model_site.specs.Session.{Ack, Foreign, Member, Session, SiteFeed, accepted_of, all_fed, feed_for, foreign_feed, joining, put_member, serve_first, started, take_first}
-use Rattle.model_site.specs.Site.{Site, Submission, entries_of, init_and_last, pending, redo, redo_first, revoke_by, send, undo, undo_last, with_entry, with_selection}
+use Rattle.model_site.specs.Site.{Site, Submission, entries_of, init_and_last, with_undone, pending, redo, redo_first, revoke_by, send, undo, undo_last, with_entry, with_selection}
 use Rattle.model_site.specs.Take.{parcel_entries, take_ack, take_entry, take_foreign}
 use Rattle.model_site_law.specs.ItemLaws.{AllInsert, AllPass, Inserts, ItemsKeep, SettingKeeps}
 use Rattle.model_site_law.specs.MayHappen.{AllMayHappen, MayHappen}
@@ -204,7 +204,7 @@ module _ (test : PlainItem → Bool) (keeps : SettingKeeps test) where
       by_last [] e done = cc
       by_last (x ∷ es) e done =
           let p = init_and_last x es in
-          let same : record s { replica = reverted p.1 s.replica; unsent = p.0; undone = p.1.txs ∷ s.undone } ≡ next = cc in
+          let same : with_undone p.1 p.0 s ≡ next = cc in
           let whole : parcels s.unsent ≡ parcels p.0 ++ p.1.txs ∷ [] = ap parcels (sym (parted_is x es ∙ e)) ∙ parcels-append p.0 (p.1 ∷ []) in
           let parts = all-parts (AllInsert test) (parcels p.0) (p.1.txs ∷ []) (subst Entries whole h.unsent) in
           subst Sites same (record { sent = h.sent; unsent = parts.0; undone = (parts.1.0, h.undone) })
