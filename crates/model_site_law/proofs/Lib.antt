@@ -23,4 +23,5 @@ pub mod EditLemmas
 pub mod CountLemmas
 pub mod ItemLemmas
 pub mod BeginLemmas
+pub mod ShownLemmas
 mod LawExamples
