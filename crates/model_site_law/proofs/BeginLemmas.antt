@@ -9,11 +9,11 @@ use Rattle.model_change.specs.Replay.{reversal, revoke}
 use Rattle.model_change.specs.Store.{brought, changed_heads}
 use Rattle.model_change.specs.Transaction.{Transaction}
 use Rattle.model_site.specs.Entries.{Entry, Parcel, all_reverted, entry_of, parcels, reverted}
-use Rattle.model_site.specs.Events.{Event, Perform, Redo, Revoke, Select, Send, Serve, Take, Undo, after_turn, at_member, happens, run, with_sent, with_site_of}
+use Rattle.model_site.specs.Events.{Event, Perform, Redo, Revoke, Select, Send, Serve, Take, Tell, Undo, after_turn, at_member, happens, run, with_sent, with_site_of}
 use Rattle.model_site.specs.Joined.{join_entries}
 use Rattle.model_site.specs.Replica.{Replica, all_performed, all_put_back, performed, put_back}
 use Rattle.model_site.specs.Session.{Ack, SiteFeed, Foreign, Member, Session, all_fed, joining, put_member, serve_first, started, take_first}
-use Rattle.model_site.specs.Site.{Site, Submission, entries_of, init_and_last, with_undone, pending, redo_first, revoke_by, send_unless, undo_last, with_entry, with_selection}
+use Rattle.model_site.specs.Site.{Site, Submission, entries_of, init_and_last, with_undone, pending, redo_first, revoke_by, send_unless, undo_last, with_entry, with_selection, with_told}
 use Rattle.model_site.specs.Take.{parcel_entries, take_ack, take_entry, take_foreign}
 use Rattle.model_site_law.specs.Protocol.{Every}
 use Rattle.model_site_law.specs.StoreLaws.{BeginsWith, StoreBegins}
@@ -203,6 +203,8 @@ module _ (first : List Value) where
   event_begins w (Select k s) all =
       at_site w k all _ (λ m b.
       let site = with_selection s m.site in put w k all (record m { site = site }) (same_begins m.site site refl refl b))
+  event_begins w (Tell k) all =
+      at_site w k all _ (λ m b. let site = with_told m.site in put w k all (record m { site = site }) (same_begins m.site site refl refl b))
   event_begins w (Undo k) all = at_site w k all _ (λ m b. undo_begins w k all m b m.site.unsent refl)
   event_begins w (Redo k) all = at_site w k all _ (λ m b. redo_begins w k all m b m.site.undone)
   event_begins w (Revoke k i) all =

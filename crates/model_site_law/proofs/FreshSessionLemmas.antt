@@ -9,10 +9,10 @@ use Rattle.model_change.specs.Replay.{AllRun, flattened, replay, revoke}
 use Rattle.model_change.specs.Store.{cited}
 use Rattle.model_change.specs.Transaction.{Transaction}
 use Rattle.model_site.specs.Entries.{Entry, Parcel, entry_of, parcels, reverted}
-use Rattle.model_site.specs.Events.{Event, Perform, Redo, Revoke, Select, Send, Serve, Take, Undo, after_turn, at_member, happens, run, with_sent, with_site, with_site_of}
+use Rattle.model_site.specs.Events.{Event, Perform, Redo, Revoke, Select, Send, Serve, Take, Tell, Undo, after_turn, at_member, happens, run, with_sent, with_site, with_site_of}
 use Rattle.model_site.specs.Replica.{Replica, all_filled, all_performed}
 use Rattle.model_site.specs.Session.{Ack, SiteFeed, Foreign, Member, Session, all_fed, joining, put_member, serve_first, serve_next, started, take_first, take_next}
-use Rattle.model_site.specs.Site.{Site, Submission, entries_of, init_and_last, with_undone, pending, redo, redo_first, revoke_by, revoke_entry, send, send_unless, undo, undo_last, with_entry, with_selection}
+use Rattle.model_site.specs.Site.{Site, Submission, entries_of, init_and_last, with_undone, pending, redo, redo_first, revoke_by, revoke_entry, send, send_unless, undo, undo_last, with_entry, with_selection, with_told}
 use Rattle.model_site.specs.Take.{take_ack, take_entry, take_foreign}
 use Rattle.model_site.specs.Causes.{RedoCause, SendCause, UndoCause}
 use Rattle.model_site_law.specs.Chain.{Fresh, Numbered, store_after_all}
@@ -214,6 +214,13 @@ module _ (w : Session) (h : SessionHolds w) (opens : AllIn w.base.store (cited w
       by_site None e = all
       by_site (Some m) e =
           let site = with_selection s m.site in
+          put_fresh w k (record m { site = site }) all (λ z. same_fresh w.base m.site site refl refl (every_get (IfFresh w.base) w.members k m all e z))
+  event_fresh (Tell k) may = by_site (slice_get w.members k) refl
+    where
+      by_site : (o : Option Member) → slice_get w.members k ≡ o → After (at_member w o (λ m. with_site k m (with_told m.site) w))
+      by_site None e = all
+      by_site (Some m) e =
+          let site = with_told m.site in
           put_fresh w k (record m { site = site }) all (λ z. same_fresh w.base m.site site refl refl (every_get (IfFresh w.base) w.members k m all e z))
   event_fresh (Undo k) may = by_site (slice_get w.members k) refl
     where

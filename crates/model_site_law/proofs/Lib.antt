@@ -24,4 +24,5 @@ pub mod CountLemmas
 pub mod ItemLemmas
 pub mod BeginLemmas
 pub mod ShownLemmas
+pub mod ToldLemmas
 mod LawExamples

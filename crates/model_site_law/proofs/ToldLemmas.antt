@@ -1,7 +1,7 @@
 -- What a site would tell leads from the list that it told last, whatever happened.
 use Rattle.std.proofs.Common.{◌≡◌, ◌≤◌, ◌<◌, ℕ, zero, suc, ◌+◌, Bool, true, false, ◌==◌, nat_lt, if◌then◌else◌, eqb-true, List, [], ◌∷◌, ◌++◌, length, take, drop, replicate, slice_get, Option, Some, None, Result, Ok, Err, refl, sym, ap, ◌∙◌, subst, append-nil, arith}
-use Rattle.std.proofs.Math.Seq.{drop-append-add}
-use Rattle.std.proofs.lemmas.List.{length-append, length-take, take-append-drop, take_all}
+use Rattle.std.proofs.lemmas.Bool.{eqb-false, ltb-false}
+use Rattle.std.proofs.lemmas.List.{drop_all, length-append, length-take, take-append-drop, take_all}
 use Rattle.model_items.specs.declared.plain_item.PlainItem.{PlainItem}
 use Rattle.model_change.specs.Join.{RangeConflict}
 use Rattle.model_change.specs.Replay.{AllRun, flattened, replay, reversal, revoke}
@@ -12,7 +12,7 @@ use Rattle.model_site.specs.Entries.{Entry, Parcel, all_reverted, parcels}
 use Rattle.model_site.specs.Events.{Event, Perform, Redo, Revoke, Select, Send, Serve, Take, Tell, Undo, after_turn, at_member, happens, run, with_sent, with_site, with_site_of}
 use Rattle.model_site.specs.Joined.{join_entries}
 use Rattle.model_site.specs.Replica.{Replica, all_performed}
-use Rattle.model_site.specs.Session.{Ack, SiteFeed, Foreign, Member, Session, all_fed, joining, put_member, serve_first, serve_next, started, take_first, take_next}
+use Rattle.model_site.specs.Session.{Ack, SiteFeed, Foreign, Member, Session, all_fed, feed_for, joining, put_member, serve_first, serve_next, started, take_first, take_next}
 use Rattle.model_site.specs.Site.{Site, Submission, entries_of, init_and_last, pending, redo, redo_first, revoke_by, revoke_entry, send, told, undo, undo_last, with_entry, with_selection, with_told, with_undone}
 use Rattle.model_site.specs.Take.{take_ack, take_entry, take_foreign}
 use Rattle.model_site.specs.Untold.{Untold, max_patches, passed, patches_of, with_patches}
@@ -43,9 +43,6 @@ passed_leads : (ts : List Transaction) (last items : List PlainItem) (u : Untold
     Leads last (passed ts u) (replay ts items)
 passed_leads ts last items u may p = record { was = p.was; shows = shows }
   where
-    all : List PlainItem → Type 0
-    all l = ℕ
-
     shows : length (take (suc max_patches) (u.patches ++ patches_of ts)) ≤ max_patches →
         Shows (patched (take (suc max_patches) (u.patches ++ patches_of ts)) (whole last)) (replay ts items)
     shows few =
@@ -160,5 +157,163 @@ keep_of j k last n ms all put = put_of j k last last n ms all put (λ no. refl)
 fed_of : (sender from k : ℕ) (ps : List Parcel) (last : List PlainItem) (ms : List Member) → Of k last ms → Of k last (all_fed sender from ps ms)
 fed_of sender from k ps last [] all m e = cc
 fed_of sender from zero ps last (n ∷ ms) all m e =
-    subst (λ (v : Member). SiteLeads last v.site) (let same : record n { feeds = n.feeds ++ _ } ≡ m = cc in same) (all n refl)
+    subst (λ (v : Member). SiteLeads last v.site) (let same : record n { feeds = n.feeds ++ feed_for sender from ps } ≡ m = cc in same) (all n refl)
 fed_of sender from (suc k) ps last (n ∷ ms) all m e = fed_of sender (suc from) k ps last ms all m e
+
+-- ---- events
+
+module _ (w : Session) (h : SessionHolds w) (k : ℕ) (last : List PlainItem) (all : Of k last w.members) where
+  holds_here : (j : ℕ) (m : Member) → slice_get w.members j ≡ Some m → MemberHolds w.base.items w.committed m
+  holds_here j m e = every_get (MemberHolds w.base.items w.committed) w.members j m h.members e
+
+  sound_here : (m : Member) (p : MemberHolds w.base.items w.committed m) → Sound (ground w.base.items p.before)
+  sound_here m p = seen_sound w.base.items w.committed m h.sound h.committed p
+
+  -- what is known of the member at j, if it is the one at k
+  known : (j : ℕ) (m : Member) → slice_get w.members j ≡ Some m → j ≡ k → SiteLeads last m.site
+  known j m e same = all m (subst (λ i. slice_get w.members i ≡ Some m) same e)
+
+  keep : (j : ℕ) (m n : Member) → slice_get w.members j ≡ Some m → (SiteLeads last m.site → SiteLeads last n.site) → Of k last (put_member j n w.members)
+  keep j m n e step = keep_of j k last n w.members all (λ same. step (known j m e same))
+
+  event_leads : (e : Event) → MayHappen w e → Of k (told_at k w e last) (happens w e).members
+  event_leads (Perform j ts) may = by_site (slice_get w.members j) refl
+    where
+      by_site : (o : Option Member) → slice_get w.members j ≡ o → Of k last (at_member w o (λ m. with_site j m (with_entry ts m.site) w)).members
+      by_site None e = all
+      by_site (Some m) e = keep j m (record m { site = with_entry ts m.site }) e (entry_leads ts last m.site (may m e))
+  event_leads (Select j s) may = by_site (slice_get w.members j) refl
+    where
+      by_site : (o : Option Member) → slice_get w.members j ≡ o → Of k last (at_member w o (λ m. with_site j m (with_selection s m.site) w)).members
+      by_site None e = all
+      by_site (Some m) e = keep j m (record m { site = with_selection s m.site }) e (λ p. p)
+  event_leads (Tell j) may = by_number (j == k) refl
+    where
+      by_number : (b : Bool) → (j == k) ≡ b → Of k (if b then list_of (slice_get w.members k) else last) (happens w (Tell j)).members
+      by_number true same = by_site (slice_get w.members j) refl
+        where
+          is_k : j ≡ k
+          is_k = eqb-true j k same
+
+          by_site : (o : Option Member) → slice_get w.members j ≡ o → Of k (list_of (slice_get w.members k)) (at_member w o (λ m. with_site j m (with_told m.site) w)).members
+          by_site None e = λ m get. let none : None ≡ Some m = sym e ∙ ap (slice_get w.members) is_k ∙ get in cc
+          by_site (Some m) e =
+              let here : slice_get w.members k ≡ Some m = subst (λ i. slice_get w.members i ≡ Some m) is_k e in
+              subst (λ o. Of k (list_of o) (put_member j (record m { site = with_told m.site }) w.members)) (sym here)
+              (put_of j k last m.site.replica.items (record m { site = with_told m.site }) w.members all (λ it_is. told_leads m.site) (λ no. absurd (no is_k)))
+      by_number false other = by_site (slice_get w.members j) refl
+        where
+          is_other : j ≡ k → ⊥
+          is_other same = eqb-false j k other same
+
+          by_site : (o : Option Member) → slice_get w.members j ≡ o → Of k last (at_member w o (λ m. with_site j m (with_told m.site) w)).members
+          by_site None e = all
+          by_site (Some m) e = keep_of j k last (record m { site = with_told m.site }) w.members all (λ same. absurd (is_other same))
+  event_leads (Undo j) may = by_site (slice_get w.members j) refl
+    where
+      by_result : (m : Member) → slice_get w.members j ≡ Some m → (r : Result Site UndoCause) → undo m.site ≡ r → Of k last (with_site_of j m r w).members
+      by_result m e (Err f) d = all
+      by_result m e (Ok site) d =
+          let p = holds_here j m e in keep j m (record m { site = site }) e (undo_leads w.base.items last p.before m.site site (sound_here m p) p.site d)
+
+      by_site : (o : Option Member) → slice_get w.members j ≡ o → Of k last (at_member w o (λ m. with_site_of j m (undo m.site) w)).members
+      by_site None e = all
+      by_site (Some m) e = by_result m e (undo m.site) refl
+  event_leads (Redo j) may = by_site (slice_get w.members j) refl
+    where
+      by_result : (m : Member) → slice_get w.members j ≡ Some m → (r : Result Site RedoCause) → redo m.site ≡ r → Of k last (with_site_of j m r w).members
+      by_result m e (Err f) d = all
+      by_result m e (Ok site) d =
+          let p = holds_here j m e in keep j m (record m { site = site }) e (redo_leads w.base.items last p.before m.site site p.site d)
+
+      by_site : (o : Option Member) → slice_get w.members j ≡ o → Of k last (at_member w o (λ m. with_site_of j m (redo m.site) w)).members
+      by_site None e = all
+      by_site (Some m) e = by_result m e (redo m.site) refl
+  event_leads (Revoke j i) may = by_site (slice_get w.members j) refl
+    where
+      by_result : (m : Member) → slice_get w.members j ≡ Some m → i < m.site.seen → (r : Result (List Transaction) RangeConflict) → revoke (entries_of w.committed m.site) i ≡ r →
+          Of k last (with_site_of j m (revoke_by r m.site) w).members
+      by_result m e below (Err clash) d = all
+      by_result m e below (Ok back) d =
+          let p = holds_here j m e in
+          keep j m (record m { site = with_entry back m.site }) e
+          (entry_leads back last m.site (revoked_may w.base.items p.before p.rest w.committed i m.site back h.sound (seen_runs w.base.items w.committed m h.committed p) p.split p.site below d))
+
+      by_site : (o : Option Member) → slice_get w.members j ≡ o → Of k last (at_member w o (λ m. with_site_of j m (revoke_entry w.committed i m.site) w)).members
+      by_site None e = all
+      by_site (Some m) e = by_result m e (may m e) (revoke (entries_of w.committed m.site) i) refl
+  event_leads (Send j) may = by_site (slice_get w.members j) refl
+    where
+      by_result : (m : Member) → slice_get w.members j ≡ Some m → (r : Result (Site × Submission) SendCause) → send m.site ≡ r → Of k last (with_sent j m r w).members
+      by_result m e (Err f) d = all
+      by_result m e (Ok r) d =
+          let s = sends m.site r d in
+          keep j m (record { site = r.0; submissions = m.submissions ++ r.1 ∷ []; feeds = m.feeds }) e
+          (λ p. subst (λ (u : Untold). Leads last u r.0.replica.items) (sym s.untold) (subst (λ (v : Replica). Leads last m.site.untold v.items) (sym s.replica) p))
+
+      by_site : (o : Option Member) → slice_get w.members j ≡ o → Of k last (at_member w o (λ m. with_sent j m (send m.site) w)).members
+      by_site None e = all
+      by_site (Some m) e = by_result m e (send m.site) refl
+  event_leads (Serve j) may = by_site (slice_get w.members j) refl
+    where
+      by_queue : (m : Member) → slice_get w.members j ≡ Some m → (ss : List Submission) → Of k last (after_turn w (serve_first j m ss w)).members
+      by_queue m e [] = all
+      by_queue m e (s ∷ later) = fed_of j 0 k _ last _ (keep j m (record m { submissions = later }) e (λ p. p))
+
+      by_site : (o : Option Member) → slice_get w.members j ≡ o → Of k last (at_member w o (λ m. after_turn w (serve_next j m w))).members
+      by_site None e = all
+      by_site (Some m) e = by_queue m e m.submissions
+  event_leads (Take j) may = by_site (slice_get w.members j) refl
+    where
+      by_feed : (m : Member) → slice_get w.members j ≡ Some m → (fs : List SiteFeed) → m.feeds ≡ fs → Of k last (after_turn w (take_first j m fs w)).members
+      by_feed m e [] f = all
+      by_feed m e (Foreign ps ∷ fs) f =
+          let p = holds_here j m e in
+          let fed = feeds_run w.base.items w.committed ps fs m h.sound h.committed f p in
+          keep j m (record m { site = take_foreign ps m.site; feeds = fs }) e (take_foreign_leads w.base.items last p.before ps m.site fed.sound fed.runs p.site)
+      by_feed m e (Ack n ∷ fs) f = keep j m (record m { site = take_ack m.site; feeds = fs }) e (λ p. p)
+
+      by_site : (o : Option Member) → slice_get w.members j ≡ o → Of k last (at_member w o (λ m. after_turn w (take_next j m w))).members
+      by_site None e = all
+      by_site (Some m) e = by_feed m e m.feeds refl
+
+pub run_leads : (k : ℕ) (es : List Event) (w : Session) (last : List PlainItem) → SessionHolds w → Of k last w.members → AllMayHappen w es →
+    Of k (told_last k w es last) (run w es).members
+run_leads k [] w last h all may = all
+run_leads k (e ∷ es) w last h all may =
+    run_leads k es (happens w e) (told_at k w e last) (event_holds w e h may.0) (event_leads w h k last all e may.0) may.1
+
+starts_of : (k n : ℕ) (base : Replica) → Of k [] (replicate n (joining base))
+starts_of k zero base m e = cc
+starts_of zero (suc n) base m e =
+    let same : joining base ≡ m = cc in
+    subst (λ (v : Member). SiteLeads [] v.site) same (record { was = refl; shows = λ few. first })
+  where
+    first : Shows (take 0 [] ++ (replicate (length base.items) None ++ drop 0 [])) base.items
+    first = subst (λ v. Shows v base.items) (sym (append-nil (replicate (length base.items) None))) (holes_show base.items)
+starts_of (suc k) (suc n) base m e = starts_of k n base m e
+
+-- what is told shows the list, many patches or few
+told_shows : (last items : List PlainItem) (u : Untold) → Leads last u items → Shows (patched (untold.told (length items) u) (whole last)) items
+told_shows last items u p = by_count (nat_lt max_patches (length u.patches)) refl
+  where
+    by_count : (b : Bool) → nat_lt max_patches (length u.patches) ≡ b →
+        Shows (patched (if b then record { at = 0; removed = u.was; inserted = length items } ∷ [] else u.patches) (whole last)) items
+    by_count false few = p.shows (ltb-false max_patches (length u.patches) few)
+    by_count true many = subst (λ v. Shows v items) (sym one_for_all) (holes_show items)
+      where
+        holes : View
+        holes = replicate (length items) None
+
+        one_for_all : holes ++ drop (0 + u.was) (whole last) ≡ holes
+        one_for_all =
+            let long = length_shows (whole last) last (whole_shows last) in
+            let told = p.was in
+            ap (λ l. holes ++ l) (drop_all (0 + u.was) (whole last) (omega arith)) ∙ append-nil holes
+
+pub view_holds : ViewHolds
+view_holds base sites events k m opens may e =
+    let last = told_last k (started base sites) events [] in
+    let h = start_holds base sites opens.sound opens.stored in
+    view_from_shows (patched (told m.site) (whole last)) m.site.replica.items
+    (told_shows last m.site.replica.items m.site.untold (run_leads k events (started base sites) [] h (starts_of k sites base) may m e))
