@@ -44,7 +44,7 @@ use Rattle.model_site_law.proofs.ItemLemmas.{items_keep}
 use Rattle.model_world_law.specs.Standing.{may_stand}
 use Rattle.model_world_law.proofs.ChangeStand.{changes_stand, moves_stand, pages_stand}
 use Rattle.model_world_law.proofs.StandLemmas.{setting_keeps}
-use Rattle.model_world_law.proofs.LinkLemmas.{Stands, Leads, asked_leads}
+use Rattle.model_world_law.proofs.LinkLemmas.{Stands, LeadsBy, asked_leads}
 use Rattle.model_world_law.proofs.WrittenLemmas.{lines_are_written}
 use Rattle.model_world_law.proofs.ChangeLemmas.{given, changes_fit, pages_are_sound}
 use Rattle.model_world_law.proofs.BuilderLemmas.{moves_fit}
@@ -76,7 +76,7 @@ reached_stand lines o w k m r e u =
     (ap (λ (v : Session). slice_get v.members k) (sym r.same) ∙ e)
 
 -- events lead on from a session that is reached, at one more line
-further : (past : List (List ℕ)) (line : List ℕ) (o : Opened) (w next : Session) → IsReached past o w → Becomes w next → IsReached (past ++ line ∷ []) o next
+further : {t : Option ℕ} (past : List (List ℕ)) (line : List ℕ) (o : Opened) (w next : Session) → IsReached past o w → Becomes t w next → IsReached (past ++ line ∷ []) o next
 further past line o w next r b =
     let base = opened_with o.items in
     let start = started base r.sites in
@@ -102,7 +102,7 @@ further past line o w next r b =
 -- a line that changes nothing
 unchanged : (past : List (List ℕ)) (line : List ℕ) (w : World) → WorldReached past w → WorldReached (past ++ line ∷ []) w
 unchanged past line Closed reached = tt
-unchanged past line (Open o w) reached = further past line o w w reached (record { events = []; may = tt; within = tt; inserts = λ every. tt; same = refl })
+unchanged past line (Open o w) reached = further {t = None} past line o w w reached (record { events = []; may = tt; within = tt; inserts = λ every. tt; told = λ k before. refl; same = refl })
 
 -- the site that is asked stands
 site_stands : (past : List (List ℕ)) (o : Opened) (w : Session) (k : ℕ) (m : Member) → IsReached past o w → slice_get w.members k ≡ Some m →
@@ -122,9 +122,9 @@ abbrev AnswerReached : List (List ℕ) → Answer → Type 0
 AnswerReached lines (Ok r) = WorldReached lines r.1
 AnswerReached lines (Err r) = Unit {0}
 
-page_reached : (past : List (List ℕ)) (line : List ℕ) (o : Opened) (w : Session) → IsReached past o w → (a : Asked) → a.session ≡ w → (r : Outcome) → Leads a r →
+page_reached : {t : Option ℕ} (past : List (List ℕ)) (line : List ℕ) (o : Opened) (w : Session) → IsReached past o w → (a : Asked) → a.session ≡ w → (r : Outcome) → LeadsBy t a r →
     AnswerReached (past ++ line ∷ []) (on_page o r)
-page_reached past line o w reached a e (Ok r) b = further past line o w r.1 reached (subst (λ v. Becomes v r.1) e b)
+page_reached {t = t} past line o w reached a e (Ok r) b = further past line o w r.1 reached (subst (λ v. Becomes t v r.1) e b)
 page_reached past line o w reached a e (Err r) b = tt
 
 member_reached : LayersFit → (past : List (List ℕ)) (line : List ℕ) (o : Opened) (w : Session) → IsReached past o w → (r : Request) (k : ℕ) → RequestWritten r →
