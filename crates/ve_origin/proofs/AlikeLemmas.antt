@@ -6,7 +6,7 @@ use Rattle.std.proofs.lemmas.List.{take-take, get_or-take, get_or-drop}
 use Rattle.std.proofs.lemmas.Option.{slice_get-get_or, get_or_from_slice_get, slice_get_cases}
 use Rattle.model_items.specs.declared.item.Item.{Item}
 use Rattle.ve_origin.specs.Agree.{Agree}
-use Rattle.ve_origin.specs.Known.{AreAlike}
+use Rattle.ve_origin.specs.Known.{AreAlike, IsRunOf}
 use Rattle.ve_origin.specs.declared.known.Run.{Run}
 
 pub piece_is : {A : Type 0} (xs piece : List A) (at : ℕ) → piece ≡ slice_range xs at (at + length piece) → piece ≡ take (length piece) (drop at xs)
@@ -101,3 +101,8 @@ known_part xs ys run from place n (suc m) known before step end le =
     let there : run.first + (from - run.now) ≡ place = sym s in
     let part = range_part xs ys run.now run.first run.count (from - run.now) (suc m) (omega (arith, e, le)) known.same in
     (λ i. slice_range xs (sym here i) (sym here i + suc m)) ∙ part ∙ (λ i. slice_range ys (there i) (there i + suc m))
+
+-- the run of two nodes is alike
+pub run_alike : (now first : List Item) (from place count : ℕ) (run : Run) → IsRunOf now from first place count run → AreAlike now first run
+run_alike now first from place count run (inl p) = p.1.alike
+run_alike now first from place count run (inr p) = p.1.alike

@@ -3,6 +3,7 @@ pub mod AnswerLemmas
 pub mod BodyLemmas
 pub mod CarryLemmas
 pub mod KeptLemmas
+mod KnownExamples
 pub mod NodeLemmas
 mod OriginExamples
 pub mod PlaceLemmas

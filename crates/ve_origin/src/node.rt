@@ -1,6 +1,6 @@
 // Whether a node has the items that it had.
 ghost use Rattle.std.specs.Prelude.{◌≡◌, ◌≤◌, ◌<◌, ◌+◌, ◌↔◌, IsTrue, length, slice_range};
-ghost use Rattle.ve_origin.specs.Known.{AreAlike};
+ghost use Rattle.ve_origin.specs.Known.{AreAlike, IsRunOf};
 ghost use Rattle.ve_origin.specs.Without.{without, AreSameNodes};
 
 use crate::compare::alike_after;
@@ -63,7 +63,8 @@ pub fn same_node(
     alike_after(now, from + 1, first, place + 1, count - 1, known) == count - 1
 }
 
-/// How far two nodes of so many items are alike, from their openings on, or from their insides where the openings differ.
+/// How far two nodes of so many items are alike, from their openings on, or from their insides where
+/// the openings differ.
 pub fn run_of(
     now: &Linear,
     from: usize,
@@ -76,7 +77,7 @@ pub fn run_of(
     requires here { from + count ≤ length now.now.items }
     requires there { place + count ≤ length first.now.items }
     requires known { AreAlike now.now.items first.now.items known }
-    ensures { AreAlike now.now.items first.now.items result }
+    ensures { IsRunOf now.now.items from first.now.items place count result }
 {
     let _here = now.len();
     let _there = first.len();

@@ -1,7 +1,7 @@
 // The page that was first read, and which nodes are still as they were.
 ghost use Rattle.std.specs.Prelude.{◌≡◌, ◌≤◌, ◌<◌, ◌↔◌, IsTrue, length, take, drop, slice_get, Some};
 ghost use Rattle.model_page_write.specs.PageText.{part_at};
-ghost use Rattle.ve_origin.specs.Known.{IsKnown};
+ghost use Rattle.ve_origin.specs.Known.{IsKnown, IsCompared};
 ghost use Rattle.ve_origin.specs.Origins.{spans, first_read, FirstRead, IsCut, IsRow, AreRows, Keeps};
 
 use crate::carried::{Side, all_carry_same};
@@ -166,8 +166,10 @@ impl<'a> Origins<'a> {
         all_carry_same(now, first, count)
     }
 
-    /// Compares the node that begins at a place of a list with that of the origin, and says what is known then. Asked
-    /// with it, `kept_after` compares no item of this node or of those in it up to their first difference.
+    /// Compares the node that begins at a position of a list with that of the origin, and says what
+    /// is known then. Asked with it, `kept_after` compares no item of this node or of those in it up
+    /// to their first difference. Where too few items are left for such a node, no more is known
+    /// than before.
     pub fn compared(
         &self,
         k: u32,
@@ -179,7 +181,8 @@ impl<'a> Origins<'a> {
         requires number { k < length self.now.rows }
         requires within { from ≤ length now.now.items }
         requires known { IsKnown now.now.items refs.now self.now known }
-        ensures { IsKnown now.now.items refs.now self.now result }
+        ensures known { IsKnown now.now.items refs.now self.now result }
+        ensures compared { IsCompared self.now k now.now.items from known result }
     {
         let row = self.row(k);
         let count = row.to - row.from;

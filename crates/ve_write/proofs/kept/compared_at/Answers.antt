@@ -6,4 +6,4 @@ pub compared-requires-clause-known : goal.compared-requires-clause-known
 compared-requires-clause-known c = subst (λ f. IsKnownFor c.args.page.list.now.items c.args.page.refs.now f c.args.known) c.in-Some.is c.requires.known
 
 pub returns : goal.returns
-returns c = subst (λ f. IsKnownFor c.args.page.list.now.items c.args.page.refs.now f c.compared.result) (sym c.in-Some.is) c.compared.ensures
+returns c = subst (λ f. IsKnownFor c.args.page.list.now.items c.args.page.refs.now f c.compared.result) (sym c.in-Some.is) c.compared.ensures.known
