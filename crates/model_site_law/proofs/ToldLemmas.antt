@@ -137,7 +137,7 @@ told_leads s = record { was = refl; shows = λ few. whole_shows s.replica.items 
 
 -- ---- the site at k among all
 
-abbrev Of : (k : ℕ) → List PlainItem → List Member → Type 0
+abbrev pub Of : (k : ℕ) → List PlainItem → List Member → Type 0
 Of k last ms = (m : Member) → slice_get ms k ≡ Some m → SiteLeads last m.site
 
 -- another member in the place of one: if it is the one at k, it leads from another list too
@@ -283,7 +283,7 @@ run_leads k [] w last h all may = all
 run_leads k (e ∷ es) w last h all may =
     run_leads k es (happens w e) (told_at k w e last) (event_holds w e h may.0) (event_leads w h k last all e may.0) may.1
 
-starts_of : (k n : ℕ) (base : Replica) → Of k [] (replicate n (joining base))
+pub starts_of : (k n : ℕ) (base : Replica) → Of k [] (replicate n (joining base))
 starts_of k zero base m e = cc
 starts_of zero (suc n) base m e =
     let same : joining base ≡ m = cc in
@@ -294,7 +294,7 @@ starts_of zero (suc n) base m e =
 starts_of (suc k) (suc n) base m e = starts_of k n base m e
 
 -- what is told shows the list, many patches or few
-told_shows : (last items : List PlainItem) (u : Untold) → Leads last u items → Shows (patched (untold.told (length items) u) (whole last)) items
+pub told_shows : (last items : List PlainItem) (u : Untold) → Leads last u items → Shows (patched (untold.told (length items) u) (whole last)) items
 told_shows last items u p = by_count (nat_lt max_patches (length u.patches)) refl
   where
     by_count : (b : Bool) → nat_lt max_patches (length u.patches) ≡ b →

@@ -105,7 +105,7 @@ unchanged past line Closed reached = tt
 unchanged past line (Open o w) reached = further {t = None} past line o w w reached (record { events = []; may = tt; within = tt; inserts = λ every. tt; told = λ k before. refl; same = refl })
 
 -- the site that is asked stands
-site_stands : (past : List (List ℕ)) (o : Opened) (w : Session) (k : ℕ) (m : Member) → IsReached past o w → slice_get w.members k ≡ Some m →
+pub site_stands : (past : List (List ℕ)) (o : Opened) (w : Session) (k : ℕ) (m : Member) → IsReached past o w → slice_get w.members k ≡ Some m →
     Stands (record { page = o; session = w; k = k; member = m })
 site_stands past o w k m r e =
     let base = opened_with o.items in
@@ -176,7 +176,7 @@ line_reached fit past w reached line = by_length (nat_lt max_line (length line))
     by_length true = tt
     by_length false = command_reached fit past w reached line (command line) refl
 
-reply_reached : LayersFit → (past : List (List ℕ)) (w : World) → WorldReached past w → (line : List ℕ) → WorldReached (past ++ line ∷ []) (reply w line).1
+pub reply_reached : LayersFit → (past : List (List ℕ)) (w : World) → WorldReached past w → (line : List ℕ) → WorldReached (past ++ line ∷ []) (reply w line).1
 reply_reached fit past w reached line = by_answer (answer w line) (line_reached fit past w reached line)
   where
     by_answer : (a : Answer) → AnswerReached (past ++ line ∷ []) a → WorldReached (past ++ line ∷ []) (reply_and_next w a).1
@@ -189,7 +189,7 @@ lines_reached fit (line ∷ lines) past w reached =
     subst (λ ls. WorldReached ls (world_after (reply w line).1 lines)) (append_assoc past (line ∷ []) lines)
     (lines_reached fit lines (past ++ line ∷ []) (reply w line).1 (reply_reached fit past w reached line))
 
-layers_fit : LayersFit
+pub layers_fit : LayersFit
 layers_fit = record {
   lines = lines_are_written;
   changes = changes_fit;
