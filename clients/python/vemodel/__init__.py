@@ -7,19 +7,21 @@
         core.text(2, "X")        # 7
         core.html()              # '<p>aXb</p>'
 """
-from .core import Ack, Cell, Core, Foreign, Grid, Node, Reference, Refused, Selection, Served
+from .core import Ack, Cell, Changes, Core, Foreign, Grid, Node, Patch, Reference, Refused, Selection, Served
 from .library import Library
 from .program import Ended, Program
 
 __all__ = [
     "Ack",
     "Cell",
+    "Changes",
     "Core",
     "Ended",
     "Foreign",
     "Grid",
     "Library",
     "Node",
+    "Patch",
     "Program",
     "Reference",
     "Refused",

@@ -91,6 +91,21 @@ class Grid(NamedTuple):
     cells: List[Cell]
 
 
+class Patch(NamedTuple):
+    """So many items went at an offset, and so many came there."""
+
+    at: int
+    removed: int
+    inserted: int
+
+
+class Changes(NamedTuple):
+    """What changed in a list: its length now, and patches, each over the list that those before it left."""
+
+    length: int
+    patches: List[Patch]
+
+
 class Served(NamedTuple):
     """What the server did with a submission of `of` changes: it committed the first `accepted`.
 
@@ -195,6 +210,11 @@ class Core:
     def caret(self, site: int = 0) -> Selection:
         """Returns the selection."""
         return _selection(self._ask("caret", site))
+
+    def changes(self, site: int = 0) -> Changes:
+        """Returns what changed in the list since the site last told it, or since the page was opened. `data` shows what came."""
+        length, patches = self._ask("changes", site).split(" ")
+        return Changes(int(length), [Patch(*it) for it in json.loads(patches)])
 
     def grid(self, at: int, site: int = 0) -> Grid:
         """Returns the cells of the table that begins at an offset."""
