@@ -38,6 +38,8 @@ export class Core {
   grid(members: { at: number } & Site): Promise<Grid>;
   /** Shows the selection. */
   caret(members?: Site): Promise<Selection>;
+  /** Tells what changed in the list since the site last told it, or since the page was opened. `data` shows what came. */
+  changes(members?: Site): Promise<Changes>;
 
   /** Types characters, with the marks of what stands to the left, or with none. */
   text(members: { at: number; text: string; marks?: "left" | "none" } & Site): Promise<number>;
@@ -184,6 +186,19 @@ export interface Reference {
 export interface Selection {
   anchor: number;
   focus: number;
+}
+
+/** What changed in a list: its length now, and patches, each over the list that those before it left. */
+export interface Changes {
+  length: number;
+  patches: Patch[];
+}
+
+/** So many items went at an offset, and so many came there. */
+export interface Patch {
+  at: number;
+  removed: number;
+  inserted: number;
 }
 
 export interface Grid {

@@ -103,8 +103,8 @@ export class Core {
 }
 
 // The commands, each a method that takes its members as one object.
-const COMMANDS = `open html data tree at near refs caret text remove split mark unmark wrap convert attr row_in row_out col_in
-  col_out indent outdent grid insert apply batch undo redo select move type erase send serve take revoke`.split(/\s+/);
+const COMMANDS = `open html data tree at near refs caret changes text remove split mark unmark wrap convert attr row_in row_out
+  col_in col_out indent outdent grid insert apply batch undo redo select move type erase send serve take revoke`.split(/\s+/);
 for (const name of COMMANDS) {
   Core.prototype[name] = function (members) {
     return this.ask({ do: name, ...members });
@@ -125,6 +125,10 @@ const READ = {
   grid(reply) {
     const [rows, columns, cells] = reply.split(" ");
     return { rows: Number(rows), columns: Number(columns), cells: JSON.parse(cells).map(readCell) };
+  },
+  changes(reply) {
+    const [length, patches] = reply.split(" ");
+    return { length: Number(length), patches: JSON.parse(patches).map(([at, removed, inserted]) => ({ at, removed, inserted })) };
   },
   caret: readSelection,
   select: readSelection,

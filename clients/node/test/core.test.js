@@ -51,6 +51,8 @@ function spelled(name, value) {
     case "select":
     case "move":
       return Object.values(value).join(" ");
+    case "changes":
+      return `${value.length} ${JSON.stringify(value.patches.map(Object.values))}`;
     case "refs":
       return JSON.stringify(value.map(Object.values));
     case "grid":
@@ -92,6 +94,16 @@ describe("commands", () => {
     assert.deepEqual(await core.at({ at: 1 }), { kind: "p", begin: 0, end: 5, state: "content" });
     assert.equal(await core.near({ at: 0, dir: "ahead" }), 1);
     assert.deepEqual(await core.select({ anchor: 1, focus: 1 }), { anchor: 1, focus: 1 });
+  });
+
+  test("what changed", async () => {
+    await core.open({ page: "<p>ab</p>" });
+    assert.deepEqual(await core.changes(), { length: 6, patches: [{ at: 0, removed: 0, inserted: 6 }] });
+    await core.text({ at: 2, text: "X" });
+    await core.mark({ from: 1, to: 3, tag: "b" });
+    const patches = [{ at: 2, removed: 0, inserted: 1 }, { at: 1, removed: 2, inserted: 2 }];
+    assert.deepEqual(await core.changes(), { length: 7, patches });
+    assert.deepEqual(await core.changes({ site: 0 }), { length: 7, patches: [] });
   });
 
   test("two sites", async () => {

@@ -9,7 +9,24 @@ import unittest
 from pathlib import Path
 from unittest import mock
 
-from vemodel import Ack, Cell, Core, Ended, Foreign, Grid, Library, Node, Program, Reference, Refused, Selection, Served, library
+from vemodel import (
+    Ack,
+    Cell,
+    Changes,
+    Core,
+    Ended,
+    Foreign,
+    Grid,
+    Library,
+    Node,
+    Patch,
+    Program,
+    Reference,
+    Refused,
+    Selection,
+    Served,
+    library,
+)
 from vemodel.program import find
 
 EXAMPLES = Path(__file__).resolve().parents[3] / "examples"
@@ -54,6 +71,8 @@ def spelled(value):
         return f"foreign {value.foreign} dropped {value.dropped}"
     if isinstance(value, Ack):
         return f"ack {value.accepted}"
+    if isinstance(value, Changes):
+        return f"{value.length} {compact(value.patches)}"
     if isinstance(value, Grid):
         return f"{value.rows} {value.columns} {compact(value.cells)}"
     if isinstance(value, (Node, Selection)):
@@ -111,6 +130,15 @@ class Commands(unittest.TestCase):
         self.assertEqual(core.near(0, "ahead"), 1)
         self.assertEqual(core.select(anchor=1, focus=1), Selection(1, 1))
         self.assertEqual(core.caret().focus, 1)
+
+    def test_what_changed(self):
+        core = self.core
+        core.open("<p>ab</p>")
+        self.assertEqual(core.changes(), Changes(6, [Patch(at=0, removed=0, inserted=6)]))
+        core.text(2, "X")
+        core.mark(1, 3, "b")
+        self.assertEqual(core.changes(), (7, [(2, 0, 1), (1, 2, 2)]))
+        self.assertEqual(core.changes(site=0).patches, [])
 
     def test_grid(self):
         core = self.core
