@@ -1,24 +1,18 @@
 // A page that is edited: one program, and a site of it for each window.
 import { randomUUID } from "node:crypto";
-import { Core, accepted } from "./core.mjs";
+import { Core, accepted, holes, itemsIn } from "./core.mjs";
 
 const SITES = 8; // as many as the program has
-const REMEMBERED = 200; // submissions whose ranges are kept for who has not taken them yet
-
-// The length of the list that the last change among these replies left.
-const lengthIn = (replies) => Number(/^ok (\d+)$/.exec(replies.findLast((reply) => /^ok \d+$/.test(reply)))[1]);
 
 // What a window may ask. The rest is the room's: pages are opened and sites are joined here alone.
 const READ = new Set(["data", "html"]);
-const ASKED = new Set([...READ, "select", "type", "erase", "text", "remove", "split", "mark", "unmark", "wrap", "convert",
+const ASKED = new Set(["select", "type", "erase", "text", "remove", "split", "mark", "unmark", "wrap", "convert",
   "attr", "indent", "outdent", "insert", "apply", "batch", "revoke"]);
 
 export class Room {
   #core;
   #windows = new Map();
   #seen = Array(SITES).fill(0); // how many committed entries each site has seen
-  #committed = 0;
-  #touched = new Map(); // by its first entry's number, what a submission touched
   #opened;
   #turns = Promise.resolve();
 
@@ -40,7 +34,7 @@ export class Room {
       await this.#take(site);
       const id = randomUUID();
       send("hello", { id, site, seen: this.#seen[site], others: await this.#carets() });
-      this.#windows.set(id, { site, send });
+      this.#windows.set(id, { site, send, isNew: true });
       return id;
     });
   }
@@ -52,10 +46,12 @@ export class Room {
   }
 
   // A turn of a window: its lines, all or none, then what joins its site with the others. Nobody's line comes between. So no
-  // submission is ever on its way when a turn begins, nor is anything unsent, even where a window is closed in the middle.
-  turn(id, lines, touched) {
+  // submission is ever on its way when a turn begins, nor is anything unsent, even where a window is closed in the middle. In the end
+  // the window is given what changed in its list.
+  turn(id, lines) {
     return this.#inTurn(async () => {
-      const site = this.#site(id);
+      const window = this.#window(id);
+      const { site } = window;
       const replies = [];
       for (const line of lines) {
         replies.push(ASKED.has(line?.do) ? await this.#core.ask({ ...line, site }) : "no bad_command do");
@@ -64,31 +60,22 @@ export class Room {
         break;
       }
       const sent = accepted(await this.#core.ask({ do: "send", site }));
-      if (sent) await this.#serve(site, touched && { ...touched, length: lengthIn(replies) });
+      if (sent) await this.#core.ask({ do: "serve", site });
       const taken = await this.#take(site);
       const state = { site, seen: this.#seen[site], caret: await this.#caret(site) };
       this.#tell(id, "turn", { ...state, changed: sent });
-      return { replies, taken, ...state };
+      return { replies, taken, ...(await this.#changes(window)), ...state };
     });
   }
 
   // A line that changes nothing, and after which the site takes nothing: so it is read as the window's last turn left it.
   read(id, line) {
-    return this.#inTurn(() => (READ.has(line?.do) ? this.#core.ask({ ...line, site: this.#site(id) }) : "no bad_command do"));
+    return this.#inTurn(() => (READ.has(line?.do) ? this.#core.ask({ ...line, site: this.#window(id).site }) : "no bad_command do"));
   }
 
-  #site(id) {
+  #window(id) {
     if (!this.#windows.has(id)) throw new Error("this window isn't open");
-    return this.#windows.get(id).site;
-  }
-
-  // Where nobody committed anything since this site took what there was, its submission is committed as it was made. So every site
-  // that takes it, and has nothing of its own to join it with, has the same range of the same list changed.
-  async #serve(site, touched) {
-    const [, joined, , sent] = (await this.#core.ask({ do: "serve", site })).split(" ").map(Number);
-    if (touched && joined === sent && this.#seen[site] === this.#committed) this.#touched.set(this.#committed, touched);
-    if (this.#touched.size > REMEMBERED) this.#touched.delete(this.#touched.keys().next().value);
-    this.#committed += joined;
+    return this.#windows.get(id);
   }
 
   // Hands the site all that the server has for it.
@@ -97,9 +84,20 @@ export class Room {
     for (;;) {
       const [word, what, count, , dropped] = (await this.#core.ask({ do: "take", site })).split(" ");
       if (word === "no") return taken;
-      taken.push({ [what]: +count, dropped: +(dropped ?? 0), touched: this.#touched.get(this.#seen[site]) });
+      taken.push({ [what]: +count, dropped: +(dropped ?? 0) });
       this.#seen[site] += +count;
     }
+  }
+
+  // The patches that lead from the list that a window shows to its site's, and the items that came, each run of them with its place. A
+  // window that is new shows nothing, whatever its site told the one before.
+  async #changes(window) {
+    const { site, isNew } = window;
+    const [, length, told] = (await this.#core.ask({ do: "changes", site })).split(" ");
+    window.isNew = false;
+    const patches = isNew ? [[0, 0, +length]] : JSON.parse(told);
+    const came = holes(patches).map(async ([from, to]) => [from, itemsIn(await this.#core.ask({ do: "data", from, to, site }))]);
+    return { patches, came: await Promise.all(came) };
   }
 
   async #caret(site) {

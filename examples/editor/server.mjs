@@ -59,9 +59,9 @@ async function ask(request, answer, name, what) {
   request.setEncoding("utf8");
   let body = "";
   for await (const piece of request) body += piece;
-  const { id, lines, touched, line } = JSON.parse(body);
+  const { id, lines, line } = JSON.parse(body);
   const asked = await room(name);
-  const done = await (what === "/turn" ? asked.turn(id, lines, touched) : asked.read(id, line));
+  const done = await (what === "/turn" ? asked.turn(id, lines) : asked.read(id, line));
   answer.writeHead(200, { "content-type": "application/json" });
   answer.end(JSON.stringify(done));
 }

@@ -8,7 +8,7 @@ export function converted(root, selection, kind) {
   const branches = touched(root, lo, hi).filter((branch) => branch.kind !== kind);
   if (branches.length === 0) return null;
   const lines = branches.map((branch) => ({ do: "convert", at: startOf(branch), kind }));
-  return { lines: [batch(lines)], from: startOf(branches[0]), to: endOf(branches.at(-1)), grows: 0 };
+  return { lines: [batch(lines)] };
 }
 
 const touched = (root, lo, hi) => (lo === hi ? [innermost(root, lo)].filter(isContent) : branchesIn(root, lo, hi));
@@ -21,14 +21,13 @@ export function listed(root, selection, kind) {
   if (list?.kind === kind) return lifted(root, list, lo, hi);
   if (list) {
     const lines = [{ do: "wrap", from: innerStart(list), to: innerEnd(list), unwrap_outer: [list.kind], wrap_outer: [{ kind }] }];
-    return { lines, from: startOf(list), to: endOf(list), grows: 0 };
+    return { lines };
   }
   const parent = isContent(common) ? common.parent : common;
   const siblings = shown(parent).filter((kid) => startOf(kid) < Math.max(hi, lo + 1) && endOf(kid) > lo);
   if (siblings.length === 0 || !siblings.every(isContent)) return "Only paragraphs and headings beside each other can become a list";
   const [from, to] = [startOf(siblings[0]), endOf(siblings.at(-1))];
-  const lines = [{ do: "wrap", from, to, wrap_outer: [{ kind }], wrap_each: [{ kind: "li" }] }];
-  return { lines, from, to, grows: 2 + 2 * siblings.length };
+  return { lines: [{ do: "wrap", from, to, wrap_outer: [{ kind }], wrap_each: [{ kind: "li" }] }] };
 }
 
 // Items of a list become what they hold; what stands before and after them stays a list.
@@ -43,7 +42,7 @@ function lifted(root, list, lo, hi) {
   const again = { open: list.kind, attrs: (list.open.attrs ?? []).filter(([name]) => !["id", "about", "typeof"].includes(name)) };
   edits.unshift(list.kids[0] === first ? { at: startOf(list), gone: 1, came: [] } : { at: startOf(first), gone: 0, came: [{ close: list.kind }] });
   edits.push(list.kids.at(-1) === last ? { at: endOf(list) - 1, gone: 1, came: [] } : { at: endOf(last), gone: 0, came: [again] });
-  return { lines: [operations(root, edits)], from: startOf(list), to: endOf(list) };
+  return { lines: [operations(root, edits)] };
 }
 
 // Tab, and Tab with Shift, in a list.
@@ -51,7 +50,7 @@ export function indented(root, selection) {
   const item = listItem(innermost(root, ends(selection)[0]));
   if (!item) return null;
   if (!before(item).some((node) => node.kind === "li")) return "There is no item before this one";
-  return { lines: [{ do: "indent", at: startOf(item) }], from: startOf(item.parent), to: endOf(item.parent) };
+  return { lines: [{ do: "indent", at: startOf(item) }] };
 }
 
 export function outdented(root, selection) {
@@ -60,7 +59,7 @@ export function outdented(root, selection) {
   if (!item) return null;
   const outer = listItem(item.parent);
   if (!outer) return lifted(root, item.parent, lo, hi);
-  return { lines: [{ do: "outdent", at: startOf(item) }], from: startOf(outer.parent), to: endOf(outer.parent) };
+  return { lines: [{ do: "outdent", at: startOf(item) }] };
 }
 
 // The kind of the selection's first branch and of the innermost list round it, for the toolbar.

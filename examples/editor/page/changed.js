@@ -1,12 +1,10 @@
-// What changed. A window knows the range that its edit touched, and reads the nodes there anew; the others are told of it where it is the
-// same range of their lists. Where it isn't, as two changed the page at once, a window reads all, and compares. Any way the answer is one
-// change, `{ at, gone, came }`: the items that stood at the place, and how many stand there now. A command of the program that tells what
-// changed would replace what is told, the reading of all, and `difference`.
-import { isContent, itemsOf, startOf } from "./tree.js";
-import { scalars } from "./scalars.js";
+// What changed. The program tells patches, `[at, removed, inserted]`, each over the list that those before it left, and the items that
+// came. The window puts them into the nodes round them, and makes of all together one change, `{ at, gone, came }`: the items that stood
+// at the place, and how many stand there now.
+import { isContent, itemsOf, parse, startOf } from "./tree.js";
 
 // The fewest whole siblings, none of them in a content branch, that cover the range.
-export function cover(root, from, to) {
+function cover(root, from, to) {
   let parent = root, start = 0;
   for (;;) {
     let at = start;
@@ -26,31 +24,30 @@ export function cover(root, from, to) {
   }
 }
 
-// The same one level up, or nothing above the root.
-export function wider({ parent }) {
-  if (!parent.parent) return null;
+// The same one level up. What the root holds has all its partners.
+function wider({ parent }) {
   const first = parent.parent.kids.indexOf(parent);
   const from = startOf(parent);
   return { parent: parent.parent, first, last: first + 1, from, to: from + parent.size };
 }
 
-// The range of the list as it is shown that others' changes touched one after the other, and the length that they leave; nothing where
-// that isn't known of each of them.
-export function union(taken, length) {
-  let from = Infinity, to = 0, now = length;
-  for (const { touched } of taken) {
-    if (!touched) return null;
-    from = Math.min(from, touched.from);
-    to = Math.max(to, touched.to - (now - length));
-    now = touched.length;
+// The one range that patches change: where it begins, how many items it had, and how many it has.
+function together(patches) {
+  if (patches.length === 0) return null;
+  let at = patches[0][0], gone = 0, came = 0;
+  for (const [place, removed, inserted] of patches) {
+    // what stands between the patch and the range so far is in it, too
+    const more = Math.max(0, at - place) + Math.max(0, place + removed - (at + came));
+    at = Math.min(at, place);
+    gone += more;
+    came += more + inserted - removed;
   }
-  return { from, to, length: now };
+  return { at, gone, came };
 }
 
-const sizeOf = (item) => (typeof item === "string" ? scalars(item) : Array.isArray(item) ? scalars(item[0]) : 1);
 const same = (a, b) => a === b || (typeof a === "object" && typeof b === "object" && JSON.stringify(a) === JSON.stringify(b));
 
-// Runs as their characters, so that two lists may be compared item by item.
+// Runs as their characters, so that each entry is an item.
 function single(items) {
   return items.flatMap((item) => {
     if (typeof item === "string") return [...item];
@@ -58,28 +55,54 @@ function single(items) {
   });
 }
 
-// Where two lists begin to differ, from each end; from the front they are taken as equal for so many items at most.
-function ends(old, fresh, limit = Infinity) {
-  let head = 0, tail = 0;
-  const most = Math.min(old.length, fresh.length);
-  while (head < Math.min(most, limit) && same(old[head], fresh[head])) head++;
-  while (tail < most - head && same(old.at(-1 - tail), fresh.at(-1 - tail))) tail++;
-  return [head, tail];
+// The other way: characters beside each other whose marks are the same as one run.
+function runs(items) {
+  const out = [];
+  for (const item of items) {
+    const last = out.at(-1);
+    if (typeof item === "string" && typeof last === "string") out[out.length - 1] += item;
+    else if (Array.isArray(item) && Array.isArray(last) && same(item[1], last[1])) last[0] += item[0];
+    else out.push(Array.isArray(item) ? [...item] : item);
+  }
+  return out;
 }
 
-// The one change that makes the nodes `fresh` of the nodes `old`, which begin at `from`; nothing where they are equal. Of a letter that
-// is typed beside its like the items don't tell which one is new, but the caret does: it stands just after what was typed, and just where
-// something was erased.
-export function difference(old, fresh, from, caret = Infinity) {
-  const before = itemsOf(old), after = itemsOf(fresh);
-  const [head, tail] = ends(before, after);
-  const gone = single(before.slice(head, before.length - tail));
-  const came = single(after.slice(head, after.length - tail));
-  let at = from;
-  for (let k = 0; k < head; k++) at += sizeOf(before[k]);
-  const [skip, cut] = ends(gone, came, Math.max(0, caret - at - Math.max(0, came.length - gone.length)));
-  if (skip === gone.length && skip === came.length) return null;
-  return { at: at + skip, gone: gone.slice(skip, gone.length - cut), came: came.length - skip - cut };
+// The items of siblings before patches and after them.
+function patched({ parent, first, last, from }, { patches, came }) {
+  const before = single(itemsOf(parent.kids.slice(first, last)));
+  let after = before;
+  for (const [at, removed, inserted] of patches) {
+    after = [...after.slice(0, at - from), ...Array(inserted), ...after.slice(at - from + removed)];
+  }
+  for (const [at, items] of came) single(items).forEach((item, k) => (after[at - from + k] = item));
+  return [before, after];
+}
+
+// What a turn's patches make of the tree: the siblings that they touch, the nodes that come in the place of these, and the one change,
+// nothing where the items are what they were. Nothing at all where no patch came.
+export function renewed(root, turn) {
+  const range = together(turn.patches);
+  return range && renewedIn(cover(root, range.at, range.at + range.gone), range, turn);
+}
+
+// Where brackets of the siblings lost their partners, these stand round them.
+function renewedIn(span, range, turn) {
+  const [before, after] = patched(span, turn);
+  const fresh = parse(runs(after));
+  if (!fresh) return renewedIn(wider(span), range, turn);
+  const begin = range.at - span.from;
+  const gone = before.slice(begin, begin + range.gone), came = after.slice(begin, begin + range.came);
+  return { ...span, fresh, change: difference(range.at, gone, came) };
+}
+
+// The least change that puts items in the place of others.
+function difference(at, gone, came) {
+  let head = 0, tail = 0;
+  const most = Math.min(gone.length, came.length);
+  while (head < most && same(gone[head], came[head])) head++;
+  while (tail < most - head && same(gone.at(-1 - tail), came.at(-1 - tail))) tail++;
+  if (head === gone.length && head === came.length) return null;
+  return { at: at + head, gone: gone.slice(head, gone.length - tail), came: came.length - head - tail };
 }
 
 // Where an offset stands after a change. What stood in its place stands at its end.

@@ -8,7 +8,7 @@ import { ancestors, commonOf, endOf, innerEnd, innerStart, innermost, isContent,
 // write, the brackets stay.
 export function cut(root, from, to) {
   const first = innermost(root, from), last = innermost(root, to);
-  const plain = { lines: remove(from, to), from, to };
+  const plain = { lines: remove(from, to) };
   const common = commonOf(first, last);
   if (first === last || first.parent === last.parent || !isContent(first) || !isContent(last)) return plain;
   const parted = [...ancestors(first), ...ancestors(last)].filter((node) => !ancestors(common).includes(node));
@@ -24,7 +24,7 @@ export function cut(root, from, to) {
   while (whole !== sides && after(whole).length === 0) whole = whole.parent;
   for (let up = whole; up !== sides; up = up.parent) for (const kid of before(up)) edits.push(without(kid));
   edits.push(without(whole));
-  return { lines: [operations(root, edits)], from: startOf(first), to: endOf(sides), apply: true };
+  return { lines: [operations(root, edits)], apply: true };
 }
 
 function itemsWithin(runs) {
@@ -36,10 +36,7 @@ function itemsWithin(runs) {
 export function joined(root, branch, dir) {
   const beside = neighbour(branch, dir);
   if (!beside) return null;
-  if (isLeaf(beside)) {
-    const [from, to] = [startOf(beside), endOf(beside)];
-    return { lines: remove(from, to), from, to, grows: from - to };
-  }
+  if (isLeaf(beside)) return { lines: remove(startOf(beside), endOf(beside)) };
   const [before, after] = dir === "back" ? [beside, branch] : [branch, beside];
   if (!isContent(branch)) return emptied(root, branch, beside, dir);
   const edit = cut(root, innerEnd(before), innerStart(after));
@@ -52,7 +49,7 @@ function emptied(root, node, beside, dir) {
   if (!node.parent || isCell(node)) return null;
   const whole = hull(node);
   const [from, to] = [startOf(whole), endOf(whole)];
-  return { lines: [...remove(from, to), select(dir === "back" ? innerEnd(beside) : innerStart(beside) - (to - from))], from, to };
+  return { lines: [...remove(from, to), select(dir === "back" ? innerEnd(beside) : innerStart(beside) - (to - from))] };
 }
 
 // The branch or block leaf next to a branch that way; none across the border of a cell.

@@ -1,14 +1,14 @@
 // The editor: its tree, its selection, and the turns by which they change. Everything that a user does is an intent, a function that is
 // called when its turn comes; so it sees the list and the selection as the turn before left them, however fast the keys come.
-import { cover, difference, mapped, union, wider } from "./changed.js";
+import { mapped, renewed } from "./changed.js";
 import { History, backwards } from "./history.js";
-import { accepted, itemsIn, lengthIn } from "./link.js";
-import { caretPlace, innermost, isContent, newRoot, parse, startOf } from "./tree.js";
+import { accepted } from "./link.js";
+import { caretPlace, innermost, isContent, newRoot, startOf } from "./tree.js";
 import { typed } from "./text.js";
 import { View } from "./view.js";
 
 // A turn without an edit still tells where the selection is, and takes what others did.
-const NOTHING = { lines: [], from: 0, to: 0 };
+const NOTHING = { lines: [] };
 
 export class Editor {
   root = newRoot();
@@ -37,7 +37,7 @@ export class Editor {
   // What the window shows first: all of the page.
   async open(seen) {
     this.seen = seen;
-    await this.act(() => ({ lines: [], from: 0, to: null }));
+    await this.act(() => NOTHING);
     this.place(Array(2).fill(caretPlace(this.root, 0, true)));
   }
 
@@ -132,8 +132,7 @@ export class Editor {
   #back({ step, put }, word) {
     if (!step) return `There is nothing to ${word}`;
     const { entries, change } = step;
-    const [from, to] = change ? [change.at, change.at + change.came] : [0, null];
-    const edit = { from, to, put, reveal: true, lines: [...entries].reverse().map((entry) => ({ do: "revoke", entry })) };
+    const edit = { put, reveal: true, lines: [...entries].reverse().map((entry) => ({ do: "revoke", entry })) };
     const refused = `This can't be ${word === "undo" ? "undone" : "redone"}: a later change stands in its place`;
     const again = change && { ...edit, lines: [backwards(change, this.root.size)], otherwise: () => refused };
     return { ...edit, otherwise: (foreign) => (foreign ? refused : (again ?? refused)) };
@@ -142,21 +141,16 @@ export class Editor {
   async #run(edit, intent) {
     const told = this.#moved ? [{ do: "select", anchor: this.selection[0], focus: this.selection[1] }] : [];
     this.#moved = false;
-    const span = edit.to === null ? null : cover(this.root, edit.from, edit.to);
-    const ahead = span && edit.grows !== undefined ? [{ do: "data", from: span.from, to: span.to + edit.grows }] : [];
-    const touched = span && edit.lines.length ? { from: edit.from, to: edit.to } : undefined;
-    const turn = await this.#link.turn([...told, ...edit.lines, ...ahead], touched);
+    const turn = await this.#link.turn([...told, ...edit.lines]);
     const refused = turn.replies.find((reply) => !accepted(reply));
     if (refused) {
       this.#moved = told.length > 0;
-      await this.#heed(turn, null, null, null);
+      await this.#heed(turn, null);
       const other = edit.otherwise?.(turn.taken.length > 0);
       if (other?.lines) return this.#run(other, intent);
       return this.#heard.notice(other ?? `The program refused: ${refused}`);
     }
-    const replies = turn.replies.slice(told.length);
-    const length = edit.lines.reduce((known, { do: what }, k) => (what === "select" ? known : lengthIn(replies[k])), this.root.size);
-    await this.#heed(turn, edit, span && { ...edit, length }, ahead.length ? itemsIn(replies.at(-1)) : null);
+    await this.#heed(turn, edit);
     const { dropped } = turn.taken.find((one) => one.dropped) ?? {};
     if (!dropped) return;
     // What was typed is typed again where the caret went; anything else might now do what nobody meant.
@@ -165,21 +159,17 @@ export class Editor {
   }
 
   // Shows what a turn brought, keeps what undo needs, and takes over the selection that the program moved along.
-  async #heed(turn, edit, known, ahead) {
-    const others = turn.taken.filter((one) => one.foreign);
-    const foreign = others.length > 0;
+  async #heed(turn, edit) {
+    const foreign = turn.taken.some((one) => one.foreign);
     const mine = turn.taken.flatMap((one) => {
       const first = this.seen;
       this.seen += one.foreign ?? one.ack;
       return Array.from({ length: one.ack ?? 0 }, (_, k) => first + k);
     });
-    const edited = edit?.lines.some(({ do: what }) => what !== "select");
-    if (foreign) known = edited ? null : union(others, this.root.size);
-    const piece = edited || foreign || edit?.to === null ? await this.#readAgain(known, ahead) : null;
     await this.#hold; // an input method loses its place where the text round it is drawn anew
     // what the user selected meanwhile is selected on what the screen still shows
     this.look();
-    const change = piece && this.#show(piece, edit?.kind && !foreign ? turn.caret[1] : undefined);
+    const change = this.#show(turn);
     this.#remember(edit, change, mine, foreign);
     // where the user moved the selection meanwhile it stays, among what is there now
     this.selection = this.#moved ? this.selection.map((at) => mapped(at, change)) : turn.caret;
@@ -192,28 +182,10 @@ export class Editor {
     this.#tell();
   }
 
-  async #read(range) {
-    return itemsIn(await this.#link.read({ do: "data", ...range }));
-  }
-
-  // Reads the siblings that a change touched, and where brackets of theirs lost their partners, what stands round them; all of the page
-  // where it isn't known what was touched.
-  async #readAgain(known, ahead) {
-    if (!known) return { parent: this.root, first: 0, last: this.root.kids.length, from: 0, fresh: parse(await this.#read({})) };
-    const grown = known.length - this.root.size;
-    let span = cover(this.root, known.from, known.to);
-    let fresh = parse(ahead ?? (await this.#read({ from: span.from, to: span.to + grown })));
-    while (!fresh) {
-      span = wider(span);
-      fresh = parse(await this.#read({ from: span.from, to: span.to + grown }));
-    }
-    return { ...span, fresh };
-  }
-
-  #show({ parent, first, last, from, fresh }, caret) {
-    const change = difference(parent.kids.slice(first, last), fresh, from, caret);
-    this.view.update(parent, first, last, fresh);
-    return change;
+  #show(turn) {
+    const next = renewed(this.root, turn);
+    if (next) this.view.update(next.parent, next.first, next.last, next.fresh);
+    return next?.change ?? null;
   }
 
   #remember(edit, change, entries, foreign) {

@@ -1,6 +1,6 @@
 // What the functions of text.js, marks.js and blocks.js are made of. Each of those takes the tree and the selection, and gives an edit, or
-// nothing, or a text that says why there is none. An edit is `{ lines, from, to, grows, kind }`: its commands, the range of the list that
-// they touch, by how much they lengthen it where that is known, and for typing and erasing their kind, so that a burst is undone as one.
+// nothing, or a text that says why there is none. An edit is `{ lines, kind }`: its commands, and for typing and erasing their kind, so
+// that a burst is undone as one.
 import { around, startOf } from "./tree.js";
 
 export const ends = ([anchor, focus]) => [Math.min(anchor, focus), Math.max(anchor, focus)];

@@ -21,10 +21,9 @@ export class Link {
     }
   }
 
-  // Lines that are done as a whole, or not at all; then this window's site meets the others. `touched` is the range of the list that
-  // the lines change, where it is known: other windows are told of it.
-  turn(lines, touched) {
-    return this.#post("turn", { lines, touched });
+  // Lines that are done as a whole, or not at all; then this window's site meets the others. Their answer tells what changed.
+  turn(lines) {
+    return this.#post("turn", { lines });
   }
 
   // A line that changes nothing. The site stays as the last turn left it, whatever others did since.
@@ -40,5 +39,3 @@ export class Link {
 }
 
 export const accepted = (reply) => reply?.startsWith("ok") ?? false;
-export const lengthIn = (reply) => Number(reply.slice(3));
-export const itemsIn = (reply) => JSON.parse(reply.slice(3));

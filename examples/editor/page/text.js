@@ -9,13 +9,12 @@ import { scalars } from "./scalars.js";
 export function typed(root, selection, text, marks = new Map()) {
   const [lo, hi] = ends(selection);
   const cutting = lo < hi && cut(root, lo, hi);
+  if (marks.size === 0 && !cutting?.apply) return { lines: [{ do: "type", text }], kind: "type" };
   const size = scalars(text);
-  const grows = innermost(root, lo) === innermost(root, hi) && isContent(innermost(root, lo)) ? size - (hi - lo) : undefined;
-  if (marks.size === 0 && !cutting?.apply) return { lines: [{ do: "type", text }], from: lo, to: hi, grows, kind: "type" };
   const inside = isContent(innermost(root, lo)) ? lo : lo + 1;
   const dressed = [...marks].map(([tag, on]) => ({ do: on ? "mark" : "unmark", from: inside, to: inside + size, tag }));
   const lines = [batch([...(cutting ? cutting.lines : []), { do: "text", at: lo, text }, ...dressed]), select(inside + size)];
-  return { lines, from: cutting?.from ?? lo, to: cutting?.to ?? hi, grows, kind: "type" };
+  return { lines, kind: "type" };
 }
 
 // A character or a word that way, or the selection. At the beginning of an item the item leaves its list, and at the edge of any other
@@ -28,9 +27,7 @@ export function erased(root, selection, dir, by) {
   }
   const branch = innermost(root, lo);
   const edge = dir === "back" ? innerStart(branch) : innerEnd(branch);
-  if (isContent(branch) && lo !== edge) {
-    return { lines: [{ do: "erase", dir, by }], from: innerStart(branch), to: innerEnd(branch), kind: "erase" };
-  }
+  if (isContent(branch) && lo !== edge) return { lines: [{ do: "erase", dir, by }], kind: "erase" };
   const item = listItem(branch);
   if (dir === "back" && item && lo === startOf(item) + (isContent(branch) ? 2 : 1)) return outdented(root, selection);
   return joined(root, branch, dir);
@@ -40,22 +37,16 @@ export function erased(root, selection, dir, by) {
 export function parted(root, selection) {
   const [lo, hi] = ends(selection);
   const branch = innermost(root, lo);
-  if (!isContent(branch)) return { lines: [{ do: "insert", at: lo, html: "<p></p><p></p>" }, select(lo + 3)], from: lo, to: hi };
+  if (!isContent(branch)) return { lines: [{ do: "insert", at: lo, html: "<p></p><p></p>" }, select(lo + 3)] };
   if (branch.kind === "pre") return typed(root, selection, "\n");
   const item = isItem(branch.parent) ? branch.parent : null;
   if (item && lo === hi && branch.size === 2 && item.kids.length === 1 && isList(item.parent)) return outdented(root, selection);
   const depth = item && shown(item)[0] === branch ? 2 : 1;
-  const cutting = lo < hi ? cut(root, lo, hi) : null;
+  const cutting = lo < hi ? cut(root, lo, hi).lines : [];
   const next = lo + 2 * depth;
   // what follows a heading is a paragraph
   const plain = /^h\d$/.test(branch.kind) && hi === innerEnd(innermost(root, hi)) ? [{ do: "convert", at: next - 1, kind: "p" }] : [];
-  const top = depth === 2 ? item : branch;
-  return {
-    lines: [batch([...(cutting?.lines ?? []), { do: "split", at: lo, depth }, ...plain]), select(next)],
-    from: startOf(top),
-    to: Math.max(endOf(top), cutting?.to ?? 0),
-    grows: cutting ? undefined : 2 * depth,
-  };
+  return { lines: [batch([...cutting, { do: "split", at: lo, depth }, ...plain]), select(next)] };
 }
 
 export function broken(root, selection) {
@@ -69,7 +60,7 @@ export function pasted(root, selection, { html, blocks }) {
   const cutting = lo < hi ? cut(root, lo, hi) : null;
   const content = isContent(branch);
   const [begin, end] = content ? [startOf(branch), endOf(branch)] : [lo, lo];
-  const edit = { from: Math.min(begin, cutting?.from ?? lo), to: Math.max(end, cutting?.to ?? hi), came: { blocks, after: cutting?.apply ? null : hi } };
+  const edit = { came: { blocks, after: cutting?.apply ? null : hi } };
   const put = (at) => ({ do: "insert", at, html });
   if (blocks && content && !cutting && branch.size === 2) return { ...edit, lines: [batch([put(end), ...remove(begin, end)])] };
   if (blocks && content && !cutting && lo === end - 1) return { ...edit, lines: [put(end)] };
