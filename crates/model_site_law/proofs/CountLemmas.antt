@@ -18,12 +18,12 @@ seen_is_committed base sites events k m opens may e =
 
 -- ---- as many sites
 
-length-put : (k : ℕ) (m : Member) (ms : List Member) → length (put_member k m ms) ≡ length ms
+pub length-put : (k : ℕ) (m : Member) (ms : List Member) → length (put_member k m ms) ≡ length ms
 length-put k m [] = refl
 length-put zero m (n ∷ ms) = refl
 length-put (suc k) m (n ∷ ms) = ap (λ l. suc l) (length-put k m ms)
 
-length-fed : (sender k : ℕ) (ps : List Parcel) (ms : List Member) → length (all_fed sender k ps ms) ≡ length ms
+pub length-fed : (sender k : ℕ) (ps : List Parcel) (ms : List Member) → length (all_fed sender k ps ms) ≡ length ms
 length-fed sender k ps [] = refl
 length-fed sender k ps (m ∷ ms) = ap (λ l. suc l) (length-fed sender (suc k) ps ms)
 

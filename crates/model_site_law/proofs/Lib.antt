@@ -25,4 +25,5 @@ pub mod ItemLemmas
 pub mod BeginLemmas
 pub mod ShownLemmas
 pub mod ToldLemmas
+pub mod QuietLemmas
 mod LawExamples

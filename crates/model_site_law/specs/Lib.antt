@@ -9,3 +9,4 @@ pub mod KeptLaws
 pub mod ItemLaws
 pub mod StoreLaws
 pub mod ViewLaws
+pub mod QuietLaws

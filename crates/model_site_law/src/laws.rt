@@ -6,6 +6,7 @@ ghost use Rattle.model_site_law.specs.MayHappen.{EditMayRun};
 ghost use Rattle.model_site_law.specs.ItemLaws.{ItemsKeep};
 ghost use Rattle.model_site_law.specs.KeptLaws.{EventsKeep, HoldsAtFirst};
 ghost use Rattle.model_site_law.specs.StoreLaws.{StoreBegins};
+ghost use Rattle.model_site_law.specs.QuietLaws.{QuietSitesMeet, ServingLowers, TakingLowers};
 ghost use Rattle.model_site_law.specs.ViewLaws.{PatchesLead, ViewHolds};
 
 /// Entries are joined over committed transactions up to the first conflict. The transactions of
@@ -46,6 +47,15 @@ pub fn acks_count()
 /// Sites that have seen as many committed entries, and have nothing pending, have one list.
 pub fn sites_meet()
     ensures { OneList }
+{}
+
+/// Less waits after each turn of the server at a submission, and after each turn of a site at a
+/// feed. So turns alone come to where nothing waits, in whatever order. Sites to which no feed waits
+/// have seen all that is committed; if they have nothing pending, they have one list.
+pub fn turns_come_to_rest()
+    ensures serving { ServingLowers }
+    ensures taking { TakingLowers }
+    ensures meet { QuietSitesMeet }
 {}
 
 /// A site's store has every value that its list cites, also after an undo that follows a take, and

@@ -19,9 +19,10 @@ use Rattle.model_site.specs.Events.{Event, happens, run}
 use Rattle.model_site_law.specs.MayHappen.{AllMayHappen}
 use Rattle.model_site_law.specs.SelectionLaws.{AllSelectWithin}
 use Rattle.model_site_law.proofs.BeginLemmas.{store_begins}
-use Rattle.model_site_law.proofs.LawLemmas.{list_is_replay, all_entries_run, list_is_sound, acks_count, run_base, sites_meet, store_holds, first_replica_opens}
+use Rattle.model_site_law.proofs.LawLemmas.{list_is_replay, all_entries_run, list_is_sound, acks_count, run_base, sites_meet, store_holds, first_replica_opens, revoke_leaves_out}
 use Rattle.model_site_law.proofs.CountLemmas.{seen_is_committed, sites_stay}
-use Rattle.model_site_law.proofs.FreshSessionLemmas.{undone_is_first}
+use Rattle.model_site_law.proofs.FreshSessionLemmas.{undone_at_once, undone_is_first}
+use Rattle.model_site_law.proofs.QuietLemmas.{quiet_sites_meet}
 use Rattle.model_site_law.proofs.KeptLemmas.{first_selection_stands, first_store_is_distinct, selection_stands, store_is_distinct}
 use Rattle.model_world.specs.declared.command.Request.{Request}
 use Rattle.model_world.specs.declared.command.Command.{Command}
@@ -36,7 +37,7 @@ use Rattle.model_world.specs.Answers.{Outcome, Asked, request_outcome}
 use Rattle.ve_base.specs.Limits.{max_line}
 use Rattle.model_world.specs.World.{World, Closed, Open, Answer, opened_or_no, on_page, asked_of, answer_of, answered_if, answer, reply_and_next, reply, world_after}
 use Rattle.model_world_law.specs.Fit.{RequestWritten, LayersFit}
-use Rattle.model_world_law.specs.Reached.{Becomes, IsReached, WorldReached, EveryItemStands, EveryWorldIsReached, SiteHolds, EverySiteHolds, SitesMeet, UneditedIsWrittenBack}
+use Rattle.model_world_law.specs.Reached.{Becomes, IsReached, WorldReached, EveryItemStands, EveryWorldIsReached, SiteHolds, EverySiteHolds, SitesMeet, QuietSitesMeet, UneditedIsWrittenBack}
 use Rattle.std.specs.List.{AllByRecursion}
 use Rattle.model_site_law.specs.ItemLaws.{AllPass, Inserts}
 use Rattle.model_site_law.specs.Protocol.{Every}
@@ -221,6 +222,8 @@ site_holds lines o w k m r e =
       begins = store_begins base r.sites r.events k m r.opens r.may there;
       selection = selection_stands base r.sites r.events k m r.opens (first_selection_stands o.items) r.may r.within there;
       acknowledged = acks_count base r.sites r.events k m r.opens r.may there;
+      revoked = λ i next below e. revoke_leaves_out base r.sites r.events k m r.opens r.may there i next below e;
+      undone_at_once = λ ts next may e. undone_at_once base r.sites r.events k m r.opens r.may there ts next may e;
       undone = undone_is_first base r.sites r.events k m r.opens r.may there;
     })
 
@@ -238,6 +241,17 @@ meet lines o w k l m n r d e seen none none' =
 
 pub all_sites_meet : SitesMeet
 all_sites_meet lines page w k l m n h = meet lines page w k l m n (subst (WorldReached lines) h (every_world_is_reached lines))
+
+quiet : (lines : List (List ℕ)) (o : Opened) (w : Session) (k l : ℕ) (m n : Member) → IsReached lines o w → slice_get w.members k ≡ Some m → slice_get w.members l ≡ Some n →
+    m.feeds ≡ [] → n.feeds ≡ [] → pending m.site ≡ [] → pending n.site ≡ [] → m.site.replica.items ≡ n.site.replica.items
+quiet lines o w k l m n r d e =
+    quiet_sites_meet (opened_with o.items) r.sites r.events k l m n r.opens r.may
+    (ap (λ (v : Session). slice_get v.members k) (sym r.same) ∙ d) (ap (λ (v : Session). slice_get v.members l) (sym r.same) ∙ e)
+
+pub quiet_sites_meet_after_lines : QuietSitesMeet
+quiet_sites_meet_after_lines lines page w k l m n h d e none none' pending pending' =
+    let same = quiet lines page w k l m n (subst (WorldReached lines) h (every_world_is_reached lines)) d e none none' pending pending' in
+    (same, ap (write page) same)
 
 -- ---- a page that was not edited
 

@@ -1,17 +1,19 @@
 -- The invariant of a world, whatever lines it was given: the laws of sites and server hold of it.
-use Rattle.std.specs.Prelude.{◌≡◌, ◌≤◌, ℕ, List, [], ◌∷◌, ◌++◌, length, slice_get, Option, Some, None, Ok, IsUtf8}
+use Rattle.std.specs.Prelude.{◌≡◌, ◌≤◌, ◌<◌, ℕ, List, [], ◌∷◌, ◌++◌, length, slice_get, Option, Some, None, Ok, IsUtf8}
 use Rattle.std.specs.List.{AllByRecursion}
 use Rattle.model_items.specs.Plain.{AreDistinct}
 use Rattle.model_items.specs.declared.plain_item.PlainItem.{PlainItem}
 use Rattle.model_change.specs.Store.{cited}
 use Rattle.model_change.specs.Replay.{replay, AllRun, flattened}
+use Rattle.model_change.specs.Transaction.{Transaction}
 use Rattle.model_page.specs.PageItems.{Opened}
 use Rattle.model_page_write.specs.PageText.{write}
 use Rattle.model_site.specs.Replica.{Replica, opened_with}
-use Rattle.model_site.specs.Site.{pending, entries_of}
+use Rattle.model_site.specs.Site.{Site, pending, entries_of, revoke_entry, undo, with_entry}
 use Rattle.model_site.specs.Session.{SiteFeed, Ack, Member, Session, started}
 use Rattle.model_site.specs.Events.{Event, Tell, run}
-use Rattle.model_site_law.specs.Sound.{Sound, AllIn, Opens}
+use Rattle.model_site_law.specs.Laws.{IsWithout}
+use Rattle.model_site_law.specs.Sound.{Sound, AllIn, AllMayRun, Opens}
 use Rattle.model_site_law.specs.MayHappen.{AllMayHappen}
 use Rattle.model_site_law.specs.Protocol.{Every}
 use Rattle.model_site_law.specs.ItemLaws.{AllPass, Inserts}
@@ -92,6 +94,12 @@ pub record SiteHolds (base : Replica) (w : Session) (m : Member) : Type 0 where
   pub selection : StandsIn m.site.replica.items m.site.replica.selection
   -- the answer that it takes next counts the entries that it still holds as sent
   pub acknowledged : (accepted : ℕ) (later : List SiteFeed) → m.feeds ≡ Ack accepted ∷ later → accepted ≡ length m.site.sent
+  -- an entry that it takes back leaves the list that the later entries give without it
+  pub revoked : (i : ℕ) (next : Site) → i < length (entries_of w.committed m.site) → revoke_entry w.committed i m.site ≡ Ok next →
+      IsWithout (entries_of w.committed m.site) i base.items next.replica.items
+  -- undoing at once leaves list and store as they were
+  pub undone_at_once : (ts : List Transaction) (next : Site) → AllMayRun ts m.site.replica.items → undo (with_entry ts m.site) ≡ Ok next →
+      (next.replica.items ≡ m.site.replica.items) × (next.replica.store ≡ m.site.replica.store)
   -- having taken nothing and with nothing pending, it has the first list and the first store
   pub undone : m.site.seen ≡ 0 → pending m.site ≡ [] → (m.site.replica.items ≡ base.items) × (m.site.replica.store ≡ base.store)
 
@@ -110,6 +118,12 @@ abbrev pub SitesMeet : Type 0
 SitesMeet = (lines : List (List ℕ)) (page : Opened) (w : Session) (k l : ℕ) (m n : Member) → world_after Closed lines ≡ Open page w →
     slice_get w.members k ≡ Some m → slice_get w.members l ≡ Some n → m.site.seen ≡ n.site.seen → pending m.site ≡ [] → pending n.site ≡ [] →
     m.site.replica.items ≡ n.site.replica.items
+
+-- So are the lists and the pages of sites to which no feed waits, and that have nothing pending.
+abbrev pub QuietSitesMeet : Type 0
+QuietSitesMeet = (lines : List (List ℕ)) (page : Opened) (w : Session) (k l : ℕ) (m n : Member) → world_after Closed lines ≡ Open page w →
+    slice_get w.members k ≡ Some m → slice_get w.members l ≡ Some n → m.feeds ≡ [] → n.feeds ≡ [] → pending m.site ≡ [] → pending n.site ≡ [] →
+    (m.site.replica.items ≡ n.site.replica.items) × (write page m.site.replica.items ≡ write page n.site.replica.items)
 
 -- A site that has the page's items writes the page as it was opened, byte for byte, whatever
 -- happened between.

@@ -7,7 +7,7 @@ ghost use Rattle.model_world_law.specs.Pasted.{FragmentsAreChildren, PastingStay
 ghost use Rattle.model_world_law.specs.ShownLaws.{ShownIsRead};
 ghost use Rattle.model_world_law.specs.Redone.{LinesRedo};
 ghost use Rattle.model_world_law.specs.ViewLines.{LinesShow};
-ghost use Rattle.model_world_law.specs.Reached.{EveryItemStands, EveryWorldIsReached, EverySiteHolds, SitesMeet, UneditedIsWrittenBack};
+ghost use Rattle.model_world_law.specs.Reached.{EveryItemStands, EveryWorldIsReached, EverySiteHolds, QuietSitesMeet, SitesMeet, UneditedIsWrittenBack};
 
 use model_edit_law::fragment_stays_lawful;
 
@@ -105,6 +105,12 @@ pub fn lines_show()
 #[tactic(auto, using(crate::proofs::ReachLemmas::all_sites_meet))]
 pub fn sites_meet()
     ensures { SitesMeet }
+{}
+
+/// Sites to which no feed waits, and that have nothing pending, have one list, and so write one
+/// page.
+pub fn quiet_sites_meet()
+    ensures { QuietSitesMeet }
 {}
 
 /// A site that has the page's items again writes the page as it was opened, byte for byte.
